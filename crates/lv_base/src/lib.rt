@@ -1,0 +1,23 @@
+//! The ground that every crate of the engine stands on: names of numbers as types of their own, the one list type
+//! that contracts compare whole, candidates and conflicts of a search, the order in which candidates rank, and the
+//! limits of a model and a session.
+//!
+//! | part | items |
+//! |---|---|
+//! | numbers with names | `VarId`, `ValId`, `PartId`, `MoveId`, `BoolId`, `ClauseId`, `Lit`, `Cost` |
+//! | lists | `Seq` |
+//! | a search's values | `Pair`, `Conflict`, `Candidate`, `contains` |
+//! | their order | `Rank` |
+//! | limits | `limits` |
+#![tactic(auto)]
+
+pub mod ids;
+pub mod limits;
+pub mod rank;
+pub mod search;
+pub mod seq;
+
+pub use ids::{BoolId, ClauseId, Cost, Lit, MoveId, PartId, ValId, VarId};
+pub use rank::Rank;
+pub use search::{Candidate, Conflict, Pair, contains};
+pub use seq::Seq;
