@@ -1,0 +1,114 @@
+//! Formulas over variables with finite domains, and their truth.
+//!
+//! A formula holds itself through `Box` and `Vec`, so it can't be compared whole; every clause sees it as its tree, a
+//! value of `specs/Tree.antt` without room or allocators, made by the fold `tree_of`. A `Condition` is a formula kept in
+//! a value that clauses do compare whole, and is seen there as its tree.
+#![tactic(auto)]
+
+ghost use Rattle.std.specs.Prelude.{◌≡◌, ◌+◌, ◌<◌, IsTrue, length};
+ghost use Rattle.lv_formula.specs.Tree.{tree_of, truth_of, reads_below, value_of};
+ghost use Rattle.lv_formula.specs.Fold.{is_true_in, reads_in};
+
+use lv_base::{ValId, VarId};
+use std::marker::Model;
+
+/// A formula. `Is` compares a variable with a value of its domain, `Same` two variables of one domain. `And` and `Or`
+/// have their operands in written order.
+#[derive(Debug, Drop)]
+pub enum Formula {
+    True,
+    False,
+    Is(VarId, ValId),
+    Same(VarId, VarId),
+    Not(Box<Formula>),
+    And(Vec<Formula>),
+    Or(Vec<Formula>),
+    Implies(Box<Formula>, Box<Formula>),
+    Iff(Box<Formula>, Box<Formula>),
+}
+
+impl Formula {
+    /// The formula's truth where variable `v` has the value `values[base + v]`: `base` is 0 for a law of the system, and
+    /// the part's first variable for a formula of its type. Takes no memory.
+    pub fn holds(&self, values: &[ValId], base: u32) -> bool
+        requires { IsTrue (reads_below (length values.now) base (tree_of self.now)) }
+        ensures { result ≡ truth_of values.now base (tree_of self.now) }
+    {
+        self.holds_from(values, base)
+    }
+
+    /// The same, in the terms of a fold over the formula.
+    fn holds_from(&self, values: &[ValId], base: u32) -> bool
+        requires { IsTrue (reads_in (length values.now) base self.now) }
+        ensures { result ≡ is_true_in values.now base self.now }
+    {
+        match self {
+            Formula::True => true,
+            Formula::False => false,
+            Formula::Is(var, val) => value_at(values, base, *var).0 == val.0,
+            Formula::Same(left, right) => {
+                value_at(values, base, *left).0 == value_at(values, base, *right).0
+            }
+            Formula::Not(f) => !f.holds_from(values, base),
+            Formula::And(fs) => {
+                'all: for f in fs {
+                    if !f.holds_from(values, base) {
+                        return false;
+                    }
+                }
+                true
+            }
+            Formula::Or(fs) => {
+                'any: for f in fs {
+                    if f.holds_from(values, base) {
+                        return true;
+                    }
+                }
+                false
+            }
+            Formula::Implies(f, g) => !f.holds_from(values, base) || g.holds_from(values, base),
+            Formula::Iff(f, g) => f.holds_from(values, base) == g.holds_from(values, base),
+        }
+    }
+}
+
+/// The value of a variable that is counted from `base`.
+fn value_at(values: &[ValId], base: u32, var: VarId) -> ValId
+    requires { base + var.0 < length values.now }
+    ensures { result ≡ value_of values.now (base + var.0) }
+{
+    values[base as usize + var.0 as usize]
+}
+
+/// A formula inside a larger value, seen by clauses as its tree.
+#[derive(Debug, Drop)]
+pub struct Condition {
+    formula: Formula,
+}
+
+impl Model for Condition {
+    ghost use Rattle.lv_formula.specs.TreeCode.{tree_code};
+    ghost use Rattle.lv_formula.specs.Tree.{Tree, tree_of};
+
+    ghost Value = { Tree };
+
+    ghost coded = { tree_code };
+
+    ghost view = { λ c. tree_of c.formula };
+}
+
+impl Condition {
+    pub fn new(formula: Formula) -> Condition
+        ensures { result ≡ tree_of formula }
+    {
+        Condition { formula }
+    }
+
+    /// The formula's truth, as `Formula::holds` tells it. Takes no memory.
+    pub fn holds(&self, values: &[ValId], base: u32) -> bool
+        requires { IsTrue (reads_below (length values.now) base self.now) }
+        ensures { result ≡ truth_of values.now base self.now }
+    {
+        self.formula.holds(values, base)
+    }
+}
