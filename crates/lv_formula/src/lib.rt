@@ -5,7 +5,7 @@
 //! a value that clauses do compare whole, and is seen there as its tree.
 #![tactic(auto)]
 
-ghost use Rattle.std.specs.Prelude.{◌≡◌, ◌+◌, ◌<◌, IsTrue, length};
+ghost use Rattle.std.specs.Prelude.{◌≡◌, ◌+◌, ◌<◌, IsTrue, length, nat_lt};
 ghost use Rattle.lv_formula.specs.Tree.{tree_of, truth_of, reads_below, value_of};
 ghost use Rattle.lv_formula.specs.Fold.{is_true_in, reads_in};
 
@@ -37,7 +37,46 @@ impl Formula {
         self.holds_from(values, base)
     }
 
+    /// Whether each variable that the formula names, counted from `base`, is below `bound`. Takes no memory.
+    pub fn reads_below(&self, bound: usize, base: u32) -> bool
+        ensures { result ≡ reads_below bound base (tree_of self.now) }
+    {
+        self.reads_from(bound, base)
+    }
+
     /// The same, in the terms of a fold over the formula.
+    fn reads_from(&self, bound: usize, base: u32) -> bool
+        ensures { result ≡ reads_in bound base self.now }
+    {
+        match self {
+            Formula::True => true,
+            Formula::False => true,
+            Formula::Is(var, _) => is_below(*var, bound, base),
+            Formula::Same(left, right) => is_below(*left, bound, base)
+                && is_below(*right, bound, base),
+            Formula::Not(f) => f.reads_from(bound, base),
+            Formula::And(fs) => {
+                'all: for f in fs {
+                    if !f.reads_from(bound, base) {
+                        return false;
+                    }
+                }
+                true
+            }
+            Formula::Or(fs) => {
+                'any: for f in fs {
+                    if !f.reads_from(bound, base) {
+                        return false;
+                    }
+                }
+                true
+            }
+            Formula::Implies(f, g) => f.reads_from(bound, base) && g.reads_from(bound, base),
+            Formula::Iff(f, g) => f.reads_from(bound, base) && g.reads_from(bound, base),
+        }
+    }
+
+    /// The truth, in the terms of a fold over the formula.
     fn holds_from(&self, values: &[ValId], base: u32) -> bool
         requires { IsTrue (reads_in (length values.now) base self.now) }
         ensures { result ≡ is_true_in values.now base self.now }
@@ -72,6 +111,13 @@ impl Formula {
     }
 }
 
+/// Whether a variable that is counted from `base` is below `bound`.
+fn is_below(var: VarId, bound: usize, base: u32) -> bool
+    ensures { result ≡ nat_lt (base + var.0) bound }
+{
+    base as usize + (var.0 as usize) < bound
+}
+
 /// The value of a variable that is counted from `base`.
 fn value_at(values: &[ValId], base: u32, var: VarId) -> ValId
     requires { base + var.0 < length values.now }
@@ -102,6 +148,13 @@ impl Condition {
         ensures { result ≡ tree_of formula }
     {
         Condition { formula }
+    }
+
+    /// Whether each variable that it names, counted from `base`, is below `bound`. Takes no memory.
+    pub fn reads_below(&self, bound: usize, base: u32) -> bool
+        ensures { result ≡ reads_below bound base self.now }
+    {
+        self.formula.reads_below(bound, base)
     }
 
     /// The formula's truth, as `Formula::holds` tells it. Takes no memory.

@@ -1,0 +1,75 @@
+-- What each formula of a well-formed plant reads.
+use Rattle.std.proofs.Common.{◌≡◌, ℕ, ◌<◌, Bool, true, false, ◌&&◌, List, [], ◌∷◌, length, slice_get, Option, Some, None, refl, subst, arith, All, nat_lt, nat_le, zero, suc}
+use Rattle.std.proofs.lemmas.List.Elements.{All-cons, All-tail}
+use borrow.Author.Tests.{ltb-true}
+use Rattle.std.specs.Option.{option_map_or}
+use Rattle.std.specs.List.{list_all}
+use Rattle.lv_formula.specs.Tree.{Tree, reads_below}
+use Rattle.lv_model.specs.declared.plant.Plant.{Plant}
+use Rattle.lv_model.specs.declared.plant.ComponentType.{ComponentType}
+use Rattle.lv_model.specs.declared.plant.Part.{Part}
+use Rattle.lv_model.specs.Lists.{variable_count}
+use Rattle.lv_model.specs.WellFormed.{name_fits, domain_fits, type_fits, is_within, part_fits, firsts_follow, mode_reads, move_reads, type_reads, part_reads, is_well_formed, Reads, ModeReads, GuardReads, TypeReads, PartReads}
+
+both : (p q : Bool) → (p && q) ≡ true → (p ≡ true) × (q ≡ true)
+both true q h = (refl, h)
+both false q h = absurd (cc)
+
+-- a test of all elements as a fact of each
+pub All-of_test : {X : Type 0} (p : X → Bool) (P : X → Type 0) (xs : List X) → ((x : X) → p x ≡ true → P x) → list_all p xs ≡ true → All P xs
+All-of_test p P [] f h = λ k d below. absurd (omega arith)
+All-of_test p P (x ∷ xs) f h =
+    All-cons P x xs (f x (both (p x) (list_all p xs) h).0) (All-of_test p P xs f (both (p x) (list_all p xs) h).1)
+
+-- a fact of each element is one of the element at a place
+pub All-at : {X : Type 0} (P : X → Type 0) (xs : List X) (n : ℕ) (x : X) → All P xs → slice_get xs n ≡ Some x → P x
+All-at P [] n x all is = absurd (cc)
+All-at P (y ∷ ys) zero x all is = let e : y ≡ x = cc is in subst P e (all 0 y (omega arith))
+All-at P (y ∷ ys) (suc n) x all is = All-at P ys n x (All-tail P y ys all) is
+
+pub TypeReads-of_test : (bound base : ℕ) (t : ComponentType) → type_reads bound base t ≡ true → TypeReads bound base t
+TypeReads-of_test bound base t h =
+    let one = both (nat_lt base bound) _ h in
+    let two = both (list_all (reads_below bound base) t.laws) _ one.1 in
+    let three = both (list_all (mode_reads bound base) t.modes) _ two.1 in
+    record {
+      first = ltb-true base bound one.0;
+      laws = reads t.laws two.0;
+      modes =
+          λ n m is.
+          All-at (ModeReads bound base) t.modes n m
+          (All-of_test (mode_reads bound base) (ModeReads bound base) t.modes (λ x all. record { formulas = reads x.formulas all }) three.0) is;
+      guards =
+          All-of_test (move_reads bound base) (GuardReads bound base) t.moves
+          (λ x opens. record { guard = opens })
+          three.1;
+    }
+  where
+    reads : (fs : List Tree) → list_all (reads_below bound base) fs ≡ true → All (Reads bound base) fs
+    reads fs all = All-of_test (reads_below bound base) (Reads bound base) fs (λ f below. record { below = below }) all
+
+reads_first : (bound : ℕ) (types : List ComponentType) (p : Part) (o : Option ComponentType) → option_map_or (type_reads bound p.first.0) o false ≡ true → p.first.0 < bound
+reads_first bound types p None h = absurd (cc)
+reads_first bound types p (Some t) h = (TypeReads-of_test bound p.first.0 t h).first
+
+pub PartReads-of_test : (bound : ℕ) (types : List ComponentType) (p : Part) → part_reads bound types p ≡ true → PartReads bound types p
+PartReads-of_test bound types p h =
+    record {
+      first = reads_first bound types p (slice_get types p.kind) h;
+      kind = λ t is. TypeReads-of_test bound p.first.0 t (subst (λ o. option_map_or (type_reads bound p.first.0) o false ≡ true) is h);
+    }
+
+-- what the parts and the laws of a well-formed plant read
+pub parts-of_well_formed : (plant : Plant) → is_well_formed plant ≡ true → All (PartReads (variable_count plant) plant.types) plant.parts × All (Reads (variable_count plant) 0) plant.laws
+parts-of_well_formed plant h =
+    let one = both (name_fits plant.name) _ h in
+    let two = both (list_all domain_fits plant.domains) _ one.1 in
+    let three = both (list_all (type_fits (length plant.domains)) plant.types) _ two.1 in
+    let four = both (is_within 1 (length plant.parts) 256) _ three.1 in
+    let five = both (list_all (part_fits plant.types) plant.parts) _ four.1 in
+    let six = both (firsts_follow plant.types 0 plant.parts) _ five.1 in
+    let seven = both (nat_le (variable_count plant) 4096) _ six.1 in
+    let eight = both (list_all (part_reads (variable_count plant) plant.types) plant.parts) _ seven.1 in (
+      All-of_test (part_reads (variable_count plant) plant.types) (PartReads (variable_count plant) plant.types) plant.parts (PartReads-of_test (variable_count plant) plant.types) eight.0,
+      All-of_test (reads_below (variable_count plant) 0) (Reads (variable_count plant) 0) plant.laws (λ f below. record { below = below }) eight.1,
+    )

@@ -1,0 +1,9 @@
+-- the plant is well formed, so its parts and laws read their variables alone
+use Rattle.lv_model.proofs.Reading.{parts-of_well_formed}
+use Rattle.lv_model.proofs.model.Model.plant.Goals as goal
+
+pub returns-clause-parts : goal.returns-clause-parts
+returns-clause-parts c = (parts-of_well_formed c.self.inside.plant c.self.invariant).0
+
+pub returns-clause-laws : goal.returns-clause-laws
+returns-clause-laws c = (parts-of_well_formed c.self.inside.plant c.self.invariant).1
