@@ -1,15 +1,16 @@
 -- What each formula of a well-formed plant reads.
-use Rattle.std.proofs.Common.{◌≡◌, ℕ, ◌<◌, Bool, true, false, ◌&&◌, List, [], ◌∷◌, length, slice_get, Option, Some, None, refl, subst, arith, All, nat_lt, nat_le, zero, suc}
+use Rattle.std.proofs.Common.{◌≡◌, ◌+◌, ◌≤◌, ℕ, ◌<◌, Bool, true, false, ◌&&◌, List, [], ◌∷◌, slice_get, Option, Some, None, refl, subst, arith, All, nat_lt, nat_le, nat_eq, sum_by, zero, suc}
 use Rattle.std.proofs.lemmas.List.Elements.{All-cons, All-tail}
-use borrow.Author.Tests.{ltb-true}
+use Rattle.std.proofs.lemmas.List.Sums.{sum_by-cons}
+use borrow.Author.Tests.{ltb-true, leb-true, eqb-true}
 use Rattle.std.specs.Option.{option_map_or}
 use Rattle.std.specs.List.{list_all}
 use Rattle.lv_formula.specs.Tree.{Tree, reads_below}
 use Rattle.lv_model.specs.declared.plant.Plant.{Plant}
 use Rattle.lv_model.specs.declared.plant.ComponentType.{ComponentType}
 use Rattle.lv_model.specs.declared.plant.Part.{Part}
-use Rattle.lv_model.specs.Lists.{variable_count}
-use Rattle.lv_model.specs.WellFormed.{name_fits, domain_fits, type_fits, is_within, part_fits, firsts_follow, mode_reads, move_reads, type_reads, part_reads, is_well_formed, Reads, ModeReads, GuardReads, TypeReads, PartReads}
+use Rattle.lv_model.specs.Lists.{variable_count, part_width}
+use Rattle.lv_model.specs.WellFormed.{firsts_follow, lists_fit, variables_fit, mode_reads, move_reads, type_reads, part_reads, is_well_formed, Reads, ModeReads, GuardReads, TypeReads, PartReads, PartEnds}
 
 both : (p q : Bool) → (p && q) ≡ true → (p ≡ true) × (q ≡ true)
 both true q h = (refl, h)
@@ -59,17 +60,36 @@ PartReads-of_test bound types p h =
       kind = λ t is. TypeReads-of_test bound p.first.0 t (subst (λ o. option_map_or (type_reads bound p.first.0) o false ≡ true) is h);
     }
 
--- what the parts and the laws of a well-formed plant read
-pub parts-of_well_formed : (plant : Plant) → is_well_formed plant ≡ true → All (PartReads (variable_count plant) plant.types) plant.parts × All (Reads (variable_count plant) 0) plant.laws
-parts-of_well_formed plant h =
-    let one = both (name_fits plant.name) _ h in
-    let two = both (list_all domain_fits plant.domains) _ one.1 in
-    let three = both (list_all (type_fits (length plant.domains)) plant.types) _ two.1 in
-    let four = both (is_within 1 (length plant.parts) 256) _ three.1 in
-    let five = both (list_all (part_fits plant.types) plant.parts) _ four.1 in
-    let six = both (firsts_follow plant.types 0 plant.parts) _ five.1 in
-    let seven = both (nat_le (variable_count plant) 4096) _ six.1 in
-    let eight = both (list_all (part_reads (variable_count plant) plant.types) plant.parts) _ seven.1 in (
-      All-of_test (part_reads (variable_count plant) plant.types) (PartReads (variable_count plant) plant.types) plant.parts (PartReads-of_test (variable_count plant) plant.types) eight.0,
-      All-of_test (reads_below (variable_count plant) 0) (Reads (variable_count plant) 0) plant.laws (λ f below. record { below = below }) eight.1,
-    )
+-- parts that follow one another end where all of them do or before
+ends-of_follow : (types : List ComponentType) (next : ℕ) (ps : List Part) → firsts_follow types next ps ≡ true → All (PartEnds (next + sum_by (part_width types) ps) types) ps
+ends-of_follow types next [] h = λ k d below. absurd (omega arith)
+ends-of_follow types next (p ∷ ps) h =
+    let parts = both (nat_eq p.first.0 next) (firsts_follow types (next + part_width types p) ps) h in
+    let first : p.first.0 ≡ next = eqb-true p.first.0 next parts.0 in
+    let all : sum_by (part_width types) (p ∷ ps) ≡ part_width types p + sum_by (part_width types) ps = sum_by-cons (part_width types) p ps in
+    All-cons (PartEnds (next + sum_by (part_width types) (p ∷ ps)) types) p ps
+    (record { last = omega arith })
+    (λ k d below. record { last = let rest = (ends-of_follow types (next + part_width types p) ps parts.1 k d below).last in omega arith })
+
+module _ (plant : Plant) (h : is_well_formed plant ≡ true) where
+  fit : ((firsts_follow plant.types 0 plant.parts && nat_le (variable_count plant) 4096) ≡ true) × ((list_all (part_reads (variable_count plant) plant.types) plant.parts && list_all (reads_below (variable_count plant) 0) plant.laws) ≡ true)
+  fit = both _ _ (both (lists_fit plant) (variables_fit plant) h).1
+
+  -- what the parts of a well-formed plant read
+  pub parts-of_well_formed : All (PartReads (variable_count plant) plant.types) plant.parts
+  parts-of_well_formed =
+      All-of_test (part_reads (variable_count plant) plant.types) (PartReads (variable_count plant) plant.types) plant.parts (PartReads-of_test (variable_count plant) plant.types)
+      (both (list_all (part_reads (variable_count plant) plant.types) plant.parts) (list_all (reads_below (variable_count plant) 0) plant.laws) fit.1).0
+
+  -- what its laws read
+  pub laws-of_well_formed : All (Reads (variable_count plant) 0) plant.laws
+  laws-of_well_formed =
+      All-of_test (reads_below (variable_count plant) 0) (Reads (variable_count plant) 0) plant.laws (λ f below. record { below = below })
+      (both (list_all (part_reads (variable_count plant) plant.types) plant.parts) (list_all (reads_below (variable_count plant) 0) plant.laws) fit.1).1
+
+  -- where its parts end
+  pub ends-of_well_formed : All (PartEnds 4096 plant.types) plant.parts
+  ends-of_well_formed =
+      let parts = both (firsts_follow plant.types 0 plant.parts) (nat_le (variable_count plant) 4096) fit.0 in
+      let small : variable_count plant ≤ 4096 = leb-true (variable_count plant) 4096 parts.1 in
+      λ k d below. record { last = let one = (ends-of_follow plant.types 0 plant.parts parts.0 k d below).last in omega arith }

@@ -1,3 +1,4 @@
 pub mod Lists
 pub mod WellFormed
 pub mod Meaning
+pub mod Names

@@ -1,5 +1,5 @@
 -- A plant is well formed where every number in its lists is in range and every limit is kept.
-use Rattle.std.specs.Prelude.{ℕ, ◌+◌, Bool, true, false, nat_eq, nat_lt, nat_le, ◌&&◌, List, [], ◌∷◌, length, Some, slice_get, IsTrue, All, ◌≡◌, ◌<◌}
+use Rattle.std.specs.Prelude.{ℕ, ◌+◌, Bool, true, false, nat_eq, nat_lt, nat_le, ◌&&◌, List, [], ◌∷◌, length, Some, slice_get, IsTrue, All, ◌≡◌, ◌<◌, ◌≤◌}
 use Rattle.std.specs.List.{list_all}
 use Rattle.std.specs.Option.{option_map_or}
 use Rattle.lv_formula.specs.Tree.{Tree, reads_below}
@@ -78,17 +78,23 @@ abbrev pub firsts_follow : List ComponentType → ℕ → List Part → Bool
 firsts_follow types next [] = true
 firsts_follow types next (p ∷ ps) = nat_eq p.first.0 next && firsts_follow types (next + part_width types p) ps
 
-abbrev pub is_well_formed : Plant → Bool
-is_well_formed plant =
+-- what each list says by itself is in range
+abbrev pub lists_fit : Plant → Bool
+lists_fit plant =
     name_fits plant.name
     && (list_all domain_fits plant.domains
     && (list_all (type_fits (length plant.domains)) plant.types
-    && (is_within 1 (length plant.parts) 256
-    && (list_all (part_fits plant.types) plant.parts
-    && (firsts_follow plant.types 0 plant.parts
-    && (nat_le (variable_count plant) 4096
+    && (is_within 1 (length plant.parts) 256 && list_all (part_fits plant.types) plant.parts)))
+
+-- the variables are numbered part by part, are not too many, and no formula reads another
+abbrev pub variables_fit : Plant → Bool
+variables_fit plant =
+    (firsts_follow plant.types 0 plant.parts && nat_le (variable_count plant) 4096)
     && (list_all (part_reads (variable_count plant) plant.types) plant.parts
-    && list_all (reads_below (variable_count plant) 0) plant.laws)))))))
+    && list_all (reads_below (variable_count plant) 0) plant.laws)
+
+abbrev pub is_well_formed : Plant → Bool
+is_well_formed plant = lists_fit plant && variables_fit plant
 
 -- the same facts as the code hands them on
 
@@ -110,3 +116,7 @@ pub record TypeReads (bound base : ℕ) (t : ComponentType) : Type 0 where
 pub record PartReads (bound : ℕ) (types : List ComponentType) (p : Part) : Type 0 where
   pub first : p.first.0 < bound
   pub kind : (t : ComponentType) → slice_get types p.kind ≡ Some t → TypeReads bound p.first.0 t
+
+-- the part's variables end within the bound
+pub record PartEnds (bound : ℕ) (types : List ComponentType) (p : Part) : Type 0 where
+  pub last : p.first.0 + part_width types p ≤ bound

@@ -6,7 +6,7 @@ ghost use Rattle.std.specs.List.{list_all};
 ghost use Rattle.std.specs.Option.{option_map_or, option_copied};
 ghost use Rattle.lv_formula.specs.Tree.{reads_below};
 ghost use Rattle.lv_model.specs.Lists.{part_width, variable_count};
-ghost use Rattle.lv_model.specs.WellFormed.{is_within, name_fits, domain_fits, variable_fits, cost_fits, move_fits, sources_rise, type_fits, mode_named, mode_reads, move_reads, type_reads, part_reads, part_fits, firsts_follow, is_well_formed};
+ghost use Rattle.lv_model.specs.WellFormed.{is_within, name_fits, domain_fits, variable_fits, cost_fits, move_fits, sources_rise, type_fits, mode_named, mode_reads, move_reads, type_reads, part_reads, part_fits, firsts_follow, lists_fit, variables_fit, is_well_formed};
 
 use crate::plant::{ComponentType, Domain, Mode, Move, MoveKind, Name, Part, Plant, Variable};
 use lv_base::{VarId, limits};
@@ -232,4 +232,37 @@ fn variables_of(types: &[ComponentType], parts: &[Part]) -> Option<usize>
         next += width;
     }
     Some(next)
+}
+
+fn lists_are_in_range(plant: &Plant) -> bool
+    ensures { result ≡ lists_fit plant.now }
+{
+    let types = plant.types.as_slice();
+    let parts = plant.parts.as_slice();
+    name_is_in_range(&plant.name)
+        && domains_are_in_range(plant.domains.as_slice())
+        && types_are_in_range(plant.domains.len(), types)
+        && is_between(1, parts.len(), limits::PARTS as usize)
+        && parts_are_in_range(types, parts)
+}
+
+fn variables_are_read(plant: &Plant) -> bool
+    ensures { result ≡ variables_fit plant.now }
+{
+    let types = plant.types.as_slice();
+    let parts = plant.parts.as_slice();
+    match variables_of(types, parts) {
+        Some(bound) => {
+            parts_are_read(types, parts, bound)
+                && conditions_read(plant.laws.as_slice(), bound, VarId(0))
+        }
+        None => false,
+    }
+}
+
+/// Whether the plant is well formed.
+pub fn is_in_range(plant: &Plant) -> bool
+    ensures { result ≡ is_well_formed plant.now }
+{
+    lists_are_in_range(plant) && variables_are_read(plant)
 }

@@ -5,12 +5,13 @@
 //! | the lists | `Plant`, `Domain`, `ComponentType`, `Variable`, `Mode`, `Move`, `Part` |
 //! | the model | `Model`: a plant that is well formed |
 //! | its meaning | `Model::is_feasible`, `takes`, `is_step`, `moves_from` |
-//! | its names | `Model::part_named`, `variable_named`, `value_named` |
+//! | its names | `names`: the first item of a list with a name |
 #![tactic(auto)]
 
 mod check;
 pub mod meaning;
 pub mod model;
+pub mod names;
 pub mod plant;
 
 pub use model::Model;

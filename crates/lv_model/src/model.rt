@@ -1,10 +1,11 @@
 //! The model: a plant that is well formed, which its type keeps.
 #![tactic(auto)]
 
-ghost use Rattle.std.specs.Prelude.{◌≡◌, IfOk, IfErr, IsTrue, All};
-ghost use Rattle.lv_model.specs.WellFormed.{is_well_formed, Reads, PartReads};
+ghost use Rattle.std.specs.Prelude.{◌≡◌, IfOk, IfErr, IsTrue, All, is_ok};
+ghost use Rattle.lv_model.specs.WellFormed.{is_well_formed, Reads, PartReads, PartEnds};
 ghost use Rattle.lv_model.specs.Lists.{variable_count};
 
+use crate::check::is_in_range;
 use crate::plant::Plant;
 use std::marker;
 
@@ -31,11 +32,25 @@ impl marker::Model for Model {
 }
 
 impl Model {
+    /// The model of a plant, where the plant is well formed; else the plant again. Takes no memory.
+    pub fn new(plant: Plant) -> Result<Model, Plant>
+        ensures made { IfOk result (λ m. m ≡ plant) }
+        ensures refused { IfErr result (λ p. p ≡ plant) }
+        ensures tested { is_ok result ≡ is_well_formed plant }
+    {
+        if is_in_range(&plant) {
+            Ok(Model { plant })
+        } else {
+            Err(plant)
+        }
+    }
+
     /// The plant's lists.
     pub fn plant(&self) -> &Plant
         ensures plant { result.now ≡ self.now }
         ensures well_formed { IsTrue (is_well_formed result.now) }
         ensures parts { All (PartReads (variable_count result.now) result.now.types) result.now.parts }
+        ensures ends { All (PartEnds 4096 result.now.types) result.now.parts }
         ensures laws { All (Reads (variable_count result.now) 0) result.now.laws }
     {
         &self.plant

@@ -1,9 +1,12 @@
--- the plant is well formed, so its parts and laws read their variables alone
-use Rattle.lv_model.proofs.Reading.{parts-of_well_formed}
+-- the plant is well formed, so its parts and laws read their own variables alone
+use Rattle.lv_model.proofs.Reading.{parts-of_well_formed, laws-of_well_formed, ends-of_well_formed}
 use Rattle.lv_model.proofs.model.Model.plant.Goals as goal
 
 pub returns-clause-parts : goal.returns-clause-parts
-returns-clause-parts c = (parts-of_well_formed c.self.inside.plant c.self.invariant).0
+returns-clause-parts c = parts-of_well_formed c.self.inside.plant c.self.invariant
 
 pub returns-clause-laws : goal.returns-clause-laws
-returns-clause-laws c = (parts-of_well_formed c.self.inside.plant c.self.invariant).1
+returns-clause-laws c = laws-of_well_formed c.self.inside.plant c.self.invariant
+
+pub returns-clause-ends : goal.returns-clause-ends
+returns-clause-ends c = ends-of_well_formed c.self.inside.plant c.self.invariant
