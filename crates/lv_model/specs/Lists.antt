@@ -1,11 +1,15 @@
 -- What the lists of a plant say of its variables.
-use Rattle.std.specs.Prelude.{ℕ, ◌+◌, List, [], ◌∷◌, length, map, sum_by, slice_get}
+use Rattle.std.specs.Prelude.{ℕ, ◌+◌, List, [], ◌∷◌, length, map, sum_by, slice_get, Bool, true, false, if◌then◌else◌}
 use Rattle.std.specs.List.{flat_map}
 use Rattle.std.specs.Option.{option_map_or}
 use Rattle.lv_model.specs.declared.plant.Plant.{Plant}
 use Rattle.lv_model.specs.declared.plant.Domain.{Domain}
 use Rattle.lv_model.specs.declared.plant.ComponentType.{ComponentType}
 use Rattle.lv_model.specs.declared.plant.Part.{Part}
+use Rattle.lv_model.specs.declared.plant.Variable.{Variable}
+use Rattle.lv_model.specs.declared.plant.Class.{Class}
+use Rattle.lv_model.specs.declared.plant.Class.TheVariants.{Control, Dependent, Observable}
+use Rattle.lv_base.specs.declared.ids.VarId.{VarId}
 
 -- how many values the domain of this place has
 abbrev pub domain_size : List Domain → ℕ → ℕ
@@ -15,9 +19,12 @@ domain_size domains d = option_map_or (λ (x : Domain). length x.values) (slice_
 abbrev pub type_sizes : List Domain → ComponentType → List ℕ
 type_sizes domains t = length t.modes ∷ map (λ v. domain_size domains v.domain) t.variables
 
+abbrev pub part_sizes : List Domain → List ComponentType → Part → List ℕ
+part_sizes domains types p = option_map_or (type_sizes domains) (slice_get types p.kind) []
+
 -- how many values each variable of the plant has, part by part
 abbrev pub sizes : Plant → List ℕ
-sizes plant = flat_map (λ (p : Part). option_map_or (type_sizes plant.domains) (slice_get plant.types p.kind) []) plant.parts
+sizes plant = flat_map (part_sizes plant.domains plant.types) plant.parts
 
 -- how many variables an instance of the type has
 abbrev pub type_width : ComponentType → ℕ
@@ -29,3 +36,20 @@ part_width types p = option_map_or type_width (slice_get types p.kind) 0
 -- how many variables the plant has
 abbrev pub variable_count : Plant → ℕ
 variable_count plant = sum_by (part_width plant.types) plant.parts
+
+abbrev pub is_control : Class → Bool
+is_control Control = true
+is_control Dependent = false
+is_control Observable = false
+
+-- the controls among variables that are numbered from the first
+abbrev pub controls_from : ℕ → List Variable → List VarId
+controls_from first [] = []
+controls_from first (v ∷ vs) = (if is_control v.class then record { 0 = first } ∷ controls_from (first + 1) vs else controls_from (first + 1) vs)
+
+abbrev pub part_controls : List ComponentType → Part → List VarId
+part_controls types p = option_map_or (λ (t : ComponentType). controls_from (p.first.0 + 1) t.variables) (slice_get types p.kind) []
+
+-- the control variables of the plant, part by part
+abbrev pub controls : Plant → List VarId
+controls plant = flat_map (part_controls plant.types) plant.parts

@@ -13,6 +13,7 @@ pub mod meaning;
 pub mod model;
 pub mod names;
 pub mod plant;
+pub mod variables;
 
 pub use model::Model;
 pub use plant::{Class, ComponentType, Domain, Mode, Move, MoveKind, Name, Part, Plant, Variable};

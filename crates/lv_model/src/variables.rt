@@ -1,0 +1,124 @@
+//! What the lists of a plant say of its variables and moves.
+#![tactic(auto)]
+
+ghost use Rattle.std.specs.Prelude.{◌≡◌, ◌+◌, ◌<◌, ◌≤◌, ◌++◌, ◌^◌, IfOk, OnErr, IsTrue, All, length, map, option_map, slice_get, count_by, nat_lt, nat_eq};
+ghost use Rattle.std.specs.Option.{option_map_or, option_copied};
+ghost use Rattle.lv_model.specs.Lists.{domain_size, type_sizes, part_sizes, sizes, part_width, is_control, controls_from, part_controls, controls};
+ghost use Rattle.lv_model.specs.declared.plant.Variable.{Variable};
+ghost use Rattle.lv_model.specs.WellFormed.{PartEnds};
+ghost use Rattle.lv_model.specs.Moves.{first_move, move_count};
+
+use crate::check::type_of;
+use crate::model::Model;
+use crate::plant::{Class, ComponentType, Domain, Move, Part, Variable};
+use lv_base::{MoveId, ValId, VarId};
+use std::alloc::{AllocError, Global};
+
+/// How many values the domain of this place has; none where there is no such domain.
+fn size_of_domain(domains: &[Domain], domain: u32) -> usize
+    ensures { result ≡ domain_size domains.now domain }
+{
+    match domains.get(domain as usize) {
+        Some(d) => d.values.len(),
+        None => 0,
+    }
+}
+
+/// Adds how many values each of these variables has.
+fn push_domain_sizes(
+    out: &mut Vec<usize>,
+    domains: &[Domain],
+    variables: &[Variable],
+) -> Result<(), AllocError>
+    ensures { IfOk result (λ _. out.new.items ≡ out.old.items ++ map (λ (v : Variable). domain_size domains.now v.domain) variables.now) }
+{
+    for v in variables {
+        out.push(size_of_domain(domains, v.domain))?;
+    }
+    Ok(())
+}
+
+/// Adds how many values each variable of the part has, its mode first.
+fn push_part_sizes(
+    out: &mut Vec<usize>,
+    domains: &[Domain],
+    types: &[ComponentType],
+    part: &Part,
+) -> Result<(), AllocError>
+    ensures { IfOk result (λ _. out.new.items ≡ out.old.items ++ part_sizes domains.now types.now part.now) }
+{
+    if let Some(t) = type_of(types, part) {
+        out.push(t.modes.len())?;
+        push_domain_sizes(out, domains, t.variables.as_slice())?;
+    }
+    Ok(())
+}
+
+fn is_commanded(class: Class) -> bool
+    ensures { result ≡ is_control class }
+{
+    match class {
+        Class::Control => true,
+        Class::Dependent => false,
+        Class::Observable => false,
+    }
+}
+
+/// Adds the controls among these variables, of which the first has the number `first`.
+fn push_controls(out: &mut Vec<VarId>, variables: &[Variable], first: u32) -> Result<(), AllocError>
+    requires { first + length variables.now < 2 ^ 32 }
+    ensures { IfOk result (λ _. out.new.items ≡ out.old.items ++ controls_from first variables.now) }
+{
+    for (i, v) in variables.iter().enumerate() {
+        if is_commanded(v.class) {
+            out.push(VarId(first + i as u32))?;
+        }
+    }
+    Ok(())
+}
+
+/// Adds the controls of the part.
+fn push_part_controls(
+    out: &mut Vec<VarId>,
+    types: &[ComponentType],
+    part: &Part,
+) -> Result<(), AllocError>
+    requires { PartEnds 4096 types.now part.now }
+    ensures { IfOk result (λ _. out.new.items ≡ out.old.items ++ part_controls types.now part.now) }
+{
+    if let Some(t) = type_of(types, part) {
+        push_controls(out, t.variables.as_slice(), part.first.0 + 1)?;
+    }
+    Ok(())
+}
+
+impl Model {
+    /// How many values each variable has, part by part, the mode of each part first.
+    pub fn sizes(&self, alloc: Global) -> Result<Vec<usize>, AllocError>
+        ensures { IfOk result (λ out. out.items ≡ sizes self.now) }
+    {
+        let plant = self.plant();
+        let mut out = Vec::new(alloc);
+        for part in plant.parts.as_slice() {
+            push_part_sizes(
+                &mut out,
+                plant.domains.as_slice(),
+                plant.types.as_slice(),
+                part,
+            )?;
+        }
+        Ok(out)
+    }
+
+    /// The control variables in written order, part by part.
+    pub fn controls(&self, alloc: Global) -> Result<Vec<VarId>, AllocError>
+        ensures { IfOk result (λ out. out.items ≡ controls self.now) }
+    {
+        let plant = self.plant();
+        let mut out = Vec::new(alloc);
+        for part in plant.parts.as_slice() {
+            push_part_controls(&mut out, plant.types.as_slice(), part)?;
+        }
+        Ok(out)
+    }
+}
