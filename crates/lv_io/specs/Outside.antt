@@ -1,6 +1,6 @@
 -- Words of the contracts of shelves and sinks: what an open records, what a read gives, and what ties
 -- a fault to its count. What is not told is `None`, and then nothing is claimed of the bytes.
-use Rattle.std.specs.Prelude.{◌≡◌, ℕ, ◌-◌, ◌^◌, ◌<◌, ◌≤◌, ◌⊎◌, Bool, false, List, [], ◌∷◌, ◌++◌, length, take, Option, Result, Ok, Err, if◌then◌else◌, ◌==◌}
+use Rattle.std.specs.Prelude.{◌≡◌, ℕ, ◌-◌, ◌^◌, ◌<◌, ◌≤◌, ◌⊎◌, Bool, false, List, [], ◌∷◌, ◌++◌, length, take, Option, Result, Ok, Err, ◌&&◌, ◌==◌}
 use Rattle.std.specs.Io.KnownBytes.{prepend_known, append_known, IsAtEnd}
 use Rattle.lv_io.specs.declared.Role.{Role}
 use Rattle.lv_io.specs.declared.Role.TheVariants.{Model, Second}
@@ -44,5 +44,4 @@ pub record Writes (bytes : List ℕ) (before after : Option (List ℕ)) (n : ℕ
 
 -- a sink is flushed after these bytes were handed to it only where they are none and it was flushed before
 abbrev pub flushed_after : List ℕ → Bool → Bool
-flushed_after [] before = before
-flushed_after (byte ∷ bytes) before = false
+flushed_after bytes before = before && (length bytes == 0)

@@ -7,10 +7,16 @@
 #![tactic(auto)]
 
 ghost use Rattle.std.specs.Prelude.{◌≡◌, ◌≢◌, ℕ, Bool, true, List, Option, IfOk, OnOk, OnErr, IsTrue};
-ghost use Rattle.lv_io.specs.declared.IoFault.TheVariants.{Failed as IoFailed, Memory as IoMemory};
+ghost use Rattle.lv_io.specs.declared.IoFault.TheVariants.{Memory as IoMemory};
+ghost use Rattle.lv_io.specs.declared.ReadFault.TheVariants.{Memory as ReadMemory};
+ghost use Rattle.lv_io.specs.Faults.{read_fault_of};
+
+mod whole;
 
 use std::alloc::{AllocError, AllocFailed};
 use thiserror::Error;
+
+pub use whole::{read_all, write_all};
 
 /// Why a call on a shelf or a sink gave nothing.
 #[derive(Debug, Drop, PartialEq, Eq, Error)]
@@ -18,6 +24,20 @@ pub enum IoFault {
     /// The outside failed. The count of faults of the object that was called rose.
     #[error("the file or stream failed")]
     Failed,
+    /// Memory was wanting. No count of faults changes.
+    #[error("out of memory")]
+    Memory,
+}
+
+/// Why a file was not read whole.
+#[derive(Debug, Drop, PartialEq, Eq, Error)]
+pub enum ReadFault {
+    /// The shelf failed. The count of faults of the slot's role rose.
+    #[error("the file failed")]
+    Failed,
+    /// More bytes are there than the limit allows.
+    #[error("the file is too long")]
+    TooLong,
     /// Memory was wanting. No count of faults changes.
     #[error("out of memory")]
     Memory,
@@ -137,5 +157,24 @@ impl<T: Drop> From<AllocFailed<T>> for IoFault {
 
     fn from(_error: AllocFailed<T>) -> IoFault {
         IoFault::Memory
+    }
+}
+
+impl From<AllocError> for ReadFault {
+    ghost from_gives = { λ _ fault. fault ≡ ReadMemory };
+
+    fn from(_error: AllocError) -> ReadFault {
+        ReadFault::Memory
+    }
+}
+
+impl From<IoFault> for ReadFault {
+    ghost from_gives = { λ cause fault. fault ≡ read_fault_of cause };
+
+    fn from(fault: IoFault) -> ReadFault {
+        match fault {
+            IoFault::Failed => ReadFault::Failed,
+            IoFault::Memory => ReadFault::Memory,
+        }
     }
 }
