@@ -11,11 +11,15 @@ ghost use Rattle.lv_io.specs.declared.IoFault.TheVariants.{Memory as IoMemory};
 ghost use Rattle.lv_io.specs.declared.ReadFault.TheVariants.{Memory as ReadMemory};
 ghost use Rattle.lv_io.specs.Faults.{read_fault_of};
 
+mod mem_shelf;
+mod plan;
+mod shelf_log;
 mod whole;
 
 use std::alloc::{AllocError, AllocFailed};
 use thiserror::Error;
 
+pub use mem_shelf::MemShelf;
 pub use whole::{read_all, write_all};
 
 /// Why a call on a shelf or a sink gave nothing.
