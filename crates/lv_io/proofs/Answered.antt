@@ -53,6 +53,9 @@ module _ {X : Type 0} (role : X → Role) where
       ∙ ap (λ (o : Option X). option_map_or (same_role slot.role) (option_map role o) false) (get_front xs ys slot.index within)
       ∙ sym (slot_by xs slot)
 
+  pub known_stays : (xs ys : List X) (slot : Slot) → IsTrue (is_slot (map role xs) slot) → IsTrue (is_slot (map role (xs ++ ys)) slot)
+  known_stays xs ys slot known = slot_stays xs ys slot (slot_within xs slot known) ∙ known
+
   -- the slot of the newest place
   pub slot_added : (xs : List X) (y : X) (slot : Slot) → slot ≡ record { index = length xs; role = role y }
     → IsTrue (is_slot (map role (xs ++ y ∷ [])) slot)

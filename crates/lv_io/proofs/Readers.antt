@@ -66,12 +66,6 @@ rest_stays files readers more s known =
     ∙ ap (λ (o : Option Reader). if is_slot (roles_of readers) s then option_and_then (left_of files) o else None)
       (get_front readers more s.index within)
 
-pub slots_stay : (readers more : List Reader) (s : Slot)
-  → IsTrue (is_slot (roles_of readers) s)
-  → IsTrue (is_slot (roles_of (readers ++ more)) s)
-slots_stay readers more s known =
-    slot_stays role_at readers more s (slot_within role_at readers s known) ∙ known
-
 -- what is left of a new reader's slot
 pub rest_added : (files : List File) (readers : List Reader) (reader : Reader) (slot : Slot)
   → slot ≡ record { index = length readers; role = reader.role }

@@ -7,3 +7,5 @@ pub mod Slots
 pub mod Plan
 pub mod Memory
 pub mod MemShelf
+pub mod MemSink
+pub mod Streams

@@ -11,7 +11,10 @@ ghost use Rattle.lv_io.specs.declared.IoFault.TheVariants.{Memory as IoMemory};
 ghost use Rattle.lv_io.specs.declared.ReadFault.TheVariants.{Memory as ReadMemory};
 ghost use Rattle.lv_io.specs.Faults.{read_fault_of};
 
+mod host_shelf;
+mod host_sink;
 mod mem_shelf;
+mod mem_sink;
 mod plan;
 mod shelf_log;
 mod whole;
@@ -19,7 +22,10 @@ mod whole;
 use std::alloc::{AllocError, AllocFailed};
 use thiserror::Error;
 
+pub use host_shelf::HostShelf;
+pub use host_sink::HostSink;
 pub use mem_shelf::MemShelf;
+pub use mem_sink::MemSink;
 pub use whole::{read_all, write_all};
 
 /// Why a call on a shelf or a sink gave nothing.

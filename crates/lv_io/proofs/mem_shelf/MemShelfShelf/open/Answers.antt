@@ -1,11 +1,12 @@
 -- The slots before stay as they were, and the new one stands at the first byte.
 use Rattle.std.proofs.Common.{◌≡◌, Some, sym, ◌∙◌, ap}
 use Rattle.lv_io.specs.Memory.{File, place_of}
-use Rattle.lv_io.proofs.Readers.{slots_stay, rest_stays, file_there}
+use Rattle.lv_io.proofs.Answered.{known_stays}
+use Rattle.lv_io.proofs.Readers.{role_at, rest_stays, file_there}
 use Rattle.lv_io.proofs.mem_shelf.MemShelfShelf.open.Goals as goal
 
 pub returns-in-Some-clause-stays : goal.returns-in-Some-clause-stays
-returns-in-Some-clause-stays c = λ s known. rw (c.add_reader.ensures.added, c.in_ok-reserve.ensures.items) (slots_stay _ _ s known)
+returns-in-Some-clause-stays c = λ s known. rw (c.add_reader.ensures.added, c.in_ok-reserve.ensures.items) (known_stays role_at _ _ s known)
 
 pub returns-in-Some-clause-left : goal.returns-in-Some-clause-left
 returns-in-Some-clause-left c = λ s known. rw (c.add_reader.ensures.added, c.in_ok-reserve.ensures.items) (rest_stays _ _ _ s known)
