@@ -28,10 +28,10 @@ slot_role roles slot known = role_there (slice_get roles slot.index) slot.role k
 
 -- two slots that were answered at one place are one
 pub same_slot : (roles : List Role) (s slot : Slot)
-  → IsTrue (is_slot roles s) → IsTrue (is_slot roles slot) → s.index ≡ slot.index → s ≡ slot
+    → IsTrue (is_slot roles s) → IsTrue (is_slot roles slot) → s.index ≡ slot.index → s ≡ slot
 same_slot roles s slot here known place =
     let roles_at : Some s.role ≡ Some slot.role =
-        sym (slot_role roles s here) ∙ ap (slice_get roles) place ∙ slot_role roles slot known in
+    sym (slot_role roles s here) ∙ ap (slice_get roles) place ∙ slot_role roles slot known in
     let one_role : s.role ≡ slot.role = cc roles_at in
     ap₂ (λ (i : ℕ) (r : Role). record { index = i; role = r }) place one_role
 
@@ -39,11 +39,11 @@ module _ {X : Type 0} (role : X → Role) where
   pub slot_within : (xs : List X) (slot : Slot) → IsTrue (is_slot (map role xs) slot) → slot.index < length xs
   slot_within xs slot known =
       subst (λ (n : ℕ). slot.index < n) (length-map xs role)
-        (slice_get_within (map role xs) slot.index slot.role (slot_role (map role xs) slot known))
+      (slice_get_within (map role xs) slot.index slot.role (slot_role (map role xs) slot known))
 
   -- whether a slot was answered, by what stands at its place
   pub slot_by : (xs : List X) (slot : Slot)
-    → is_slot (map role xs) slot ≡ option_map_or (same_role slot.role) (option_map role (slice_get xs slot.index)) false
+      → is_slot (map role xs) slot ≡ option_map_or (same_role slot.role) (option_map role (slice_get xs slot.index)) false
   slot_by xs slot = ap (λ (o : Option Role). option_map_or (same_role slot.role) o false) (slice_get-map role xs slot.index)
 
   -- a slot that was answered stays so as more are
@@ -58,12 +58,12 @@ module _ {X : Type 0} (role : X → Role) where
 
   -- the slot of the newest place
   pub slot_added : (xs : List X) (y : X) (slot : Slot) → slot ≡ record { index = length xs; role = role y }
-    → IsTrue (is_slot (map role (xs ++ y ∷ [])) slot)
+      → IsTrue (is_slot (map role (xs ++ y ∷ [])) slot)
   slot_added xs y slot is =
       subst (λ (s : Slot). IsTrue (is_slot (map role (xs ++ y ∷ [])) s)) (sym is)
-        (slot_by (xs ++ y ∷ []) (record { index = length xs; role = role y })
-         ∙ ap (λ (o : Option X). option_map_or (same_role (role y)) (option_map role o) false) (get_end xs y)
-         ∙ same_role_same (role y))
+      (slot_by (xs ++ y ∷ []) (record { index = length xs; role = role y })
+      ∙ ap (λ (o : Option X). option_map_or (same_role (role y)) (option_map role o) false) (get_end xs y)
+      ∙ same_role_same (role y))
 
   -- a write that keeps the role at its place keeps all roles
   pub roles_kept : (xs : List X) (i : ℕ) (x y : X) → slice_get xs i ≡ Some x → role y ≡ role x → map role (set xs i y) ≡ map role xs

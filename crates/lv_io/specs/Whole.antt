@@ -1,10 +1,10 @@
 -- Words of the contracts of `read_all` and `write_all`: whole files and whole texts, of calls that take
 -- a piece at a time.
-use Rattle.std.specs.Prelude.{◌≡◌, ℕ, ◌+◌, ◌<◌, ◌≤◌, List, length, take, drop, Option, Result, Ok, Err, IfSome}
+use Rattle.std.specs.Prelude.{◌≡◌, ℕ, ◌+◌, ◌<◌, ◌≤◌, ◌⊎◌, List, [], ◌∷◌, ◌++◌, length, take, drop, Option, Result, Ok, Err, IfSome}
 use Rattle.std.specs.Io.KnownBytes.{prepend_known, append_known, IsAtEnd}
 use Rattle.lv_io.specs.declared.ReadFault.{ReadFault}
 use Rattle.lv_io.specs.declared.ReadFault.TheVariants.{Failed, TooLong, Memory}
-use Rattle.lv_io.specs.Outside.{Rose}
+use Rattle.lv_io.specs.Outside.{Opened, Rose}
 
 -- what was left are these bytes, and nothing is left after them
 pub record TakesAll (bytes : List ℕ) (before after : Option (List ℕ)) : Type 0 where
@@ -33,6 +33,13 @@ HasReadCause old new (Err Failed) = Rose old new
 HasReadCause old new (Err TooLong) = new ≡ old
 HasReadCause old new (Err Memory) = new ≡ old
 HasReadCause old new (Ok x) = new ≡ old
+
+-- the open was recorded, and nothing else; only where memory was wanting, maybe nothing
+abbrev pub OpensOne : {T : Type 0} → List Opened → Opened → List Opened → Result T ReadFault → Type 0
+OpensOne old opened new (Err Memory) = (new ≡ old) ⊎ (new ≡ old ++ opened ∷ [])
+OpensOne old opened new (Err Failed) = new ≡ old ++ opened ∷ []
+OpensOne old opened new (Err TooLong) = new ≡ old ++ opened ∷ []
+OpensOne old opened new (Ok x) = new ≡ old ++ opened ∷ []
 
 -- a front of the bytes was added to the text
 abbrev pub AddsFront : List ℕ → Option (List ℕ) → Option (List ℕ) → Type 0

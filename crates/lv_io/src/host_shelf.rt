@@ -10,10 +10,9 @@ ghost use Rattle.lv_io.specs.Streams.{stream_role, stream_roles};
 use crate::shelf_log::{Counts, Opens};
 use crate::{IoFault, Role, Shelf, Slot};
 use std::alloc::Global;
-use std::fs;
 use std::fs::Files;
-use std::io;
 use std::io::{Input, Read};
+use std::{fs, io};
 
 /// The name that stands for standard input.
 const STDIN: &str = "stdin";

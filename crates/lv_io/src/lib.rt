@@ -19,14 +19,13 @@ mod plan;
 mod shelf_log;
 mod whole;
 
-use std::alloc::{AllocError, AllocFailed};
-use thiserror::Error;
-
 pub use host_shelf::HostShelf;
 pub use host_sink::HostSink;
 pub use mem_shelf::MemShelf;
 pub use mem_sink::MemSink;
-pub use whole::{read_all, write_all};
+use std::alloc::{AllocError, AllocFailed};
+use thiserror::Error;
+pub use whole::{read_all, read_file, write_all};
 
 /// Why a call on a shelf or a sink gave nothing.
 #[derive(Debug, Drop, PartialEq, Eq, Error)]
@@ -188,3 +187,6 @@ impl From<IoFault> for ReadFault {
         }
     }
 }
+
+#[cfg(test)]
+mod tests;

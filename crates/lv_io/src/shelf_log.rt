@@ -20,7 +20,10 @@ impl Counts {
     pub fn zero() -> Counts
         ensures { result ≡ record { model = 0; second = 0 } }
     {
-        Counts { model: 0, second: 0 }
+        Counts {
+            model: 0,
+            second: 0,
+        }
     }
 
     pub fn of(&self, role: Role) -> u64

@@ -1,14 +1,14 @@
 //! Whole files and whole texts over shelves and sinks that take a piece at a time.
 
-ghost use Rattle.std.specs.Prelude.{◌≡◌, ◌≢◌, ℕ, ◌+◌, ◌<◌, ◌≤◌, IfOk, OnOk, OnErr, IfErr, IsTrue, length, vec_len, true};
+ghost use Rattle.std.specs.Prelude.{◌≡◌, ◌≢◌, ℕ, ◌+◌, ◌<◌, ◌≤◌, IfOk, OnOk, OnErr, IfErr, IfSome, IsTrue, length, vec_len, true};
 ghost use Rattle.std.specs.Io.KnownBytes.{append_known};
 ghost use Rattle.lv_io.specs.declared.Role.{Role};
 ghost use Rattle.lv_io.specs.declared.Slot.{Slot};
 ghost use Rattle.lv_io.specs.declared.ReadFault.TheVariants.{Failed as ReadFailed, TooLong as IsTooLong, Memory as ReadMemory};
 ghost use Rattle.lv_io.specs.Outside.{HasCause, flushed_after};
-ghost use Rattle.lv_io.specs.Whole.{TakesAll, IsLonger, TakesAtMost, Grows, HasReadCause, AddsFront};
+ghost use Rattle.lv_io.specs.Whole.{TakesAll, IsLonger, TakesAtMost, Grows, HasReadCause, OpensOne, AddsFront};
 
-use crate::{IoFault, ReadFault, Shelf, Sink, Slot};
+use crate::{IoFault, ReadFault, Role, Shelf, Sink, Slot};
 use std::alloc::Global;
 
 /// The most that is read or asked for at a time, in bytes.
@@ -51,6 +51,31 @@ pub fn read_all<F: Shelf>(
             return Err(ReadFault::TooLong);
         }
     }
+}
+
+/// Opens a file and reads it whole, as `read_all` does.
+pub fn read_file<F: Shelf>(
+    alloc: Global,
+    shelf: &mut F,
+    role: Role,
+    name: &str,
+    limit: u64,
+) -> Result<Vec<u8>, ReadFault>
+    // What was read.
+    ensures bytes { IfOk result (λ bytes. IfSome (F.file shelf.old name.now) (λ file. file ≡ bytes.items)) }
+    ensures within { IfOk result (λ bytes. length bytes.items ≤ limit) }
+    ensures too_long { result ≡ Err ReadFault.TooLong → IsLonger limit (F.file shelf.old name.now) }
+
+    // What is recorded, and what stays.
+    ensures opens { OpensOne (F.opens shelf.old) (record { role = role; name = name.now }) (F.opens shelf.new) result }
+    ensures files { F.file shelf.new ≡ F.file shelf.old }
+
+    // Whose fault it was.
+    ensures cause { HasReadCause (F.faults shelf.old role) (F.faults shelf.new role) result }
+    ensures others { (r : Role) → r ≢ role → F.faults shelf.new r ≡ F.faults shelf.old r }
+{
+    let slot = shelf.open(role, name)?;
+    read_all(alloc, shelf, slot, limit)
 }
 
 /// How much to ask for next where `len` bytes came: up to one byte past the limit.

@@ -7,6 +7,6 @@ pub returns-clause-bytes : goal.returns-clause-bytes
 returns-clause-bytes c =
     let lengths = ap length c.left_of-left.ensures in
     piece_read _ _ c.min-n.result c.copy_from_slice.new.self (drop c.min-n.result c.args.buf.now)
-      (c.copy_from_slice.ensures.after ∙ ap (take c.min-n.result) c.left_of-left.ensures)
-      (omega (arith, lengths))
-      (λ none room. omega (arith, lengths, none, simp (length-append, length-drop) at room, simp length-take at c.copy_from_slice.ensures.len))
+    (c.copy_from_slice.ensures.after ∙ ap (take c.min-n.result) c.left_of-left.ensures)
+    (omega (arith, lengths))
+    (λ none room. omega (arith, lengths, none, simp (length-append, length-drop) at room, simp length-take at c.copy_from_slice.ensures.len))

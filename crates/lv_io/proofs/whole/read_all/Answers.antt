@@ -13,7 +13,7 @@ returns-then-len-limit-clause-taken g c =
     taken_within _ _ _ _ _ _ c.read.invariant.taken (omega arith) c.in_ok-read_piece.ensures.taken
 
 pub read-preserved : goal.read-preserved
-read-preserved g c = 
+read-preserved g c =
     let grows = c.in_ok-read_piece.ensures.bytes in
     record {
       within = search rules;

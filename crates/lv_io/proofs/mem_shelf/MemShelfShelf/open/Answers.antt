@@ -14,5 +14,5 @@ returns-in-Some-clause-left c = λ s known. rw (c.add_reader.ensures.added, c.in
 pub returns-in-Some-clause-found : goal.returns-in-Some-clause-found
 returns-in-Some-clause-found c =
     let place : place_of c.args.self.now.files.items c.args.name.now ≡ Some c.in-Some.file =
-        ap (λ files. place_of files c.args.name.now) (sym c.as_slice.ensures.value) ∙ sym c.place_of.ensures ∙ c.in-Some.is in
+    ap (λ files. place_of files c.args.name.now) (sym c.as_slice.ensures.value) ∙ sym c.place_of.ensures ∙ c.in-Some.is in
     (sym c.if-not-fails.ensures.answer, file_there c.args.self.now.files.items c.args.name.now c.in-Some.file place)

@@ -21,5 +21,5 @@ returns-clause-count c =
     let here = slice_get_read c.args.self.now.readers.items _ c.args.slot.index c.index.result.now refl within c.index.ensures in
     c.read_next-n.ensures.count
     ∙ ap (λ (o : Option (List ℕ)). piece_of c.args.self.now.piece (length c.args.buf.now) (length (unwrap_or o [])))
-        (ap (λ (files : List File). left_of files c.index.result.now) c.as_slice.ensures.value
-         ∙ sym (rest_here c.args.self.now.files.items c.args.self.now.readers.items c.args.slot c.index.result.now c.requires here))
+    (ap (λ (files : List File). left_of files c.index.result.now) c.as_slice.ensures.value
+    ∙ sym (rest_here c.args.self.now.files.items c.args.self.now.readers.items c.args.slot c.index.result.now c.requires here))
