@@ -1,5 +1,5 @@
 -- Counts of faults over several calls.
-use Rattle.std.proofs.Common.{◌≡◌, ◌≢◌, ℕ, ◌-◌, ◌^◌, ◌<◌, ◌≤◌, ◌⊎◌, inl, inr, arith}
+use Rattle.std.proofs.Common.{◌≡◌, ◌≢◌, ℕ, ◌≤◌, arith}
 use Rattle.lv_io.specs.declared.Role.{Role}
 use Rattle.lv_io.specs.declared.Role.TheVariants.{Model, Second}
 use Rattle.lv_io.specs.Outside.{Rose}

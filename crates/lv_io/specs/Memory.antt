@@ -1,6 +1,6 @@
 -- Files in memory: what a name is looked up as, and what is left to a reader.
 use Rattle.std.specs.Global.{Global, Vec}
-use Rattle.std.specs.Prelude.{ℕ, Bool, List, Option, None, String, string_bytes, length, drop, map, min, max, position, slice_get, nat_eq, if◌then◌else◌}
+use Rattle.std.specs.Prelude.{ℕ, Bool, List, Option, None, String, string_bytes, drop, map, min, max, position, slice_get, nat_eq, if◌then◌else◌}
 use Rattle.std.specs.Option.{option_map, option_and_then}
 use Rattle.std.specs.Cmp.Lexicographic.{pointwise}
 use Rattle.lv_io.specs.declared.Role.{Role}

@@ -1,5 +1,5 @@
 -- The opens that a shelf keeps.
-use Rattle.std.specs.Prelude.{List, map, string_bytes}
+use Rattle.std.specs.Prelude.{string_bytes}
 use Rattle.lv_io.specs.Outside.{Opened}
 use Rattle.lv_io.specs.declared.shelf_log.Entry.{Entry}
 

@@ -1,9 +1,8 @@
 -- Words of the contracts of shelves and sinks: what an open records, what a read gives, and what ties
 -- a fault to its count. What is not told is `None`, and then nothing is claimed of the bytes.
-use Rattle.std.specs.Prelude.{◌≡◌, ℕ, ◌-◌, ◌^◌, ◌<◌, ◌≤◌, ◌⊎◌, Bool, false, List, [], ◌∷◌, ◌++◌, length, take, Option, Result, Ok, Err, ◌&&◌, ◌==◌}
+use Rattle.std.specs.Prelude.{◌≡◌, ℕ, ◌-◌, ◌^◌, ◌<◌, ◌≤◌, ◌⊎◌, Bool, List, [], ◌∷◌, ◌++◌, length, take, Option, Result, Ok, Err, ◌&&◌, ◌==◌}
 use Rattle.std.specs.Io.KnownBytes.{prepend_known, append_known, IsAtEnd}
 use Rattle.lv_io.specs.declared.Role.{Role}
-use Rattle.lv_io.specs.declared.Role.TheVariants.{Model, Second}
 use Rattle.lv_io.specs.declared.Slot.{Slot}
 use Rattle.lv_io.specs.declared.IoFault.{IoFault}
 use Rattle.lv_io.specs.declared.IoFault.TheVariants.{Failed, Memory}

@@ -46,10 +46,7 @@ fn a_failed_read_counts(rt: HostRuntime) {
     let alloc = rt.alloc();
     let fails = Vec::from_slice(alloc, &[3]).expect(&rt, "memory");
     let mut shelf = shelf(alloc, fails).expect(&rt, "memory");
-    let Ok(slot) = shelf.open(Role::Second, "valve") else {
-        assert!(rt; false, "open");
-        return;
-    };
+    let slot = shelf.open(Role::Second, "valve").expect(&rt, "open");
     let got = read_all(alloc, &mut shelf, slot, 100);
     assert_eq!(rt; got.err(), Some(ReadFault::Failed));
     assert_eq!(rt; shelf.faults(Role::Second), 1);
@@ -83,8 +80,8 @@ fn stands_for_the_system(rt: HostRuntime) {
     assert!(rt; shelf.open(Role::Second, "stdin").is_ok());
     let again = shelf.open(Role::Second, "stdin");
     assert_eq!(rt; again.err(), Some(IoFault::Failed));
-    let read = read_file(alloc, &mut shelf, Role::Model, "/dev/null", 0);
-    assert!(rt; matches!(read, Ok(bytes) if bytes.is_empty()));
+    let read = read_file(alloc, &mut shelf, Role::Model, "/dev/null", 0).expect(&rt, "read");
+    assert!(rt; read.is_empty());
     let mut sink = HostSink::new(Vec::new(alloc));
     assert_eq!(rt; write_all(&mut sink, b"ok\n"), Ok(()));
     assert_eq!(rt; sink.flush(), Ok(()));

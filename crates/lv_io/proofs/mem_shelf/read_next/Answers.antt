@@ -1,5 +1,5 @@
 -- The piece is the front of what was left.
-use Rattle.std.proofs.Common.{◌≡◌, ◌≤◌, ◌<◌, ℕ, length, take, drop, ◌∙◌, ap, arith, length-append, length-take, length-drop}
+use Rattle.std.proofs.Common.{length, take, drop, ◌∙◌, ap, arith, length-append, length-take, length-drop}
 use Rattle.lv_io.proofs.Readers.{piece_read}
 use Rattle.lv_io.proofs.mem_shelf.read_next.Goals as goal
 

@@ -1,6 +1,5 @@
 -- What was taken of the slot at each exit, from what was taken before and by the last read.
-use Rattle.std.proofs.Common.{◌≡◌, ◌+◌, ◌≤◌, length, rules, arith, ◌∙◌, ap}
-use Rattle.std.specs.Io.KnownBytes.{prepend_known}
+use Rattle.std.proofs.Common.{rules, arith}
 use Rattle.lv_io.proofs.Pieces.{taken_more, taken_within}
 use Rattle.lv_io.proofs.whole.read_all.Goals as goal
 

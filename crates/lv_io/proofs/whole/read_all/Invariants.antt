@@ -1,5 +1,5 @@
 -- The bytes kept are what was taken of the slot, and fit the limit; nothing else of the shelf moved.
-use Rattle.std.proofs.Common.{◌≡◌, ◌≢◌, ℕ, ◌-◌, ◌≤◌, length}
+use Rattle.std.proofs.Common.{◌≡◌, ◌≢◌, ◌-◌, ◌≤◌, length}
 use Rattle.std.specs.Io.KnownBytes.{prepend_known}
 use Rattle.lv_io.specs.declared.Role.{Role}
 use Rattle.lv_io.specs.declared.Slot.{Slot}

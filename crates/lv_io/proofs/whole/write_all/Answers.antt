@@ -1,5 +1,5 @@
 -- One more piece of the text, behind those before.
-use Rattle.std.proofs.Common.{rules, arith, length-take, length-drop, ◌<◌, ◌≤◌, length, take, drop, ◌-◌}
+use Rattle.std.proofs.Common.{rules, arith, length-drop}
 use Rattle.lv_io.proofs.Pieces.{rest_of_bytes, added_more, flushed_more}
 use Rattle.lv_io.proofs.whole.write_all.Goals as goal
 

@@ -1,6 +1,6 @@
 -- The slots before stay as they were, and the new one stands at the first byte.
 use Rattle.std.proofs.Common.{◌≡◌, Some, sym, ◌∙◌, ap}
-use Rattle.lv_io.specs.Memory.{File, place_of}
+use Rattle.lv_io.specs.Memory.{place_of}
 use Rattle.lv_io.proofs.Answered.{known_stays}
 use Rattle.lv_io.proofs.Readers.{role_at, rest_stays, file_there}
 use Rattle.lv_io.proofs.mem_shelf.MemShelfShelf.open.Goals as goal

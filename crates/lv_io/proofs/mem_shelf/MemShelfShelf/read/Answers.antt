@@ -1,8 +1,7 @@
 -- The reader of the slot goes on, and every other stays.
-use Rattle.std.proofs.Common.{◌≡◌, ℕ, List, [], length, Option, Some, refl, sym, ◌∙◌, ap}
-use Rattle.std.specs.Prelude.{slice_get, unwrap_or}
+use Rattle.std.proofs.Common.{ℕ, List, [], length, Option, refl, sym, ◌∙◌, ap}
+use Rattle.std.specs.Prelude.{unwrap_or}
 use Rattle.std.proofs.lemmas.Option.{slice_get_read}
-use Rattle.lv_io.specs.declared.mem_shelf.Reader.{Reader}
 use Rattle.lv_io.specs.Slots.{is_slot}
 use Rattle.lv_io.specs.Memory.{File, left_of, piece_of}
 use Rattle.lv_io.proofs.Answered.{roles_kept, slot_within}
