@@ -1,0 +1,11 @@
+pub mod Faults
+pub mod Outside
+pub mod Whole
+pub mod Counts
+pub mod Opens
+pub mod Slots
+pub mod Plan
+pub mod Memory
+pub mod MemShelf
+pub mod MemSink
+pub mod Streams

@@ -1,0 +1,88 @@
+//! What no clause says: that the calls succeed with ample memory, and with which answers.
+
+use crate::{
+    HostShelf, HostSink, IoFault, MemShelf, MemSink, ReadFault, Role, Shelf, Sink, read_all,
+    read_file, write_all,
+};
+use std::alloc::{AllocError, Global};
+
+/// A shelf of two files, read three bytes at a time.
+fn shelf(alloc: Global, fails: Vec<u64>) -> Result<MemShelf, AllocError> {
+    let mut files = Vec::new(alloc);
+    files.push((
+        String::from_str(alloc, "valve")?,
+        Vec::from_slice(alloc, b"model valve\n")?,
+    ))?;
+    files.push((String::from_str(alloc, "empty")?, Vec::new(alloc)))?;
+    Ok(MemShelf::new(alloc, files, 3, fails))
+}
+
+#[test]
+fn reads_whole_files_up_to_the_limit(rt: HostRuntime) {
+    let alloc = rt.alloc();
+    let mut shelf = shelf(alloc, Vec::new(alloc)).expect(&rt, "memory");
+    let table: [(&str, u64, Result<&[u8], ReadFault>); 5] = [
+        ("valve", 12, Ok(b"model valve\n")),
+        ("valve", 11, Err(ReadFault::TooLong)),
+        ("empty", 0, Ok(b"")),
+        ("valve", u64::MAX, Ok(b"model valve\n")),
+        ("pump", 12, Err(ReadFault::Failed)),
+    ];
+    for (name, limit, want) in table.iter() {
+        let got = read_file(alloc, &mut shelf, Role::Model, name, *limit);
+        match (&got, want) {
+            (Ok(got), Ok(want)) => assert!(rt; got.as_slice() == *want, "{name}"),
+            (Err(got), Err(want)) => assert_eq!(rt; got, want, "{name}"),
+            _ => assert!(rt; false, "{name} {limit}"),
+        }
+    }
+    assert_eq!(rt; shelf.faults(Role::Model), 1);
+    assert_eq!(rt; shelf.faults(Role::Second), 0);
+}
+
+/// The third call, a read in mid-stream, fails, and counts for its role alone.
+#[test]
+fn a_failed_read_counts(rt: HostRuntime) {
+    let alloc = rt.alloc();
+    let fails = Vec::from_slice(alloc, &[3]).expect(&rt, "memory");
+    let mut shelf = shelf(alloc, fails).expect(&rt, "memory");
+    let slot = shelf.open(Role::Second, "valve").expect(&rt, "open");
+    let got = read_all(alloc, &mut shelf, slot, 100);
+    assert_eq!(rt; got.err(), Some(ReadFault::Failed));
+    assert_eq!(rt; shelf.faults(Role::Second), 1);
+    assert_eq!(rt; shelf.faults(Role::Model), 0);
+}
+
+/// The fifth call, a write in mid-stream, fails, and leaves a front of the bytes.
+#[test]
+fn writes_texts_whole_or_a_front(rt: HostRuntime) {
+    let alloc = rt.alloc();
+    let fails = Vec::from_slice(alloc, &[5]).expect(&rt, "memory");
+    let mut sink = MemSink::new(alloc, 2, fails);
+    assert_eq!(rt; write_all(&mut sink, b"ok\n"), Ok(()));
+    assert!(rt; !sink.is_flushed());
+    assert_eq!(rt; sink.flush(), Ok(()));
+    assert!(rt; sink.is_flushed());
+    assert_eq!(rt; write_all(&mut sink, b"more"), Err(IoFault::Failed));
+    assert!(rt; sink.text() == b"ok\nmo".as_slice());
+    assert_eq!(rt; write_all(&mut sink, b"more"), Ok(()));
+    assert!(rt; sink.text() == b"ok\nmomore".as_slice());
+    assert_eq!(rt; sink.faults(), 1);
+}
+
+/// A file that isn't there fails, standard input opens once, and an empty file reads as no bytes.
+#[test]
+fn stands_for_the_system(rt: HostRuntime) {
+    let alloc = rt.alloc();
+    let mut shelf = HostShelf::new(alloc, &rt);
+    let missing = shelf.open(Role::Model, "no such folder/no such file");
+    assert_eq!(rt; missing.err(), Some(IoFault::Failed));
+    assert!(rt; shelf.open(Role::Second, "stdin").is_ok());
+    let again = shelf.open(Role::Second, "stdin");
+    assert_eq!(rt; again.err(), Some(IoFault::Failed));
+    let read = read_file(alloc, &mut shelf, Role::Model, "/dev/null", 0).expect(&rt, "read");
+    assert!(rt; read.is_empty());
+    let mut sink = HostSink::new(Vec::new(alloc));
+    assert_eq!(rt; write_all(&mut sink, b"ok\n"), Ok(()));
+    assert_eq!(rt; sink.flush(), Ok(()));
+}
