@@ -1,0 +1,9 @@
+//! The lowest layer of reading: a text is cut into lines, and a line into tokens.
+//!
+//! - `lines`: where the first line of a text ends.
+//! - `lexer`: the tokens of one line, or the first byte that is not allowed.
+//! - `numbers`: the value of a token of digits.
+//! - `laws`: what holds of lines and tokens whatever the text, and worked examples.
+#![tactic(auto)]
+
+pub mod lexer;
