@@ -1,3 +1,6 @@
 pub mod Bytes
 pub mod Pieces
 pub mod Tokens
+pub mod Kinds
+pub mod Lines
+pub mod Numbers

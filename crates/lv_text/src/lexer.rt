@@ -4,12 +4,14 @@
 //! and a word takes all the letters, digits and `_` that follow. Between tokens stand spaces and tabs;
 //! `#` begins a comment, which may hold any bytes. Every other byte is a fault.
 
-ghost use Rattle.std.specs.Prelude.{◌≡◌, ℕ, ◌<◌, ◌≤◌, length, drop, All, IfOk, IfErr, codes, nat_eq};
+ghost use Rattle.std.specs.Prelude.{◌≡◌, ℕ, ◌<◌, ◌≤◌, length, drop, All, IfOk, IfErr, IsTrue};
 ghost use Rattle.std.specs.List.{prefix_len};
 ghost use Rattle.lv_text.specs.Bytes.{is_letter, is_digit, is_word_byte};
 ghost use Rattle.lv_text.specs.Pieces.{number_piece, symbol_piece, piece_of};
+ghost use Rattle.lv_text.specs.Tokens.{line_tokens, all_tokens, lexed, Tells, tokens_at, tokens_behind};
+ghost use Rattle.lv_text.specs.Kinds.{IsTokenOf, follow_on, BeginsWith};
 
-use std::alloc::Global;
+use std::alloc::{AllocFailed, Global};
 use thiserror::Error;
 
 /// The most bytes that a line may have, its comment included and its end not.
@@ -64,6 +66,16 @@ pub enum TextFault {
     /// Memory ran out. No clause says when.
     #[error("out of memory")]
     Memory,
+}
+
+impl From<AllocFailed<Token>> for TextFault {
+    ghost use Rattle.lv_text.specs.declared.lexer.TextFault.TheVariants.{Memory};
+
+    ghost from_gives = { λ _ fault. fault ≡ Memory };
+
+    fn from(_failed: AllocFailed<Token>) -> TextFault {
+        TextFault::Memory
+    }
 }
 
 /// What the rest of a line begins with.
@@ -156,4 +168,55 @@ fn piece_of(rest: &[u8]) -> Piece
     } else {
         symbol_piece(rest)
     }
+}
+
+fn piece_at(line: &[u8], place: usize) -> Piece
+    requires { place ≤ length line.now }
+    ensures tokens { tokens_at line.now place ≡ tokens_behind line.now place result }
+    ensures fits { BeginsWith (drop place line.now) result }
+{
+    piece_of(&line[place..])
+}
+
+// The tokens of a line that is not too long.
+fn all_tokens(alloc: Global, line: &[u8]) -> Result<Vec<Token>, TextFault>
+    ensures ok { IfOk result (λ found. all_tokens line.now ≡ lexed found.items) }
+    ensures fault { IfErr result (λ fault. Tells fault (all_tokens line.now)) }
+{
+    let mut found = Vec::new(alloc);
+    let mut place = 0;
+    while place < line.len() {
+        match piece_at(line, place) {
+            Piece::End => return Ok(found),
+            Piece::Blank => place += 1,
+            Piece::Lexeme(kind, length) => {
+                let end = place + length;
+                found.push(Token {
+                    kind,
+                    start: place,
+                    end,
+                })?;
+                place = end;
+            }
+            Piece::Fault(offset) => return Err(TextFault::BadByte(place + offset)),
+        }
+    }
+    Ok(found)
+}
+
+/// The tokens of a line, in order, each a part of it. The line is given without its end; a carriage
+/// return in it is a byte like any other that begins no token.
+pub fn tokens(alloc: Global, line: &[u8]) -> Result<Vec<Token>, TextFault>
+    ensures ok { IfOk result (λ found. line_tokens line.now ≡ lexed found.items) }
+
+    // A line too long is told before anything else; else the first byte not allowed is.
+    ensures fault { IfErr result (λ fault. Tells fault (line_tokens line.now)) }
+
+    ensures each { IfOk result (λ found. All (IsTokenOf line.now) found.items) }
+    ensures in_order { IfOk result (λ found. IsTrue (follow_on 0 found.items)) }
+{
+    if line.len() > LONGEST_LINE {
+        return Err(TextFault::LongLine);
+    }
+    all_tokens(alloc, line)
 }

@@ -7,3 +7,9 @@
 #![tactic(auto)]
 
 pub mod lexer;
+pub mod lines;
+pub mod numbers;
+
+pub use lexer::{LONGEST_LINE, TextFault, Token, TokenKind, tokens};
+pub use lines::{Line, first_line, last_line, next_line};
+pub use numbers::number;
