@@ -4,3 +4,8 @@ pub mod TokenSteps
 pub mod TokenFacts
 pub mod LineFacts
 pub mod NumberFacts
+pub mod LineLaws
+pub mod TokenMoves
+pub mod PieceLaws
+pub mod TokenLaws
+pub mod TextLaws

@@ -57,7 +57,7 @@ unended_lines-found (b ∷ more) h = by (unended_lines-found more) (is_line_feed
         ∙ ap (λ k. take (1 + m) (b ∷ more) ∷ unended_lines (drop k (b ∷ more))) two
 
 -- a text without a line feed is one line, if it is not empty
-unended_lines-last : (text : List ℕ) → list_any is_line_feed text ≡ false → 0 < length text → unended_lines text ≡ text ∷ []
+pub unended_lines-last : (text : List ℕ) → list_any is_line_feed text ≡ false → 0 < length text → unended_lines text ≡ text ∷ []
 unended_lines-last [] h some = absurd (omega arith)
 unended_lines-last (b ∷ []) h some = by (is_line_feed b) h
   where

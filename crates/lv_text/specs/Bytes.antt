@@ -1,5 +1,6 @@
 -- The classes of bytes that lines are made of.
-use Rattle.std.specs.Prelude.{ℕ, Bool, ◌||◌, nat_eq}
+use Rattle.std.specs.Prelude.{ℕ, Bool, ◌||◌, nat_eq, codes}
+use Rattle.std.specs.List.{list_any}
 use Rattle.std.specs.Char.{is_ascii_alphabetic, is_ascii_digit}
 
 -- a letter of ASCII or `_`
@@ -21,3 +22,7 @@ is_blank b = nat_eq b 32 || nat_eq b 9
 -- the byte that begins a comment, `#`
 abbrev pub is_comment_mark : ℕ → Bool
 is_comment_mark b = nat_eq b 35
+
+-- a byte that stands in a symbol
+abbrev pub is_symbol_byte : ℕ → Bool
+is_symbol_byte b = list_any (nat_eq b) (codes "<=>-!&|().")

@@ -4,3 +4,4 @@ pub mod Tokens
 pub mod Kinds
 pub mod Lines
 pub mod Numbers
+pub mod Laws

@@ -6,6 +6,7 @@
 //! - `laws`: what holds of lines and tokens whatever the text, and worked examples.
 #![tactic(auto)]
 
+pub mod laws;
 pub mod lexer;
 pub mod lines;
 pub mod numbers;

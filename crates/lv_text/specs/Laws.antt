@@ -1,0 +1,74 @@
+-- What holds of tokens and lines whatever the text.
+use Rattle.std.specs.Prelude.{ℕ, ◌+◌, ◌<◌, ◌≤◌, ◌≡◌, ◌^◌, List, [], ◌∷◌, ◌++◌, Bool, true, false, not, length, map, nat_eq, codes, decimal}
+use Rattle.std.specs.List.{list_all, list_any}
+use Rattle.std.specs.Str.Lines.{strip_carriage_return}
+use Rattle.lv_text.specs.declared.lexer.TokenKind.{TokenKind}
+use Rattle.lv_text.specs.declared.lexer.TokenKind.TheVariants.{Word, Number, Iff, Implies, Arrow, Equals, Not, And, Or, Open, Close, Dot}
+use Rattle.lv_text.specs.declared.lexer.Token.{Token}
+use Rattle.lv_text.specs.Bytes.{is_blank, is_comment_mark, is_digit, is_word_byte}
+use Rattle.lv_text.specs.Kinds.{has_kind}
+use Rattle.lv_text.specs.Lines.{is_line_feed, lines_of}
+use Rattle.lv_text.specs.Numbers.{number_value}
+use Rattle.lv_text.specs.Tokens.{Lexed, lexed, bad_byte, long_line, prepended, joined, all_tokens, line_tokens}
+
+-- a token of that kind at that place
+abbrev pub token_at : TokenKind → ℕ → ℕ → Token
+token_at kind start end = record { kind = kind; start = start; end = end }
+
+-- a token, so many bytes further on
+abbrev pub moved_token : ℕ → Token → Token
+moved_token n t = record { kind = t.kind; start = n + t.start; end = n + t.end }
+
+-- what a text reads as, so many bytes further on
+abbrev pub moved : ℕ → Lexed → Lexed
+moved n (lexed ts) = lexed (map (moved_token n) ts)
+moved n (bad_byte p) = bad_byte (n + p)
+moved n long_line = long_line
+
+-- what is read first, and what is read behind it; the first fault counts
+abbrev pub followed : Lexed → Lexed → Lexed
+followed (lexed ts) found = joined ts found
+followed (bad_byte p) found = bad_byte p
+followed long_line found = long_line
+
+-- what stands behind a token of that kind doesn't go on with it
+abbrev pub ends_token : TokenKind → List ℕ → Bool
+ends_token kind [] = true
+ends_token Word (b ∷ rest) = not (is_word_byte b)
+ends_token Number (b ∷ rest) = not (is_word_byte b)
+ends_token Equals (b ∷ rest) = not (nat_eq b 62)
+ends_token kind (b ∷ rest) = true
+
+-- a comment behind a line changes nothing, if the line is not too long by it
+abbrev pub CommentChangesNothing : Type 0
+CommentChangesNothing = (line comment : List ℕ) → length (line ++ 35 ∷ comment) ≤ 4096 → line_tokens (line ++ 35 ∷ comment) ≡ line_tokens line
+
+-- a blank that is in no comment only parts what stands before it from what stands behind it
+abbrev pub BlankParts : Type 0
+BlankParts = (front back : List ℕ) (b : ℕ) → is_blank b ≡ true → list_any is_comment_mark front ≡ false
+    → all_tokens (front ++ b ∷ back) ≡ followed (all_tokens front) (moved (length front + 1) (all_tokens back))
+
+-- a line of blanks has no tokens
+abbrev pub BlankLineIsEmpty : Type 0
+BlankLineIsEmpty = (line : List ℕ) → list_all is_blank line ≡ true → all_tokens line ≡ lexed []
+
+-- a text of a kind is a token of that kind, if what stands behind it doesn't go on with it
+abbrev pub TextIsToken : Type 0
+TextIsToken = (kind : TokenKind) (text rest : List ℕ) → has_kind kind text ≡ true → ends_token kind rest ≡ true
+    → all_tokens (text ++ rest) ≡ prepended (token_at kind 0 (length text)) (moved (length text) (all_tokens rest))
+
+-- a line feed ends a line
+abbrev pub LineFeedEndsLine : Type 0
+LineFeedEndsLine = (line rest : List ℕ) → list_any is_line_feed line ≡ false → lines_of (line ++ 10 ∷ rest) ≡ strip_carriage_return line ∷ lines_of rest
+
+-- exactly one carriage return goes with the line feed
+abbrev pub ReturnGoesWithLineFeed : Type 0
+ReturnGoesWithLineFeed = (line rest : List ℕ) → list_any is_line_feed line ≡ false → lines_of (line ++ 13 ∷ 10 ∷ rest) ≡ line ∷ lines_of rest
+
+-- the end of the text ends a line, if anything stands before it
+abbrev pub EndOfTextEndsLine : Type 0
+EndOfTextEndsLine = (line : List ℕ) → list_any is_line_feed line ≡ false → 0 < length line → lines_of line ≡ strip_carriage_return line ∷ []
+
+-- a number as it is printed is digits, and has its own value
+abbrev pub PrintedNumberIsItself : Type 0
+PrintedNumberIsItself = (n : ℕ) → n < 2 ^ 64 → (list_all is_digit (decimal n) ≡ true) × (number_value (decimal n) ≡ n)
