@@ -1,5 +1,5 @@
 -- Where a line of a text ends.
-use Rattle.std.proofs.Common.{◌≡◌, ℕ, suc, ◌+◌, ◌-◌, ◌<◌, Bool, true, false, cond, ◌||◌, nat_eq, List, [], ◌∷◌, ◌++◌, length, take, map, get_or, refl, sym, ap, ◌∙◌, arith, append_assoc, length-append}
+use Rattle.std.proofs.Common.{◌≡◌, ℕ, ◌-◌, Bool, true, false, cond, ◌||◌, nat_eq, List, [], ◌∷◌, ◌++◌, length, take, map, get_or, refl, sym, ap, ◌∙◌, arith, append_assoc, length-append}
 use Rattle.std.proofs.Math.Seq.{take-append_seam, get_or-append_seam}
 use Rattle.std.specs.List.{list_any, onto_first}
 use Rattle.std.specs.Str.Lines.{strip_carriage_return}
@@ -23,9 +23,9 @@ strip_carriage_return-push line =
     let whole : List ℕ = line ++ 13 ∷ [] in
     let last : length (line ++ 13 ∷ []) - 1 ≡ length line = omega (arith, length-append line (13 ∷ [])) in
     let test : nat_eq (get_or (line ++ 13 ∷ []) (length (line ++ 13 ∷ []) - 1) 0) 13 ≡ true =
-        ap (λ k. nat_eq (get_or (line ++ 13 ∷ []) k 0) 13) last ∙ ap (λ b. nat_eq b 13) (get_or-append_seam line 13 [] 0) in
+    ap (λ k. nat_eq (get_or (line ++ 13 ∷ []) k 0) 13) last ∙ ap (λ b. nat_eq b 13) (get_or-append_seam line 13 [] 0) in
     ap (λ c. cond c (take (length (line ++ 13 ∷ []) - 1) (line ++ 13 ∷ [])) (line ++ 13 ∷ [])) test
-        ∙ ap (λ k. take k (line ++ 13 ∷ [])) last ∙ take-append_seam line (13 ∷ [])
+    ∙ ap (λ k. take k (line ++ 13 ∷ [])) last ∙ take-append_seam line (13 ∷ [])
 
 no_feed_push : (line : List ℕ) → list_any is_line_feed line ≡ false → list_any is_line_feed (line ++ 13 ∷ []) ≡ false
 no_feed_push [] h = refl

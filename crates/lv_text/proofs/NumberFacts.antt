@@ -1,7 +1,12 @@
 -- A number only grows with more digits behind it.
-use Rattle.std.proofs.Common.{◌≡◌, ℕ, ◌+◌, ◌^◌, ◌<◌, ◌≤◌, Bool, true, false, cond, nat_lt, List, [], ◌∷◌, length, drop, get_or, fold, Some, None, refl, sym, ap, subst, ◌∙◌, arith}
+use Rattle.std.proofs.Common.{◌≡◌, ℕ, ◌+◌, ◌^◌, ◌<◌, ◌≤◌, Bool, true, false, cond, nat_lt, List, [], ◌∷◌, length, drop, get_or, fold, Some, None, refl, sym, ap, subst, ◌∙◌, arith, rules}
 use Rattle.std.proofs.lemmas.Bool.Decides.{nat_tests}
 use Rattle.std.proofs.lemmas.List.{drop_all, drop_more}
+use Rattle.std.proofs.lemmas.Fmt.{digits_value-decimal, digits_decimal}
+use Rattle.std.proofs.lemmas.Str.Parse.{IsNumeralModel, numerals_by_fold}
+use Rattle.std.specs.List.{list_all}
+use Rattle.lv_text.specs.Bytes.{is_digit}
+use Rattle.lv_text.specs.Laws.{PrintedNumberIsItself}
 use Rattle.lv_text.specs.Numbers.{with_digit, number_value, in_range, number_in_range}
 
 pub grows : (xs : List ℕ) (n : ℕ) → n ≤ fold with_digit n xs
@@ -40,3 +45,10 @@ number_too_wide text i value inside whole none =
     grows (drop (i + 1) text) (with_digit value (get_or text i 0)) in
     let big : 2 ^ 64 ≤ with_digit value (get_or text i 0) = wide _ none in
     fits_not (number_value text) (omega arith)
+
+-- digits and their value, as what is printed speaks of them
+numerals : IsNumeralModel (λ ds. list_all is_digit ds ≡ true) number_value
+numerals = numerals_by_fold (λ ds. list_all is_digit ds ≡ true) (search rules) (fold with_digit) (search rules)
+
+pub printed_law : PrintedNumberIsItself
+printed_law n h = (digits_decimal numerals n h, digits_value-decimal numerals n h)

@@ -1,9 +1,8 @@
 -- A byte that stands in no token doesn't change the piece before it.
-use Rattle.std.proofs.Common.{◌≡◌, ℕ, zero, suc, ◌+◌, ◌-◌, ◌<◌, Bool, true, false, cond, not, ◌&&◌, ◌||◌, nat_lt, nat_eq, List, [], ◌∷◌, ◌++◌, length, take, get_or, refl, sym, ap, ap₂, subst, ◌∙◌, arith, codes}
+use Rattle.std.proofs.Common.{◌≡◌, ℕ, suc, ◌+◌, Bool, true, false, cond, ◌&&◌, ◌||◌, nat_lt, nat_eq, List, [], ◌∷◌, ◌++◌, length, take, get_or, refl, sym, ap, ap₂, subst, ◌∙◌, arith, codes}
 use Rattle.std.proofs.lemmas.Bool.Decides.{nat_tests}
-use Rattle.std.specs.List.{prefix_len, list_any, list_all, starts_with}
+use Rattle.std.specs.List.{prefix_len, list_all, starts_with}
 use Rattle.std.specs.Cmp.Lexicographic.{pointwise}
-use Rattle.lv_text.specs.declared.lexer.TokenKind.{TokenKind}
 use Rattle.lv_text.specs.declared.lexer.TokenKind.TheVariants.{Word, Number, Iff, Implies, Arrow, Equals, Not, And, Or, Open, Close, Dot}
 use Rattle.lv_text.specs.declared.lexer.Piece.{Piece}
 use Rattle.lv_text.specs.declared.lexer.Piece.TheVariants.{End, Blank, Lexeme, Fault}
@@ -33,20 +32,22 @@ neither_way false d e = refl
 
 behind-append : (p q : ℕ → Bool) (xs : List ℕ) (y : ℕ) (ys : List ℕ) → p y ≡ false → q y ≡ false
     → (nat_lt (prefix_len p (xs ++ y ∷ ys)) (length (xs ++ y ∷ ys)) && q (get_or (xs ++ y ∷ ys) (prefix_len p (xs ++ y ∷ ys)) 0))
-      ≡ (nat_lt (prefix_len p xs) (length xs) && q (get_or xs (prefix_len p xs) 0))
+    ≡ (nat_lt (prefix_len p xs) (length xs) && q (get_or xs (prefix_len p xs) 0))
 behind-append p q [] y ys fails too = rw fails (neither_way _ (q y) too)
 behind-append p q (x ∷ xs) y ys fails too = by (behind-append p q xs y ys fails too) (p x)
   where
     next : (a b : ℕ) → nat_lt (1 + a) (suc b) ≡ nat_lt a b
     next a b = grind (arith, nat_tests)
+
     shift : (n : ℕ) (zs : List ℕ) → (nat_lt (1 + n) (suc (length zs)) && q (get_or (x ∷ zs) (1 + n) 0)) ≡ (nat_lt n (length zs) && q (get_or zs n 0))
     shift n zs =
         let one : 1 + n ≡ suc n = omega arith in
         ap₂ (λ (s t : Bool). s && t) (next n (length zs)) (ap (λ k. q (get_or (x ∷ zs) k 0)) one)
+
     by : (nat_lt (prefix_len p (xs ++ y ∷ ys)) (length (xs ++ y ∷ ys)) && q (get_or (xs ++ y ∷ ys) (prefix_len p (xs ++ y ∷ ys)) 0))
-          ≡ (nat_lt (prefix_len p xs) (length xs) && q (get_or xs (prefix_len p xs) 0)) → (c : Bool)
+        ≡ (nat_lt (prefix_len p xs) (length xs) && q (get_or xs (prefix_len p xs) 0)) → (c : Bool)
         → (nat_lt (cond c (1 + prefix_len p (xs ++ y ∷ ys)) 0) (suc (length (xs ++ y ∷ ys))) && q (get_or (x ∷ (xs ++ y ∷ ys)) (cond c (1 + prefix_len p (xs ++ y ∷ ys)) 0) 0))
-          ≡ (nat_lt (cond c (1 + prefix_len p xs) 0) (suc (length xs)) && q (get_or (x ∷ xs) (cond c (1 + prefix_len p xs) 0) 0))
+        ≡ (nat_lt (cond c (1 + prefix_len p xs) 0) (suc (length xs)) && q (get_or (x ∷ xs) (cond c (1 + prefix_len p xs) 0) 0))
     by later true = shift (prefix_len p (xs ++ y ∷ ys)) (xs ++ y ∷ ys) ∙ later ∙ sym (shift (prefix_len p xs) xs)
     by later false = ap (λ c. c && q x) (first (length (xs ++ y ∷ ys))) ∙ ap (λ c. c && q x) (sym (first (length xs)))
       where
@@ -57,7 +58,7 @@ number_piece-append : (xs : List ℕ) (b : ℕ) (rest : List ℕ) → StandsApar
 number_piece-append xs b rest apart =
     let parts = neither (is_letter b) (is_digit b) apart.word in
     ap₂ (λ (n : ℕ) (c : Bool). cond c (Fault n) (Lexeme Number n)) (prefix_len-append_no is_digit xs b rest parts.1)
-        (behind-append is_digit is_letter xs b rest parts.1 parts.0)
+    (behind-append is_digit is_letter xs b rest parts.1 parts.0)
 
 -- a symbol's byte is not one that stands in no symbol
 other_byte : (n b : ℕ) → is_symbol_byte n ≡ true → is_symbol_byte b ≡ false → nat_eq n b ≡ false
@@ -65,6 +66,7 @@ other_byte n b is apart = by (nat_eq n b) refl
   where
     same : nat_eq n b ≡ true → n ≡ b
     same e = grind (arith, nat_tests)
+
     by : (c : Bool) → nat_eq n b ≡ c → c ≡ false
     by true e = let f : is_symbol_byte b ≡ true = subst (λ k. is_symbol_byte k ≡ true) (same e) is in absurd (cc)
     by false e = refl
@@ -85,6 +87,7 @@ symbol_piece-append xs b rest apart =
   where
     same : (needle : List ℕ) → list_all is_symbol_byte needle ≡ true → starts_with nat_eq (xs ++ b ∷ rest) needle ≡ starts_with nat_eq xs needle
     same needle all = starts_with-append needle xs b rest apart all
+
     step : (p : Piece) {c d : Bool} → c ≡ d → {r s : Piece} → r ≡ s → cond c p r ≡ cond d p s
     step p e f = ap₂ (λ (c : Bool) (r : Piece). cond c p r) e f
 
@@ -103,9 +106,11 @@ blank_cases P space tab b h = by (nat_eq b 32) refl
   where
     same : (n : ℕ) → nat_eq b n ≡ true → n ≡ b
     same n e = grind (arith, nat_tests)
+
     right : (p q : Bool) → p ≡ false → (p || q) ≡ true → q ≡ true
     right true q e f = absurd (cc)
     right false q e f = f
+
     by : (c : Bool) → nat_eq b 32 ≡ c → P b
     by true e = subst P (same 32 e) space
     by false e = subst P (same 9 (right (nat_eq b 32) (nat_eq b 9) e h)) tab

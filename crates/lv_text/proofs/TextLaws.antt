@@ -1,5 +1,5 @@
 -- The text of a token reads as that token, and a printed number as itself.
-use Rattle.std.proofs.Common.{◌≡◌, ℕ, zero, suc, ◌+◌, ◌-◌, ◌*◌, ◌<◌, ◌≤◌, ◌^◌, Bool, true, false, not, cond, ◌||◌, ◌&&◌, nat_lt, nat_eq, List, [], ◌∷◌, ◌++◌, length, drop, get_or, fold, refl, sym, ap, ap₂, subst, ◌∙◌, arith, rules, codes, length-append}
+use Rattle.std.proofs.Common.{◌≡◌, ℕ, suc, ◌+◌, Bool, true, false, not, cond, ◌||◌, ◌&&◌, nat_lt, nat_eq, List, [], ◌∷◌, ◌++◌, length, get_or, refl, sym, ap, subst, ◌∙◌, arith, codes, length-append}
 use Rattle.std.proofs.lemmas.Bool.Decides.{nat_tests}
 use Rattle.std.proofs.Math.Seq.{drop-append_seam, get_or-append_seam}
 use Rattle.std.specs.List.{list_all, prefix_len}
@@ -11,8 +11,8 @@ use Rattle.lv_text.specs.declared.lexer.Piece.TheVariants.{End, Blank, Lexeme, F
 use Rattle.lv_text.specs.Bytes.{is_blank, is_comment_mark, is_letter, is_digit, is_word_byte}
 use Rattle.lv_text.specs.Pieces.{piece_of, number_piece, symbol_piece}
 use Rattle.lv_text.specs.Kinds.{has_kind}
-use Rattle.lv_text.specs.Tokens.{Lexed, lexed, bad_byte, long_line, prepended, tokens_from, tokens_at, tokens_behind, all_tokens}
-use Rattle.lv_text.specs.Laws.{moved, ends_token, token_at, TextIsToken}
+use Rattle.lv_text.specs.Tokens.{prepended, tokens_from, tokens_at, tokens_behind}
+use Rattle.lv_text.specs.Laws.{ends_token, token_at, TextIsToken}
 use Rattle.lv_text.proofs.Choices.{left_of, right_of}
 use Rattle.lv_text.proofs.TokenSteps.{tokens_at-step}
 use Rattle.lv_text.proofs.TokenMoves.{tokens_from-place}
@@ -72,7 +72,7 @@ word_piece (x ∷ more) rest h ends =
     let letter : is_letter x ≡ true = left_of _ _ h in
     let first = letter_first x letter in
     third (is_comment_mark x) (is_blank x) (is_letter x) End Blank (Lexeme Word (prefix_len is_word_byte (x ∷ (more ++ rest))))
-        (cond (is_digit x) (number_piece (x ∷ (more ++ rest))) (symbol_piece (x ∷ (more ++ rest)))) first.0 first.1 letter
+    (cond (is_digit x) (number_piece (x ∷ (more ++ rest))) (symbol_piece (x ∷ (more ++ rest)))) first.0 first.1 letter
     ∙ ap (Lexeme Word) (prefix_len-whole is_word_byte (x ∷ more) rest (right_of _ _ h) (fails rest ends))
   where
     fails : (r : List ℕ) → ends_token Word r ≡ true → fails_first is_word_byte r ≡ true
@@ -89,11 +89,14 @@ number_stands text rest all ends =
     fails : (r : List ℕ) → ends_token Number r ≡ true → fails_first is_digit r ≡ true
     fails [] e = refl
     fails (y ∷ ys) e = no_digit (is_letter y) (is_digit y) e
+
     irreflexive : (n : ℕ) → nat_lt n n ≡ false
     irreflexive n = grind (arith, nat_tests)
+
     right_false : (c d : Bool) → d ≡ false → (c && d) ≡ false
     right_false true d e = e
     right_false false d e = refl
+
     no_more : (r : List ℕ) → ends_token Number r ≡ true → (nat_lt (length text) (length (text ++ r)) && is_letter (get_or (text ++ r) (length text) 0)) ≡ false
     no_more [] e =
         let same : length (text ++ []) ≡ length text = omega (arith, length-append text []) in
@@ -107,7 +110,7 @@ number_read (x ∷ more) rest h ends =
     let digit : is_digit x ≡ true = left_of _ _ h in
     let first = digit_first x digit in
     fourth (is_comment_mark x) (is_blank x) (is_letter x) (is_digit x) End Blank (Lexeme Word (prefix_len is_word_byte (x ∷ (more ++ rest))))
-        (number_piece (x ∷ (more ++ rest))) (symbol_piece (x ∷ (more ++ rest))) first.0 first.1 first.2 digit
+    (number_piece (x ∷ (more ++ rest))) (symbol_piece (x ∷ (more ++ rest))) first.0 first.1 first.2 digit
     ∙ number_stands (x ∷ more) rest (right_of _ _ h) ends
 
 -- a symbol whose text is known

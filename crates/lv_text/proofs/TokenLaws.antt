@@ -1,9 +1,8 @@
 -- A comment behind a line changes nothing, and a blank only parts what stands round it.
-use Rattle.std.proofs.Common.{◌≡◌, ℕ, zero, suc, ◌+◌, ◌-◌, ◌<◌, ◌≤◌, Bool, true, false, cond, ◌||◌, ◌&&◌, nat_lt, nat_eq, List, [], ◌∷◌, ◌++◌, length, refl, sym, ap, subst, ◌∙◌, arith, length-append, codes}
+use Rattle.std.proofs.Common.{◌≡◌, ℕ, zero, suc, ◌+◌, ◌-◌, ◌<◌, ◌≤◌, Bool, true, false, cond, ◌||◌, nat_lt, nat_eq, List, [], ◌∷◌, ◌++◌, length, refl, sym, ap, ◌∙◌, arith, length-append, codes}
 use Rattle.std.proofs.lemmas.Bool.Decides.{nat_tests}
 use Rattle.std.specs.List.{list_any, list_all, prefix_len, starts_with}
 use Rattle.lv_text.specs.declared.lexer.Token.{Token}
-use Rattle.lv_text.specs.declared.lexer.TokenKind.{TokenKind}
 use Rattle.lv_text.specs.declared.lexer.TokenKind.TheVariants.{Word, Number, Iff, Implies, Arrow, Equals, Not, And, Or, Open, Close, Dot}
 use Rattle.lv_text.specs.declared.lexer.Piece.{Piece}
 use Rattle.lv_text.specs.declared.lexer.Piece.TheVariants.{End, Blank, Lexeme, Fault}
@@ -32,7 +31,7 @@ tokens_from-comment (x ∷ more) comment place (suc n) le = tokens_from-comment 
 tokens_from-comment (x ∷ more) comment place zero le =
     ap (λ p. piece_tokens place p (λ passed. tokens_from (place + 1) passed (more ++ 35 ∷ comment))) (piece_of-append x more 35 comment comment_mark_apart)
     ∙ piece_tokens-same (x ∷ more) place (piece_of (x ∷ more)) (piece_fits (x ∷ more)) (λ passed. tokens_from (place + 1) passed more) _
-        (λ n less. tokens_from-comment more comment (place + 1) n (omega arith))
+    (λ n less. tokens_from-comment more comment (place + 1) n (omega arith))
 
 short : (line : List ℕ) → length line ≤ 4096 → line_tokens line ≡ all_tokens line
 short line le =
@@ -87,7 +86,7 @@ goes_on x more h =
     if_holds GoesOn (is_blank x) Blank _ (λ _. tt) (λ _.
     if_holds GoesOn (is_letter x) (Lexeme Word (prefix_len is_word_byte xs)) _ (λ _. tt) (λ _.
     if_holds GoesOn (is_digit x) (number_piece xs) (symbol_piece xs) (λ _.
-        if_holds GoesOn _ (Fault n) (Lexeme Number n) (λ _. tt) (λ _. tt)) (λ _. symbol_goes_on xs))))
+    if_holds GoesOn _ (Fault n) (Lexeme Number n) (λ _. tt) (λ _. tt)) (λ _. symbol_goes_on xs))))
 
 piece_tokens-followed : (xs : List ℕ) (place : ℕ) (z : Lexed) (p : Piece) → BeginsWith xs p → GoesOn p → (here there : ℕ → Lexed)
     → ((n : ℕ) → n < length xs → there n ≡ followed (here n) z) → piece_tokens place p there ≡ followed (piece_tokens place p here) z
@@ -113,8 +112,8 @@ tokens_from-blank b is back (x ∷ more) place zero end le none e =
     let parts = no_mark_first (is_comment_mark x) (list_any is_comment_mark more) none in
     ap (λ p. piece_tokens place p (λ passed. tokens_from (place + 1) passed (more ++ b ∷ back))) (piece_of-append x more b back (blank_apart b is))
     ∙ piece_tokens-followed (x ∷ more) place (moved end (all_tokens back)) (piece_of (x ∷ more)) (piece_fits (x ∷ more)) (goes_on x more parts.0)
-        (λ passed. tokens_from (place + 1) passed more) _
-        (λ n less. tokens_from-blank b is back more (place + 1) n end (omega arith) parts.1 (omega arith))
+    (λ passed. tokens_from (place + 1) passed more) _
+    (λ n less. tokens_from-blank b is back more (place + 1) n end (omega arith) parts.1 (omega arith))
 
 pub blank_law : BlankParts
 blank_law front back b is none = tokens_from-blank b is back front 0 0 (length front + 1) (omega arith) none (omega arith)

@@ -1,11 +1,10 @@
 -- What a text reads as further on in a line.
-use Rattle.std.proofs.Common.{◌≡◌, ℕ, zero, suc, ◌+◌, ◌-◌, List, [], ◌∷◌, ◌++◌, length, refl, sym, ap, ap₂, subst, ◌∙◌, arith}
+use Rattle.std.proofs.Common.{◌≡◌, ℕ, zero, suc, ◌+◌, ◌-◌, List, [], ◌∷◌, refl, sym, ap, ap₂, ◌∙◌, arith}
 use Rattle.lv_text.specs.declared.lexer.Token.{Token}
-use Rattle.lv_text.specs.declared.lexer.TokenKind.{TokenKind}
 use Rattle.lv_text.specs.declared.lexer.Piece.{Piece}
 use Rattle.lv_text.specs.declared.lexer.Piece.TheVariants.{End, Blank, Lexeme, Fault}
 use Rattle.lv_text.specs.Pieces.{piece_of}
-use Rattle.lv_text.specs.Tokens.{Lexed, lexed, bad_byte, long_line, prepended, piece_tokens, tokens_from, all_tokens, joined}
+use Rattle.lv_text.specs.Tokens.{Lexed, lexed, bad_byte, long_line, prepended, piece_tokens, tokens_from, all_tokens}
 use Rattle.lv_text.specs.Laws.{moved, moved_token, token_at}
 
 moved-prepended : (k : ℕ) (t : Token) (found : Lexed) → moved k (prepended t found) ≡ prepended (moved_token k t) (moved k found)
@@ -32,7 +31,7 @@ tokens_from-moved (x ∷ more) k place (suc passed) =
     ap (λ n. tokens_from n passed more) (further k place 1) ∙ tokens_from-moved more k (place + 1) passed
 tokens_from-moved (x ∷ more) k place zero =
     piece_tokens-moved k place (piece_of (x ∷ more)) (λ passed. tokens_from (place + 1) passed more) (λ passed. tokens_from ((k + place) + 1) passed more)
-        (λ passed. ap (λ n. tokens_from n passed more) (further k place 1) ∙ tokens_from-moved more k (place + 1) passed)
+    (λ passed. ap (λ n. tokens_from n passed more) (further k place 1) ∙ tokens_from-moved more k (place + 1) passed)
 
 -- the tokens of a whole text further on
 pub tokens_from-place : (xs : List ℕ) (place : ℕ) → tokens_from place 0 xs ≡ moved place (all_tokens xs)

@@ -1,9 +1,9 @@
 -- What holds of tokens and lines whatever the text.
-use Rattle.std.specs.Prelude.{ℕ, ◌+◌, ◌<◌, ◌≤◌, ◌≡◌, ◌^◌, List, [], ◌∷◌, ◌++◌, Bool, true, false, not, length, map, nat_eq, codes, decimal}
+use Rattle.std.specs.Prelude.{ℕ, ◌+◌, ◌<◌, ◌≤◌, ◌≡◌, ◌^◌, List, [], ◌∷◌, ◌++◌, Bool, true, false, not, length, map, nat_eq, decimal}
 use Rattle.std.specs.List.{list_all, list_any}
 use Rattle.std.specs.Str.Lines.{strip_carriage_return}
 use Rattle.lv_text.specs.declared.lexer.TokenKind.{TokenKind}
-use Rattle.lv_text.specs.declared.lexer.TokenKind.TheVariants.{Word, Number, Iff, Implies, Arrow, Equals, Not, And, Or, Open, Close, Dot}
+use Rattle.lv_text.specs.declared.lexer.TokenKind.TheVariants.{Word, Number, Equals}
 use Rattle.lv_text.specs.declared.lexer.Token.{Token}
 use Rattle.lv_text.specs.Bytes.{is_blank, is_comment_mark, is_digit, is_word_byte}
 use Rattle.lv_text.specs.Kinds.{has_kind}

@@ -14,3 +14,6 @@ pub mod numbers;
 pub use lexer::{LONGEST_LINE, TextFault, Token, TokenKind, tokens};
 pub use lines::{Line, first_line, last_line, next_line};
 pub use numbers::number;
+
+#[cfg(test)]
+mod tests;
