@@ -9,3 +9,4 @@ pub mod TokenMoves
 pub mod PieceLaws
 pub mod TokenLaws
 pub mod TextLaws
+pub mod SliceLaws

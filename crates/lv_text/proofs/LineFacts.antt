@@ -9,7 +9,7 @@ use Rattle.std.proofs.Math.Seq.{drop-length}
 use Rattle.lv_text.specs.Lines.{is_line_feed, unended_lines, lines_of, BeginsWithLine}
 
 -- an element passes exactly where the first place that does is inside
-found_inside : (p : ℕ → Bool) (xs : List ℕ) → nat_lt (position_or_len p xs) (length xs) ≡ list_any p xs
+pub found_inside : (p : ℕ → Bool) (xs : List ℕ) → nat_lt (position_or_len p xs) (length xs) ≡ list_any p xs
 found_inside p [] = refl
 found_inside p (x ∷ xs) = by (found_inside p xs) (p x) refl
   where

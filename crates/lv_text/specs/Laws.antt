@@ -6,8 +6,8 @@ use Rattle.lv_text.specs.declared.lexer.TokenKind.{TokenKind}
 use Rattle.lv_text.specs.declared.lexer.TokenKind.TheVariants.{Word, Number, Equals}
 use Rattle.lv_text.specs.declared.lexer.Token.{Token}
 use Rattle.lv_text.specs.Bytes.{is_blank, is_comment_mark, is_digit, is_word_byte}
-use Rattle.lv_text.specs.Kinds.{has_kind}
-use Rattle.lv_text.specs.Lines.{is_line_feed, lines_of}
+use Rattle.lv_text.specs.Kinds.{has_kind, token_text}
+use Rattle.lv_text.specs.Lines.{is_line_feed, lines_of, first_ended_line}
 use Rattle.lv_text.specs.Numbers.{number_value}
 use Rattle.lv_text.specs.Tokens.{Lexed, lexed, bad_byte, long_line, prepended, joined, all_tokens, line_tokens}
 
@@ -72,3 +72,19 @@ EndOfTextEndsLine = (line : List ℕ) → list_any is_line_feed line ≡ false �
 -- a number as it is printed is digits, and has its own value
 abbrev pub PrintedNumberIsItself : Type 0
 PrintedNumberIsItself = (n : ℕ) → n < 2 ^ 64 → (list_all is_digit (decimal n) ≡ true) × (number_value (decimal n) ≡ n)
+
+-- the lines up to a line feed, and then those behind it
+abbrev pub LinesPartAtLineFeed : Type 0
+LinesPartAtLineFeed = (text rest : List ℕ) → lines_of (text ++ 10 ∷ rest) ≡ lines_of (text ++ 10 ∷ []) ++ lines_of rest
+
+-- a line that has ended stays as it is, whatever comes behind it
+abbrev pub FirstLineStays : Type 0
+FirstLineStays = (text more : List ℕ) → list_any is_line_feed text ≡ true → first_ended_line (text ++ more) ≡ first_ended_line text
+
+-- the text of a token is the same further on in a longer line
+abbrev pub TextMovesWithToken : Type 0
+TextMovesWithToken = (front line : List ℕ) (t : Token) → token_text (front ++ line) (moved_token (length front) t) ≡ token_text line t
+
+-- and whatever stands behind the line
+abbrev pub TextStaysBeforeMore : Type 0
+TextStaysBeforeMore = (line more : List ℕ) (t : Token) → t.start ≤ t.end → t.end ≤ length line → token_text (line ++ more) t ≡ token_text line t

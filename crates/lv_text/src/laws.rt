@@ -5,7 +5,7 @@
 ghost use Rattle.std.specs.Prelude.{◌≡◌, [], ◌∷◌, ◌++◌, codes};
 ghost use Rattle.lv_text.specs.Tokens.{line_tokens, lexed, bad_byte};
 ghost use Rattle.lv_text.specs.Lines.{lines_of};
-ghost use Rattle.lv_text.specs.Laws.{token_at, CommentChangesNothing, BlankParts, BlankLineIsEmpty, TextIsToken, LineFeedEndsLine, ReturnGoesWithLineFeed, EndOfTextEndsLine, PrintedNumberIsItself};
+ghost use Rattle.lv_text.specs.Laws.{token_at, CommentChangesNothing, BlankParts, BlankLineIsEmpty, TextIsToken, LineFeedEndsLine, ReturnGoesWithLineFeed, EndOfTextEndsLine, LinesPartAtLineFeed, FirstLineStays, TextMovesWithToken, TextStaysBeforeMore, PrintedNumberIsItself};
 
 use crate::lexer::TokenKind;
 
@@ -42,6 +42,26 @@ pub fn return_goes_with_line_feed()
 /// The end of the text ends a line.
 pub fn end_of_text_ends_line()
     ensures { EndOfTextEndsLine }
+{}
+
+/// The lines of a text up to a line feed stay as they are, whatever stands behind it.
+pub fn lines_part_at_line_feed()
+    ensures { LinesPartAtLineFeed }
+{}
+
+/// A first line that has ended is the first line still when more of the text has come.
+pub fn first_line_stays()
+    ensures { FirstLineStays }
+{}
+
+/// The text of a token doesn't change with what stands before the line.
+pub fn text_moves_with_token()
+    ensures { TextMovesWithToken }
+{}
+
+/// The text of a token doesn't change with what stands behind the line.
+pub fn text_stays_before_more()
+    ensures { TextStaysBeforeMore }
 {}
 
 /// A number as it is printed is read as itself.
