@@ -10,3 +10,4 @@ pub mod PieceLaws
 pub mod TokenLaws
 pub mod TextLaws
 pub mod SliceLaws
+pub mod BadBytes

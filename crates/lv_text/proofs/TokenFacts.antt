@@ -82,7 +82,7 @@ piece_are line xs place low le is behind later (Fault n) h ts e = absurd (cc)
 plus_none : (n : ℕ) → n + 0 ≡ n
 plus_none n = omega arith
 
-further : (more line : List ℕ) (place : ℕ) → ((k : ℕ) → drop k more ≡ drop (place + suc k) line) → (k : ℕ) → drop k more ≡ drop ((place + 1) + k) line
+pub further : (more line : List ℕ) (place : ℕ) → ((k : ℕ) → drop k more ≡ drop (place + suc k) line) → (k : ℕ) → drop k more ≡ drop ((place + 1) + k) line
 further more line place rest k =
     let e : place + suc k ≡ (place + 1) + k = omega arith in
     rest k ∙ ap (λ n. drop n line) e

@@ -1,11 +1,11 @@
 -- What holds of tokens and lines whatever the text.
-use Rattle.std.specs.Prelude.{ℕ, ◌+◌, ◌<◌, ◌≤◌, ◌≡◌, ◌^◌, List, [], ◌∷◌, ◌++◌, Bool, true, false, not, length, map, nat_eq, decimal}
-use Rattle.std.specs.List.{list_all, list_any}
+use Rattle.std.specs.Prelude.{ℕ, ◌+◌, ◌<◌, ◌≤◌, ◌≡◌, ◌^◌, List, [], ◌∷◌, ◌++◌, Bool, true, false, not, length, map, nat_eq, decimal, ◌-◌, ◌||◌, ◌&&◌, nat_lt, slice_index, drop, if◌then◌else◌, codes}
+use Rattle.std.specs.List.{list_all, list_any, starts_with}
 use Rattle.std.specs.Str.Lines.{strip_carriage_return}
 use Rattle.lv_text.specs.declared.lexer.TokenKind.{TokenKind}
 use Rattle.lv_text.specs.declared.lexer.TokenKind.TheVariants.{Word, Number, Equals}
 use Rattle.lv_text.specs.declared.lexer.Token.{Token}
-use Rattle.lv_text.specs.Bytes.{is_blank, is_comment_mark, is_digit, is_word_byte}
+use Rattle.lv_text.specs.Bytes.{is_blank, is_comment_mark, is_digit, is_letter, is_word_byte}
 use Rattle.lv_text.specs.Kinds.{has_kind, token_text}
 use Rattle.lv_text.specs.Lines.{is_line_feed, lines_of, first_ended_line}
 use Rattle.lv_text.specs.Numbers.{number_value}
@@ -88,3 +88,21 @@ TextMovesWithToken = (front line : List ℕ) (t : Token) → token_text (front +
 -- and whatever stands behind the line
 abbrev pub TextStaysBeforeMore : Type 0
 TextStaysBeforeMore = (line more : List ℕ) (t : Token) → t.start ≤ t.end → t.end ≤ length line → token_text (line ++ more) t ≡ token_text line t
+
+-- the texts of the symbols
+abbrev pub symbol_texts : List (List ℕ)
+symbol_texts = codes "<=>" ∷ codes "=>" ∷ codes "->" ∷ codes "=" ∷ codes "!" ∷ codes "&" ∷ codes "|" ∷ codes "(" ∷ codes ")" ∷ codes "." ∷ []
+
+-- a blank, a comment or a token begins a text
+abbrev pub begins_something : List ℕ → Bool
+begins_something text =
+    is_blank (slice_index text 0) || is_comment_mark (slice_index text 0) || is_word_byte (slice_index text 0) || list_any (starts_with nat_eq text) symbol_texts
+
+-- a byte that is not allowed: a letter behind a digit, or a byte that begins nothing
+abbrev pub is_not_allowed : List ℕ → ℕ → Bool
+is_not_allowed line p =
+    if is_letter (slice_index line p) then nat_lt 0 p && is_digit (slice_index line (p - 1)) else not (begins_something (drop p line))
+
+-- the byte told as bad stands in the line, and is not allowed there
+abbrev pub BadByteIsNotAllowed : Type 0
+BadByteIsNotAllowed = (line : List ℕ) (p : ℕ) → all_tokens line ≡ bad_byte p → (p < length line) × (is_not_allowed line p ≡ true)

@@ -5,7 +5,7 @@
 ghost use Rattle.std.specs.Prelude.{◌≡◌, [], ◌∷◌, ◌++◌, codes};
 ghost use Rattle.lv_text.specs.Tokens.{line_tokens, lexed, bad_byte};
 ghost use Rattle.lv_text.specs.Lines.{lines_of};
-ghost use Rattle.lv_text.specs.Laws.{token_at, CommentChangesNothing, BlankParts, BlankLineIsEmpty, TextIsToken, LineFeedEndsLine, ReturnGoesWithLineFeed, EndOfTextEndsLine, LinesPartAtLineFeed, FirstLineStays, TextMovesWithToken, TextStaysBeforeMore, PrintedNumberIsItself};
+ghost use Rattle.lv_text.specs.Laws.{BadByteIsNotAllowed, token_at, CommentChangesNothing, BlankParts, BlankLineIsEmpty, TextIsToken, LineFeedEndsLine, ReturnGoesWithLineFeed, EndOfTextEndsLine, LinesPartAtLineFeed, FirstLineStays, TextMovesWithToken, TextStaysBeforeMore, PrintedNumberIsItself};
 
 use crate::lexer::TokenKind;
 
@@ -27,6 +27,12 @@ pub fn blank_line_is_empty()
 /// The text of a token reads as that token: the law by which what is printed is read again.
 pub fn text_is_token()
     ensures { TextIsToken }
+{}
+
+/// The byte told as bad is not allowed where it stands: it is a letter behind a digit, or no blank, comment
+/// or token begins with it.
+pub fn bad_byte_is_not_allowed()
+    ensures { BadByteIsNotAllowed }
 {}
 
 /// A line feed ends a line.
@@ -71,10 +77,20 @@ pub fn printed_number_is_itself()
 
 /// Lines that read as tokens.
 pub fn token_examples()
-    ensures words { line_tokens (codes "fault a -> b cost 3") ≡ lexed (token_at TokenKind.Word 0 5 ∷ token_at TokenKind.Word 6 7 ∷ token_at TokenKind.Arrow 8 10 ∷ token_at TokenKind.Word 11 12 ∷ token_at TokenKind.Word 13 17 ∷ token_at TokenKind.Number 18 19 ∷ []) }
-    ensures path { line_tokens (codes "a.b=c") ≡ lexed (token_at TokenKind.Word 0 1 ∷ token_at TokenKind.Dot 1 2 ∷ token_at TokenKind.Word 2 3 ∷ token_at TokenKind.Equals 3 4 ∷ token_at TokenKind.Word 4 5 ∷ []) }
-    ensures longest { line_tokens (codes "x<=>y=>==") ≡ lexed (token_at TokenKind.Word 0 1 ∷ token_at TokenKind.Iff 1 4 ∷ token_at TokenKind.Word 4 5 ∷ token_at TokenKind.Implies 5 7 ∷ token_at TokenKind.Equals 7 8 ∷ token_at TokenKind.Equals 8 9 ∷ []) }
-    ensures comment { line_tokens (codes "!a#" ++ 200 ∷ 13 ∷ []) ≡ lexed (token_at TokenKind.Not 0 1 ∷ token_at TokenKind.Word 1 2 ∷ []) }
+    ensures words { line_tokens (codes "fault a -> b cost 3") ≡ lexed (
+        token_at TokenKind.Word 0 5 ∷ token_at TokenKind.Word 6 7 ∷
+        token_at TokenKind.Arrow 8 10 ∷ token_at TokenKind.Word 11 12 ∷
+        token_at TokenKind.Word 13 17 ∷ token_at TokenKind.Number 18 19 ∷ []) }
+    ensures path { line_tokens (codes "a.b=c") ≡ lexed (
+        token_at TokenKind.Word 0 1 ∷ token_at TokenKind.Dot 1 2 ∷
+        token_at TokenKind.Word 2 3 ∷ token_at TokenKind.Equals 3 4 ∷
+        token_at TokenKind.Word 4 5 ∷ []) }
+    ensures longest { line_tokens (codes "x<=>y=>==") ≡ lexed (
+        token_at TokenKind.Word 0 1 ∷ token_at TokenKind.Iff 1 4 ∷
+        token_at TokenKind.Word 4 5 ∷ token_at TokenKind.Implies 5 7 ∷
+        token_at TokenKind.Equals 7 8 ∷ token_at TokenKind.Equals 8 9 ∷ []) }
+    ensures comment { line_tokens (codes "!a#" ++ 200 ∷ 13 ∷ []) ≡ lexed (
+        token_at TokenKind.Not 0 1 ∷ token_at TokenKind.Word 1 2 ∷ []) }
 {}
 
 /// Lines with a byte that is not allowed.

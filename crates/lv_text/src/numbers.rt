@@ -4,7 +4,7 @@ ghost use Rattle.std.specs.Prelude.{◌≡◌};
 ghost use Rattle.lv_text.specs.Numbers.{number_in_range, in_range, with_digit};
 
 /// The decimal value of a text of digits, or `None` where it is not below 2^64. Leading zeros are
-/// allowed, and a text of any length.
+/// allowed, and a text of any length. What a byte that is no digit counts for is of no use: give digits alone.
 pub fn number(text: &[u8]) -> Option<u64>
     ensures { result ≡ number_in_range text.now }
 {
