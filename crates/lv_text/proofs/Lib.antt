@@ -1,0 +1,13 @@
+pub mod Choices
+pub mod PieceFacts
+pub mod TokenSteps
+pub mod TokenFacts
+pub mod LineFacts
+pub mod NumberFacts
+pub mod LineLaws
+pub mod TokenMoves
+pub mod PieceLaws
+pub mod TokenLaws
+pub mod TextLaws
+pub mod SliceLaws
+pub mod BadBytes

@@ -1,0 +1,7 @@
+pub mod Bytes
+pub mod Pieces
+pub mod Tokens
+pub mod Kinds
+pub mod Lines
+pub mod Numbers
+pub mod Laws
