@@ -1,0 +1,39 @@
+-- Facts, and what it is for assignments to meet them.
+use Rattle.std.specs.Prelude.{ℕ, ◌<◌, Bool, ◌&&◌, ◌||◌, not, nat_eq, List, [], ◌∷◌, ◌++◌}
+use Rattle.std.specs.List.{list_all}
+use Rattle.lv_base.specs.declared.ids.ValId.{ValId}
+use Rattle.lv_base.specs.declared.ids.VarId.{VarId}
+use Rattle.lv_formula.specs.Tree.{number_of}
+use Rattle.lv_model.specs.declared.plant.Plant.{Plant}
+use Rattle.lv_model.specs.Lists.{controls}
+use Rattle.lv_meaning.specs.declared.facts.Observation.{Observation}
+use Rattle.lv_meaning.specs.declared.facts.Facts.{Facts}
+
+-- the assignment has the observed value
+abbrev pub agrees : List ValId → Observation → Bool
+agrees a o = nat_eq (number_of a o.var.0) o.val.0
+
+-- it has each observed value
+abbrev pub meets : List ValId → List Observation → Bool
+meets a os = list_all (agrees a) os
+
+-- each control with its value
+abbrev pub commanded : List VarId → List ValId → List Observation
+commanded [] vs = []
+commanded (c ∷ cs) [] = []
+commanded (c ∷ cs) (v ∷ vs) = record { var = c; val = v } ∷ commanded cs vs
+
+-- what the assignment before the step has to have: the controls' values and the present observations
+abbrev pub now_facts : Plant → Facts → List Observation
+now_facts plant facts = commanded (controls plant) facts.controls ++ facts.present
+
+-- the first assignment has the control values and the present observations, the second the next observations
+abbrev pub meets_facts : Plant → Facts → List ValId → List ValId → Bool
+meets_facts plant facts a b = meets a (now_facts plant facts) && meets b facts.next
+
+-- no observation gives the variable another value
+abbrev pub observes : List Observation → ℕ → ℕ → Bool
+observes os x v = list_all (λ (o : Observation). not (nat_eq o.var.0 x) || nat_eq o.val.0 v) os
+
+pub record IsInRange (count : ℕ) (o : Observation) : Type 0 where
+  pub below : o.var.0 < count

@@ -1,0 +1,4 @@
+pub mod Search
+pub mod Facts
+pub mod Possible
+pub mod Pruned

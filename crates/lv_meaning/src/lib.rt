@@ -1,0 +1,15 @@
+//! What is asked of a plant, as definitions, with a plain and slow program beside each: which partial choices are
+//! possible under the facts, which candidates there are and in which order, which of them are the answer.
+//!
+//! | file | the question |
+//! |---|---|
+//! | `search` | is there some list of numbers that passes a test? |
+//! | `possible` | do some assignments and moves agree with the facts and with a partial choice? |
+#![tactic(auto)]
+
+pub mod facts;
+pub mod possible;
+pub mod search;
+
+pub use facts::{Facts, Observation};
+pub use search::{Numbered, Test};
