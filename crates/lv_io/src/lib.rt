@@ -3,7 +3,7 @@
 //!
 //! The two traits say what any shelf and any sink keeps. `MemShelf` and `MemSink` are exact, for tests
 //! and proofs; `HostShelf` and `HostSink` stand for the files and streams of the system, of whose bytes
-//! nothing can be claimed. `read_all` and `write_all` work over any of them.
+//! nothing can be claimed. `read_all`, `read_file` and `write_all` work over any of them.
 #![tactic(auto)]
 
 ghost use Rattle.std.specs.Prelude.{◌≡◌, ◌≢◌, ℕ, Bool, true, List, Option, IfOk, OnOk, OnErr, IsTrue};

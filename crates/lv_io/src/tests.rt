@@ -70,9 +70,9 @@ fn writes_texts_whole_or_a_front(rt: HostRuntime) {
     assert_eq!(rt; sink.faults(), 1);
 }
 
-/// A file that isn't there fails, standard input opens once, and an empty file reads as no bytes.
+/// A file that isn't there fails, standard input opens once, and this program begins as a program does.
 #[test]
-fn stands_for_the_system(rt: HostRuntime) {
+fn reads_files_of_the_system(rt: HostRuntime) {
     let alloc = rt.alloc();
     let mut shelf = HostShelf::new(alloc, &rt);
     let missing = shelf.open(Role::Model, "no such folder/no such file");
@@ -82,7 +82,19 @@ fn stands_for_the_system(rt: HostRuntime) {
     assert_eq!(rt; again.err(), Some(IoFault::Failed));
     let read = read_file(alloc, &mut shelf, Role::Model, "/dev/null", 0).expect(&rt, "read");
     assert!(rt; read.is_empty());
-    let mut sink = HostSink::new(Vec::new(alloc));
+    let slot = shelf
+        .open(Role::Model, "/proc/self/exe")
+        .expect(&rt, "open");
+    let mut front = [0u8; 4];
+    assert_eq!(rt; shelf.read(slot, &mut front), Ok(4));
+    assert_eq!(rt; front, [0x7f, b'E', b'L', b'F']);
+}
+
+#[test]
+fn writes_to_a_writer(rt: HostRuntime) {
+    let mut text = Vec::new(rt.alloc());
+    let mut sink = HostSink::new(&mut text);
     assert_eq!(rt; write_all(&mut sink, b"ok\n"), Ok(()));
     assert_eq!(rt; sink.flush(), Ok(()));
+    assert!(rt; text.as_slice() == b"ok\n".as_slice());
 }
