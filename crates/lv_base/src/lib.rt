@@ -21,3 +21,6 @@ pub use ids::{BoolId, ClauseId, Cost, Lit, MoveId, PartId, ValId, VarId};
 pub use rank::Rank;
 pub use search::{Candidate, Conflict, Pair, contains};
 pub use seq::Seq;
+
+#[cfg(test)]
+mod tests;

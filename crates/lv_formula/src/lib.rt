@@ -165,3 +165,6 @@ impl Condition {
         self.formula.holds(values, base)
     }
 }
+
+#[cfg(test)]
+mod tests;
