@@ -39,3 +39,13 @@ fn none_moves_otherwise(pairs: &[Pair], part: usize, n: u32) -> bool
         .iter()
         .all(|pair| pair.slot as usize != part || pair.choice == n)
 }
+
+/// What is asked of moves between two given assignments: each part steps by its move, and the pairs are kept.
+struct MoveTest<'a> {
+    model: &'a Model,
+    pairs: &'a [Pair],
+    now: &'a [ValId],
+    next: &'a [ValId],
+    ghost now_whole: { length now.now ≡ variable_count model.now },
+    ghost next_whole: { length next.now ≡ variable_count model.now },
+}

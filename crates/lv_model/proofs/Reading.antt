@@ -12,7 +12,7 @@ use Rattle.lv_model.specs.declared.plant.Part.{Part}
 use Rattle.lv_model.specs.Lists.{variable_count, part_width}
 use Rattle.lv_model.specs.WellFormed.{firsts_follow, lists_fit, variables_fit, mode_reads, move_reads, type_reads, part_reads, is_well_formed, Reads, ModeReads, GuardReads, TypeReads, PartReads, PartEnds}
 
-both : (p q : Bool) → (p && q) ≡ true → (p ≡ true) × (q ≡ true)
+pub both : (p q : Bool) → (p && q) ≡ true → (p ≡ true) × (q ≡ true)
 both true q h = (refl, h)
 both false q h = absurd (cc)
 

@@ -1,5 +1,5 @@
 -- What the lists of a plant say of its variables.
-use Rattle.std.specs.Prelude.{ℕ, ◌+◌, List, [], ◌∷◌, length, map, sum_by, slice_get, Bool, true, false, if◌then◌else◌}
+use Rattle.std.specs.Prelude.{ℕ, ◌+◌, List, [], ◌∷◌, length, map, sum_by, slice_get, Bool, true, false, if◌then◌else◌, ◌≤◌}
 use Rattle.std.specs.List.{flat_map}
 use Rattle.std.specs.Option.{option_map_or}
 use Rattle.lv_model.specs.declared.plant.Plant.{Plant}
@@ -53,3 +53,15 @@ part_controls types p = option_map_or (λ (t : ComponentType). controls_from (p.
 -- the control variables of the plant, part by part
 abbrev pub controls : Plant → List VarId
 controls plant = flat_map (part_controls plant.types) plant.parts
+
+-- how many moves the part's type has
+abbrev pub part_moves : List ComponentType → Part → ℕ
+part_moves types p = option_map_or (λ (t : ComponentType). length t.moves) (slice_get types p.kind) 0
+
+-- how many moves each part has to choose from
+abbrev pub move_counts : Plant → List ℕ
+move_counts plant = map (part_moves plant.types) plant.parts
+
+-- a number that the limits of a model allow for values, modes and moves
+pub record IsFew (n : ℕ) : Type 0 where
+  pub few : n ≤ 64

@@ -1,5 +1,9 @@
 -- The moves of a mode among those of its type, which stand together.
-use Rattle.std.specs.Prelude.{ℕ, nat_lt, nat_eq, List, count_by}
+use Rattle.std.specs.Prelude.{ℕ, nat_lt, nat_eq, List, [], count_by, slice_get}
+use Rattle.std.specs.Option.{option_map_or}
+use Rattle.lv_model.specs.declared.plant.Plant.{Plant}
+use Rattle.lv_model.specs.declared.plant.ComponentType.{ComponentType}
+use Rattle.lv_model.specs.declared.plant.Part.{Part}
 use Rattle.lv_model.specs.declared.plant.Move.{Move}
 
 -- the number of the first move from the mode: how many moves are from modes before it
@@ -9,3 +13,7 @@ first_move moves mode = count_by (λ (m : Move). nat_lt m.source.0 mode) moves
 -- how many moves are from the mode
 abbrev pub move_count : List Move → ℕ → ℕ
 move_count moves mode = count_by (λ (m : Move). nat_eq m.source.0 mode) moves
+
+-- the moves that the part of this number has to choose from
+abbrev pub moves_of : Plant → ℕ → List Move
+moves_of plant part = option_map_or (λ (p : Part). option_map_or (λ (t : ComponentType). t.moves) (slice_get plant.types p.kind) []) (slice_get plant.parts part) []

@@ -8,7 +8,8 @@ ghost use Rattle.std.specs.Option.{option_map, option_copied};
 ghost use Rattle.lv_formula.specs.Tree.{truth_of, reads_below, number_of};
 ghost use Rattle.lv_base.specs.declared.ids.ValId.{ValId};
 ghost use Rattle.lv_model.specs.Lists.{variable_count};
-ghost use Rattle.lv_model.specs.WellFormed.{Reads, TypeReads, GuardReads, PartReads};
+ghost use Rattle.lv_model.specs.WellFormed.{Reads, TypeReads, GuardReads, PartReads, is_well_formed};
+ghost use Rattle.lv_model.specs.Moves.{first_move, move_count, moves_of};
 ghost use Rattle.lv_model.specs.Meaning.{mode_holds, part_is_feasible, is_feasible, is_open, is_open_step, goes, type_takes, part_takes, takes, target_of, part_steps, parts_step, is_step};
 
 use crate::check::type_of;
@@ -196,6 +197,37 @@ fn parts_go(
     true
 }
 
+/// The moves of the part's type; none where there is no such part.
+fn part_moves_of(plant: &Plant, part: PartId) -> &[Move]
+    requires { IsTrue (is_well_formed plant.now) }
+    ensures moves { result.now ≡ moves_of plant.now part.0 }
+    ensures few { length result.now ≤ 64 }
+{
+    match part_of(plant.parts.as_slice(), part) {
+        Some(p) => match type_of(plant.types.as_slice(), p) {
+            Some(t) => t.moves.as_slice(),
+            None => &[],
+        },
+        None => &[],
+    }
+}
+
+/// How many moves are from modes before this one.
+fn moves_before(moves: &[Move], mode: ValId) -> u32
+    requires { length moves.now ≤ 64 }
+    ensures { result ≡ first_move moves.now mode.0 }
+{
+    moves.iter().filter(|m| m.source.0 < mode.0).count() as u32
+}
+
+/// How many moves are from this mode.
+fn moves_with(moves: &[Move], mode: ValId) -> u32
+    requires { length moves.now ≤ 64 }
+    ensures { result ≡ move_count moves.now mode.0 }
+{
+    moves.iter().filter(|m| m.source.0 == mode.0).count() as u32
+}
+
 impl Model {
     /// Whether every law of the system is true, and every law and every formula of the present mode of each part.
     pub fn is_feasible(&self, a: &[ValId]) -> bool
@@ -232,5 +264,27 @@ impl Model {
         self.is_feasible(a)
             && self.is_feasible(b)
             && parts_go(plant.types.as_slice(), plant.parts.as_slice(), moves, a, b)
+    }
+
+    /// Whether each part takes its move in `a` and has its target mode in `b`, and there is one move for each part.
+    pub fn parts_step(&self, a: &[ValId], b: &[ValId], moves: &[MoveId]) -> bool
+        requires now { length a.now ≡ variable_count self.now }
+        requires next { length b.now ≡ variable_count self.now }
+        requires moves { length moves.now ≡ length self.now.parts }
+        ensures { result ≡ parts_step self.now.types a.now b.now self.now.parts moves.now }
+    {
+        let plant = self.plant();
+        parts_go(plant.types.as_slice(), plant.parts.as_slice(), moves, a, b)
+    }
+
+    /// The moves of a mode of the part, which stand together among those of its type: the first's number and how many
+    /// they are; none where there is no such part.
+    pub fn moves_from(&self, part: PartId, mode: ValId) -> (MoveId, u32)
+        ensures first { result.0.0 ≡ first_move (moves_of self.now part.0) mode.0 }
+        ensures count { result.1 ≡ move_count (moves_of self.now part.0) mode.0 }
+    {
+        let plant = self.plant();
+        let moves = part_moves_of(plant, part);
+        (MoveId(moves_before(moves, mode)), moves_with(moves, mode))
     }
 }

@@ -3,14 +3,14 @@
 
 ghost use Rattle.std.specs.Prelude.{◌≡◌, ◌+◌, ◌<◌, ◌≤◌, ◌++◌, ◌^◌, IfOk, OnErr, IsTrue, All, length, map, option_map, slice_get, count_by, nat_lt, nat_eq};
 ghost use Rattle.std.specs.Option.{option_map_or, option_copied};
-ghost use Rattle.lv_model.specs.Lists.{domain_size, type_sizes, part_sizes, sizes, part_width, is_control, controls_from, part_controls, controls};
+ghost use Rattle.lv_model.specs.Lists.{domain_size, type_sizes, part_sizes, sizes, part_width, is_control, controls_from, part_controls, controls, part_moves, move_counts, variable_count, IsFew};
 ghost use Rattle.lv_model.specs.declared.plant.Variable.{Variable};
 ghost use Rattle.lv_model.specs.WellFormed.{PartEnds};
 ghost use Rattle.lv_model.specs.Moves.{first_move, move_count};
 
 use crate::check::type_of;
 use crate::model::Model;
-use crate::plant::{Class, ComponentType, Domain, Move, Part, Variable};
+use crate::plant::{Class, ComponentType, Domain, Part, Plant, Variable};
 use lv_base::{MoveId, ValId, VarId};
 use std::alloc::{AllocError, Global};
 
@@ -92,21 +92,52 @@ fn push_part_controls(
     Ok(())
 }
 
+/// How many moves the part's type has; none where there is no such type.
+fn count_of_moves(types: &[ComponentType], part: &Part) -> usize
+    ensures { result ≡ part_moves types.now part.now }
+{
+    match type_of(types, part) {
+        Some(t) => t.moves.len(),
+        None => 0,
+    }
+}
+
+/// How many values each variable has, part by part, the mode of each part first.
+fn all_sizes(alloc: Global, plant: &Plant) -> Result<Vec<usize>, AllocError>
+    ensures { IfOk result (λ out. out.items ≡ sizes plant.now) }
+{
+    let mut out = Vec::new(alloc);
+    for part in plant.parts.as_slice() {
+        push_part_sizes(
+            &mut out,
+            plant.domains.as_slice(),
+            plant.types.as_slice(),
+            part,
+        )?;
+    }
+    Ok(out)
+}
+
+/// How many moves each part has to choose from.
+fn all_move_counts(alloc: Global, plant: &Plant) -> Result<Vec<usize>, AllocError>
+    ensures { IfOk result (λ out. out.items ≡ move_counts plant.now) }
+{
+    let mut out = Vec::new(alloc);
+    for part in plant.parts.as_slice() {
+        out.push(count_of_moves(plant.types.as_slice(), part))?;
+    }
+    Ok(out)
+}
+
 impl Model {
     /// How many values each variable has, part by part, the mode of each part first.
     pub fn sizes(&self, alloc: Global) -> Result<Vec<usize>, AllocError>
-        ensures { IfOk result (λ out. out.items ≡ sizes self.now) }
+        ensures sizes { IfOk result (λ out. out.items ≡ sizes self.now) }
+        ensures whole { IfOk result (λ out. length out.items ≡ variable_count self.now) }
+        ensures few { IfOk result (λ out. All IsFew out.items) }
     {
         let plant = self.plant();
-        let mut out = Vec::new(alloc);
-        for part in plant.parts.as_slice() {
-            push_part_sizes(
-                &mut out,
-                plant.domains.as_slice(),
-                plant.types.as_slice(),
-                part,
-            )?;
-        }
+        let out = all_sizes(alloc, plant)?;
         Ok(out)
     }
 
@@ -119,6 +150,16 @@ impl Model {
         for part in plant.parts.as_slice() {
             push_part_controls(&mut out, plant.types.as_slice(), part)?;
         }
+        Ok(out)
+    }
+
+    /// How many moves each part has to choose from, its type's.
+    pub fn move_counts(&self, alloc: Global) -> Result<Vec<usize>, AllocError>
+        ensures counts { IfOk result (λ out. out.items ≡ move_counts self.now) }
+        ensures few { IfOk result (λ out. All IsFew out.items) }
+    {
+        let plant = self.plant();
+        let out = all_move_counts(alloc, plant)?;
         Ok(out)
     }
 }

@@ -1,7 +1,7 @@
 use Rattle.std.proofs.Common.{◌≡◌, ◌++◌, drop}
 use Rattle.std.specs.List.{flat_map}
 use Rattle.lv_model.specs.Lists.{part_sizes}
-use Rattle.lv_model.proofs.model.Model.sizes.Given as goal
+use Rattle.lv_model.proofs.variables.all_sizes.Given as goal
 
 -- what was added and the sizes of the parts that are left are all sizes
 abbrev pub invariant-loop-part : goal.invariant-loop-part
