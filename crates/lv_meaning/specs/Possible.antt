@@ -9,7 +9,7 @@ use Rattle.lv_model.specs.declared.plant.Plant.{Plant}
 use Rattle.lv_model.specs.declared.plant.ComponentType.{ComponentType}
 use Rattle.lv_model.specs.declared.plant.Move.{Move}
 use Rattle.lv_model.specs.declared.plant.Part.{Part}
-use Rattle.lv_model.specs.Lists.{sizes}
+use Rattle.lv_model.specs.Lists.{sizes, move_counts}
 use Rattle.lv_model.specs.Meaning.{is_step}
 use Rattle.lv_meaning.specs.declared.facts.Facts.{Facts}
 use Rattle.lv_meaning.specs.Facts.{meets_facts}
@@ -20,13 +20,6 @@ value n = record { 0 = n }
 
 abbrev pub move_number : ℕ → MoveId
 move_number n = record { 0 = n }
-
--- how many moves the part's type has
-abbrev pub part_moves : List ComponentType → Part → ℕ
-part_moves types p = option_map_or (λ (t : ComponentType). length t.moves) (slice_get types p.kind) 0
-
-abbrev pub move_counts : Plant → List ℕ
-move_counts plant = map (part_moves plant.types) plant.parts
 
 -- the full choice gives the part of the pair's slot the pair's move
 abbrev pub gives : List MoveId → Pair → Bool

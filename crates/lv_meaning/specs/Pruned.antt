@@ -16,7 +16,7 @@ use Rattle.lv_meaning.specs.declared.facts.Facts.{Facts}
 use Rattle.lv_meaning.specs.declared.facts.Observation.{Observation}
 use Rattle.lv_meaning.specs.Facts.{meets, observes}
 use Rattle.lv_meaning.specs.Search.{some_allowed}
-use Rattle.lv_meaning.specs.Possible.{value, move_number, move_counts, extends}
+use Rattle.lv_meaning.specs.Possible.{value, move_number, extends}
 
 -- no pair gives the part of this number another move
 abbrev pub pair_allows : ℕ → ℕ → Pair → Bool

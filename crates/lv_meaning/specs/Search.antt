@@ -1,5 +1,5 @@
 -- 'Some list' as a search that computes.
-use Rattle.std.specs.Prelude.{ℕ, zero, suc, ◌+◌, ◌<◌, ◌^◌, Bool, true, false, ◌&&◌, ◌||◌, List, [], ◌∷◌, length}
+use Rattle.std.specs.Prelude.{ℕ, zero, suc, ◌+◌, Bool, true, false, ◌&&◌, ◌||◌, List, [], ◌∷◌, length}
 
 -- some number below the bound passes
 abbrev pub some_below : ℕ → (ℕ → Bool) → Bool
@@ -15,6 +15,3 @@ some_list item (n ∷ ns) p = some_below n (λ v. some_list item ns (λ xs. p (i
 abbrev pub some_allowed : {X : Type 0} → (ℕ → X) → (ℕ → ℕ → Bool) → ℕ → List ℕ → (List X → Bool) → Bool
 some_allowed item allows place [] p = p []
 some_allowed item allows place (n ∷ ns) p = some_below n (λ v. allows place v && some_allowed item allows (place + 1) ns (λ xs. p (item v ∷ xs)))
-
-pub record IsSmall (n : ℕ) : Type 0 where
-  pub fits : n < 2 ^ 32

@@ -40,12 +40,22 @@ fn none_moves_otherwise(pairs: &[Pair], part: usize, n: u32) -> bool
         .all(|pair| pair.slot as usize != part || pair.choice == n)
 }
 
-/// What is asked of moves between two given assignments: each part steps by its move, and the pairs are kept.
-struct MoveTest<'a> {
-    model: &'a Model,
-    pairs: &'a [Pair],
-    now: &'a [ValId],
-    next: &'a [ValId],
-    ghost now_whole: { length now.now ≡ variable_count model.now },
-    ghost next_whole: { length next.now ≡ variable_count model.now },
+/// Whether the move of the pair, if there is one, has this source, or its part has not this mode variable.
+fn source_agrees(plant: &Plant, pair: Pair, var: usize, val: u32) -> bool
+    ensures { result ≡ of_pair plant.now (source_allows var val) pair }
+{
+    match move_of_pair(plant, pair) {
+        Some(found) => found.first as usize != var || found.source == val,
+        None => true,
+    }
+}
+
+/// The same of its target.
+fn target_agrees(plant: &Plant, pair: Pair, var: usize, val: u32) -> bool
+    ensures { result ≡ of_pair plant.now (target_allows var val) pair }
+{
+    match move_of_pair(plant, pair) {
+        Some(found) => found.first as usize != var || found.target == val,
+        None => true,
+    }
 }

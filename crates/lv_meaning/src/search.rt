@@ -3,7 +3,8 @@
 #![tactic(auto)]
 
 ghost use Rattle.std.specs.Prelude.{◌≡◌, ℕ, ◌+◌, ◌<◌, ◌≤◌, ◌^◌, ◌++◌, Bool, true, false, List, length, take, drop, All, IfOk};
-ghost use Rattle.lv_meaning.specs.Search.{some_allowed, IsSmall};
+ghost use Rattle.lv_model.specs.Lists.{IsFew};
+ghost use Rattle.lv_meaning.specs.Search.{some_allowed};
 
 use lv_base::{MoveId, ValId};
 use std::alloc::{AllocError, Global};
@@ -33,13 +34,15 @@ impl Numbered for MoveId {
 }
 
 /// A test of lists. What it rules out at a place, no list that passes has there: so a search with the test needs not
-/// try it.
+/// try it. It looks at lists of `places` items.
 pub trait Test<N> {
     ghost passes: { Self → List N → Bool };
 
     ghost allows: { Self → ℕ → ℕ → Bool };
+    ghost places: { Self → ℕ };
 
     fn passes(&self, alloc: Global, chosen: &[N]) -> Result<bool, AllocError>
+        requires { length chosen.now ≡ places self.now }
         ensures { IfOk result (λ r. r ≡ passes self.now chosen.now) };
 
     fn allows(&self, place: usize, n: u32) -> bool
@@ -57,7 +60,8 @@ pub fn some_passes<N: Numbered, T: Test<N>>(
 ) -> Result<bool, AllocError>
     requires within { place ≤ length sizes.now }
     requires room { length chosen.old ≡ length sizes.now }
-    requires small { All IsSmall sizes.now }
+    requires few { All IsFew sizes.now }
+    requires whole { T.places test.now ≡ length sizes.now }
     ensures found { IfOk result (λ r. r ≡ some_allowed N.numbered (T.allows test.now) place (drop place sizes.now) (λ rest. T.passes test.now (take place chosen.old ++ rest))) }
     ensures kept { take place chosen.new ≡ take place chosen.old }
 {

@@ -8,6 +8,7 @@ ghost use Rattle.lv_formula.specs.Tree.{reads_below};
 ghost use Rattle.lv_model.specs.Lists.{part_width, variable_count};
 ghost use Rattle.lv_model.specs.WellFormed.{is_within, name_fits, domain_fits, variable_fits, cost_fits, move_fits, sources_rise, type_fits, mode_named, mode_reads, move_reads, type_reads, part_reads, part_fits, firsts_follow, lists_fit, variables_fit, is_well_formed};
 
+use crate::lookup::type_of;
 use crate::plant::{ComponentType, Domain, Mode, Move, MoveKind, Name, Part, Plant, Variable};
 use lv_base::{VarId, limits};
 use lv_formula::Condition;
@@ -151,13 +152,6 @@ fn type_is_read(t: &ComponentType, bound: usize, base: VarId) -> bool
         && conditions_read(t.laws.as_slice(), bound, base)
         && modes_read(t.modes.as_slice(), bound, base)
         && guards_read(t.moves.as_slice(), bound, base)
-}
-
-/// The type of a part, if there is one.
-pub fn type_of<'a>(types: &'a [ComponentType], part: &Part) -> Option<&'a ComponentType>
-    ensures { option_copied result ≡ slice_get types.now part.now.kind }
-{
-    types.get(part.kind as usize)
 }
 
 fn part_is_read(types: &[ComponentType], part: &Part, bound: usize) -> bool

@@ -9,6 +9,7 @@
 #![tactic(auto)]
 
 mod check;
+pub mod lookup;
 pub mod meaning;
 pub mod model;
 pub mod names;

@@ -12,7 +12,7 @@ ghost use Rattle.lv_model.specs.WellFormed.{Reads, TypeReads, GuardReads, PartRe
 ghost use Rattle.lv_model.specs.Moves.{first_move, move_count, moves_of};
 ghost use Rattle.lv_model.specs.Meaning.{mode_holds, part_is_feasible, is_feasible, is_open, is_open_step, goes, type_takes, part_takes, takes, target_of, part_steps, parts_step, is_step};
 
-use crate::check::type_of;
+use crate::lookup::{move_of, part_of, type_of};
 use crate::model::Model;
 use crate::plant::{ComponentType, Mode, Move, MoveKind, Part, Plant};
 use lv_base::{MoveId, PartId, ValId, VarId};
@@ -110,14 +110,6 @@ fn may_go(moves: &[Move], n: usize, m: &Move, a: &[ValId], base: VarId) -> bool
     }
 }
 
-/// The move of this number, if there is one.
-fn move_of(moves: &[Move], mv: MoveId) -> Option<&Move>
-    ensures found { option_copied result ≡ slice_get moves.now mv.0 }
-    ensures within { OnSome result (mv.0 < length moves.now) }
-{
-    moves.get(mv.0 as usize)
-}
-
 /// Whether an instance of the type takes the move of this number.
 fn type_takes_move(t: &ComponentType, mv: MoveId, a: &[ValId], base: VarId) -> bool
     requires { TypeReads (length a.now) base.0 t.now }
@@ -128,13 +120,6 @@ fn type_takes_move(t: &ComponentType, mv: MoveId, a: &[ValId], base: VarId) -> b
         Some(m) => a[base.0 as usize].0 == m.source.0 && may_go(moves, mv.0 as usize, m, a, base),
         None => false,
     }
-}
-
-/// The part of this number, if there is one.
-fn part_of(parts: &[Part], part: PartId) -> Option<&Part>
-    ensures { option_copied result ≡ slice_get parts.now part.0 }
-{
-    parts.get(part.0 as usize)
 }
 
 /// Whether the part takes the move of this number.

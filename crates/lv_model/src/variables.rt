@@ -8,7 +8,7 @@ ghost use Rattle.lv_model.specs.declared.plant.Variable.{Variable};
 ghost use Rattle.lv_model.specs.WellFormed.{PartEnds};
 ghost use Rattle.lv_model.specs.Moves.{first_move, move_count};
 
-use crate::check::type_of;
+use crate::lookup::type_of;
 use crate::model::Model;
 use crate::plant::{Class, ComponentType, Domain, Part, Plant, Variable};
 use lv_base::{MoveId, ValId, VarId};
