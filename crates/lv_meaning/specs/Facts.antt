@@ -1,11 +1,11 @@
 -- Facts, and what it is for assignments to meet them.
-use Rattle.std.specs.Prelude.{ℕ, ◌<◌, Bool, ◌&&◌, ◌||◌, not, nat_eq, List, [], ◌∷◌, ◌++◌}
+use Rattle.std.specs.Prelude.{ℕ, ◌<◌, Bool, ◌&&◌, ◌||◌, not, nat_eq, List, [], ◌∷◌, ◌++◌, length, All, ◌≡◌}
 use Rattle.std.specs.List.{list_all}
 use Rattle.lv_base.specs.declared.ids.ValId.{ValId}
 use Rattle.lv_base.specs.declared.ids.VarId.{VarId}
 use Rattle.lv_formula.specs.Tree.{number_of}
 use Rattle.lv_model.specs.declared.plant.Plant.{Plant}
-use Rattle.lv_model.specs.Lists.{controls}
+use Rattle.lv_model.specs.Lists.{controls, variable_count}
 use Rattle.lv_meaning.specs.declared.facts.Observation.{Observation}
 use Rattle.lv_meaning.specs.declared.facts.Facts.{Facts}
 
@@ -37,3 +37,9 @@ observes os x v = list_all (λ (o : Observation). not (nat_eq o.var.0 x) || nat_
 
 pub record IsInRange (count : ℕ) (o : Observation) : Type 0 where
   pub below : o.var.0 < count
+
+-- there is a value for each control, and observations speak of variables of the plant
+pub record FactsFit (plant : Plant) (facts : Facts) : Type 0 where
+  pub controls : length facts.controls ≡ length (controls plant)
+  pub present : All (IsInRange (variable_count plant)) facts.present
+  pub next : All (IsInRange (variable_count plant)) facts.next

@@ -39,6 +39,7 @@ pub trait Test<N> {
     ghost passes: { Self → List N → Bool };
 
     ghost allows: { Self → ℕ → ℕ → Bool };
+
     ghost places: { Self → ℕ };
 
     fn passes(&self, alloc: Global, chosen: &[N]) -> Result<bool, AllocError>
