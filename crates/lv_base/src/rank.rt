@@ -2,12 +2,18 @@
 //! by slot. It is total: of two ranks that aren't equal exactly one comes before the other.
 #![tactic(auto)]
 
-ghost use Rattle.std.specs.Prelude.{◌≡◌};
+ghost use Rattle.std.specs.Prelude.{◌≡◌, ◌==◌};
+ghost use Rattle.std.proofs.Common.{rules};
+ghost use Rattle.std.specs.Cmp.{partial_order_from_own_ties};
+ghost use Rattle.std.specs.Cmp.Rules.{comparing};
+ghost use Rattle.std.specs.Cmp.Lexicographic.{slice_cmp, pointwise};
+ghost use Rattle.std.specs.Ordering.{nat_cmp, on, as_partial_cmp};
 ghost use Rattle.lv_base.specs.Order.{comes_before};
-ghost use Rattle.lv_base.specs.Rank.{ranks_before, RankIsTotalOrder};
+ghost use Rattle.lv_base.specs.Rank.{rank_key, ranks_before, RankIsTotalOrder};
 
 use super::ids::Cost;
 use super::seq::Seq;
+use std::cmp::Ordering;
 
 /// What a candidate is ranked by. Lists of choices are of one length wherever ranks of one search are compared; of two
 /// lists of which one begins the other the shorter comes first.
@@ -53,3 +59,47 @@ pub fn choices_before(left: &[u32], right: &[u32]) -> bool
 pub fn rank_is_total_order()
     ensures { RankIsTotalOrder }
 {}
+
+impl PartialEq for Rank {
+    ghost eq = { on rank_key (pointwise ◌==◌) };
+
+    ghost laws = { Prim.search (comparing, rules) };
+
+    fn eq(&self, other: &Rank) -> bool {
+        self.cost.0 == other.cost.0
+            && self.source == other.source
+            && self.choices.as_slice() == other.choices.as_slice()
+    }
+}
+
+impl Eq for Rank {
+    ghost laws = { Prim.search (comparing, rules) };
+}
+
+impl Ord for Rank {
+    ghost cmp = { on rank_key (slice_cmp nat_cmp) };
+
+    ghost total = { Prim.search (comparing, rules) };
+
+    ghost matches_partial_cmp = { Prim.search (comparing, rules) };
+
+    ghost matches_eq = { Prim.search (comparing, rules) };
+
+    fn cmp(&self, other: &Rank) -> Ordering {
+        self.cost
+            .0
+            .cmp(&other.cost.0)
+            .then(self.source.cmp(&other.source))
+            .then(self.choices.as_slice().cmp(other.choices.as_slice()))
+    }
+}
+
+impl PartialOrd for Rank {
+    ghost partial_cmp = { as_partial_cmp (on rank_key (slice_cmp nat_cmp)) };
+
+    ghost laws = { partial_order_from_own_ties (Prim.search (comparing, rules)) (Prim.search (comparing, rules)) };
+
+    fn partial_cmp(&self, other: &Rank) -> Option<Ordering> {
+        Some(self.cmp(other))
+    }
+}
