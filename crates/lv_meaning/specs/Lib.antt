@@ -2,3 +2,4 @@ pub mod Search
 pub mod Facts
 pub mod Possible
 pub mod Pruned
+pub mod Candidates

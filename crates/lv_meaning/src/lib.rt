@@ -7,9 +7,11 @@
 //! | `possible` | do some assignments and moves agree with the facts and with a partial choice? |
 #![tactic(auto)]
 
+pub mod candidates;
 pub mod facts;
 pub mod possible;
 pub mod search;
 
+pub use candidates::State;
 pub use facts::{Facts, Observation};
 pub use search::{Numbered, Test};

@@ -1,18 +1,21 @@
 -- How many sizes and moves a well-formed plant has, and how large they are.
-use Rattle.std.proofs.Common.{◌≡◌, ◌+◌, ◌≤◌, ℕ, true, ◌&&◌, List, [], ◌∷◌, length, map, slice_get, Option, Some, None, refl, sym, ◌∙◌, ap₂, arith, All, nat_le, sum_by}
+use Rattle.std.proofs.Common.{◌≡◌, ◌+◌, ◌≤◌, ℕ, true, ◌&&◌, List, [], ◌∷◌, length, map, slice_get, Option, Some, None, refl, sym, ◌∙◌, ap₂, arith, All, nat_le, nat_lt, sum_by}
 use Rattle.std.specs.Option.{option_map_or}
 use Rattle.std.specs.List.{list_all, flat_map}
 use Rattle.std.proofs.lemmas.List.{length-append, length-map}
 use Rattle.std.proofs.lemmas.List.Elements.{All-cons, All-append}
 use Rattle.std.proofs.lemmas.List.Sums.{sum_by-cons}
-use borrow.Author.Tests.{leb-true}
+use borrow.Author.Tests.{leb-true, eqb-true}
 use Rattle.lv_model.specs.declared.plant.Plant.{Plant}
 use Rattle.lv_model.specs.declared.plant.Domain.{Domain}
 use Rattle.lv_model.specs.declared.plant.ComponentType.{ComponentType}
 use Rattle.lv_model.specs.declared.plant.Variable.{Variable}
+use Rattle.lv_model.specs.declared.plant.Move.{Move}
+use Rattle.lv_model.specs.declared.plant.MoveKind.{MoveKind}
+use Rattle.lv_model.specs.declared.plant.MoveKind.TheVariants.{Step, Stay, Fault}
 use Rattle.lv_model.specs.declared.plant.Part.{Part}
 use Rattle.lv_model.specs.Lists.{domain_size, type_sizes, part_sizes, sizes, part_width, variable_count, part_moves, IsFew}
-use Rattle.lv_model.specs.WellFormed.{name_fits, is_within, domain_fits, type_fits, variable_fits, mode_named, lists_fit, variables_fit, is_well_formed, part_fits}
+use Rattle.lv_model.specs.WellFormed.{name_fits, is_within, domain_fits, type_fits, variable_fits, mode_named, move_fits, lists_fit, variables_fit, is_well_formed, part_fits, cost_fits, MoveIsCheap, TypeIsSmall}
 use Rattle.lv_model.proofs.Reading.{both, All-of_test, All-at}
 
 width_is : (domains : List Domain) (o : Option ComponentType) → length (option_map_or (type_sizes domains) o []) ≡ option_map_or (λ (t : ComponentType). length t.variables + 1) o 0
@@ -109,3 +112,38 @@ module _ (plant : Plant) (h : is_well_formed plant ≡ true) where
   -- nor does a type of it
   pub few-moves_of_type : (k : ℕ) (t : ComponentType) → slice_get plant.types k ≡ Some t → length t.moves ≤ 64
   few-moves_of_type k t is = (few_modes t (type_passes k t is)).1
+
+  cheap_by_kind : (kind : MoveKind) (cost : ℕ) → cost_fits kind cost ≡ true → cost ≤ 1000000
+  cheap_by_kind Step cost fits = let e : cost ≡ 0 = eqb-true cost 0 fits in omega arith
+  cheap_by_kind Stay cost fits = let e : cost ≡ 0 = eqb-true cost 0 fits in omega arith
+  cheap_by_kind Fault cost fits = leb-true cost 1000000 (both (nat_le 1 cost) _ fits).1
+
+  cheap_move : (modes : ℕ) (m : Move) → move_fits modes m ≡ true → MoveIsCheap m
+  cheap_move modes m fits =
+      let one = both (nat_lt m.source.0 modes) _ fits in
+      let two = both (nat_lt m.target.0 modes) _ one.1 in
+      record { cost = cheap_by_kind m.kind m.cost.0 two.1 }
+
+  small_type : (t : ComponentType) → type_fits (length plant.domains) t ≡ true → TypeIsSmall t
+  small_type t fits =
+      let one = both (name_fits t.name) _ fits in
+      let two = both (list_all (variable_fits (length plant.domains)) t.variables) _ one.1 in
+      let three = both (is_within 1 (length t.modes) 16) _ two.1 in
+      let four = both (list_all mode_named t.modes) _ three.1 in
+      let five = both (nat_le (length t.moves) 64) _ four.1 in
+      let six = both (list_all (move_fits (length t.modes)) t.moves) _ five.1 in
+      record {
+        moves = (few_modes t fits).1;
+        costs = All-of_test (move_fits (length t.modes)) MoveIsCheap t.moves (cheap_move (length t.modes)) six.0;
+      }
+
+  -- the types of a well-formed plant have few moves, which cost little
+  pub small-types : All TypeIsSmall plant.types
+  small-types = All-of_test (type_fits (length plant.domains)) TypeIsSmall plant.types small_type types
+
+  -- and there are few parts
+  pub few-parts : length plant.parts ≤ 256
+  few-parts =
+      let rest = (both (list_all (type_fits (length plant.domains)) plant.types) _ (both (list_all domain_fits plant.domains) _ named).1).1 in
+      let count = (both (is_within 1 (length plant.parts) 256) _ rest).0 in
+      leb-true (length plant.parts) 256 (both (nat_le 1 (length plant.parts)) _ count).1

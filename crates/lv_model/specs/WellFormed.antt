@@ -120,3 +120,10 @@ pub record PartReads (bound : ℕ) (types : List ComponentType) (p : Part) : Typ
 -- the part's variables end within the bound
 pub record PartEnds (bound : ℕ) (types : List ComponentType) (p : Part) : Type 0 where
   pub last : p.first.0 + part_width types p ≤ bound
+
+pub record MoveIsCheap (m : Move) : Type 0 where
+  pub cost : m.cost.0 ≤ 1000000
+
+pub record TypeIsSmall (t : ComponentType) : Type 0 where
+  pub moves : length t.moves ≤ 64
+  pub costs : All MoveIsCheap t.moves

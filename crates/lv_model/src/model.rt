@@ -1,8 +1,8 @@
 //! The model: a plant that is well formed, which its type keeps.
 #![tactic(auto)]
 
-ghost use Rattle.std.specs.Prelude.{◌≡◌, IfOk, IfErr, IsTrue, All, is_ok};
-ghost use Rattle.lv_model.specs.WellFormed.{is_well_formed, Reads, PartReads, PartEnds};
+ghost use Rattle.std.specs.Prelude.{◌≡◌, IfOk, IfErr, IsTrue, All, is_ok, length, ◌≤◌};
+ghost use Rattle.lv_model.specs.WellFormed.{is_well_formed, Reads, PartReads, PartEnds, TypeIsSmall};
 ghost use Rattle.lv_model.specs.Lists.{variable_count};
 
 use crate::check::is_in_range;
@@ -51,6 +51,8 @@ impl Model {
         ensures well_formed { IsTrue (is_well_formed result.now) }
         ensures parts { All (PartReads (variable_count result.now) result.now.types) result.now.parts }
         ensures ends { All (PartEnds 4096 result.now.types) result.now.parts }
+        ensures types { All TypeIsSmall result.now.types }
+        ensures count { length result.now.parts ≤ 256 }
         ensures laws { All (Reads (variable_count result.now) 0) result.now.laws }
     {
         &self.plant
