@@ -1,0 +1,4 @@
+pub mod MaskLemmas
+pub mod PartsLemmas
+pub mod CheapestLemmas
+pub mod LeastLemmas

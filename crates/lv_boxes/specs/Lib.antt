@@ -1,0 +1,4 @@
+pub mod Masks
+pub mod Members
+pub mod Least
+pub mod Parts
