@@ -1,5 +1,5 @@
 -- The cheapest choices of a zone: there are none where there isn't one mask for each slot.
-use Rattle.std.proofs.Common.{◌≡◌, ◌≢◌, ℕ, List, [], ◌∷◌, length, Option, Some, None, refl, ap, arith}
+use Rattle.std.proofs.Common.{◌≡◌, ◌≢◌, ℕ, List, [], ◌∷◌, length, Option, Some, None, refl, arith}
 use Rattle.lv_base.specs.declared.ids.Cost.{Cost}
 use Rattle.lv_boxes.specs.Least.{cheapest, put_before, cheapest_choices}
 

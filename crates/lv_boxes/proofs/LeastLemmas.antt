@@ -1,5 +1,5 @@
 -- The first cheapest choice of each slot together are the member that ranks first.
-use Rattle.std.proofs.Common.{◌≡◌, ◌≢◌, ◌⊎◌, inl, inr, ℕ, zero, suc, ◌+◌, ◌<◌, ◌≤◌, Bool, true, false, not, nat_eq, nat_lt, ◌&&◌, ◌||◌, if◌then◌else◌, List, [], ◌∷◌, length, Option, Some, None, IfSome, refl, arith}
+use Rattle.std.proofs.Common.{◌≡◌, ◌⊎◌, inl, inr, ℕ, zero, suc, ◌+◌, ◌<◌, ◌≤◌, Bool, true, false, not, nat_lt, ◌&&◌, ◌||◌, if◌then◌else◌, List, [], ◌∷◌, length, Option, Some, None, refl, arith}
 use Rattle.std.specs.Option.{option_map}
 use Rattle.std.proofs.lemmas.Bool.{cases_eq, cases_lt}
 use Rattle.lv_base.specs.declared.ids.Cost.{Cost}
@@ -25,7 +25,7 @@ contradiction : (b : Bool) → b ≡ true → b ≡ false → ⊥
 contradiction b p q = cc
 
 step_none : (costs : List Cost) (mask n : ℕ) (has : Bool) → has_choice mask n ≡ has → FirstTells costs mask n None
-  → FirstTells costs mask (suc n) (if has && true then Some n else None)
+    → FirstTells costs mask (suc n) (if has && true then Some n else None)
 step_none costs mask n true here t =
     record {
       has = here;
@@ -44,7 +44,7 @@ step_none costs mask n false here t = λ other h. by other h (cases_lt other n)
     by other h (inr l) = let same : other ≡ n = omega arith in rw same here
 
 step_some : (costs : List Cost) (mask n choice : ℕ) (has less : Bool) → has_choice mask n ≡ has → nat_lt (choice_cost costs n) (choice_cost costs choice) ≡ less
-  → IsFirst costs mask n choice → FirstTells costs mask (suc n) (if has && less then Some n else Some choice)
+    → IsFirst costs mask n choice → FirstTells costs mask (suc n) (if has && less then Some n else Some choice)
 step_some costs mask n choice true true here less t =
     record {
       has = here;
@@ -80,7 +80,7 @@ step_some costs mask n choice false less here _ t =
     by other h k (inr l) = let same : other ≡ n = omega arith in absurd (contradiction _ k (rw same here))
 
 step : (costs : List Cost) (mask n : ℕ) (before : Option ℕ) → FirstTells costs mask n before
-  → FirstTells costs mask (suc n) (if has_choice mask n && costs_more costs n before then Some n else before)
+    → FirstTells costs mask (suc n) (if has_choice mask n && costs_more costs n before then Some n else before)
 step costs mask n None t = step_none costs mask n (has_choice mask n) refl t
 step costs mask n (Some choice) t = step_some costs mask n choice (has_choice mask n) (nat_lt (choice_cost costs n) (choice_cost costs choice)) refl refl t
 
@@ -124,11 +124,12 @@ nil_least = record { left = refl; cheap = λ others h. omega arith; first = firs
     first (other ∷ others) h e = refl
 
 cons_least : (costs : List Cost) (mask choice : ℕ) (slots : List (List Cost)) (masks choices : List ℕ)
-  → IsFirst costs mask (length costs) choice → IsLeast slots masks choices → IsLeast (costs ∷ slots) (mask ∷ masks) (choice ∷ choices)
+    → IsFirst costs mask (length costs) choice → IsLeast slots masks choices → IsLeast (costs ∷ slots) (mask ∷ masks) (choice ∷ choices)
 cons_least costs mask choice slots masks choices t l = record { left = left; cheap = cheap; first = first }
   where
     left : are_left (costs ∷ slots) (mask ∷ masks) (choice ∷ choices) ≡ true
     left = let below : choice < length costs = t.below in rw (t.has, l.left) (grind arith)
+
     cheap : (others : List ℕ) → are_left (costs ∷ slots) (mask ∷ masks) others ≡ true → choices_cost (costs ∷ slots) (choice ∷ choices) ≤ choices_cost (costs ∷ slots) others
     cheap [] h = absurd (cc)
     cheap (other ∷ others) h =
@@ -138,6 +139,7 @@ cons_least costs mask choice slots masks choices t l = record { left = left; che
         let one : choice_cost costs choice ≤ choice_cost costs other = t.cheap other within here in
         let all : choices_cost slots choices ≤ choices_cost slots others = l.cheap others rest in
         omega arith
+
     first : (others : List ℕ) → are_left (costs ∷ slots) (mask ∷ masks) others ≡ true → choices_cost (costs ∷ slots) others ≡ choices_cost (costs ∷ slots) (choice ∷ choices) → comes_before others (choice ∷ choices) ≡ false
     first [] h e = absurd (cc)
     first (other ∷ others) h e =
@@ -152,14 +154,14 @@ cons_least costs mask choice slots masks choices t l = record { left = left; che
         by other (cases_lt other choice) alike (λ before. t.first other before here) later
       where
         by : (other : ℕ) → (other < choice) ⊎ (choice ≤ other) → choice_cost costs other ≡ choice_cost costs choice
-          → (other < choice → choice_cost costs choice < choice_cost costs other) → comes_before others choices ≡ false → comes_before (other ∷ others) (choice ∷ choices) ≡ false
+            → (other < choice → choice_cost costs choice < choice_cost costs other) → comes_before others choices ≡ false → comes_before (other ∷ others) (choice ∷ choices) ≡ false
         by other (inl before) alike dearer later =
             let far : choice_cost costs choice < choice_cost costs other = dearer before in
             absurd (omega arith)
         by other (inr past) alike dearer later = rw later (grind arith)
 
 joined : (costs : List Cost) (mask : ℕ) (slots : List (List Cost)) (masks : List ℕ) (choice : Option ℕ) (choices : Option (List ℕ))
-  → FirstTells costs mask (length costs) choice → LeastTells slots masks choices → LeastTells (costs ∷ slots) (mask ∷ masks) (put_before choice choices)
+    → FirstTells costs mask (length costs) choice → LeastTells slots masks choices → LeastTells (costs ∷ slots) (mask ∷ masks) (put_before choice choices)
 joined costs mask slots masks None choices t l =
     let none : has_left_from 0 costs mask ≡ false = has_left_none 0 costs mask (λ other h. t other (omega arith)) in
     rw none refl
@@ -188,9 +190,9 @@ least_member slots zone choices l = record { member = rw l.left (grind arith); f
         by (cases_eq (choices_cost slots other.choices) (choices_cost slots choices)) cheap last
       where
         by : (choices_cost slots other.choices ≡ choices_cost slots choices) ⊎ (choices_cost slots other.choices ≡ choices_cost slots choices → ⊥)
-          → choices_cost slots choices ≤ choices_cost slots other.choices
-          → (choices_cost slots other.choices ≡ choices_cost slots choices → comes_before other.choices choices ≡ false)
-          → ranks_before (rank_in slots zone other.choices) (rank_in slots zone choices) ≡ false
+            → choices_cost slots choices ≤ choices_cost slots other.choices
+            → (choices_cost slots other.choices ≡ choices_cost slots choices → comes_before other.choices choices ≡ false)
+            → ranks_before (rank_in slots zone other.choices) (rank_in slots zone choices) ≡ false
         by (inl same) cheap last = rw (last same) (grind arith)
         by (inr apart) cheap last = grind arith
 
@@ -210,7 +212,7 @@ sum_some slots masks cost e = by (cheapest_choices slots masks) (least_told slot
     by (Some choices) t e = t.0
 
 pub sum_is_least_cost : (slots : List (List Cost)) (zone : ZoneValue) (cost : ℕ) → Some cost ≡ option_map (choices_cost slots) (cheapest_choices slots zone.masks)
-  → IsLeastCost slots zone (record { 0 = zone.base.0 + cost })
+    → IsLeastCost slots zone (record { 0 = zone.base.0 + cost })
 sum_is_least_cost slots zone cost e = by (cheapest_choices slots zone.masks) (least_told slots zone.masks) e
   where
     by : (choices : Option (List ℕ)) → LeastTells slots zone.masks choices → Some cost ≡ option_map (choices_cost slots) choices → IsLeastCost slots zone (record { 0 = zone.base.0 + cost })
@@ -223,5 +225,33 @@ pub written_is_least : (slots : List (List Cost)) (zone : ZoneValue) (out : List
 written_is_least slots zone out e = least_member slots zone out (rw (← e) at (least_told slots zone.masks)).1
 
 pub written_costs : (slots : List (List Cost)) (masks : List ℕ) (cost : ℕ) (out : List ℕ) → Some cost ≡ option_map (choices_cost slots) (cheapest_choices slots masks)
-  → Some out ≡ cheapest_choices slots masks → cost ≡ choices_cost slots out
+    → Some out ≡ cheapest_choices slots masks → cost ≡ choices_cost slots out
 written_costs slots masks cost out e w = let sum : Some cost ≡ option_map (choices_cost slots) (Some out) = rw (← w) at e in cc
+
+-- without a choice at some slot no choices are left
+pub lacks_choice-none : (slots : List (List Cost)) (masks choices : List ℕ) → lacks_choice slots masks ≡ true → are_left slots masks choices ≡ false
+lacks_choice-none [] [] choices h = absurd (cc h)
+lacks_choice-none [] (mask ∷ masks) [] h = refl
+lacks_choice-none [] (mask ∷ masks) (choice ∷ choices) h = refl
+lacks_choice-none (costs ∷ slots) [] [] h = refl
+lacks_choice-none (costs ∷ slots) [] (choice ∷ choices) h = refl
+lacks_choice-none (costs ∷ slots) (mask ∷ masks) [] h = refl
+lacks_choice-none (costs ∷ slots) (mask ∷ masks) (choice ∷ choices) h =
+    by (has_left_from 0 costs mask) (lacks_choice slots masks) (is_left costs mask choice) (are_left slots masks choices) h some (lacks_choice-none slots masks choices)
+  where
+    some : is_left costs mask choice ≡ true → has_left_from 0 costs mask ≡ true
+    some l =
+        let below : choice < length costs = grind arith in
+        let has : has_choice mask choice ≡ true = grind arith in
+        has_left_some 0 costs mask choice (omega arith) (omega arith) has
+
+    by : (has lacks here rest : Bool) → (not has || lacks) ≡ true → (here ≡ true → has ≡ true) → (lacks ≡ true → rest ≡ false) → (here && rest) ≡ false
+    by has lacks false rest h p q = refl
+    by has lacks true rest h p q = let there : has ≡ true = p refl in let l : lacks ≡ true = rw there at h in q l
+
+pub has_least : (slots : List (List Cost)) (zone : ZoneValue) → lacks_choice slots zone.masks ≡ false → (choices : List ℕ) × IsLeastMember slots zone choices
+has_least slots zone h = by (cheapest_choices slots zone.masks) (least_told slots zone.masks)
+  where
+    by : (choices : Option (List ℕ)) → LeastTells slots zone.masks choices → (choices : List ℕ) × IsLeastMember slots zone choices
+    by None t = absurd (contradiction _ t h)
+    by (Some choices) t = (choices, least_member slots zone choices t.1)

@@ -2,3 +2,4 @@ pub mod MaskLemmas
 pub mod PartsLemmas
 pub mod CheapestLemmas
 pub mod LeastLemmas
+pub mod MemberLemmas

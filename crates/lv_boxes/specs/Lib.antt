@@ -2,3 +2,4 @@ pub mod Masks
 pub mod Members
 pub mod Least
 pub mod Parts
+pub mod Laws

@@ -1,10 +1,10 @@
 -- The parts into which a zone is split by a conflict: together its members that don't contain the conflict.
-use Rattle.std.specs.Prelude.{◌≡◌, ℕ, ◌+◌, Bool, true, false, not, nat_lt, ◌&&◌, List, [], ◌∷◌, length, slice_index, slice_set, AllPairs}
+use Rattle.std.specs.Prelude.{◌≡◌, Bool, true, false, not, nat_lt, ◌&&◌, ℕ, List, [], ◌∷◌, length, slice_index, slice_set, All, AllPairs}
 use Rattle.std.specs.List.{list_all, list_any}
 use Rattle.lv_base.specs.declared.ids.Cost.{Cost}
 use Rattle.lv_base.specs.declared.search.Pair.{Pair}
 use Rattle.lv_base.specs.declared.search.Candidate.{Candidate}
-use Rattle.lv_base.specs.Choices.{contains_all, slots_rise}
+use Rattle.lv_base.specs.Choices.{contains_all}
 use Rattle.lv_boxes.specs.Masks.{only_choice, without_choice}
 use Rattle.lv_boxes.specs.Members.{ZoneValue, is_member}
 
@@ -29,22 +29,14 @@ are_slots_of zone pairs = list_all (λ p. nat_lt p.slot (length zone.masks)) pai
 abbrev pub AreDisjoint : ZoneValue → ZoneValue → Type 0
 AreDisjoint one other = (slots : List (List Cost)) (candidate : Candidate) → is_member slots one candidate ≡ true → is_member slots other candidate ≡ false
 
+-- a part ranks its members as the zone does, and has as many slots
+pub record IsAlike (zone part : ZoneValue) : Type 0 where
+  pub source : part.source ≡ zone.source
+  pub base : part.base ≡ zone.base
+  pub slots : length part.masks ≡ length zone.masks
+
 -- the zones share no member, and together have exactly the members of a zone that don't contain the conflict
 pub record IsSplit (zone : ZoneValue) (conflict : List Pair) (zones : List ZoneValue) : Type 0 where
+  pub alike : All (IsAlike zone) zones
   pub disjoint : AllPairs AreDisjoint zones
   pub exact : (slots : List (List Cost)) (candidate : Candidate) → list_any (λ part. is_member slots part candidate) zones ≡ (is_member slots zone candidate && not (contains_all candidate.choices conflict))
-
--- a choice at each slot from slot n on, as pairs
-abbrev pub pairs_from : ℕ → List ℕ → List Pair
-pairs_from n [] = []
-pairs_from n (choice ∷ choices) = record { slot = n; choice = choice } ∷ pairs_from (n + 1) choices
-
-abbrev pub pairs_of : List ℕ → List Pair
-pairs_of choices = pairs_from 0 choices
-
--- a zone that is split by all choices of a member loses that member alone
-pub record LosesMemberAlone (slots : List (List Cost)) (zone : ZoneValue) (choices : List ℕ) : Type 0 where
-  pub rise : slots_rise (pairs_of choices) ≡ true
-  pub within : are_slots_of zone (pairs_of choices) ≡ true
-  pub lost : list_any (λ part. is_member slots part (record { source = zone.source; choices = choices })) (parts_of zone (pairs_of choices)) ≡ false
-  pub kept : (other : Candidate) → is_member slots zone other ≡ true → ¬ (other.choices ≡ choices) → list_any (λ part. is_member slots part other) (parts_of zone (pairs_of choices)) ≡ true

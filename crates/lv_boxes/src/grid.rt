@@ -5,12 +5,11 @@ ghost use Rattle.std.specs.Prelude.{◌≡◌, ◌+◌, ◌<◌, ◌≤◌, [], 
 ghost use Rattle.lv_boxes.specs.Members.{IsSlot, rank_in};
 ghost use Rattle.lv_boxes.specs.Least.{lacks_choice, IsLeastMember, IsLeastCost};
 
+use super::least::{least_cost, write_least};
+use super::zone::Zone;
 use lv_base::{Cost, Seq};
 use std::alloc::{AllocError, Global};
 use std::marker::Model;
-
-use super::least::{least_cost, write_least};
-use super::zone::Zone;
 
 /// The costs of the choices of each slot, slots and choices counted from 0. Contracts see the list of the slots, each as
 /// the list of its costs.
@@ -55,6 +54,13 @@ impl Grid {
         self.slots.push(slot)
     }
 
+    /// How many slots there are.
+    pub fn len(&self) -> usize
+        ensures { result ≡ length self.now }
+    {
+        self.slots.len()
+    }
+
     /// The cost of the zone's member of least rank: the zone's base and the costs of the member's choices. `None`
     /// exactly where some slot has no choice left, or the zone has not one mask for each slot. Takes no memory.
     pub fn best(&self, zone: &Zone) -> Option<Cost>
@@ -65,15 +71,15 @@ impl Grid {
         Some(Cost(zone.base().0 + cost))
     }
 
-    /// As `best`, and writes the member's choices, at each slot the first among its cheapest. Where it answers `None`,
-    /// the buffer holds no member.
+    /// As `best`, and writes the member's choices: at each slot the first among its cheapest. Where it answers `None`,
+    /// what the buffer holds means nothing.
     pub fn write_best(&self, zone: &Zone, out: &mut [u32]) -> Option<Cost>
         requires { length out.old ≡ length self.now }
         ensures none { is_none result ≡ lacks_choice self.now zone.now.masks }
         ensures member { OnSome result (IsLeastMember self.now zone.now out.new) }
         ensures cost { IfSome result (λ cost. cost ≡ (rank_in self.now zone.now out.new).cost) }
     {
-        let cost = write_least(self.slots.as_slice(), zone.masks(), out)?;
-        Some(Cost(zone.base().0 + cost))
+        let sum = write_least(self.slots.as_slice(), zone.masks(), out)?;
+        Some(Cost(zone.base().0 + sum))
     }
 }

@@ -7,9 +7,8 @@ ghost use Rattle.std.specs.Option.{option_map, ForSome};
 ghost use Rattle.lv_boxes.specs.Members.{IsSlot, choice_cost, choices_cost};
 ghost use Rattle.lv_boxes.specs.Least.{cheapest, cheapest_choices, costs_more};
 
-use lv_base::{Cost, Seq};
-
 use super::mask;
+use lv_base::{Cost, Seq};
 
 /// What the cheapest choices of all slots cost together; `None` where some slot has no choice left.
 pub fn least_cost(slots: &[Seq<Cost>], masks: &[u64]) -> Option<u64>

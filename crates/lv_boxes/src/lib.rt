@@ -8,16 +8,20 @@
 //! | a set of candidates | `Zone` |
 //! | its first member | `Grid::best`, `Grid::write_best` |
 //! | the members without those that contain a conflict | `split` |
-//! | laws | `no_choice_is_no_member`, `split_by_member_loses_it_alone` |
+//! | laws | `members_need_choices`, `split_by_member_loses_one` |
 #![tactic(auto)]
 
+pub mod grid;
+pub mod laws;
 mod least;
 mod mask;
-
-pub mod grid;
 pub mod parts;
 pub mod zone;
 
 pub use grid::Grid;
+pub use laws::{members_need_choices, split_by_member_loses_one};
 pub use parts::split;
 pub use zone::Zone;
+
+#[cfg(test)]
+mod tests;

@@ -5,10 +5,9 @@
 ghost use Rattle.std.specs.Prelude.{◌≡◌, Bool, true, IfOk};
 ghost use Rattle.lv_boxes.specs.Parts.{parts_of, are_slots_of, IsSplit};
 
+use super::zone::Zone;
 use lv_base::Conflict;
 use std::alloc::{AllocError, Global};
-
-use super::zone::Zone;
 
 /// The members of a zone that don't contain the conflict, as zones that share no member: one for each pair of the
 /// conflict, in order. It has the choices of the pairs before it and everything but its own pair's choice at that

@@ -4,11 +4,10 @@
 ghost use Rattle.std.specs.Prelude.{◌≡◌, ◌≤◌, ◌^◌, IfOk};
 ghost use Rattle.lv_boxes.specs.Parts.{masks_with, masks_without};
 
+use super::mask;
 use lv_base::{Cost, Pair};
 use std::alloc::{AllocError, Global};
 use std::marker::Model;
-
-use super::mask;
 
 /// A set of candidates of one source. Contracts see its source, its base cost and the list of its masks.
 #[derive(Debug, Drop)]
@@ -67,14 +66,14 @@ impl Zone {
     }
 
     /// A zone with the same members, in memory of its own.
-    pub fn copied(&self, alloc: Global) -> Result<Zone, AllocError>
+    pub(crate) fn copied(&self, alloc: Global) -> Result<Zone, AllocError>
         ensures { IfOk result (λ zone. zone ≡ self.now) }
     {
         Zone::new(alloc, self.source, self.base, self.masks.as_slice())
     }
 
     /// Leaves the members that have the pair's choice at its slot. A slot that the zone hasn't is passed over.
-    pub fn fix(&mut self, pair: Pair)
+    pub(crate) fn fix(&mut self, pair: Pair)
         ensures { self.new ≡ record self.old { masks = masks_with self.old.masks pair } }
     {
         let slot = pair.slot as usize;
@@ -84,7 +83,7 @@ impl Zone {
     }
 
     /// Leaves the members that haven't the pair's choice at its slot. A slot that the zone hasn't is passed over.
-    pub fn exclude(&mut self, pair: Pair)
+    pub(crate) fn exclude(&mut self, pair: Pair)
         ensures { self.new ≡ record self.old { masks = masks_without self.old.masks pair } }
     {
         let slot = pair.slot as usize;

@@ -1,5 +1,5 @@
 -- what is added up, with what the slots left cost, is what all slots cost, and likewise what is written
-use Rattle.std.proofs.Common.{◌≡◌, ◌+◌, ◌*◌, ◌≤◌, ◌++◌, length, take, drop}
+use Rattle.std.proofs.Common.{◌≡◌, ◌+◌, ◌*◌, ◌≤◌, ◌++◌, take, drop}
 use Rattle.std.specs.Option.{option_map}
 use Rattle.lv_boxes.specs.Members.{choices_cost}
 use Rattle.lv_boxes.specs.Least.{cheapest_choices}

@@ -1,5 +1,5 @@
 -- a word has 64 bits
-use Rattle.std.proofs.Common.{◌∙◌, sym, arith}
+use Rattle.std.proofs.Common.{arith}
 use Rattle.lv_boxes.proofs.MaskLemmas.{has_choice-past}
 use Rattle.lv_boxes.proofs.mask.has.Goals as goal
 

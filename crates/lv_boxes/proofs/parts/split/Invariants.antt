@@ -1,7 +1,6 @@
 -- the parts made, and the parts of what is left by the pairs that are left, are the parts of the whole
 use Rattle.std.proofs.Common.{◌≡◌, ◌++◌, drop}
 use Rattle.lv_boxes.specs.Parts.{parts_of}
-use Rattle.lv_boxes.proofs.PartsLemmas as lemmas
 use Rattle.lv_boxes.proofs.parts.split.Given as goal
 
 abbrev pub invariant-loop-pair : goal.invariant-loop-pair

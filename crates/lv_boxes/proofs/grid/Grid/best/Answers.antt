@@ -1,5 +1,5 @@
 -- the sum of the cheapest choices is the cost of the least member beyond the base
-use Rattle.std.proofs.Common.{◌≡◌, ◌∙◌, None, Some, ap, sym, refl}
+use Rattle.std.proofs.Common.{◌≡◌, ◌∙◌, None, Some, ap, sym}
 use Rattle.std.specs.Option.{is_none, option_map}
 use Rattle.lv_boxes.specs.Members.{choices_cost}
 use Rattle.lv_boxes.specs.Least.{cheapest_choices}
