@@ -1,10 +1,11 @@
 -- All choices of a member as a conflict: only that member contains it.
-use Rattle.std.proofs.Common.{◌≡◌, ◌≢◌, ℕ, suc, ◌+◌, ◌-◌, ◌<◌, ◌≤◌, true, false, not, nat_lt, ◌&&◌, List, [], ◌∷◌, length, get_or, drop, refl, sym, ◌∙◌, ap, arith, add-one, drop-cons, length-drop}
+use Rattle.std.proofs.Common.{◌≡◌, ◌≢◌, ℕ, suc, ◌+◌, ◌-◌, ◌<◌, ◌≤◌, true, false, not, nat_lt, ◌&&◌, List, [], ◌∷◌, ◌++◌, append-nil, length, get_or, drop, refl, sym, ◌∙◌, ap, arith, add-one, drop-cons, length-drop}
 use Rattle.std.specs.List.{list_all, list_any}
 use Rattle.std.proofs.Math.ListN.{drop_of_length-le}
 use Rattle.std.proofs.lemmas.Bool.{false_from_ne_true}
 use Rattle.lv_base.specs.declared.ids.Cost.{Cost}
 use Rattle.lv_base.specs.declared.search.Candidate.{Candidate}
+use Rattle.lv_base.specs.declared.search.Pair.{Pair}
 use Rattle.lv_base.specs.Choices.{contains_all, slots_rise_from}
 use Rattle.lv_boxes.specs.Members.{ZoneValue, are_left, is_member}
 use Rattle.lv_boxes.specs.Parts.{parts_of}
@@ -25,7 +26,7 @@ length-are_left (costs ∷ slots) (mask ∷ masks) (choice ∷ choices) h =
     let same : length choices ≡ length masks = length-are_left slots masks choices rest in
     omega arith
 
-pairs_rise : (n : ℕ) (choices : List ℕ) → slots_rise_from n (pairs_from n choices) ≡ true
+pub pairs_rise : (n : ℕ) (choices : List ℕ) → slots_rise_from n (pairs_from n choices) ≡ true
 pairs_rise n [] = refl
 pairs_rise n (choice ∷ choices) = rw (pairs_rise (n + 1) choices) (grind arith)
 
@@ -85,3 +86,10 @@ loses_one slots zone member h = record { rise = pairs_rise 0 member.choices; wit
             let choices : other.choices ≡ member.choices = only_own other.choices 0 member.choices (omega (arith, len)) all in
             let source : other.source ≡ member.source = grind arith in
             λ i. record { source = source i; choices = choices i }
+
+-- where no choice is left, the pairs made are all
+pub all_paired : (made : List Pair) (n : ℕ) (choices : List ℕ) → length choices ≤ n → made ++ pairs_from n (drop n choices) ≡ pairs_of choices → made ≡ pairs_of choices
+all_paired made n choices past h =
+    let none : drop n choices ≡ [] = drop_of_length-le choices past in
+    let left : made ++ pairs_from n [] ≡ pairs_of choices = rw none at h in
+    sym (append-nil made) ∙ left

@@ -8,6 +8,7 @@
 //! | a set of candidates | `Zone` |
 //! | its first member | `Grid::best`, `Grid::write_best` |
 //! | the members without those that contain a conflict | `split` |
+//! | all choices of a candidate as a conflict | `choices_as_conflict` |
 //! | laws | `members_need_choices`, `split_by_member_loses_one` |
 #![tactic(auto)]
 
@@ -20,7 +21,7 @@ pub mod zone;
 
 pub use grid::Grid;
 pub use laws::{members_need_choices, split_by_member_loses_one};
-pub use parts::split;
+pub use parts::{choices_as_conflict, split};
 pub use zone::Zone;
 
 #[cfg(test)]

@@ -1,6 +1,6 @@
 //! With ample memory each call answers. What the zones hold is worked out by hand.
 
-use super::{Grid, Zone, split};
+use super::{Grid, Zone, choices_as_conflict, split};
 use lv_base::{Conflict, Cost, Pair};
 use std::test::Fail;
 
@@ -29,6 +29,11 @@ fn least_members_of_a_zone_and_its_parts(rt: HostRuntime) -> Result<(), Fail> {
         assert_eq!(rt; grid.write_best(part, &mut out), cost);
         assert_eq!(rt; out, choices);
     }
+
+    let member = choices_as_conflict(alloc, &[2, 1])?;
+    assert!(rt;
+        member.pairs() == [Pair { slot: 0, choice: 2 }, Pair { slot: 1, choice: 1 }].as_slice()
+    );
 
     let none = split(alloc, &zone, &Conflict::from_pairs(alloc, &[])?)?;
     assert_eq!(rt; none.len(), 0);
