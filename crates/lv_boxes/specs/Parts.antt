@@ -35,7 +35,7 @@ pub record IsAlike (zone part : ZoneValue) : Type 0 where
   pub base : part.base ≡ zone.base
   pub slots : length part.masks ≡ length zone.masks
 
--- the zones share no member, and together have exactly the members of a zone that don't contain the conflict
+-- the zones share no member, and together have exactly the members of the zone that don't contain the conflict
 pub record IsSplit (zone : ZoneValue) (conflict : List Pair) (zones : List ZoneValue) : Type 0 where
   pub alike : All (IsAlike zone) zones
   pub disjoint : AllPairs AreDisjoint zones

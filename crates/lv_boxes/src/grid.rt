@@ -71,8 +71,8 @@ impl Grid {
         Some(Cost(zone.base().0 + cost))
     }
 
-    /// As `best`, and writes the member's choices: at each slot the first among its cheapest. Where it answers `None`,
-    /// what the buffer holds means nothing.
+    /// As `best`, and writes the member's choices: at each slot the first among its cheapest. The buffer has one place
+    /// for each slot; where the answer is `None`, what it holds means nothing.
     pub fn write_best(&self, zone: &Zone, out: &mut [u32]) -> Option<Cost>
         requires { length out.old ≡ length self.now }
         ensures none { is_none result ≡ lacks_choice self.now zone.now.masks }
