@@ -4,7 +4,7 @@
 # the time of a run of no rounds off, so that making the settings doesn't count.
 set -eu
 cd "$(dirname "$0")/../crates/bench_boxes"
-[ -x out/bench_boxes ] || rt run -- 0 0 0 >/dev/null
+rt run -- 0 0 0 >/dev/null
 TIMEFORMAT=%3U
 
 # the milliseconds that a run with these words takes
