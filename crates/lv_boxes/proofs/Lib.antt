@@ -1,0 +1,5 @@
+pub mod MaskLemmas
+pub mod PartsLemmas
+pub mod CheapestLemmas
+pub mod LeastLemmas
+pub mod MemberLemmas

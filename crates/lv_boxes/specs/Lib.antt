@@ -1,0 +1,5 @@
+pub mod Masks
+pub mod Members
+pub mod Least
+pub mod Parts
+pub mod Laws
