@@ -1,5 +1,5 @@
 -- One step of listing the candidates of a state, over plain lists.
-use Rattle.std.proofs.Common.{◌≡◌, ◌≢◌, ℕ, zero, suc, ◌+◌, ◌-◌, ◌<◌, ◌≤◌, Bool, true, false, List, [], ◌∷◌, ◌++◌, length, take, drop, get_or, slice_get, Some, refl, sym, ◌∙◌, ap, subst, arith, add-one, append_assoc, drop-cons, nat_eq, eq-eqb, cond}
+use Rattle.std.proofs.Common.{◌≡◌, ◌≢◌, ℕ, zero, suc, ◌+◌, ◌-◌, ◌<◌, ◌≤◌, Bool, true, false, List, [], ◌∷◌, ◌++◌, length, take, drop, get_or, slice_get, Some, refl, sym, ◌∙◌, ap, subst, arith, add-one, append_assoc, drop-cons, nat_eq, eq-eqb, cond, filter, All}
 use Rattle.std.specs.List.{flat_map}
 use Rattle.std.specs.Option.{option_map_or}
 use Rattle.std.specs.BTreeSet.{insert_key}
@@ -12,8 +12,9 @@ use Rattle.lv_base.specs.declared.rank.Rank.{Rank}
 use Rattle.lv_model.specs.declared.plant.Move.{Move}
 use Rattle.lv_model.specs.declared.plant.Plant.{Plant}
 use Rattle.lv_meaning.specs.declared.candidates.State.{State}
+use Rattle.std.proofs.lemmas.List.Elements.{All-cons, All-tail, All-append}
 use borrow.Author.Tests.{eqb-true}
-use Rattle.lv_meaning.specs.Candidates.{numbers_from, move_cost, put_in_order, ranks_from, ranks_of}
+use Rattle.lv_meaning.specs.Candidates.{numbers_from, move_cost, put_in_order, ranks_from, ranks_of, HasFewChoices}
 
 pub put_in_order-append : (xs ys sorted : List Rank) → put_in_order sorted (xs ++ ys) ≡ put_in_order (put_in_order sorted xs) ys
 put_in_order-append [] ys sorted = refl
@@ -68,3 +69,25 @@ state_added plant tracked place s found found' whole within is put is_whole =
     ∙ sym (put_in_order-append (ranks_from plant.types place plant.parts s.modes s.cost.0 []) (ranks_of plant (place + 1) (drop (place + 1) tracked)) found)
     ∙ ap (λ ss. put_in_order found (ranks_of plant place ss)) (sym front)
     ∙ is_whole
+
+module _ {X : Type 0} (p : X → Bool) (k : ℕ) (xs : List X) (i : ℕ) (x : X) (listed whole : List X) (within : i < length xs) (is : x ≡ get_or xs i x) where
+  next : drop i xs ≡ x ∷ drop (i + 1) xs
+  next = drop-cons xs i x within ∙ ap (λ (y : X). y ∷ drop (suc i) xs) (sym is) ∙ ap (λ j. x ∷ drop j xs) (sym (add-one i))
+
+  filtered : (b : Bool) → p x ≡ b → filter p (drop i xs) ≡ cond b (x ∷ filter p (drop (i + 1) xs)) (filter p (drop (i + 1) xs))
+  filtered b e = ap (filter p) next ∙ ap (λ t. cond t (x ∷ filter p (drop (i + 1) xs)) (filter p (drop (i + 1) xs))) e
+
+  -- an item that passes is listed where some are missing
+  pub listed_more : p x ≡ true → length listed < k → listed ++ take (k - length listed) (filter p (drop i xs)) ≡ whole
+    → (listed ++ (x ∷ [])) ++ take (k - length (listed ++ (x ∷ []))) (filter p (drop (i + 1) xs)) ≡ whole
+  listed_more passes missing is_whole =
+      let longer : k - length listed ≡ suc (k - length (listed ++ (x ∷ []))) = rw length-append (omega arith) in
+      append_assoc listed (x ∷ []) (take (k - length (listed ++ (x ∷ []))) (filter p (drop (i + 1) xs)))
+      ∙ ap (λ n. listed ++ take n (x ∷ filter p (drop (i + 1) xs))) (sym longer)
+      ∙ ap (λ ys. listed ++ take (k - length listed) ys) (sym (filtered true passes))
+      ∙ is_whole
+
+  -- an item that doesn't is passed over
+  pub listed_same : p x ≡ false → listed ++ take (k - length listed) (filter p (drop i xs)) ≡ whole
+    → listed ++ take (k - length listed) (filter p (drop (i + 1) xs)) ≡ whole
+  listed_same fails is_whole = ap (λ ys. listed ++ take (k - length listed) ys) (sym (filtered false fails)) ∙ is_whole

@@ -1,5 +1,5 @@
 -- The candidates in the order of their ranks, and the first that are possible.
-use Rattle.std.specs.Prelude.{ℕ, ◌+◌, ◌≤◌, Bool, nat_eq, List, [], ◌∷◌, ◌++◌, length, take, filter, Option, slice_get, if◌then◌else◌, All, ◌≡◌}
+use Rattle.std.specs.Prelude.{ℕ, ◌+◌, ◌≤◌, Bool, nat_eq, List, [], ◌∷◌, ◌++◌, length, take, filter, Option, slice_get, if◌then◌else◌, All, ◌≡◌, ◌<◌, ◌^◌}
 use Rattle.std.specs.List.{flat_map}
 use Rattle.std.specs.Option.{option_map_or}
 use Rattle.std.specs.BTreeSet.{insert_key}
@@ -68,3 +68,6 @@ first_possible k plant facts tracked = take k (filter (can_be plant facts) (cand
 pub record IsState (parts : ℕ) (s : State) : Type 0 where
   pub modes : length s.modes ≡ parts
   pub cost : s.cost.0 ≤ 1000000000000000
+
+pub record HasFewChoices (r : Rank) : Type 0 where
+  pub few : length r.choices < 2 ^ 32

@@ -6,7 +6,7 @@ ghost use Rattle.std.specs.Prelude.{◌≡◌, ◌+◌, ◌*◌, ◌<◌, ◌≤
 ghost use Rattle.lv_model.specs.Lists.{variable_count};
 ghost use Rattle.lv_model.specs.WellFormed.{TypeIsSmall, MoveIsCheap};
 ghost use Rattle.lv_meaning.specs.Facts.{FactsFit};
-ghost use Rattle.lv_meaning.specs.Candidates.{type_moves, ranks_from, ranks_of, put_in_order, candidates, pairs_from, can_be, first_possible, IsState};
+ghost use Rattle.lv_meaning.specs.Candidates.{type_moves, ranks_from, ranks_of, put_in_order, candidates, pairs_from, can_be, first_possible, IsState, HasFewChoices};
 
 use crate::facts::Facts;
 use crate::possible::possible;
@@ -162,9 +162,64 @@ fn candidate_can_be(
     rank: &Rank,
 ) -> Result<bool, AllocError>
     requires facts { FactsFit model.now facts.now }
-    requires few { length rank.now.choices < 2 ^ 32 }
+    requires few { HasFewChoices rank.now }
     ensures { IfOk result (λ r. r ≡ can_be model.now facts.now rank.now) }
 {
     let pairs = pairs_of(alloc, rank.choices.as_slice())?;
     possible(alloc, model, facts, pairs.as_slice())
+}
+
+/// A copy of a rank.
+fn copy_of(alloc: Global, rank: &Rank) -> Result<Rank, AllocError>
+    ensures { IfOk result (λ copy. copy ≡ rank.now) }
+{
+    Ok(Rank {
+        cost: rank.cost,
+        source: rank.source,
+        choices: Seq::from_slice(alloc, rank.choices.as_slice())?,
+    })
+}
+
+/// The first `k` of the ranks whose choices are possible under the facts, or all if fewer are.
+fn first_that_can_be(
+    alloc: Global,
+    model: &Model,
+    facts: &Facts,
+    ranks: &[Rank],
+    k: usize,
+) -> Result<Vec<Rank>, AllocError>
+    requires facts { FactsFit model.now facts.now }
+    requires few { All HasFewChoices ranks.now }
+    ensures { IfOk result (λ out. out.items ≡ take k (filter (can_be model.now facts.now) ranks.now)) }
+{
+    let mut listed = Vec::new(alloc);
+    for rank in ranks {
+        if listed.len() == k {
+            return Ok(listed);
+        }
+        if candidate_can_be(alloc, model, facts, rank)? {
+            listed.push(copy_of(alloc, rank)?)?;
+        }
+    }
+    Ok(listed)
+}
+
+/// The answer of a diagnosis: the first `k` candidates of the tracked states, by cost, then written order, that are
+/// possible under the facts, or all if fewer are.
+pub fn diagnose(
+    alloc: Global,
+    model: &Model,
+    facts: &Facts,
+    tracked: &[State],
+    k: usize,
+) -> Result<Vec<Rank>, AllocError>
+    requires facts { FactsFit model.now facts.now }
+    requires few { length tracked.now ≤ 64 }
+    requires states { All (IsState (length model.now.parts)) tracked.now }
+    ensures { IfOk result (λ out. out.items ≡ first_possible k model.now facts.now tracked.now) }
+{
+    let _plant = model.plant();
+    let ranks = all_candidates(alloc, model, tracked)?;
+    let listed = first_that_can_be(alloc, model, facts, ranks.as_slice(), k)?;
+    Ok(listed)
 }
