@@ -1,1 +1,3 @@
 pub mod SearchLemmas
+pub mod PrunedSearch
+pub mod Pruning
