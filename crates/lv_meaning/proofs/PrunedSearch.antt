@@ -18,6 +18,14 @@ and_allowed false b h = h refl
 pub record IsRuledOut {X : Type 0} (num : X → ℕ) (allows : ℕ → ℕ → Bool) (place : ℕ) (p : List X → Bool) : Type 0 where
   pub none : (xs : List X) (i : ℕ) (x : X) → slice_get xs i ≡ Some x → allows (place + i) (num x) ≡ false → p xs ≡ false
 
+-- the same of lists from the first place on
+pub from_start : {X : Type 0} (num : X → ℕ) (allows : ℕ → ℕ → Bool) (p : List X → Bool)
+    → ((xs : List X) (i : ℕ) (x : X) → slice_get xs i ≡ Some x → allows i (num x) ≡ false → p xs ≡ false) → IsRuledOut num allows 0 p
+from_start num allows p h =
+    record {
+      none = λ xs i x is not_allowed. h xs i x is (let e : 0 + i ≡ i = omega arith in subst (λ k. allows k (num x) ≡ false) e not_allowed);
+    }
+
 module _ {X : Type 0} (item : ℕ → X) where
   pub list-same : (ns : List ℕ) (p q : List X → Bool) → ((xs : List X) → p xs ≡ q xs) → some_list item ns p ≡ some_list item ns q
   list-same ns p q h = ap (λ (r : List X → Bool). some_list item ns r) (λ i xs. h xs i)
