@@ -1,7 +1,7 @@
 //! The model: a plant that is well formed, which its type keeps.
 #![tactic(auto)]
 
-ghost use Rattle.std.specs.Prelude.{◌≡◌, IfOk, IfErr, IsTrue, All, is_ok};
+ghost use Rattle.std.specs.Prelude.{◌≡◌, ◌≤◌, IfOk, IfErr, IsTrue, All, is_ok};
 ghost use Rattle.lv_model.specs.WellFormed.{is_well_formed, Reads, PartReads, PartEnds};
 ghost use Rattle.lv_model.specs.Lists.{variable_count};
 
@@ -50,7 +50,8 @@ impl Model {
         ensures plant { result.now ≡ self.now }
         ensures well_formed { IsTrue (is_well_formed result.now) }
         ensures parts { All (PartReads (variable_count result.now) result.now.types) result.now.parts }
-        ensures ends { All (PartEnds 4096 result.now.types) result.now.parts }
+        ensures ends { All (PartEnds (variable_count result.now) result.now.types) result.now.parts }
+        ensures few { variable_count result.now ≤ 4096 }
         ensures laws { All (Reads (variable_count result.now) 0) result.now.laws }
     {
         &self.plant

@@ -1,5 +1,5 @@
 -- the plant is well formed, so its parts and laws read their own variables alone
-use Rattle.lv_model.proofs.Reading.{parts-of_well_formed, laws-of_well_formed, ends-of_well_formed}
+use Rattle.lv_model.proofs.Reading.{parts-of_well_formed, laws-of_well_formed, ends-of_well_formed, few_variables}
 use Rattle.lv_model.proofs.model.Model.plant.Goals as goal
 
 pub returns-clause-parts : goal.returns-clause-parts
@@ -10,3 +10,6 @@ returns-clause-laws c = laws-of_well_formed c.self.inside.plant c.self.invariant
 
 pub returns-clause-ends : goal.returns-clause-ends
 returns-clause-ends c = ends-of_well_formed c.self.inside.plant c.self.invariant
+
+pub returns-clause-few : goal.returns-clause-few
+returns-clause-few c = few_variables c.self.inside.plant c.self.invariant
