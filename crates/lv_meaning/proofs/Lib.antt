@@ -1,3 +1,4 @@
 pub mod SearchLemmas
 pub mod PrunedSearch
 pub mod Pruning
+pub mod Commanded

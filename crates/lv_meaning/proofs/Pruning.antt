@@ -1,5 +1,5 @@
 -- What the plain program does not try could not be part of a step that meets the facts: so it finds one exactly where there is one.
-use Rattle.std.proofs.Common.{◌≡◌, ℕ, zero, suc, ◌+◌, Bool, true, false, ◌&&◌, ◌||◌, not, List, [], ◌∷◌, slice_get, slice_index_or, Option, Some, None, refl, sym, ◌∙◌, ap, subst, arith, nat_eq, nat_lt, eq-eqb, length}
+use Rattle.std.proofs.Common.{◌≡◌, ℕ, zero, suc, ◌+◌, Bool, true, false, ◌&&◌, ◌||◌, not, List, [], ◌∷◌, slice_get, slice_index_or, Option, Some, None, refl, sym, ◌∙◌, ap, subst, arith, nat_eq, nat_lt, eq-eqb, length, ap₂, Result, Ok, Err, IfOk}
 use Rattle.std.proofs.lemmas.Option.{get_or_from_slice_get}
 use Rattle.std.specs.List.{list_all}
 use Rattle.std.specs.Option.{option_map_or}
@@ -257,3 +257,14 @@ found_if_possible plant facts partial =
     sym
     (plain_same plant (now_facts plant facts) facts.next partial (move_counts plant) (sizes plant)
     ∙ found_same plant (now_facts plant facts) facts.next partial (move_counts plant) (sizes plant))
+
+-- the same of lists that are these
+pub answer_is : {E : Type 0} (plant : Plant) (facts : Facts) (partial : List Pair) (now next : List Observation) (counts sizes_of_plant : List ℕ)
+    → now ≡ now_facts plant facts → next ≡ facts.next → counts ≡ move_counts plant → sizes_of_plant ≡ sizes plant
+    → (r : Result Bool E) → IfOk r (λ found. found ≡ is_found plant now next partial counts sizes_of_plant) → IfOk r (λ found. found ≡ is_possible plant facts partial)
+answer_is plant facts partial now next counts sizes_of_plant e f g h (Ok found) is =
+    is
+    ∙ ap₂ (λ (os ps : List Observation). is_found plant os ps partial counts sizes_of_plant) e f
+    ∙ ap₂ (λ (ks ns : List ℕ). is_found plant (now_facts plant facts) facts.next partial ks ns) g h
+    ∙ found_if_possible plant facts partial
+answer_is plant facts partial now next counts sizes_of_plant e f g h (Err error) is = is
