@@ -241,7 +241,8 @@ fn before_the_step(
     facts: &Facts,
 ) -> Result<Vec<Observation>, AllocError>
     requires { FactsFit model.now facts.now }
-    ensures { IfOk result (λ out. out.items ≡ now_facts model.now facts.now) }
+    ensures observations { IfOk result (λ out. out.items ≡ now_facts model.now facts.now) }
+    ensures in_range { IfOk result (λ out. All (IsInRange (variable_count model.now)) out.items) }
 {
     let controls = model.controls(alloc)?;
     let mut out = Vec::new(alloc);

@@ -87,9 +87,12 @@ module _ (plant : Plant) (h : is_well_formed plant ≡ true) where
       All-of_test (reads_below (variable_count plant) 0) (Reads (variable_count plant) 0) plant.laws (λ f below. record { below = below })
       (both (list_all (part_reads (variable_count plant) plant.types) plant.parts) (list_all (reads_below (variable_count plant) 0) plant.laws) fit.1).1
 
-  -- where its parts end
-  pub ends-of_well_formed : All (PartEnds 4096 plant.types) plant.parts
+  -- it has no more variables than this
+  pub few_variables : variable_count plant ≤ 4096
+  few_variables = leb-true (variable_count plant) 4096 (both (firsts_follow plant.types 0 plant.parts) (nat_le (variable_count plant) 4096) fit.0).1
+
+  -- and its parts end where they do
+  pub ends-of_well_formed : All (PartEnds (variable_count plant) plant.types) plant.parts
   ends-of_well_formed =
       let parts = both (firsts_follow plant.types 0 plant.parts) (nat_le (variable_count plant) 4096) fit.0 in
-      let small : variable_count plant ≤ 4096 = leb-true (variable_count plant) 4096 parts.1 in
       λ k d below. record { last = let one = (ends-of_follow plant.types 0 plant.parts parts.0 k d below).last in omega arith }

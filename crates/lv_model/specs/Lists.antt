@@ -1,5 +1,5 @@
 -- What the lists of a plant say of its variables.
-use Rattle.std.specs.Prelude.{ℕ, ◌+◌, List, [], ◌∷◌, length, map, sum_by, slice_get, Bool, true, false, if◌then◌else◌, ◌≤◌}
+use Rattle.std.specs.Prelude.{ℕ, ◌+◌, List, [], ◌∷◌, length, map, sum_by, slice_get, Bool, true, false, if◌then◌else◌, ◌≤◌, ◌<◌}
 use Rattle.std.specs.List.{flat_map}
 use Rattle.std.specs.Option.{option_map_or}
 use Rattle.lv_model.specs.declared.plant.Plant.{Plant}
@@ -61,6 +61,10 @@ part_moves types p = option_map_or (λ (t : ComponentType). length t.moves) (sli
 -- how many moves each part has to choose from
 abbrev pub move_counts : Plant → List ℕ
 move_counts plant = map (part_moves plant.types) plant.parts
+
+-- the number of a variable, of which there are so many
+pub record IsVariable (count : ℕ) (v : VarId) : Type 0 where
+  pub below : v.0 < count
 
 -- a number that the limits of a model allow for values, modes and moves
 pub record IsFew (n : ℕ) : Type 0 where

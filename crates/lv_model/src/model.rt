@@ -50,9 +50,10 @@ impl Model {
         ensures plant { result.now ≡ self.now }
         ensures well_formed { IsTrue (is_well_formed result.now) }
         ensures parts { All (PartReads (variable_count result.now) result.now.types) result.now.parts }
-        ensures ends { All (PartEnds 4096 result.now.types) result.now.parts }
         ensures types { All TypeIsSmall result.now.types }
         ensures count { length result.now.parts ≤ 256 }
+        ensures ends { All (PartEnds (variable_count result.now) result.now.types) result.now.parts }
+        ensures few { variable_count result.now ≤ 4096 }
         ensures laws { All (Reads (variable_count result.now) 0) result.now.laws }
     {
         &self.plant

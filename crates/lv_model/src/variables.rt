@@ -3,7 +3,7 @@
 
 ghost use Rattle.std.specs.Prelude.{◌≡◌, ◌+◌, ◌<◌, ◌≤◌, ◌++◌, ◌^◌, IfOk, OnErr, IsTrue, All, length, map, option_map, slice_get, count_by, nat_lt, nat_eq};
 ghost use Rattle.std.specs.Option.{option_map_or, option_copied};
-ghost use Rattle.lv_model.specs.Lists.{domain_size, type_sizes, part_sizes, sizes, part_width, is_control, controls_from, part_controls, controls, part_moves, move_counts, variable_count, IsFew};
+ghost use Rattle.lv_model.specs.Lists.{domain_size, type_sizes, part_sizes, sizes, part_width, is_control, controls_from, part_controls, controls, part_moves, move_counts, variable_count, IsVariable, IsFew};
 ghost use Rattle.lv_model.specs.declared.plant.Variable.{Variable};
 ghost use Rattle.lv_model.specs.WellFormed.{PartEnds};
 ghost use Rattle.lv_model.specs.Moves.{first_move, move_count};
@@ -118,6 +118,18 @@ fn all_sizes(alloc: Global, plant: &Plant) -> Result<Vec<usize>, AllocError>
     Ok(out)
 }
 
+/// The control variables in written order, part by part.
+fn all_controls(alloc: Global, plant: &Plant) -> Result<Vec<VarId>, AllocError>
+    requires { All (PartEnds 4096 plant.now.types) plant.now.parts }
+    ensures { IfOk result (λ out. out.items ≡ controls plant.now) }
+{
+    let mut out = Vec::new(alloc);
+    for part in plant.parts.as_slice() {
+        push_part_controls(&mut out, plant.types.as_slice(), part)?;
+    }
+    Ok(out)
+}
+
 /// How many moves each part has to choose from.
 fn all_move_counts(alloc: Global, plant: &Plant) -> Result<Vec<usize>, AllocError>
     ensures { IfOk result (λ out. out.items ≡ move_counts plant.now) }
@@ -143,13 +155,11 @@ impl Model {
 
     /// The control variables in written order, part by part.
     pub fn controls(&self, alloc: Global) -> Result<Vec<VarId>, AllocError>
-        ensures { IfOk result (λ out. out.items ≡ controls self.now) }
+        ensures controls { IfOk result (λ out. out.items ≡ controls self.now) }
+        ensures in_range { IfOk result (λ out. All (IsVariable (variable_count self.now)) out.items) }
     {
         let plant = self.plant();
-        let mut out = Vec::new(alloc);
-        for part in plant.parts.as_slice() {
-            push_part_controls(&mut out, plant.types.as_slice(), part)?;
-        }
+        let out = all_controls(alloc, plant)?;
         Ok(out)
     }
 

@@ -1,5 +1,5 @@
 -- the plant is well formed, so its parts and laws read their own variables alone
-use Rattle.lv_model.proofs.Reading.{parts-of_well_formed, laws-of_well_formed, ends-of_well_formed}
+use Rattle.lv_model.proofs.Reading.{parts-of_well_formed, laws-of_well_formed, ends-of_well_formed, few_variables}
 use Rattle.lv_model.proofs.Sizes.{small-types, few-parts}
 use Rattle.lv_model.proofs.model.Model.plant.Goals as goal
 
@@ -17,3 +17,6 @@ returns-clause-types c = small-types c.self.inside.plant c.self.invariant
 
 pub returns-clause-count : goal.returns-clause-count
 returns-clause-count c = few-parts c.self.inside.plant c.self.invariant
+
+pub returns-clause-few : goal.returns-clause-few
+returns-clause-few c = few_variables c.self.inside.plant c.self.invariant
