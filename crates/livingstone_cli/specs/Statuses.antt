@@ -1,0 +1,30 @@
+-- What a status is outside: its number, and its line on standard error.
+use Rattle.std.specs.Prelude.{ℕ, List, [], ◌∷◌, ◌++◌, codes}
+use Rattle.livingstone_cli.specs.declared.status.Status.{Status}
+use Rattle.livingstone_cli.specs.declared.status.Status.TheVariants.{Done, WordsRefused, ModelRefused, ModelUnread, SessionUnread, OutputFailed, SessionTooLong, OutOfMemory}
+
+-- the exit status of the process
+abbrev pub code_of : Status → ℕ
+code_of Done = 0
+code_of WordsRefused = 2
+code_of ModelRefused = 3
+code_of ModelUnread = 4
+code_of SessionUnread = 5
+code_of OutputFailed = 6
+code_of SessionTooLong = 7
+code_of OutOfMemory = 8
+
+-- a text as a line, with its line feed
+abbrev pub line : List ℕ → List ℕ
+line text = text ++ 10 ∷ []
+
+-- what is written on standard error where a call ends with the status
+unfoldable pub message_of : Status → List ℕ
+message_of Done = []
+message_of WordsRefused = line (codes "usage: livingstone run MODEL SESSION, check MODEL CERT, print MODEL, generate KIND N, drive N")
+message_of ModelRefused = line (codes "model 0 M00")
+message_of ModelUnread = line (codes "cannot read model")
+message_of SessionUnread = line (codes "cannot read session")
+message_of OutputFailed = []
+message_of SessionTooLong = line (codes "session too long")
+message_of OutOfMemory = line (codes "out of memory")
