@@ -1,2 +1,6 @@
 pub mod Statuses
 pub mod Words
+pub mod Checking
+pub mod Session
+pub mod Inputs
+pub mod Serving

@@ -1,5 +1,5 @@
 -- What a status is outside: its number, and its line on standard error.
-use Rattle.std.specs.Prelude.{ℕ, List, [], ◌∷◌, ◌++◌, codes}
+use Rattle.std.specs.Prelude.{ℕ, Bool, true, false, List, [], ◌∷◌, ◌++◌, codes}
 use Rattle.livingstone_cli.specs.declared.status.Status.{Status}
 use Rattle.livingstone_cli.specs.declared.status.Status.TheVariants.{Done, WordsRefused, ModelRefused, ModelUnread, SessionUnread, OutputFailed, SessionTooLong, OutOfMemory}
 
@@ -28,3 +28,25 @@ message_of SessionUnread = line (codes "cannot read session")
 message_of OutputFailed = []
 message_of SessionTooLong = line (codes "session too long")
 message_of OutOfMemory = line (codes "out of memory")
+
+-- a run ends so before the session's file is opened
+abbrev pub ends_model : Status → Bool
+ends_model Done = false
+ends_model WordsRefused = false
+ends_model ModelRefused = true
+ends_model ModelUnread = true
+ends_model SessionUnread = false
+ends_model OutputFailed = false
+ends_model SessionTooLong = false
+ends_model OutOfMemory = true
+
+-- a run ends so where the session is opened and read
+abbrev pub ends_session : Status → Bool
+ends_session Done = false
+ends_session WordsRefused = false
+ends_session ModelRefused = false
+ends_session ModelUnread = false
+ends_session SessionUnread = true
+ends_session OutputFailed = false
+ends_session SessionTooLong = true
+ends_session OutOfMemory = true

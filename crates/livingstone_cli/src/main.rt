@@ -1,6 +1,10 @@
 //! The program: runs a session of mode identification over the model of a plant.
 #![tactic(auto)]
 
+mod inputs;
+mod reader;
+mod serve;
+mod session;
 mod status;
 mod words;
 
