@@ -1,2 +1,4 @@
 pub mod Writing
 pub mod Serving
+pub mod OpenLemmas
+pub mod DueLemmas

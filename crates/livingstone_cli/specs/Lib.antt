@@ -4,3 +4,5 @@ pub mod Checking
 pub mod Session
 pub mod Inputs
 pub mod Serving
+pub mod Dues
+pub mod Top

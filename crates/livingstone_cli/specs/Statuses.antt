@@ -1,5 +1,7 @@
 -- What a status is outside: its number, and its line on standard error.
 use Rattle.std.specs.Prelude.{ℕ, Bool, true, false, List, [], ◌∷◌, ◌++◌, codes}
+use Rattle.lv_io.specs.declared.IoFault.{IoFault}
+use Rattle.lv_io.specs.declared.IoFault.TheVariants.{Failed, Memory}
 use Rattle.livingstone_cli.specs.declared.status.Status.{Status}
 use Rattle.livingstone_cli.specs.declared.status.Status.TheVariants.{Done, WordsRefused, ModelRefused, ModelUnread, SessionUnread, OutputFailed, SessionTooLong, OutOfMemory}
 
@@ -50,3 +52,8 @@ ends_session SessionUnread = true
 ends_session OutputFailed = false
 ends_session SessionTooLong = true
 ends_session OutOfMemory = true
+
+-- what a fault of writing ends a call with
+abbrev pub status_of_fault : IoFault → Status
+status_of_fault Failed = OutputFailed
+status_of_fault Memory = OutOfMemory

@@ -6,6 +6,7 @@ mod reader;
 mod serve;
 mod session;
 mod status;
+mod top;
 mod words;
 
 use std::process::ExitCode;

@@ -1,7 +1,9 @@
 //! How a call of the program ends: one status, with its number and its line on standard error.
 
 ghost use Rattle.std.specs.Prelude.{◌≡◌};
-ghost use Rattle.livingstone_cli.specs.Statuses.{code_of, message_of};
+ghost use Rattle.livingstone_cli.specs.Statuses.{code_of, message_of, status_of_fault};
+
+use lv_io::IoFault;
 
 /// The line that tells which words are taken, those of commands to come included.
 const USAGE: &str = "usage: livingstone run MODEL SESSION, check MODEL CERT, print MODEL, generate KIND N, drive N\n";
@@ -58,6 +60,18 @@ impl Status {
             Status::SessionUnread => "cannot read session\n",
             Status::SessionTooLong => "session too long\n",
             Status::OutOfMemory => "out of memory\n",
+        }
+    }
+}
+
+/// What a fault of writing ends a call with.
+impl From<IoFault> for Status {
+    ghost from_gives = { λ fault status. status ≡ status_of_fault fault };
+
+    fn from(fault: IoFault) -> Status {
+        match fault {
+            IoFault::Failed => Status::OutputFailed,
+            IoFault::Memory => Status::OutOfMemory,
         }
     }
 }
