@@ -8,7 +8,7 @@ use Rattle.lv_model.specs.declared.plant.Plant.{Plant}
 use Rattle.livingstone_cli.specs.Inputs.{accepted_model}
 use Rattle.livingstone_cli.specs.Statuses.{ends_session}
 use Rattle.livingstone_cli.specs.Words.{RunWords, run_words}
-use Rattle.livingstone_cli.specs.Dues.{Due, silent, due, due_of_texts, due_of_model, due_of_session, Meets, status_of}
+use Rattle.livingstone_cli.specs.Dues.{Due, silent, due, due_of_texts, due_of_model, due_of_session, Meets, ended_status}
 use Rattle.livingstone_cli.specs.declared.status.Status.{Status}
 use Rattle.livingstone_cli.specs.declared.status.Status.TheVariants.{Done, WordsRefused, ModelRefused, ModelUnread, SessionUnread, OutputFailed, SessionTooLong, OutOfMemory}
 use Rattle.livingstone_cli.proofs.Writing.{no_front}
@@ -47,7 +47,7 @@ of_texts (Some text) session plant status before accepted long ends =
     subst (λ (p : Option Plant). IfSome (due_of_model session p) (λ d. Meets d before before status)) (sym accepted)
     (of_plant session plant status before long ends)
 
-err_handed_on : (result : Result (Unit {0}) Status) (status : Status) → IsErrAnd result (λ e. e ≡ status) → status_of result ≡ status
+err_handed_on : (result : Result (Unit {0}) Status) (status : Status) → IsErrAnd result (λ e. e ≡ status) → ended_status result ≡ status
 err_handed_on (Ok x) status handed = absurd handed
 err_handed_on (Err e) status handed = handed
 
@@ -60,7 +60,7 @@ pub ended_at_session : (file later : List ℕ → Option (List ℕ)) (words : Li
     → (status ≡ SessionTooLong → IfSome (later run.session) (λ text. SESSION_BYTES < length text))
     → IsTrue (ends_session status)
     → IsErrAnd result (λ e. e ≡ status)
-    → IfSome (due file words) (λ d. Meets d before before (status_of result))
+    → IfSome (due file words) (λ d. Meets d before before (ended_status result))
 ended_at_session file later words run plant status result before same is accepted long ends handed =
     subst (λ (s : Status). IfSome (due file words) (λ d. Meets d before before s)) (sym (err_handed_on result status handed))
     (subst (λ (o : Option RunWords). IfSome (option_map_or (λ (r : RunWords). due_of_texts (file r.model) (file r.session)) o (Some (silent WordsRefused)))

@@ -70,6 +70,17 @@ is_silent SessionTooLong = true
 is_silent OutOfMemory = false
 
 -- the status of what ended so
-abbrev pub status_of : Result (Unit {0}) Status → Status
-status_of (Ok _) = Done
-status_of (Err status) = status
+abbrev pub ended_status : Result (Unit {0}) Status → Status
+ended_status (Ok _) = Done
+ended_status (Err status) = status
+
+-- a status that the counts of the shelf are as before with
+abbrev pub keeps_shelf : Status → Bool
+keeps_shelf Done = true
+keeps_shelf WordsRefused = true
+keeps_shelf ModelRefused = true
+keeps_shelf ModelUnread = false
+keeps_shelf SessionUnread = false
+keeps_shelf OutputFailed = false
+keeps_shelf SessionTooLong = true
+keeps_shelf OutOfMemory = false
