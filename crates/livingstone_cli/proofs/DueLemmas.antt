@@ -7,7 +7,7 @@ use Rattle.lv_base.specs.declared.limits.TheConstants.{SESSION_BYTES}
 use Rattle.lv_model.specs.declared.plant.Plant.{Plant}
 use Rattle.livingstone_cli.specs.Inputs.{accepted_model}
 use Rattle.livingstone_cli.specs.Statuses.{ends_session}
-use Rattle.livingstone_cli.specs.Words.{RunWords, run_words}
+use Rattle.livingstone_cli.specs.Arguments.{RunWords, run_words}
 use Rattle.livingstone_cli.specs.Dues.{Due, silent, due, due_of_texts, due_of_model, due_of_session, Meets, ended_status}
 use Rattle.livingstone_cli.specs.declared.status.Status.{Status}
 use Rattle.livingstone_cli.specs.declared.status.Status.TheVariants.{Done, WordsRefused, ModelRefused, ModelUnread, SessionUnread, OutputFailed, SessionTooLong, OutOfMemory}

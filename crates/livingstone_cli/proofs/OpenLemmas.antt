@@ -3,7 +3,7 @@ use Rattle.std.proofs.Common.{◌≡◌, ℕ, zero, suc, List, [], ◌∷◌, �
 use Rattle.std.specs.Option.{option_map_or}
 use Rattle.lv_io.specs.Outside.{Opened}
 use Rattle.livingstone_cli.specs.Inputs.{AddsOpens, model_open, session_open}
-use Rattle.livingstone_cli.specs.Words.{RunWords, run_words}
+use Rattle.livingstone_cli.specs.Arguments.{RunWords, run_words}
 use Rattle.livingstone_cli.specs.Dues.{opens_of}
 
 none_taken : (n : ℕ) → take {A = Opened} n [] ≡ []

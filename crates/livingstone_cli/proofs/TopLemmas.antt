@@ -12,7 +12,7 @@ use Rattle.lv_io.specs.declared.Role.TheVariants.{Model, Second}
 use Rattle.lv_model.specs.declared.plant.Plant.{Plant}
 use Rattle.livingstone_cli.specs.Session.{transcript}
 use Rattle.livingstone_cli.specs.Statuses.{message_of}
-use Rattle.livingstone_cli.specs.Words.{RunWords, run_words}
+use Rattle.livingstone_cli.specs.Arguments.{RunWords, run_words}
 use Rattle.livingstone_cli.specs.Dues.{Due, silent, due, due_of_texts, due_of_model, due_of_session, Meets, is_silent}
 use Rattle.livingstone_cli.specs.Top.{Asks, HasNoFault}
 use Rattle.livingstone_cli.specs.declared.status.Status.{Status}

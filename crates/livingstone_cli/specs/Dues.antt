@@ -8,7 +8,7 @@ use Rattle.lv_io.specs.Whole.{AddsFront}
 use Rattle.lv_model.specs.declared.plant.Plant.{Plant}
 use Rattle.livingstone_cli.specs.Inputs.{accepted_model, model_open, session_open}
 use Rattle.livingstone_cli.specs.Session.{transcript}
-use Rattle.livingstone_cli.specs.Words.{RunWords, run_words}
+use Rattle.livingstone_cli.specs.Arguments.{RunWords, run_words}
 use Rattle.livingstone_cli.specs.declared.status.Status.{Status}
 use Rattle.livingstone_cli.specs.declared.status.Status.TheVariants.{Done, WordsRefused, ModelRefused, ModelUnread, SessionUnread, OutputFailed, SessionTooLong, OutOfMemory}
 

@@ -5,10 +5,10 @@ use Rattle.lv_io.specs.Outside.{Opened}
 use Rattle.lv_io.specs.declared.Role.TheVariants.{Model, Second}
 use Rattle.lv_model.specs.declared.plant.Plant.{Plant}
 use Rattle.livingstone_cli.specs.Checking.{model_of}
-use Rattle.livingstone_cli.specs.Words.{RunWords}
+use Rattle.livingstone_cli.specs.Arguments.{RunWords}
 
 -- the plant of a model text that is within the limit of its length
-abbrev pub accepted_model : List ℕ → Option Plant
+unfoldable pub accepted_model : List ℕ → Option Plant
 accepted_model text = if nat_le (length text) MODEL_BYTES then model_of text else None
 
 -- the open of the model's file, and of the session's

@@ -1,5 +1,5 @@
 pub mod Statuses
-pub mod Words
+pub mod Arguments
 pub mod Checking
 pub mod Session
 pub mod Inputs

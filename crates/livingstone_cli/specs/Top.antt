@@ -8,7 +8,7 @@ use Rattle.livingstone_cli.specs.declared.status.Status.{Status}
 use Rattle.lv_base.specs.declared.limits.TheConstants.{SESSION_BYTES}
 use Rattle.lv_model.specs.declared.plant.Plant.{Plant}
 use Rattle.livingstone_cli.specs.Inputs.{accepted_model}
-use Rattle.livingstone_cli.specs.Words.{run_words}
+use Rattle.livingstone_cli.specs.Arguments.{run_words}
 
 -- the words ask for a run of this session over this model, both of which the files hold: the model's text is accepted,
 -- and the session is within the limit of its length

@@ -7,7 +7,7 @@ ghost use Rattle.lv_io.specs.declared.Role.TheVariants.{Model as OfModel, Second
 ghost use Rattle.livingstone_cli.specs.Inputs.{accepted_model, model_open, session_open, AddsOpens};
 ghost use Rattle.livingstone_cli.specs.Statuses.{ends_model, ends_session};
 
-use crate::reader::{ModelFault, read_model};
+use crate::checker::{ModelFault, read_model};
 use crate::status::Status;
 use lv_base::limits::{MODEL_BYTES, SESSION_BYTES};
 use lv_io::{ReadFault, Role, Shelf, read_file};
@@ -16,6 +16,7 @@ use std::alloc::Global;
 
 /// Opens the model's file, reads it to its end and checks it. A text over its limit is refused, as any
 /// other that is no model.
+#[tactic(auto, unfolding(crate::specs::Inputs::accepted_model))]
 pub fn load_model<F: Shelf>(alloc: Global, shelf: &mut F, name: &str) -> Result<Model, Status>
     // What was read.
     ensures model { IfOk result (λ model. IfSome (F.file shelf.old name.now) (λ text. accepted_model text ≡ Some model)) }

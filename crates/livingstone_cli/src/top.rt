@@ -6,7 +6,7 @@ ghost use Rattle.lv_io.specs.Outside.{Rose};
 ghost use Rattle.lv_io.specs.Whole.{AddsFront};
 ghost use Rattle.lv_io.specs.declared.Role.{Role};
 ghost use Rattle.lv_io.specs.declared.Role.TheVariants.{Model as OfModel, Second as OfSecond};
-ghost use Rattle.livingstone_cli.specs.Words.{run_words};
+ghost use Rattle.livingstone_cli.specs.Arguments.{run_words};
 ghost use Rattle.livingstone_cli.specs.Inputs.{AddsOpens};
 ghost use Rattle.livingstone_cli.specs.Statuses.{message_of};
 ghost use Rattle.livingstone_cli.specs.Dues.{due, opens_of, Meets, is_silent, keeps_shelf, ended_status};
@@ -17,7 +17,7 @@ ghost use Rattle.lv_model.specs.declared.plant.Plant.{Plant};
 use crate::inputs::{load_model, load_session};
 use crate::serve::{hand_on, write_transcript};
 use crate::status::Status;
-use crate::words::accepted;
+use crate::arguments::accepted;
 use lv_io::{Shelf, Sink, write_all};
 use std::alloc::Global;
 

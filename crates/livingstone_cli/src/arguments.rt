@@ -1,7 +1,7 @@
 //! The words that the program is called with, and what they ask for.
 
 ghost use Rattle.std.specs.Prelude.{◌≡◌, None, Some, map, string_bytes, MatchOption};
-ghost use Rattle.livingstone_cli.specs.Words.{run_words, is_file_word};
+ghost use Rattle.livingstone_cli.specs.Arguments.{run_words, is_file_word};
 
 /// A run that the words ask for: a session over a model.
 #[derive(Clone, Copy)]
