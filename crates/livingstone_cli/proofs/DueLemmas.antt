@@ -64,6 +64,6 @@ pub ended_at_session : (file later : List ℕ → Option (List ℕ)) (words : Li
 ended_at_session file later words run plant status result before same is accepted long ends handed =
     subst (λ (s : Status). IfSome (due file words) (λ d. Meets d before before s)) (sym (err_handed_on result status handed))
     (subst (λ (o : Option RunWords). IfSome (option_map_or (λ (r : RunWords). due_of_texts (file r.model) (file r.session)) o (Some (silent WordsRefused)))
-      (λ d. Meets d before before status)) (sym is)
+    (λ d. Meets d before before status)) (sym is)
     (of_texts (file run.model) (file run.session) plant status before accepted
     (λ e. subst (λ (f : List ℕ → Option (List ℕ)). IfSome (f run.session) (λ text. SESSION_BYTES < length text)) same (long e)) ends))

@@ -63,11 +63,11 @@ pub all_met : (o : Option Due) (before after : Option (List ℕ)) (status result
 all_met o before after status result kept same meets =
     some_weaker o (λ (d : Due) m. reported_meets d before after status result kept same m) meets
 
-module _ (shelf shelf_after : Role → ℕ) (out out_after err err_after : ℕ) (before after : Option (List ℕ)) where
+module _ {A : Type 0} (shelf shelf_after : Role → ℕ) (out out_after err err_after : ℕ) (before after : Option (List ℕ)) where
   status_due : (d : Due) (result : Status)
       → (result ≡ ModelUnread → Rose (shelf Model) (shelf_after Model))
       → (result ≡ SessionUnread → Rose (shelf Second) (shelf_after Second))
-      → (result ≡ OutputFailed → Rose out out_after ⊎ Rose err err_after)
+      → (result ≡ OutputFailed → (Rose out out_after × A) ⊎ Rose err err_after)
       → Meets d before after result
       → HasNoFault shelf shelf_after out out_after err err_after
       → (result ≡ d.status) ⊎ (result ≡ OutOfMemory)
@@ -78,9 +78,9 @@ module _ (shelf shelf_after : Role → ℕ) (out out_after err err_after : ℕ) 
   status_due d SessionUnread model session output meets none = absurd (none.of_shelf Second (session refl))
   status_due d OutputFailed model session output meets none = absurd (neither none.of_output none.of_error (output refl))
     where
-    neither : {A B : Type 0} → (A → ⊥) → (B → ⊥) → A ⊎ B → ⊥
-    neither a b (inl x) = a x
-    neither a b (inr y) = b y
+      neither : (Rose out out_after → ⊥) → (Rose err err_after → ⊥) → (Rose out out_after × A) ⊎ Rose err err_after → ⊥
+      neither a b (inl x) = a x.0
+      neither a b (inr y) = b y
   status_due d SessionTooLong model session output meets none = inl (sym meets)
   status_due d OutOfMemory model session output meets none = inr refl
 
@@ -88,7 +88,7 @@ module _ (shelf shelf_after : Role → ℕ) (out out_after err err_after : ℕ) 
   pub all_due : (o : Option Due) (result : Status)
       → (result ≡ ModelUnread → Rose (shelf Model) (shelf_after Model))
       → (result ≡ SessionUnread → Rose (shelf Second) (shelf_after Second))
-      → (result ≡ OutputFailed → Rose out out_after ⊎ Rose err err_after)
+      → (result ≡ OutputFailed → (Rose out out_after × A) ⊎ Rose err err_after)
       → IfSome o (λ d. Meets d before after result)
       → IfSome o (λ d. HasNoFault shelf shelf_after out out_after err err_after → (result ≡ d.status) ⊎ (result ≡ OutOfMemory))
   all_due o result model session output meets =
@@ -141,7 +141,7 @@ pub transcript_written : (file : List ℕ → Option (List ℕ)) (words : List (
 unfolding message_of
 transcript_written file words plant session before after err err_after result asks done meets told = (
   (subst (λ (s : Status). Meets (record { status = Done; text = transcript plant session }) before after s) done
-  (subst (λ (o : Option Due). IfSome o (λ d. Meets d before after result)) (due_asked file words plant session asks) meets)).1,
+      (subst (λ (o : Option Due). IfSome o (λ d. Meets d before after result)) (due_asked file words plant session asks) meets)).1,
   told (λ e. cc) (λ e. cc) ∙ ap (λ (s : Status). append_known err (message_of s)) done ∙ append-none err,
 )
 

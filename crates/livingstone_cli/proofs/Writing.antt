@@ -41,7 +41,7 @@ pub written_front : (whole rest : List ℕ) (before after : Option (List ℕ))
 written_front whole rest before after written = (
   length written.front,
   written.added ∙ ap (append_known before)
-  (sym (ap (take (length written.front)) (sym written.joined) ∙ take-append_seam written.front rest)),
+      (sym (ap (take (length written.front)) (sym written.joined) ∙ take-append_seam written.front rest)),
 )
 
 -- a front of one more piece was written behind what was written before

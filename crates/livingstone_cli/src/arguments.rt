@@ -15,15 +15,12 @@ pub struct Run<'a> {
 /// The run that the words ask for, the program's own name first, or `None` where they ask for nothing
 /// that the program does. Takes no memory.
 pub fn accepted(words: &[String]) -> Option<Run<'_>>
-    ensures {
-        MatchOption result (run_words (map string_bytes words.now) ≡ None)
-            (λ run. run_words (map string_bytes words.now) ≡ Some (record { model = run.model.now; session = run.session.now }))
-    }
+    ensures { MatchOption result (run_words (map string_bytes words.now) ≡ None)
+        (λ run. run_words (map string_bytes words.now) ≡ Some (record { model = run.model.now; session = run.session.now })) }
 {
     match words {
         [_, command, model, session]
-            if command.as_str() == "run" && is_file_word(model) && is_file_word(session) =>
-        {
+            if command.as_str() == "run" && is_file_word(model) && is_file_word(session) => {
             Some(Run {
                 model: model.as_str(),
                 session: session.as_str(),

@@ -6,7 +6,8 @@ ghost use Rattle.livingstone_cli.specs.Statuses.{code_of, message_of, status_of_
 use lv_io::IoFault;
 
 /// The line that tells which words are taken, those of commands to come included.
-const USAGE: &str = "usage: livingstone run MODEL SESSION, check MODEL CERT, print MODEL, generate KIND N, drive N\n";
+const USAGE: &str =
+    "usage: livingstone run MODEL SESSION, check MODEL CERT, print MODEL, generate KIND N, drive N\n";
 
 /// How a call of the program ended.
 #[derive(Clone, Copy, Debug, PartialEq, Eq)]

@@ -14,10 +14,10 @@ ghost use Rattle.livingstone_cli.specs.Session.{transcript};
 ghost use Rattle.livingstone_cli.specs.Top.{Asks, HasNoFault, TellsFront};
 ghost use Rattle.lv_model.specs.declared.plant.Plant.{Plant};
 
+use crate::arguments::accepted;
 use crate::inputs::{load_model, load_session};
 use crate::serve::{hand_on, write_transcript};
 use crate::status::Status;
-use crate::arguments::accepted;
 use lv_io::{Shelf, Sink, write_all};
 use std::alloc::Global;
 
@@ -31,30 +31,22 @@ pub fn livingstone<F: Shelf, O: Sink, E: Sink>(
     err: &mut E,
 ) -> Status
     // What was written, where the call is done: the transcript of the session, and nothing else.
-    ensures headline {
-        (plant : Plant) (session : List ℕ) → Asks (F.file shelf.old) (map string_bytes words.items) plant session → result ≡ Status.Done
-            → (O.text out.new ≡ append_known (O.text out.old) (transcript plant session)) × (E.text err.new ≡ E.text err.old)
-    }
-    ensures complete {
-        (plant : Plant) (session : List ℕ) → Asks (F.file shelf.old) (map string_bytes words.items) plant session
-            → HasNoFault (F.faults shelf.old) (F.faults shelf.new) (O.faults out.old) (O.faults out.new) (E.faults err.old) (E.faults err.new)
-            → (result ≡ Status.Done) ⊎ (result ≡ Status.OutOfMemory)
-    }
+    ensures headline { (plant : Plant) (session : List ℕ) → Asks (F.file shelf.old) (map string_bytes words.items) plant session → result ≡ Status.Done
+        → (O.text out.new ≡ append_known (O.text out.old) (transcript plant session)) × (E.text err.new ≡ E.text err.old) }
+    ensures complete { (plant : Plant) (session : List ℕ) → Asks (F.file shelf.old) (map string_bytes words.items) plant session
+        → HasNoFault (F.faults shelf.old) (F.faults shelf.new) (O.faults out.old) (O.faults out.new) (E.faults err.old) (E.faults err.new)
+        → (result ≡ Status.Done) ⊎ (result ≡ Status.OutOfMemory) }
 
     // Which status, where the shelf tells the files: with no fault the one that is due.
-    ensures exact {
-        IfSome (due (F.file shelf.old) (map string_bytes words.items)) (λ due.
-            HasNoFault (F.faults shelf.old) (F.faults shelf.new) (O.faults out.old) (O.faults out.new) (E.faults err.old) (E.faults err.new)
-            → (result ≡ due.status) ⊎ (result ≡ Status.OutOfMemory))
-    }
+    ensures exact { IfSome (due (F.file shelf.old) (map string_bytes words.items)) (λ due.
+        HasNoFault (F.faults shelf.old) (F.faults shelf.new) (O.faults out.old) (O.faults out.new) (E.faults err.old) (E.faults err.new)
+        → (result ≡ due.status) ⊎ (result ≡ Status.OutOfMemory)) }
     ensures meets { IfSome (due (F.file shelf.old) (map string_bytes words.items)) (λ due. Meets due (O.text out.old) (O.text out.new) result) }
     ensures words { result ≡ Status.WordsRefused → run_words (map string_bytes words.items) ≡ None }
     ensures refused { run_words (map string_bytes words.items) ≡ None → result ≢ Status.OutputFailed → result ≢ Status.OutOfMemory → result ≡ Status.WordsRefused }
-    ensures model_refused {
-        IfSome (due (F.file shelf.old) (map string_bytes words.items)) (λ due.
-            due.status ≡ Status.ModelRefused → ¬ Rose (F.faults shelf.old OfModel) (F.faults shelf.new OfModel)
-            → result ≢ Status.OutputFailed → result ≢ Status.OutOfMemory → result ≡ Status.ModelRefused)
-    }
+    ensures model_refused { IfSome (due (F.file shelf.old) (map string_bytes words.items)) (λ due.
+        due.status ≡ Status.ModelRefused → ¬ Rose (F.faults shelf.old OfModel) (F.faults shelf.new OfModel)
+        → result ≢ Status.OutputFailed → result ≢ Status.OutOfMemory → result ≡ Status.ModelRefused) }
 
     // What was written otherwise, and flushed.
     ensures silent { IsTrue (is_silent result) → O.text out.new ≡ O.text out.old }
@@ -69,7 +61,8 @@ pub fn livingstone<F: Shelf, O: Sink, E: Sink>(
     // Whose fault it was.
     ensures model_unread { result ≡ Status.ModelUnread → Rose (F.faults shelf.old OfModel) (F.faults shelf.new OfModel) }
     ensures session_unread { result ≡ Status.SessionUnread → Rose (F.faults shelf.old OfSecond) (F.faults shelf.new OfSecond) }
-    ensures output_failed { result ≡ Status.OutputFailed → Rose (O.faults out.old) (O.faults out.new) ⊎ Rose (E.faults err.old) (E.faults err.new) }
+    ensures output_failed { result ≡ Status.OutputFailed
+        → (Rose (O.faults out.old) (O.faults out.new) × (E.text err.new ≡ E.text err.old)) ⊎ Rose (E.faults err.old) (E.faults err.new) }
     ensures shelf_as_before { IsTrue (keeps_shelf result) → (r : Role) → F.faults shelf.new r ≡ F.faults shelf.old r }
     ensures out_as_before { result ≢ Status.OutputFailed → O.faults out.new ≡ O.faults out.old }
     ensures err_as_before { result ≢ Status.OutputFailed → E.faults err.new ≡ E.faults err.old }
@@ -130,6 +123,7 @@ pub fn report<E: Sink>(status: Status, err: &mut E) -> Status
     // What was written.
     ensures text { result ≢ Status.OutputFailed → result ≢ Status.OutOfMemory → E.text err.new ≡ append_known (E.text err.old) (message_of status) }
     ensures front { AddsFront (message_of status) (E.text err.old) (E.text err.new) }
+    ensures untold { status ≡ Status.OutputFailed → E.text err.new ≡ E.text err.old }
     ensures flushed { result ≢ Status.OutputFailed → result ≢ Status.OutOfMemory → E.is_flushed err.old ≡ true → E.is_flushed err.new ≡ true }
 
     // Whose fault it was.

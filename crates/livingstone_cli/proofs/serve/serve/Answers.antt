@@ -15,7 +15,7 @@ returns-in_err-write_all-clause-front g c =
 pub loop-line-preserved : goal.loop-line-preserved
 loop-line-preserved g c = record {
   written = served_more _ _ _ _ _ _ _ _ _ _ c.in-Some.ensures.line c.in_ok-reply.ensures.reply c.in_ok-reply.ensures.state
-    c.loop-line.invariant.written (rw c.as_slice.ensures.value at c.in_ok-write_all.ensures.text);
+      c.loop-line.invariant.written (rw c.as_slice.ensures.value at c.in_ok-write_all.ensures.text);
   faults = search rules;
 }
 

@@ -8,7 +8,7 @@ use Rattle.livingstone_cli.proofs.serve.serve.Given as goal
 abbrev pub invariant-loop-line : goal.invariant-loop-line
 invariant-loop-line g l = record {
   written : Written (replies_of l.fn.session (lines_of l.fn.text)) (replies_of l.session (lines_of l.rest))
-  (g.O.Sink.text l.fn.out) (g.O.Sink.text l.out);
+      (g.O.Sink.text l.fn.out) (g.O.Sink.text l.out);
   faults : g.O.Sink.faults l.out ≡ g.O.Sink.faults l.fn.out;
 }
 

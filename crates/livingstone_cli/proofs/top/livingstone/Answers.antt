@@ -14,13 +14,17 @@ returns-clause-meets g c =
     (λ failed memory. c.report.ensures.status failed memory ∙ c.status_of.ensures)
     c.carry_out-ended.ensures.silent (rw c.as_slice.ensures.value at c.carry_out-ended.ensures.meets)
 
+pub returns-clause-output_failed : goal.returns-clause-output_failed
+returns-clause-output_failed g c =
+    output_cause c.status_of.result c.report.result
+    (λ e. (c.carry_out-ended.ensures.output_failed (sym c.status_of.ensures ∙ e), c.report.ensures.untold e)) c.report.ensures.failed
+
 pub returns-clause-exact : goal.returns-clause-exact
 returns-clause-exact g c =
     all_due (g.F.Shelf.faults c.args.shelf.now) (g.F.Shelf.faults c.carry_out-ended.new.shelf) _ _ _ _ _ _ _ c.report.result
     (λ e. c.carry_out-ended.ensures.model_unread (sym (c.report.ensures.status (λ f. cc) (λ f. cc) ∙ c.status_of.ensures) ∙ e))
     (λ e. c.carry_out-ended.ensures.session_unread (sym (c.report.ensures.status (λ f. cc) (λ f. cc) ∙ c.status_of.ensures) ∙ e))
-    (output_cause c.status_of.result c.report.result
-    (λ e. c.carry_out-ended.ensures.output_failed (sym c.status_of.ensures ∙ e)) c.report.ensures.failed)
+    (returns-clause-output_failed g c)
     (returns-clause-meets g c)
 
 pub returns-clause-model_refused : goal.returns-clause-model_refused
@@ -32,7 +36,7 @@ returns-clause-model_refused g c =
 pub returns-clause-headline : goal.returns-clause-headline
 returns-clause-headline g c =
     λ plant session asks done.
-      transcript_written (g.F.Shelf.file c.args.shelf.now) (map (string_bytes {Z = Global}) c.args.words.items) plant session
-      _ _ _ _ c.report.result asks done (returns-clause-meets g c)
-      (λ failed memory. c.report.ensures.text failed memory
-        ∙ ap (λ (s : Status). append_known (g.E.Sink.text c.args.err.now) (message_of s)) (sym (c.report.ensures.status failed memory)))
+    transcript_written (g.F.Shelf.file c.args.shelf.now) (map (string_bytes {Z = Global}) c.args.words.items) plant session
+    _ _ _ _ c.report.result asks done (returns-clause-meets g c)
+    (λ failed memory. c.report.ensures.text failed memory
+    ∙ ap (λ (s : Status). append_known (g.E.Sink.text c.args.err.now) (message_of s)) (sym (c.report.ensures.status failed memory)))
