@@ -1,0 +1,5 @@
+pub mod Writing
+pub mod Serving
+pub mod OpenLemmas
+pub mod DueLemmas
+pub mod TopLemmas
