@@ -1,0 +1,4 @@
+pub mod Forms
+pub mod Equations
+pub mod Statements
+pub mod Texts
