@@ -2,3 +2,4 @@ pub mod Forms
 pub mod Equations
 pub mod Statements
 pub mod Texts
+pub mod Scopes

@@ -6,7 +6,9 @@
 //! - `checker`: the model that statements give.
 #![tactic(auto)]
 
+pub mod draft;
 pub mod forms;
 pub mod reader;
+pub mod scope;
 pub mod statement;
 pub mod words;
