@@ -3,3 +3,4 @@ pub mod Equations
 pub mod Statements
 pub mod Texts
 pub mod Scopes
+pub mod Types

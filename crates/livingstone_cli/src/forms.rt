@@ -14,11 +14,7 @@ use lv_model::Class;
 use lv_text::{Token, TokenKind};
 use std::alloc::{AllocError, Global};
 
-fn model_line(
-    alloc: Global,
-    line: &[u8],
-    tokens: &[Token],
-) -> Result<Option<Statement>, AllocError>
+fn model_line(alloc: Global, line: &[u8], tokens: &[Token]) -> Result<Option<Statement>, AllocError>
     requires { All (IsTokenOf line.now) tokens.now }
     ensures { IfOk result (λ read. read ≡ model_line line.now tokens.now) }
 {

@@ -11,4 +11,5 @@ pub mod forms;
 pub mod reader;
 pub mod scope;
 pub mod statement;
+pub mod types;
 pub mod words;
