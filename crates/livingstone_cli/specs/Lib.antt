@@ -4,3 +4,4 @@ pub mod Statements
 pub mod Texts
 pub mod Scopes
 pub mod Types
+pub mod Checking

@@ -102,12 +102,12 @@ alone (Own word) = Some word
 alone (OfPart part word) = None
 
 -- what an equation in a type compares
-abbrev pub type_comparison : List Domain → TypeDraft → Equation → Option Comparison
+unfoldable pub type_comparison : List Domain → TypeDraft → Equation → Option Comparison
 type_comparison domains t e =
     option_and_then (λ (x : Found). compared x (option_and_then (value_in_type domains t x.sort) (alone e.right)) (in_type t e.right)) (in_type t e.left)
 
 -- what an equation in a law of the system compares
-abbrev pub system_comparison : Plant → Equation → Option Comparison
+unfoldable pub system_comparison : Plant → Equation → Option Comparison
 system_comparison plant e =
     option_and_then (λ (x : Found). compared x (option_and_then (value_in_system plant x.sort) (alone e.right)) (in_system plant e.right)) (in_system plant e.left)
 

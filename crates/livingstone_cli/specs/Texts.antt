@@ -38,7 +38,7 @@ abbrev pub few : List Statement → Option (List Statement)
 few statements = if nat_le (length statements) 200 then Some statements else None
 
 -- the statements of a text of at most 4,194,304 bytes
-abbrev pub statements_of : List ℕ → Option (List Statement)
+unfoldable pub statements_of : List ℕ → Option (List Statement)
 statements_of text = if nat_le (length text) 4194304 then option_and_then few (all_said (lines_of text)) else None
 
 -- the statements of a line, as the code tells them

@@ -61,7 +61,7 @@ abbrev pub with_line : TypeDraft → MoveLine → TypeDraft
 with_line t l = record t { lines = t.lines ++ l ∷ [] }
 
 -- a type and one more of its statements
-abbrev pub type_added : List Domain → TypeDraft → Statement → Option TypeDraft
+unfoldable pub type_added : List Domain → TypeDraft → Statement → Option TypeDraft
 type_added domains t (VariableLine class name domain) = with_variable domains t class name domain
 type_added domains t (ModeLine name) = with_mode t name
 type_added domains t (InLine mode e) = option_map (with_formula t) (mode_formula domains t mode e)
@@ -116,7 +116,7 @@ moves_from lines i [] = []
 moves_from lines i (name ∷ names) = moves_of_mode lines i ++ moves_from lines (i + 1) names
 
 -- a type that ends, which has at most 16 modes
-abbrev pub ended : TypeDraft → Option ComponentType
+unfoldable pub ended : TypeDraft → Option ComponentType
 ended t =
     if nat_le (length t.modes) 16
     then Some (record { name = t.name; variables = t.variables; modes = modes_from t.formulas 0 t.modes; laws = []; moves = moves_from t.lines 0 t.modes })

@@ -6,6 +6,7 @@
 //! - `checker`: the model that statements give.
 #![tactic(auto)]
 
+pub mod checker;
 pub mod draft;
 pub mod forms;
 pub mod reader;

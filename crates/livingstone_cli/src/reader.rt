@@ -68,6 +68,7 @@ fn all_said(alloc: Global, bytes: &[u8]) -> Result<Option<Vec<Statement>>, Alloc
 }
 
 /// The statements of a text, or `None` where some line is refused or a limit passed.
+#[tactic(auto, unfolding(crate::specs::Texts::statements_of))]
 pub fn statements_of(alloc: Global, bytes: &[u8]) -> Result<Option<Vec<Statement>>, AllocError>
     ensures { IfOk result (λ found. option_map (λ v. v.items) found ≡ statements_of bytes.now) }
 {

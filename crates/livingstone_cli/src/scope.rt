@@ -221,6 +221,7 @@ fn path_value_in_system(plant: &Plant, sort: Sort, path: &Path) -> Option<u32>
 }
 
 /// What an equation in a type compares, or `None` where a name is not known or the right side does not fit.
+#[tactic(auto, unfolding(crate::specs::Scopes::type_comparison))]
 pub fn type_comparison(
     domains: &[Domain],
     of: &TypeDraft,
@@ -234,6 +235,7 @@ pub fn type_comparison(
 }
 
 /// What an equation in a law of the system compares, or `None` as above.
+#[tactic(auto, unfolding(crate::specs::Scopes::system_comparison))]
 pub fn system_comparison(plant: &Plant, equation: &Equation) -> Option<Comparison>
     ensures { result ≡ system_comparison plant.now equation.now }
 {

@@ -137,6 +137,7 @@ fn with_line(mut draft: TypeDraft, line: MoveLine) -> Result<TypeDraft, AllocErr
 }
 
 /// The type and one more of its statements, or `None` where the statement can't stand there.
+#[tactic(auto, unfolding(crate::specs::Types::type_added))]
 pub fn type_added(
     domains: &[Domain],
     draft: TypeDraft,
@@ -312,6 +313,7 @@ fn moves_of(alloc: Global, lines: &[MoveLine], names: &[Name]) -> Result<Seq<Mov
 }
 
 /// The type where its `end` stands, or `None` where it has too many modes.
+#[tactic(auto, unfolding(crate::specs::Types::ended))]
 pub fn ended(alloc: Global, draft: TypeDraft) -> Result<Option<ComponentType>, AllocError>
     ensures { IfOk result (λ read. read ≡ ended draft) }
 {
