@@ -2,8 +2,10 @@
 //!
 //! - `arguments`: the words that the program is called with, and the run that they ask for.
 //! - `inputs`: the model and the session, opened and read.
-//! - `checker`: the model that a text gives.
-//! - `session`: the reply to each line of a session.
+//! - `words`, `statement`, `forms`, `reader`: the statements of a model's text.
+//! - `draft`, `scope`, `types`, `checker`: the model that statements give.
+//! - `request`: what a line of a session asks for.
+//! - `session`, `reply`: what it does and the text of its reply.
 //! - `serve`: the lines of a session's text, and the replies written.
 //! - `status`: how a call ends: its number, and its line on standard error.
 //! - `top`: the whole of a call, over any shelf of files and any two sinks.
@@ -11,11 +13,20 @@
 
 mod arguments;
 mod checker;
+mod draft;
+mod forms;
 mod inputs;
+mod reader;
+mod reply;
+mod request;
+mod scope;
 mod serve;
 mod session;
+mod statement;
 mod status;
 mod top;
+mod types;
+mod words;
 
 use lv_io::{HostShelf, HostSink};
 use std::alloc::Global;
