@@ -49,7 +49,13 @@ fn text_of_move(alloc: Global, part: &Part, modes: &[Mode], m: &Move) -> Result<
 }
 
 /// Adds what a move shows: a stay nothing.
-fn push_shown(alloc: Global, out: &mut Vec<Name>, part: &Part, modes: &[Mode], m: &Move) -> Result<(), AllocError>
+fn push_shown(
+    alloc: Global,
+    out: &mut Vec<Name>,
+    part: &Part,
+    modes: &[Mode],
+    m: &Move,
+) -> Result<(), AllocError>
     ensures { IfOk result (λ _. out.new.items ≡ out.old.items ++ shown m.now.kind (move_text part.now modes.now m.now)) }
 {
     match m.kind {
@@ -66,7 +72,13 @@ fn push_shown(alloc: Global, out: &mut Vec<Name>, part: &Part, modes: &[Mode], m
 }
 
 /// Adds what the part's move of this number shows.
-fn push_shown_move(alloc: Global, out: &mut Vec<Name>, types: &[ComponentType], part: &Part, n: u32) -> Result<(), AllocError>
+fn push_shown_move(
+    alloc: Global,
+    out: &mut Vec<Name>,
+    types: &[ComponentType],
+    part: &Part,
+    n: u32,
+) -> Result<(), AllocError>
     ensures { IfOk result (λ _. out.new.items ≡ out.old.items ++ shown_move types.now part.now n) }
 {
     match type_of(types, part) {
@@ -79,7 +91,12 @@ fn push_shown_move(alloc: Global, out: &mut Vec<Name>, types: &[ComponentType], 
 }
 
 /// What the moves of the parts show, in order.
-fn shown_moves(alloc: Global, types: &[ComponentType], parts: &[Part], choices: &[u32]) -> Result<Vec<Name>, AllocError>
+fn shown_moves(
+    alloc: Global,
+    types: &[ComponentType],
+    parts: &[Part],
+    choices: &[u32],
+) -> Result<Vec<Name>, AllocError>
     ensures { IfOk result (λ out. out.items ≡ shown_moves types.now parts.now choices.now) }
 {
     let mut out = Vec::new(alloc);
@@ -120,11 +137,22 @@ fn push_joined(out: &mut Vec<u8>, texts: &[Name]) -> Result<(), AllocError>
 }
 
 /// Adds the line of a listed candidate.
-fn push_line(alloc: Global, out: &mut Vec<u8>, model: &Model, n: u64, rank: &Rank) -> Result<(), AllocError>
+fn push_line(
+    alloc: Global,
+    out: &mut Vec<u8>,
+    model: &Model,
+    n: u64,
+    rank: &Rank,
+) -> Result<(), AllocError>
     ensures { IfOk result (λ _. out.new.items ≡ out.old.items ++ listed_line model.now n rank.now) }
 {
     let plant = model.plant();
-    let moves = shown_moves(alloc, plant.types.as_slice(), plant.parts.as_slice(), rank.choices.as_slice())?;
+    let moves = shown_moves(
+        alloc,
+        plant.types.as_slice(),
+        plant.parts.as_slice(),
+        rank.choices.as_slice(),
+    )?;
     push_number(out, n)?;
     out.extend_from_slice(b" cost ")?;
     push_number(out, rank.cost.0)?;
@@ -137,7 +165,12 @@ fn push_line(alloc: Global, out: &mut Vec<u8>, model: &Model, n: u64, rank: &Ran
 }
 
 /// Adds the lines of the listed candidates.
-fn push_lines(alloc: Global, out: &mut Vec<u8>, model: &Model, ranks: &[Rank]) -> Result<(), AllocError>
+fn push_lines(
+    alloc: Global,
+    out: &mut Vec<u8>,
+    model: &Model,
+    ranks: &[Rank],
+) -> Result<(), AllocError>
     ensures { IfOk result (λ _. out.new.items ≡ out.old.items ++ listed_lines model.now 1 ranks.now) }
 {
     for (i, rank) in ranks.iter().enumerate() {

@@ -41,7 +41,11 @@ fn control_place(controls: &[VarId], var: u32) -> Option<usize>
 }
 
 /// The control that a comparison sets.
-fn control_set(alloc: Global, model: &Model, comparison: Comparison) -> Result<Option<Command>, AllocError>
+fn control_set(
+    alloc: Global,
+    model: &Model,
+    comparison: Comparison,
+) -> Result<Option<Command>, AllocError>
     ensures { IfOk result (λ found. found ≡ set_by model.now comparison) }
 {
     match comparison {
@@ -58,7 +62,12 @@ fn control_set(alloc: Global, model: &Model, comparison: Comparison) -> Result<O
 
 /// The control that a line `command P.C = V` sets.
 #[tactic(auto, unfolding(crate::specs::Session::command_of))]
-fn command_of(alloc: Global, model: &Model, line: &[u8], found: &[Token]) -> Result<Option<Command>, AllocError>
+fn command_of(
+    alloc: Global,
+    model: &Model,
+    line: &[u8],
+    found: &[Token],
+) -> Result<Option<Command>, AllocError>
     requires { All (IsTokenOf line.now) found.now }
     ensures { IfOk result (λ command. command ≡ command_of model.now line.now found.now) }
 {

@@ -12,8 +12,8 @@ ghost use Rattle.lv_model.specs.Lists.{controls};
 
 use crate::reply::diagnosis_text;
 use crate::request::{Command, Request, request_of};
-use lv_base::{Cost, Rank, Seq, ValId};
 use lv_base::limits::LISTED;
+use lv_base::{Cost, Rank, Seq, ValId};
 use lv_meaning::{Facts, State, candidates};
 use lv_model::{Model, Part};
 use std::alloc::{AllocError, Global};
@@ -60,12 +60,12 @@ fn resting_values(alloc: Global, model: &Model) -> Result<Vec<ValId>, AllocError
 
 /// The candidates that a diagnosis lists, with these values of the controls.
 #[tactic(auto, unfolding(crate::specs::Session::diagnosis))]
-fn diagnosis(alloc: Global, model: &Model, controls: &[ValId]) -> Result<Vec<Rank>, AllocError>
-    requires { length controls.now ≡ length (controls model.now) }
-    ensures { IfOk result (λ listed. listed.items ≡ diagnosis model.now (record { controls = controls.now })) }
+fn diagnosis(alloc: Global, model: &Model, values: &[ValId]) -> Result<Vec<Rank>, AllocError>
+    requires { length values.now ≡ length (controls model.now) }
+    ensures { IfOk result (λ listed. listed.items ≡ diagnosis model.now (record { controls = values.now })) }
 {
     let facts = Facts {
-        controls: Seq::from_slice(alloc, controls)?,
+        controls: Seq::from_slice(alloc, values)?,
         present: Seq::new(alloc),
         next: Seq::new(alloc),
     };
