@@ -1,15 +1,13 @@
 -- The model that statements give, and the model of a text.
-use Rattle.std.specs.Prelude.{◌≡◌, ℕ, ◌+◌, List, [], ◌∷◌, ◌++◌, Bool, true, false, not, ◌&&◌, length, drop, position, nat_lt, nat_le, if◌then◌else◌, Option, Some, None, option_map, is_some, slice_get, codes}
-use Rattle.std.specs.List.{list_all, list_any}
+use Rattle.std.specs.Prelude.{◌≡◌, ℕ, ◌+◌, List, [], ◌∷◌, ◌++◌, Bool, true, not, ◌&&◌, length, drop, position, nat_lt, nat_le, if◌then◌else◌, Option, Some, None, option_map, is_some, slice_get, codes}
+use Rattle.std.specs.List.{list_any}
 use Rattle.std.specs.Option.{option_and_then}
-use Rattle.std.specs.Cmp.Lexicographic.{pointwise}
 use Rattle.lv_model.specs.declared.plant.Plant.{Plant}
 use Rattle.lv_model.specs.declared.plant.ComponentType.{ComponentType}
 use Rattle.lv_model.specs.Names.{is_named, domain_named, type_named, part_named}
 use Rattle.lv_model.specs.WellFormed.{is_well_formed}
-use Rattle.livingstone_cli.specs.declared.statement.Equation.{Equation}
 use Rattle.livingstone_cli.specs.declared.statement.Statement.{Statement}
-use Rattle.livingstone_cli.specs.declared.statement.Statement.TheVariants.{ModelLine, DomainLine, TypeLine, EndLine, PartLine, LawLine}
+use Rattle.livingstone_cli.specs.declared.statement.Statement.TheVariants.{ModelLine, DomainLine, TypeLine, PartLine, LawLine}
 use Rattle.livingstone_cli.specs.declared.draft.Draft.{Draft}
 use Rattle.livingstone_cli.specs.declared.draft.TypeDraft.{TypeDraft}
 use Rattle.livingstone_cli.specs.declared.draft.Comparison.{Comparison}

@@ -1,5 +1,5 @@
 -- What names stand for: places in lists, variables in scope, and what an equation compares.
-use Rattle.std.specs.Prelude.{ℕ, ◌+◌, List, Bool, true, false, ◌&&◌, length, position, slice_get, nat_eq, nat_lt, if◌then◌else◌, Option, Some, None, option_map, codes}
+use Rattle.std.specs.Prelude.{ℕ, ◌+◌, List, Bool, false, position, slice_get, nat_eq, nat_lt, if◌then◌else◌, Option, Some, None, option_map, codes}
 use Rattle.std.specs.Option.{option_and_then}
 use Rattle.lv_formula.specs.Tree.{Tree, is, same}
 use Rattle.lv_model.specs.declared.plant.Plant.{Plant}

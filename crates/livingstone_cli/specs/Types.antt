@@ -14,7 +14,6 @@ use Rattle.livingstone_cli.specs.declared.statement.Equation.{Equation}
 use Rattle.livingstone_cli.specs.declared.statement.Statement.{Statement}
 use Rattle.livingstone_cli.specs.declared.statement.Statement.TheVariants.{VariableLine, ModeLine, InLine, StepLine, FaultLine}
 use Rattle.livingstone_cli.specs.declared.draft.TypeDraft.{TypeDraft}
-use Rattle.livingstone_cli.specs.declared.draft.Comparison.{Comparison}
 use Rattle.livingstone_cli.specs.declared.draft.ModeFormula.{ModeFormula}
 use Rattle.livingstone_cli.specs.declared.draft.MoveLine.{MoveLine}
 use Rattle.livingstone_cli.specs.Scopes.{placed, domain_place, name_place, type_comparison, tree_of_comparison}
