@@ -1,5 +1,5 @@
 -- A search for some list finds the same where numbers are not tried that no list that passes has at their place.
-use Rattle.std.proofs.Common.{◌≡◌, ℕ, zero, suc, ◌+◌, Bool, true, false, ◌&&◌, ◌||◌, List, [], ◌∷◌, slice_get, Some, refl, sym, ◌∙◌, ap, subst, arith}
+use Rattle.std.proofs.Common.{◌≡◌, ℕ, zero, suc, ◌+◌, Bool, true, false, ◌&&◌, List, [], ◌∷◌, slice_get, Some, refl, sym, ◌∙◌, ap, subst, arith}
 use Rattle.lv_meaning.specs.Search.{some_below, some_list, some_allowed}
 
 pub below-same : (n : ℕ) (p q : ℕ → Bool) → ((v : ℕ) → p v ≡ q v) → some_below n p ≡ some_below n q

@@ -1,5 +1,5 @@
 -- What the plain program does not try could not be part of a step that meets the facts: so it finds one exactly where there is one.
-use Rattle.std.proofs.Common.{◌≡◌, ℕ, zero, suc, ◌+◌, Bool, true, false, ◌&&◌, ◌||◌, not, List, [], ◌∷◌, slice_get, slice_index_or, Option, Some, None, refl, sym, ◌∙◌, ap, subst, arith, nat_eq, nat_lt, eq-eqb, length, ap₂, Result, Ok, Err, IfOk}
+use Rattle.std.proofs.Common.{◌≡◌, ℕ, zero, suc, Bool, true, false, ◌&&◌, ◌||◌, not, List, [], ◌∷◌, slice_get, slice_index_or, Option, Some, None, refl, sym, ◌∙◌, ap, subst, nat_eq, nat_lt, eq-eqb, length, ap₂, Result, Ok, Err, IfOk}
 use Rattle.std.proofs.lemmas.Option.{get_or_from_slice_get}
 use Rattle.std.specs.List.{list_all}
 use Rattle.std.specs.Option.{option_map_or}
@@ -20,7 +20,7 @@ use Rattle.lv_meaning.specs.declared.facts.Observation.{Observation}
 use Rattle.lv_meaning.specs.Facts.{agrees, meets, observes, now_facts}
 use Rattle.lv_meaning.specs.Search.{some_list, some_allowed}
 use Rattle.lv_meaning.specs.Possible.{value, move_number, gives, extends, is_possible}
-use Rattle.lv_meaning.specs.Pruned.{pair_allows, pairs_allow, of_pair, source_allows, target_allows, now_allows, next_allows, moves_fit, next_fits, now_fits, is_found}
+use Rattle.lv_meaning.specs.Pruned.{pair_allows, pairs_allow, of_pair, source_allows, target_allows, now_allows, next_allows, moves_fit, next_fits, is_found}
 use Rattle.lv_meaning.proofs.SearchLemmas.{and_false}
 use Rattle.lv_meaning.proofs.PrunedSearch.{IsRuledOut, from_start, list-same, list-none, list-and, pruned}
 
@@ -112,10 +112,12 @@ module _ (plant : Plant) (a b : List ValId) where
           → option_map_or (f p) o true ≡ true
       of_move p t kind step None is = refl
       of_move p t kind step (Some m) is = each p t pair.choice m kind is step
+
       of_type : (p : Part) → part_steps plant.types a b p pair.choice ≡ true → (o : Option ComponentType) → slice_get plant.types p.kind ≡ o
           → option_map_or (λ (t : ComponentType). option_map_or (f p) (slice_get t.moves pair.choice) true) o true ≡ true
       of_type p step None is = refl
       of_type p step (Some t) is = of_move p t is step (slice_get t.moves pair.choice) refl
+
       of_part : (o : Option Part) → slice_get plant.parts pair.slot ≡ o
           → option_map_or (λ (p : Part). option_map_or (λ (t : ComponentType). option_map_or (f p) (slice_get t.moves pair.choice) true) (slice_get plant.types p.kind) true) o true ≡ true
       of_part None is = refl
@@ -155,6 +157,7 @@ in_order e f g p m n = same_tests _ _ there back
         let four = both g p three.1 in
         let five = both m n two.1 in
         rw (one.0, three.0, four.0, four.1, five.0, five.1) refl
+
     back : ((f && m) && ((g && n) && (e && p))) ≡ true → (e && ((f && (g && p)) && (m && n))) ≡ true
     back h =
         let one = both (f && m) ((g && n) && (e && p)) h in

@@ -1,6 +1,6 @@
 -- The same question in the order in which the plain program asks it: an assignment before the step that fits, behind it one after
 -- the step, behind both the moves; what a pair or an observation fixes is not tried otherwise.
-use Rattle.std.specs.Prelude.{ℕ, ◌<◌, Bool, true, ◌&&◌, ◌||◌, not, nat_eq, nat_lt, List, length, map, slice_get, slice_index_or}
+use Rattle.std.specs.Prelude.{ℕ, Bool, true, ◌&&◌, ◌||◌, not, nat_eq, List, slice_get}
 use Rattle.std.specs.List.{list_all}
 use Rattle.std.specs.Option.{option_map_or}
 use Rattle.lv_base.specs.declared.ids.ValId.{ValId}
@@ -12,7 +12,6 @@ use Rattle.lv_model.specs.declared.plant.Move.{Move}
 use Rattle.lv_model.specs.declared.plant.Part.{Part}
 use Rattle.lv_model.specs.Lists.{sizes}
 use Rattle.lv_model.specs.Meaning.{is_feasible, parts_step}
-use Rattle.lv_meaning.specs.declared.facts.Facts.{Facts}
 use Rattle.lv_meaning.specs.declared.facts.Observation.{Observation}
 use Rattle.lv_meaning.specs.Facts.{meets, observes}
 use Rattle.lv_meaning.specs.Search.{some_allowed}

@@ -1,14 +1,13 @@
 -- The controls of a plant are variables of it.
-use Rattle.std.proofs.Common.{◌≡◌, ◌+◌, ◌≤◌, ◌<◌, ℕ, Bool, true, false, if◌then◌else◌, List, [], ◌∷◌, ◌++◌, length, slice_get, Option, Some, None, arith, All}
+use Rattle.std.proofs.Common.{◌≡◌, ◌+◌, ◌≤◌, ℕ, Bool, true, false, if◌then◌else◌, List, [], ◌∷◌, length, slice_get, Option, Some, None, arith, All}
 use Rattle.std.specs.Option.{option_map_or}
 use Rattle.std.specs.List.{flat_map}
 use Rattle.std.proofs.lemmas.List.Elements.{All-cons, All-append, All-tail}
-use Rattle.lv_base.specs.declared.ids.VarId.{VarId}
 use Rattle.lv_model.specs.declared.plant.Plant.{Plant}
 use Rattle.lv_model.specs.declared.plant.ComponentType.{ComponentType}
 use Rattle.lv_model.specs.declared.plant.Variable.{Variable}
 use Rattle.lv_model.specs.declared.plant.Part.{Part}
-use Rattle.lv_model.specs.Lists.{is_control, controls_from, part_controls, controls, type_width, part_width, variable_count, IsVariable}
+use Rattle.lv_model.specs.Lists.{is_control, controls_from, part_controls, controls, type_width, variable_count, IsVariable}
 use Rattle.lv_model.specs.WellFormed.{is_well_formed, PartEnds}
 use Rattle.lv_model.proofs.Reading.{ends-of_well_formed}
 

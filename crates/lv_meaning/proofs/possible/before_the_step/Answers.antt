@@ -1,7 +1,6 @@
 -- commands and present observations speak of variables of the plant
-use Rattle.std.proofs.Common.{◌≡◌, arith, subst}
+use Rattle.std.proofs.Common.{◌≡◌, arith}
 use Rattle.std.proofs.lemmas.Grind.{common_steps}
-use Rattle.lv_model.specs.Lists.{controls, variable_count, IsVariable}
 use Rattle.lv_meaning.specs.Facts.{now_facts}
 use Rattle.lv_meaning.proofs.Commanded.{now_facts-in_range}
 use Rattle.lv_meaning.proofs.possible.before_the_step.Goals as goal

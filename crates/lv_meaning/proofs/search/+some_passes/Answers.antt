@@ -1,5 +1,5 @@
 -- each step of the search is one over plain lists
-use Rattle.std.proofs.Common.{◌≡◌, ◌<◌, Bool, true, false, ◌&&◌, length, refl, sym, ◌∙◌, ap, arith}
+use Rattle.std.proofs.Common.{◌<◌, length, refl, sym, ◌∙◌, arith}
 use Rattle.lv_meaning.proofs.SearchLemmas.{front_kept, found_behind, found_here, none_more, and_false}
 use Rattle.lv_meaning.proofs.search.+some_passes.Goals as goal
 use Rattle.lv_meaning.proofs.search.+some_passes.Goals.{then-allows+in_ok-some_passes+else-branch, else-allows}

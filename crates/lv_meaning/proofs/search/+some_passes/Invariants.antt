@@ -1,4 +1,4 @@
-use Rattle.std.proofs.Common.{◌≡◌, ◌+◌, ◌-◌, ◌++◌, Bool, false, ◌&&◌, ◌∷◌, length, take, drop}
+use Rattle.std.proofs.Common.{◌≡◌, ◌+◌, ◌-◌, ◌++◌, false, ◌&&◌, ◌∷◌, length, take, drop}
 use Rattle.lv_meaning.specs.Search.{some_below, some_allowed}
 use Rattle.lv_meaning.proofs.search.+some_passes.Given as goal
 
