@@ -1,5 +1,5 @@
 -- A session: what its lines ask for, what each does, and the transcript of all of them.
-use Rattle.std.specs.Prelude.{ℕ, ◌+◌, Bool, ◌&&◌, nat_eq, List, [], ◌∷◌, ◌++◌, length, map, position, Option, Some, None, option_map, if◌then◌else◌, slice_set, codes}
+use Rattle.std.specs.Prelude.{ℕ, Bool, ◌&&◌, nat_eq, List, [], ◌∷◌, ◌++◌, length, map, position, Option, None, option_map, if◌then◌else◌, slice_set, codes}
 use Rattle.std.specs.Option.{option_and_then, option_map_or}
 use Rattle.lv_base.specs.declared.ids.ValId.{ValId}
 use Rattle.lv_base.specs.declared.ids.VarId.{VarId}

@@ -1,5 +1,5 @@
 -- One step of listing the candidates of a state, over plain lists.
-use Rattle.std.proofs.Common.{◌≡◌, ◌≢◌, ℕ, zero, suc, ◌+◌, ◌-◌, ◌<◌, ◌≤◌, Bool, true, false, List, [], ◌∷◌, ◌++◌, length, take, drop, get_or, slice_get, Some, refl, sym, ◌∙◌, ap, subst, arith, add-one, append_assoc, drop-cons, nat_eq, eq-eqb, cond, filter, All}
+use Rattle.std.proofs.Common.{◌≡◌, ◌≢◌, ℕ, suc, ◌+◌, ◌-◌, ◌<◌, Bool, true, false, List, [], ◌∷◌, ◌++◌, length, take, drop, get_or, refl, sym, ◌∙◌, ap, arith, add-one, append_assoc, drop-cons, nat_eq, eq-eqb, cond, filter}
 use Rattle.std.specs.List.{flat_map}
 use Rattle.std.specs.Option.{option_map_or}
 use Rattle.std.specs.BTreeSet.{insert_key}
@@ -7,14 +7,13 @@ use Rattle.std.specs.Cmp.Lexicographic.{slice_cmp}
 use Rattle.std.specs.Ordering.{nat_cmp, on}
 use Rattle.lv_base.specs.Rank.{rank_key}
 use Rattle.std.proofs.lemmas.Option.{slice_get_read}
-use Rattle.std.proofs.lemmas.List.{length-append, take-append-le}
+use Rattle.std.proofs.lemmas.List.{length-append}
 use Rattle.lv_base.specs.declared.rank.Rank.{Rank}
 use Rattle.lv_model.specs.declared.plant.Move.{Move}
 use Rattle.lv_model.specs.declared.plant.Plant.{Plant}
 use Rattle.lv_meaning.specs.declared.candidates.State.{State}
-use Rattle.std.proofs.lemmas.List.Elements.{All-cons, All-tail, All-append}
 use borrow.Author.Tests.{eqb-true}
-use Rattle.lv_meaning.specs.Candidates.{numbers_from, move_cost, put_in_order, ranks_from, ranks_of, HasFewChoices}
+use Rattle.lv_meaning.specs.Candidates.{numbers_from, move_cost, put_in_order, ranks_from, ranks_of}
 
 pub put_in_order-append : (xs ys sorted : List Rank) → put_in_order sorted (xs ++ ys) ≡ put_in_order (put_in_order sorted xs) ys
 put_in_order-append [] ys sorted = refl
@@ -79,7 +78,7 @@ module _ {X : Type 0} (p : X → Bool) (k : ℕ) (xs : List X) (i : ℕ) (x : X)
 
   -- an item that passes is listed where some are missing
   pub listed_more : p x ≡ true → length listed < k → listed ++ take (k - length listed) (filter p (drop i xs)) ≡ whole
-    → (listed ++ (x ∷ [])) ++ take (k - length (listed ++ (x ∷ []))) (filter p (drop (i + 1) xs)) ≡ whole
+      → (listed ++ (x ∷ [])) ++ take (k - length (listed ++ (x ∷ []))) (filter p (drop (i + 1) xs)) ≡ whole
   listed_more passes missing is_whole =
       let longer : k - length listed ≡ suc (k - length (listed ++ (x ∷ []))) = rw length-append (omega arith) in
       append_assoc listed (x ∷ []) (take (k - length (listed ++ (x ∷ []))) (filter p (drop (i + 1) xs)))
@@ -89,5 +88,5 @@ module _ {X : Type 0} (p : X → Bool) (k : ℕ) (xs : List X) (i : ℕ) (x : X)
 
   -- an item that doesn't is passed over
   pub listed_same : p x ≡ false → listed ++ take (k - length listed) (filter p (drop i xs)) ≡ whole
-    → listed ++ take (k - length listed) (filter p (drop (i + 1) xs)) ≡ whole
+      → listed ++ take (k - length listed) (filter p (drop (i + 1) xs)) ≡ whole
   listed_same fails is_whole = ap (λ ys. listed ++ take (k - length listed) ys) (sym (filtered false fails)) ∙ is_whole

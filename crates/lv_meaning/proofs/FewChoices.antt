@@ -1,5 +1,5 @@
 -- Candidates have few choices.
-use Rattle.std.proofs.Common.{◌≡◌, ℕ, ◌+◌, ◌<◌, ◌≤◌, ◌^◌, List, [], ◌∷◌, ◌++◌, length, arith, All}
+use Rattle.std.proofs.Common.{ℕ, ◌+◌, ◌<◌, ◌≤◌, ◌^◌, List, [], ◌∷◌, ◌++◌, length, arith, All}
 use Rattle.std.specs.declared.cmp.Ordering.{Ordering}
 use Rattle.std.specs.declared.cmp.Ordering.TheVariants.{Less, Equal, Greater}
 use Rattle.std.specs.List.{flat_map}
@@ -21,10 +21,10 @@ few_inserted : (r : Rank) (rs : List Rank) → HasFewChoices r → All HasFewCho
 few_inserted r [] one all = All-cons HasFewChoices r [] one all
 few_inserted r (x ∷ xs) one all = by (on rank_key (slice_cmp nat_cmp) r x) (few_inserted r xs one (All-tail HasFewChoices x xs all))
   where
-  by : (o : Ordering) → All HasFewChoices (insert_key (on rank_key (slice_cmp nat_cmp)) xs r) → All HasFewChoices (match_ordering o (r ∷ x ∷ xs) (x ∷ xs) (x ∷ insert_key (on rank_key (slice_cmp nat_cmp)) xs r))
-  by Less rest = All-cons HasFewChoices r (x ∷ xs) one all
-  by Equal rest = all
-  by Greater rest = All-cons HasFewChoices x (insert_key (on rank_key (slice_cmp nat_cmp)) xs r) (all 0 x (omega arith)) rest
+    by : (o : Ordering) → All HasFewChoices (insert_key (on rank_key (slice_cmp nat_cmp)) xs r) → All HasFewChoices (match_ordering o (r ∷ x ∷ xs) (x ∷ xs) (x ∷ insert_key (on rank_key (slice_cmp nat_cmp)) xs r))
+    by Less rest = All-cons HasFewChoices r (x ∷ xs) one all
+    by Equal rest = all
+    by Greater rest = All-cons HasFewChoices x (insert_key (on rank_key (slice_cmp nat_cmp)) xs r) (all 0 x (omega arith)) rest
 
 few_put : (rs sorted : List Rank) → All HasFewChoices rs → All HasFewChoices sorted → All HasFewChoices (put_in_order sorted rs)
 few_put [] sorted all before = before

@@ -1,14 +1,10 @@
 -- Which partial choices are possible.
-use Rattle.std.specs.Prelude.{ℕ, ◌<◌, Bool, true, ◌&&◌, ◌||◌, not, nat_eq, nat_lt, List, length, map, slice_get, slice_index_or}
+use Rattle.std.specs.Prelude.{ℕ, Bool, ◌&&◌, nat_eq, nat_lt, List, length, slice_index_or}
 use Rattle.std.specs.List.{list_all}
-use Rattle.std.specs.Option.{option_map_or}
 use Rattle.lv_base.specs.declared.ids.ValId.{ValId}
 use Rattle.lv_base.specs.declared.ids.MoveId.{MoveId}
 use Rattle.lv_base.specs.declared.search.Pair.{Pair}
 use Rattle.lv_model.specs.declared.plant.Plant.{Plant}
-use Rattle.lv_model.specs.declared.plant.ComponentType.{ComponentType}
-use Rattle.lv_model.specs.declared.plant.Move.{Move}
-use Rattle.lv_model.specs.declared.plant.Part.{Part}
 use Rattle.lv_model.specs.Lists.{sizes, move_counts}
 use Rattle.lv_model.specs.Meaning.{is_step}
 use Rattle.lv_meaning.specs.declared.facts.Facts.{Facts}

@@ -1,5 +1,5 @@
 -- 'Some list' as a search that computes.
-use Rattle.std.specs.Prelude.{ℕ, zero, suc, ◌+◌, Bool, true, false, ◌&&◌, ◌||◌, List, [], ◌∷◌, length}
+use Rattle.std.specs.Prelude.{ℕ, zero, suc, ◌+◌, Bool, false, ◌&&◌, ◌||◌, List, [], ◌∷◌}
 
 -- some number below the bound passes
 abbrev pub some_below : ℕ → (ℕ → Bool) → Bool

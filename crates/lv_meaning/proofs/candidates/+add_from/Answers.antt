@@ -1,5 +1,5 @@
 -- each step of the listing is one over plain lists
-use Rattle.std.proofs.Common.{◌≡◌, ◌+◌, ◌++◌, [], ◌∷◌, length, drop, slice_index_or, ℕ, List, Bool, nat_eq, refl, ap, ◌∙◌, sym}
+use Rattle.std.proofs.Common.{◌≡◌, ◌+◌, ◌++◌, [], ◌∷◌, length, drop, slice_index_or, ℕ, List, refl, ap, ◌∙◌, sym}
 use Rattle.std.specs.List.{flat_map}
 use Rattle.lv_base.specs.declared.rank.Rank.{Rank}
 use Rattle.lv_meaning.specs.Candidates.{move_cost, ranks_from, put_in_order, numbers_from}

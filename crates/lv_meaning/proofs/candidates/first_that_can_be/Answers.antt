@@ -1,5 +1,5 @@
 -- each candidate is listed where it can be
-use Rattle.std.proofs.Common.{◌≡◌, ◌<◌, ◌≤◌, ◌++◌, [], ◌∷◌, length, ap, ◌∙◌, sym, arith}
+use Rattle.std.proofs.Common.{◌≡◌, ◌<◌, ◌++◌, [], ◌∷◌, length, ap, ◌∙◌, sym, arith}
 use Rattle.std.proofs.lemmas.List.{length-append}
 use Rattle.lv_base.specs.declared.rank.Rank.{Rank}
 use Rattle.lv_meaning.specs.Candidates.{can_be}
@@ -10,18 +10,18 @@ use Rattle.lv_meaning.proofs.candidates.first_that_can_be.Goals.{then-branch+in_
 pub loop-rank-preserved : goal.loop-rank-preserved
 loop-rank-preserved c =
     elim c.if-branch.branch [
-      then-branch+in_ok-copy_of+in_ok-push w ↦ 
-        let items : c.if-branch.listed.items ≡ c.loop-rank.listed.items ++ (c.rank-item.result ∷ []) =
+      | then-branch+in_ok-copy_of+in_ok-push w ↦
+          let items : c.if-branch.listed.items ≡ c.loop-rank.listed.items ++ (c.rank-item.result ∷ []) =
           ap (λ v. v.items) w.listed-is ∙ w.in_ok-push.ensures.items ∙ ap (λ (x : Rank). c.loop-rank.listed.items ++ (x ∷ [])) w.in_ok-copy_of.ensures
-        in
-        let missing : length c.loop-rank.listed.items < c.args.k = omega (arith, c.loop-rank.listed.ok.0) in
-        record {
-          rest = rw items (listed_more (can_be c.args.model.now c.args.facts.now) c.args.k c.args.ranks.now c.loop-rank.rank-index c.rank-item.result c.loop-rank.listed.items _ c.loop-rank-test.true c.rank-item.is (sym c.in_ok-candidate_can_be.ensures ∙ w.if-branch.true) missing c.loop-rank.invariant.rest);
-          most = rw (items, length-append) (omega arith);
-        }
-    | else-branch w ↦
-        record {
-          rest = rw w.listed-is (listed_same (can_be c.args.model.now c.args.facts.now) c.args.k c.args.ranks.now c.loop-rank.rank-index c.rank-item.result c.loop-rank.listed.items _ c.loop-rank-test.true c.rank-item.is (sym c.in_ok-candidate_can_be.ensures ∙ w.if-branch.false) c.loop-rank.invariant.rest);
-          most = rw w.listed-is c.loop-rank.invariant.most;
-        }
+          in
+          let missing : length c.loop-rank.listed.items < c.args.k = omega (arith, c.loop-rank.listed.ok.0) in
+          record {
+            rest = rw items (listed_more (can_be c.args.model.now c.args.facts.now) c.args.k c.args.ranks.now c.loop-rank.rank-index c.rank-item.result c.loop-rank.listed.items _ c.loop-rank-test.true c.rank-item.is (sym c.in_ok-candidate_can_be.ensures ∙ w.if-branch.true) missing c.loop-rank.invariant.rest);
+            most = rw (items, length-append) (omega arith);
+          }
+      | else-branch w ↦
+          record {
+            rest = rw w.listed-is (listed_same (can_be c.args.model.now c.args.facts.now) c.args.k c.args.ranks.now c.loop-rank.rank-index c.rank-item.result c.loop-rank.listed.items _ c.loop-rank-test.true c.rank-item.is (sym c.in_ok-candidate_can_be.ensures ∙ w.if-branch.false) c.loop-rank.invariant.rest);
+            most = rw w.listed-is c.loop-rank.invariant.most;
+          }
     ]

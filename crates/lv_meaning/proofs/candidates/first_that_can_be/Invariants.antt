@@ -1,4 +1,4 @@
-use Rattle.std.proofs.Common.{◌≡◌, ◌≤◌, ◌-◌, ◌++◌, take, drop, filter, length, vec_len}
+use Rattle.std.proofs.Common.{◌≡◌, ◌≤◌, ◌-◌, ◌++◌, take, drop, filter, length}
 use Rattle.lv_meaning.specs.Candidates.{can_be}
 use Rattle.lv_meaning.proofs.candidates.first_that_can_be.Given as goal
 

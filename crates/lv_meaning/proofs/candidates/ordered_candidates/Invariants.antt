@@ -1,4 +1,4 @@
-use Rattle.std.proofs.Common.{◌≡◌, [], drop}
+use Rattle.std.proofs.Common.{◌≡◌, drop}
 use Rattle.lv_meaning.specs.Candidates.{ranks_of, put_in_order, candidates}
 use Rattle.lv_meaning.proofs.candidates.ordered_candidates.Given as goal
 
