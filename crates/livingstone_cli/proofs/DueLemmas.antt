@@ -1,5 +1,5 @@
 -- What was due where the session was not read, and what follows for the top call.
-use Rattle.std.proofs.Common.{◌≡◌, ◌≢◌, ℕ, ◌<◌, Bool, true, false, List, [], ◌∷◌, length, nat_le, Option, None, Some, refl, sym, ◌∙◌, ap, subst, arith}
+use Rattle.std.proofs.Common.{◌≡◌, ℕ, ◌<◌, Bool, true, false, List, length, nat_le, Option, None, Some, refl, sym, subst, arith}
 use Rattle.std.specs.Prelude.{IfSome, IsTrue, IsErrAnd, Result, Ok, Err, if◌then◌else◌}
 use Rattle.std.specs.Option.{option_map, option_map_or}
 use Rattle.std.proofs.lemmas.Bool.Decides.{nat_tests}
@@ -8,7 +8,7 @@ use Rattle.lv_model.specs.declared.plant.Plant.{Plant}
 use Rattle.livingstone_cli.specs.Inputs.{accepted_model}
 use Rattle.livingstone_cli.specs.Statuses.{ends_session}
 use Rattle.livingstone_cli.specs.Arguments.{RunWords, run_words}
-use Rattle.livingstone_cli.specs.Dues.{Due, silent, due, due_of_texts, due_of_model, due_of_session, Meets, ended_status}
+use Rattle.livingstone_cli.specs.Dues.{silent, due, due_of_texts, due_of_model, due_of_session, Meets, ended_status}
 use Rattle.livingstone_cli.specs.declared.status.Status.{Status}
 use Rattle.livingstone_cli.specs.declared.status.Status.TheVariants.{Done, WordsRefused, ModelRefused, ModelUnread, SessionUnread, OutputFailed, SessionTooLong, OutOfMemory}
 use Rattle.livingstone_cli.proofs.Writing.{no_front}

@@ -1,5 +1,5 @@
 -- The opens of a run: a front of the two that the words ask for.
-use Rattle.std.proofs.Common.{◌≡◌, ℕ, zero, suc, List, [], ◌∷◌, ◌++◌, take, Option, None, Some, refl, sym, ◌∙◌, ap, subst, append_assoc}
+use Rattle.std.proofs.Common.{◌≡◌, ℕ, zero, suc, List, [], ◌∷◌, ◌++◌, take, Option, Some, refl, sym, ◌∙◌, ap, subst, append_assoc}
 use Rattle.std.specs.Option.{option_map_or}
 use Rattle.lv_io.specs.Outside.{Opened}
 use Rattle.livingstone_cli.specs.Inputs.{AddsOpens, model_open, session_open}

@@ -1,5 +1,5 @@
 -- One line of a session's text, answered and written.
-use Rattle.std.proofs.Common.{◌≡◌, ℕ, ◌-◌, List, ◌∷◌, ◌++◌, length, take, drop, Option, refl, sym, ◌∙◌, ap, ap₂, subst}
+use Rattle.std.proofs.Common.{◌≡◌, ℕ, ◌-◌, List, ◌∷◌, ◌++◌, length, take, drop, Option, sym, ◌∙◌, ap, ap₂, subst}
 use Rattle.std.specs.Io.KnownBytes.{append_known}
 use Rattle.lv_io.specs.Whole.{AddsFront}
 use Rattle.lv_io.proofs.Pieces.{rest_of_bytes}

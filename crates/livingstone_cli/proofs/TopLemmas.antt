@@ -1,5 +1,5 @@
 -- From what the parts of a call promise to what the whole does.
-use Rattle.std.proofs.Common.{◌≡◌, ◌≢◌, ◌⊎◌, ℕ, Bool, true, false, List, [], length, nat_le, Option, None, Some, refl, sym, ◌∙◌, ap, ap₂, inl, inr, subst, arith}
+use Rattle.std.proofs.Common.{◌≡◌, ◌≢◌, ◌⊎◌, ℕ, Bool, true, List, length, nat_le, Option, None, Some, refl, sym, ◌∙◌, ap, ap₂, inl, inr, subst, arith}
 use Rattle.std.specs.Prelude.{IfSome, IsTrue, if◌then◌else◌}
 use Rattle.std.specs.Option.{option_map_or}
 use Rattle.std.specs.Io.KnownBytes.{append_known}
@@ -12,8 +12,8 @@ use Rattle.lv_io.specs.declared.Role.TheVariants.{Model, Second}
 use Rattle.lv_model.specs.declared.plant.Plant.{Plant}
 use Rattle.livingstone_cli.specs.Session.{transcript}
 use Rattle.livingstone_cli.specs.Statuses.{message_of}
-use Rattle.livingstone_cli.specs.Arguments.{RunWords, run_words}
-use Rattle.livingstone_cli.specs.Dues.{Due, silent, due, due_of_texts, due_of_model, due_of_session, Meets, is_silent}
+use Rattle.livingstone_cli.specs.Arguments.{RunWords}
+use Rattle.livingstone_cli.specs.Dues.{Due, silent, due, due_of_texts, due_of_model, Meets, is_silent}
 use Rattle.livingstone_cli.specs.Top.{Asks, HasNoFault}
 use Rattle.livingstone_cli.specs.declared.status.Status.{Status}
 use Rattle.livingstone_cli.specs.declared.status.Status.TheVariants.{Done, WordsRefused, ModelRefused, ModelUnread, SessionUnread, OutputFailed, SessionTooLong, OutOfMemory}

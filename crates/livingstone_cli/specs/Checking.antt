@@ -1,5 +1,5 @@
 -- Stands for the definition of an accepted model until it comes.
-use Rattle.std.specs.Prelude.{ℕ, ◌≡◌, List, [], ◌∷◌, Option, None}
+use Rattle.std.specs.Prelude.{ℕ, ◌≡◌, List, Option, None}
 use Rattle.lv_model.specs.declared.plant.Plant.{Plant}
 use Rattle.livingstone_cli.specs.declared.checker.ModelFault.{ModelFault}
 use Rattle.livingstone_cli.specs.declared.checker.ModelFault.TheVariants.{At, Memory}

@@ -1,5 +1,5 @@
 -- What a call of the program is due: its status and what it writes to the output, where nothing fails.
-use Rattle.std.specs.Prelude.{◌≡◌, ◌≢◌, ℕ, ◌≤◌, Bool, true, false, List, [], ◌∷◌, length, nat_le, Option, None, Some, Result, Ok, Err, option_and_then, if◌then◌else◌}
+use Rattle.std.specs.Prelude.{◌≡◌, ◌≢◌, ℕ, Bool, true, false, List, [], ◌∷◌, length, nat_le, Option, None, Some, Result, Ok, Err, option_and_then, if◌then◌else◌}
 use Rattle.std.specs.Option.{option_map, option_map_or}
 use Rattle.std.specs.Io.KnownBytes.{append_known}
 use Rattle.lv_base.specs.declared.limits.TheConstants.{SESSION_BYTES}

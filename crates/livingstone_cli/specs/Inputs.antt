@@ -1,11 +1,10 @@
 -- What the program reads: which texts are accepted as models, and which opens a run makes.
-use Rattle.std.specs.Prelude.{◌≡◌, ℕ, List, [], ◌∷◌, ◌++◌, length, take, nat_le, Option, None, Some, Result, Ok, Err, if◌then◌else◌}
+use Rattle.std.specs.Prelude.{◌≡◌, ℕ, List, ◌++◌, length, take, nat_le, Option, None, if◌then◌else◌}
 use Rattle.lv_base.specs.declared.limits.TheConstants.{MODEL_BYTES}
 use Rattle.lv_io.specs.Outside.{Opened}
 use Rattle.lv_io.specs.declared.Role.TheVariants.{Model, Second}
 use Rattle.lv_model.specs.declared.plant.Plant.{Plant}
 use Rattle.livingstone_cli.specs.Checking.{model_of}
-use Rattle.livingstone_cli.specs.Arguments.{RunWords}
 
 -- the plant of a model text that is within the limit of its length
 unfoldable pub accepted_model : List ℕ → Option Plant

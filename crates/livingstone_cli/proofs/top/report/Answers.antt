@@ -1,5 +1,5 @@
 -- A call that is done has no line to tell.
-use Rattle.std.proofs.Common.{◌≡◌, ◌≢◌, ◌⊎◌, ℕ, List, Option, inl, inr, refl, sym, ◌∙◌, ap}
+use Rattle.std.proofs.Common.{◌≡◌, ◌≢◌, ◌⊎◌, ℕ, List, Option, inl, inr, sym, ◌∙◌, ap}
 use Rattle.std.specs.Io.KnownBytes.{append_known}
 use Rattle.livingstone_cli.specs.Statuses.{message_of}
 use Rattle.livingstone_cli.specs.declared.status.Status.{Status}
