@@ -45,3 +45,6 @@ fn process_words(rt: &HostRuntime) -> io::Result<Vec<String>> {
     };
     Ok(words.collect(rt.alloc())?)
 }
+
+#[cfg(test)]
+mod tests;
