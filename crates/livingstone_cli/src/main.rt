@@ -59,3 +59,5 @@ fn process_words(rt: &HostRuntime) -> io::Result<Vec<String>> {
 
 #[cfg(test)]
 mod tests;
+#[cfg(test)]
+mod whole_calls;
