@@ -1,0 +1,4 @@
+pub mod Literals
+pub mod ClauseMap
+pub mod Closure
+pub mod Laws

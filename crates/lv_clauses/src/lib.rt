@@ -1,0 +1,23 @@
+//! Clauses over booleans, kept in an arena whose keys stay valid while their clause is present, and the definitions
+//! that all work on clauses shares: what satisfies them and what unit propagation derives from them.
+//!
+//! | part | items |
+//! |---|---|
+//! | one clause | `Clause` |
+//! | the arena | `ClauseSet` |
+//! | laws of the unit closure | `closure_is_least`, `closure_is_sound` |
+//! | literals | `negation`, `lit_holds`, `clause_holds` |
+#![tactic(auto)]
+
+pub mod clause;
+pub mod clause_set;
+pub mod laws;
+pub mod literals;
+
+pub use clause::Clause;
+pub use clause_set::ClauseSet;
+pub use laws::{closure_is_least, closure_is_sound};
+pub use literals::{clause_holds, lit_holds, negation};
+
+#[cfg(test)]
+mod tests;
