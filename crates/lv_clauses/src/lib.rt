@@ -7,17 +7,20 @@
 //! | the arena | `ClauseSet` |
 //! | laws of the unit closure | `closure_is_least`, `closure_is_sound` |
 //! | literals | `negation`, `lit_holds`, `clause_holds` |
+//! | marks of booleans | `has`, `look`, `Finding` |
 #![tactic(auto)]
 
 pub mod clause;
 pub mod clause_set;
 pub mod laws;
 pub mod literals;
+pub mod marks;
 
 pub use clause::Clause;
 pub use clause_set::ClauseSet;
 pub use laws::{closure_is_least, closure_is_sound};
 pub use literals::{clause_holds, lit_holds, negation};
+pub use marks::{Finding, has, look};
 
 #[cfg(test)]
 mod tests;

@@ -43,3 +43,28 @@ fn literals_say_of_values(rt: HostRuntime) -> Result<(), Fail> {
     assert!(rt; lit_holds(&[true], lit(0, true)));
     Ok(())
 }
+
+#[test]
+fn clauses_are_looked_at(rt: HostRuntime) -> Result<(), Fail> {
+    let clause = [lit(0, true), lit(1, false), lit(2, true)];
+    let table = [
+        (vec![in rt.alloc(); None, None, None]?, Finding::Open),
+        (
+            vec![in rt.alloc(); Some(false), Some(true), None]?,
+            Finding::Unit(lit(2, true)),
+        ),
+        (
+            vec![in rt.alloc(); Some(false), Some(true), Some(true)]?,
+            Finding::Unit(lit(2, true)),
+        ),
+        (
+            vec![in rt.alloc(); Some(false), Some(true), Some(false)]?,
+            Finding::AllFalse,
+        ),
+    ];
+    for (marks, finding) in &table {
+        assert_eq!(rt; look(marks.as_slice(), clause.as_slice()), *finding);
+    }
+    assert!(rt; has(&[Some(true)], lit(0, true)) && !has(&[None], lit(0, false)));
+    Ok(())
+}
