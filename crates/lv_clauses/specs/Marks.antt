@@ -1,6 +1,6 @@
 -- Marks: for each boolean the value that it is taken to have, or none. What a clause says under marks: all its
 -- literals are false, or all but one, or more are left.
-use Rattle.std.specs.Prelude.{ℕ, Bool, true, false, not, List, [], ◌∷◌, Option, Some, None, is_none, slice_index_or, slice_set, filter, replicate}
+use Rattle.std.specs.Prelude.{ℕ, Bool, false, not, List, [], ◌∷◌, Option, Some, None, is_none, slice_index_or, slice_set, filter, replicate}
 use Rattle.lv_base.specs.declared.ids.Lit.{Lit}
 use Rattle.lv_clauses.specs.declared.marks.Finding.{Finding}
 use Rattle.lv_clauses.specs.declared.marks.Finding.TheVariants.{AllFalse, Unit, Open}

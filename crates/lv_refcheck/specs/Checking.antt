@@ -1,9 +1,8 @@
 -- What the checker keeps while it goes over a step, and what it has shown where it stops.
-use Rattle.std.specs.Prelude.{◌≡◌, ℕ, Bool, true, ◌&&◌, nat_eq, List, length, take, Option, Some, None, is_some, slice_index_or, slice_set, unwrap_or, All}
+use Rattle.std.specs.Prelude.{◌≡◌, ℕ, Bool, true, ◌&&◌, nat_eq, List, length, None, is_some, slice_index_or}
 use Rattle.std.specs.List.{list_any}
 use Rattle.lv_base.specs.declared.ids.Lit.{Lit}
 use Rattle.lv_clauses.specs.Literals.{in_range}
-use Rattle.lv_clauses.specs.ClauseMap.{ClauseMap}
 use Rattle.lv_clauses.specs.Marks.{Marks, is_free}
 
 -- the literal is of this boolean

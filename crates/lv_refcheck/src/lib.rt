@@ -6,10 +6,10 @@
 //! ends in the empty clause thus shows that there are none.
 #![tactic(auto)]
 
-pub mod check;
 pub mod marks;
+pub mod pass;
 
-pub use check::check;
+pub use pass::check;
 
 #[cfg(test)]
 mod tests;

@@ -4,6 +4,7 @@
 ghost use Rattle.std.specs.Prelude.{◌≡◌, ◌&&◌, length, slice_set, None, IfOk, OnOk, OnErr};
 ghost use Rattle.lv_clauses.specs.Marks.{nothing, marked};
 ghost use Rattle.lv_refcheck.specs.Checking as Checking;
+ghost use Rattle.lv_refcheck.specs.Checking.{AreTaken};
 
 use lv_base::Lit;
 use std::alloc::{AllocError, Global};
@@ -68,10 +69,18 @@ impl Marks {
     pub fn clear(&mut self)
         ensures { self.new ≡ nothing (length self.old) }
     {
-        for lit in &self.taken {
-            unmark(&mut self.marks, *lit);
-        }
+        unmark_all(&mut self.marks, self.taken.as_slice());
         self.taken.clear();
+    }
+}
+
+/// Unmarks the booleans of all literals taken, which are all that are marked.
+fn unmark_all(marks: &mut Vec<Option<bool>>, taken: &[Lit])
+    requires { AreTaken marks.old.items taken.now }
+    ensures { marks.new.items ≡ nothing (length marks.old.items) }
+{
+    for lit in taken {
+        unmark(marks, *lit);
     }
 }
 

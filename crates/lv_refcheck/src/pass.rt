@@ -60,7 +60,13 @@ fn deny(clause: &[Lit], marks: &mut Marks) -> Result<bool, AllocError>
 }
 
 /// Whether the hints of a step at this place end well from these marks on.
-fn ends_well(set: &ClauseSet, log: &Log, place: usize, hints: &[Hint], marks: &mut Marks) -> Result<bool, AllocError>
+fn ends_well(
+    set: &ClauseSet,
+    log: &Log,
+    place: usize,
+    hints: &[Hint],
+    marks: &mut Marks,
+) -> Result<bool, AllocError>
     ensures well { IfOk result (λ good. good ≡ Following.ends_well set.now.slots (take place log.now) hints.now marks.old) }
     ensures len { length marks.new ≡ length marks.old }
 {
@@ -76,7 +82,13 @@ fn ends_well(set: &ClauseSet, log: &Log, place: usize, hints: &[Hint], marks: &m
 }
 
 /// What the clause that a hint of a step at this place names says under the marks, None exactly where it names none.
-fn look_at_hint(set: &ClauseSet, log: &Log, place: usize, hint: Hint, marks: &[Option<bool>]) -> Option<Finding>
+fn look_at_hint(
+    set: &ClauseSet,
+    log: &Log,
+    place: usize,
+    hint: Hint,
+    marks: &[Option<bool>],
+) -> Option<Finding>
     ensures { result ≡ option_map (look_at marks.now) (Following.clause_of set.now.slots (take place log.now) hint) }
 {
     match hint {
