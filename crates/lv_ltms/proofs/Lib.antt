@@ -1,0 +1,4 @@
+pub mod TrailLemmas
+pub mod VisitLemmas
+pub mod PassLemmas
+pub mod AssumeLemmas

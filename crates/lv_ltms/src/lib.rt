@@ -1,0 +1,17 @@
+//! Truth maintenance: clauses and assumptions come and go, and each literal's label is what unit propagation derives
+//! from those that are there now. A true literal has a reason, a contradiction has a core.
+//!
+//! All room is taken when the system is made and when a clause is added, so every other call succeeds.
+//!
+//! This is the plain form: each change clears the labels and derives them anew from the assumptions, in passes over
+//! the clauses until a pass finds nothing new. It has no occurrence lists and no counters yet, so a change costs what
+//! all labels cost.
+#![tactic(auto)]
+
+pub mod labels;
+pub mod propagation;
+
+
+
+pub use labels::{Link, Reason};
+
