@@ -103,3 +103,9 @@ pub present_holds : (values : List Bool) (slots : Slots) (id : ℕ) (c : List Li
 present_holds values [] id c e h = absurd (cc)
 present_holds values (s ∷ ss) zero c e h = sym (ap (slot_holds values) h) ∙ and_left (slot_holds values s) (satisfies values ss) e
 present_holds values (s ∷ ss) (suc id) c e h = present_holds values ss id c (and_right (slot_holds values s) (satisfies values ss) e) h
+
+pub Contains-tail : {X : Type 0} (head x : X) (rest : List X) → Contains rest x → Contains (head ∷ rest) x
+Contains-tail head x rest h = Contains-cons head x rest h
+
+pub Contains-cases : {X : Type 0} (head x : X) (rest : List X) → Contains (head ∷ rest) x → (head ≡ x) ⊎ Contains rest x
+Contains-cases head x rest h = Contains-cons_cases head x rest h

@@ -1,7 +1,7 @@
 //! The clause arena. A clause keeps its number while it is present; the number of one that was removed is given again.
 #![tactic(auto)]
 
-ghost use Rattle.std.specs.Prelude.{◌≡◌, Some, None, [], length, IsSome, IsTrue, IfOk, OnErr, option_map, is_some};
+ghost use Rattle.std.specs.Prelude.{◌≡◌, ◌≤◌, IfSome, Some, None, [], length, IsSome, IsTrue, IfOk, OnErr, option_map, is_some};
 ghost use Rattle.lv_clauses.specs.Literals.{is_clause};
 ghost use Rattle.lv_clauses.specs.ClauseMap.{clause_at, Puts, satisfies, ids_of};
 
@@ -91,12 +91,20 @@ impl ClauseSet {
 
     /// The literals of the clause of this number, None exactly where none is present.
     pub fn find(&self, id: ClauseId) -> Option<&[Lit]>
-        ensures { option_map (λ lits. lits.now) result ≡ clause_at self.now.slots id.0 }
+        ensures value { option_map (λ lits. lits.now) result ≡ clause_at self.now.slots id.0 }
+        ensures clause { IfSome result (λ lits. IsTrue (is_clause self.now.bools lits.now)) }
     {
         match self.clauses.get(id.0) {
             Some(clause) => Some(clause.lits()),
             None => None,
         }
+    }
+
+    /// A number above that of every clause present, for a walk over all of them that takes no memory.
+    pub fn bound(&self) -> usize
+        ensures { length self.now.slots ≤ result }
+    {
+        self.clauses.capacity()
     }
 
     /// The numbers of the clauses present, rising.

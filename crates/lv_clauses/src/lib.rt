@@ -6,7 +6,7 @@
 //! | one clause | `Clause` |
 //! | the arena | `ClauseSet` |
 //! | laws of the unit closure | `closure_is_least`, `closure_is_sound` |
-//! | literals | `negation`, `lit_holds`, `clause_holds` |
+//! | literals | `negation`, `is_clause`, `lit_holds`, `clause_holds` |
 //! | marks of booleans | `has`, `look`, `Finding` |
 #![tactic(auto)]
 
@@ -19,7 +19,7 @@ pub mod marks;
 pub use clause::Clause;
 pub use clause_set::ClauseSet;
 pub use laws::{closure_is_least, closure_is_sound};
-pub use literals::{clause_holds, lit_holds, negation};
+pub use literals::{clause_holds, is_clause, lit_holds, negation};
 pub use marks::{Finding, has, look};
 
 #[cfg(test)]

@@ -1,18 +1,16 @@
 -- Marking the assumptions one by one.
-use Rattle.std.proofs.Common.{◌≡◌, ◌≢◌, ◌⊎◌, ℕ, ◌+◌, ◌<◌, ◌≤◌, Bool, true, false, not, ◌&&◌, ◌||◌, nat_lt, nat_eq, List, [], ◌∷◌, ◌++◌, length, get_or, Option, Some, None, refl, sym, ap, ap₂, subst, ◌∙◌, arith, inl, inr}
+use Rattle.std.proofs.Common.{◌≡◌, ◌≢◌, ◌⊎◌, ℕ, ◌+◌, ◌<◌, Bool, true, false, not, ◌&&◌, ◌||◌, nat_lt, nat_eq, [], length, get_or, Option, Some, None, refl, sym, ap, ap₂, ◌∙◌, arith, inl, inr}
 use Rattle.std.proofs.lemmas.Bool.{cases_eq}
 use Rattle.std.proofs.lemmas.Bool.Decides.{nat_tests}
 use Rattle.std.proofs.lemmas.List.{length-set, length-replicate}
-use Rattle.lv_base.specs.declared.ids.BoolId.{BoolId}
 use Rattle.lv_base.specs.declared.ids.Lit.{Lit}
 use Rattle.lv_clauses.specs.Literals.{neg, same_truth, same_var}
-use Rattle.lv_clauses.specs.ClauseMap.{Slots}
-use Rattle.lv_clauses.specs.Marks.{Marks, nothing, has, marked, mark_is}
+use Rattle.lv_clauses.specs.Marks.{Marks, nothing, has, mark_is}
 use Rattle.lv_clauses.proofs.MarkLemmas.{has-nothing, has-marked_free, same_truth-self}
 use Rattle.lv_ltms.specs.declared.labels.Link.{Link}
 use Rattle.lv_ltms.specs.declared.labels.Reason.TheVariants.{Assumed}
-use Rattle.lv_ltms.specs.Trail.{trail_has, IsDerivation, start, next}
-use Rattle.lv_ltms.specs.Steps.{Labelled, Agrees, with_link, IsAssumedBelow}
+use Rattle.lv_ltms.specs.Trail.{start, next}
+use Rattle.lv_ltms.specs.Steps.{Labelled, with_link, IsAssumedBelow}
 use Rattle.lv_ltms.proofs.TrailLemmas.{Agrees-push, or_false}
 
 lt_zero : (v : ℕ) → nat_lt v 0 ≡ false

@@ -2,3 +2,5 @@ pub mod TrailLemmas
 pub mod VisitLemmas
 pub mod PassLemmas
 pub mod AssumeLemmas
+pub mod ToldLemmas
+pub mod CoreLemmas

@@ -1,12 +1,10 @@
 -- Steps in a row, and a pass over one clause more.
-use Rattle.std.proofs.Common.{◌≡◌, ◌⊎◌, ℕ, ◌+◌, ◌<◌, ◌≤◌, Bool, true, false, ◌&&◌, List, [], ◌∷◌, ◌++◌, length, take, get_or, Option, Some, None, refl, sym, ap, ap₂, subst, ◌∙◌, arith, inl, inr}
-use Rattle.std.specs.List.{list_all}
+use Rattle.std.proofs.Common.{◌≡◌, ℕ, ◌+◌, ◌<◌, true, ◌&&◌, [], ◌∷◌, length, take, get_or, None, refl, sym, ap, subst, ◌∙◌, arith, inl, inr}
 use Rattle.std.proofs.lemmas.Bool.{cases_lt}
 use Rattle.std.proofs.lemmas.List.{take_all, take_more}
 use Rattle.std.proofs.lemmas.List.Folds.{list_all-append}
-use Rattle.lv_base.specs.declared.ids.Lit.{Lit}
 use Rattle.lv_clauses.specs.ClauseMap.{Slots, clause_at}
-use Rattle.lv_clauses.specs.Marks.{Marks, has}
+use Rattle.lv_clauses.specs.Marks.{Marks}
 use Rattle.lv_clauses.proofs.LiteralLemmas.{and_both}
 use Rattle.lv_ltms.specs.declared.propagation.Visit.{Visit}
 use Rattle.lv_ltms.specs.declared.propagation.Visit.TheVariants.{Quiet, Derived, Conflict}

@@ -1,24 +1,19 @@
 -- What one link more makes of the trail, and that all on it is in the closure.
-use Rattle.std.proofs.Common.{◌≡◌, ◌≢◌, ◌⊎◌, ℕ, ◌+◌, ◌<◌, ◌≤◌, Bool, true, false, not, ◌&&◌, ◌||◌, nat_eq, List, [], ◌∷◌, ◌++◌, length, get_or, Option, Some, None, is_none, cond, refl, sym, ap, ap₂, subst, ◌∙◌, arith, inl, inr, Contains, count_by}
-use Rattle.std.specs.List.{list_any}
+use Rattle.std.proofs.Common.{◌≡◌, ◌⊎◌, ℕ, ◌+◌, ◌<◌, Bool, true, false, not, ◌||◌, nat_eq, List, [], ◌∷◌, ◌++◌, length, get_or, Option, Some, None, is_none, cond, refl, sym, ap, subst, ◌∙◌, arith, inl, inr}
 use Rattle.std.proofs.lemmas.Bool.Decides.{nat_tests}
-use Rattle.std.proofs.lemmas.List.{get_or_past}
 use Rattle.std.proofs.lemmas.List.Folds.{list_any-append}
 use Rattle.std.proofs.lemmas.List.Sums.{sum_by-set}
-use Rattle.std.proofs.lemmas.List.{length-set}
-use Rattle.lv_base.specs.declared.ids.BoolId.{BoolId}
 use Rattle.lv_base.specs.declared.ids.Lit.{Lit}
-use Rattle.lv_base.specs.declared.ids.ClauseId.{ClauseId}
 use Rattle.lv_clauses.specs.Literals.{neg, same_truth, same_var}
-use Rattle.lv_clauses.specs.ClauseMap.{Slots, clause_at}
+use Rattle.lv_clauses.specs.ClauseMap.{Slots}
 use Rattle.lv_clauses.specs.Closure.{InClosure, assumption, unit}
-use Rattle.lv_clauses.specs.Marks.{Marks, has, marked, mark_is}
+use Rattle.lv_clauses.specs.Marks.{has, mark_is}
 use Rattle.lv_clauses.proofs.LiteralLemmas.{lit_of, and_left, and_right}
 use Rattle.lv_clauses.proofs.MarkLemmas.{same_truth-equal, has-marked_free}
 use Rattle.lv_ltms.specs.declared.labels.Link.{Link}
 use Rattle.lv_ltms.specs.declared.labels.Reason.{Reason}
 use Rattle.lv_ltms.specs.declared.labels.Reason.TheVariants.{Assumed, Clause}
-use Rattle.lv_ltms.specs.Trail.{same_lit, trail_has, IsUnit, IsReason, IsDerivation, start, next}
+use Rattle.lv_ltms.specs.Trail.{same_lit, trail_has, IsReason, IsDerivation, start, next}
 use Rattle.lv_ltms.specs.Steps.{Labelled, Agrees, with_link, free_count}
 
 eq_from : (a b : ℕ) → nat_eq a b ≡ true → a ≡ b

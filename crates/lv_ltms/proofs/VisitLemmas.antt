@@ -1,22 +1,20 @@
 -- What a clause that leaves one literal, or none, shows.
-use Rattle.std.proofs.Common.{◌≡◌, ◌≢◌, ◌⊎◌, ℕ, ◌+◌, ◌<◌, ◌≤◌, Bool, true, false, not, ◌&&◌, ◌||◌, nat_lt, List, [], ◌∷◌, ◌++◌, length, cond, Option, Some, None, refl, sym, ap, subst, ◌∙◌, arith, inl, inr, Contains, IsTrue}
+use Rattle.std.proofs.Common.{◌≡◌, ◌≢◌, ◌⊎◌, ℕ, ◌+◌, ◌<◌, Bool, true, false, not, ◌&&◌, ◌||◌, nat_lt, List, [], ◌∷◌, length, cond, Some, refl, sym, ap, subst, ◌∙◌, arith, inl, inr, Contains, IsTrue}
 use Rattle.std.specs.List.{list_all}
 use Rattle.std.proofs.lemmas.Bool.Decides.{nat_tests}
 use Rattle.std.proofs.lemmas.List.{length-set}
-use Rattle.lv_base.specs.declared.ids.BoolId.{BoolId}
 use Rattle.lv_base.specs.declared.ids.Lit.{Lit}
 use Rattle.lv_base.specs.declared.ids.ClauseId.{ClauseId}
-use Rattle.lv_clauses.specs.declared.marks.Finding.{Finding}
-use Rattle.lv_clauses.specs.declared.marks.Finding.TheVariants.{AllFalse, Unit, Open}
+use Rattle.lv_clauses.specs.declared.marks.Finding.TheVariants.{AllFalse, Unit}
 use Rattle.lv_clauses.specs.Literals.{neg, same_var, same_truth, in_range, distinct, is_clause}
 use Rattle.lv_clauses.specs.ClauseMap.{Slots, clause_at}
-use Rattle.lv_clauses.specs.Marks.{Marks, has, marked, unmet, finding_of, look_at}
-use Rattle.lv_clauses.proofs.LiteralLemmas.{Contains-head, Contains-tail, Contains-cases, Contains-nil, all_member, and_left, or_right}
+use Rattle.lv_clauses.specs.Marks.{Marks, has, unmet, finding_of, look_at}
+use Rattle.lv_clauses.proofs.LiteralLemmas.{Contains-head, Contains-tail, Contains-cases, Contains-nil, all_member, and_left}
 use Rattle.lv_clauses.proofs.MarkLemmas.{has-marked_free}
 use Rattle.lv_ltms.specs.declared.labels.Link.{Link}
 use Rattle.lv_ltms.specs.declared.labels.Reason.TheVariants.{Clause}
-use Rattle.lv_ltms.specs.Trail.{trail_has, IsUnit, IsDerivation, next}
-use Rattle.lv_ltms.specs.Steps.{Labelled, Agrees, GoesOn, with_link, free_count}
+use Rattle.lv_ltms.specs.Trail.{IsUnit, next}
+use Rattle.lv_ltms.specs.Steps.{Labelled, GoesOn, with_link, free_count}
 use Rattle.lv_ltms.proofs.TrailLemmas.{Agrees-push, free_count-push}
 
 pub unit_is : (ls : List Lit) (l : Lit) → finding_of ls ≡ Unit l → ls ≡ l ∷ []

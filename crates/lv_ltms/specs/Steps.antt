@@ -1,14 +1,12 @@
 -- Labels in the making, and what a visit to a clause, a pass over all clauses and the passes together make of them.
-use Rattle.std.specs.Prelude.{◌≡◌, ◌≢◌, ℕ, ◌+◌, ◌<◌, ◌≤◌, Bool, true, false, List, [], ◌∷◌, ◌++◌, length, Option, Some, None, is_none, count_by, ◌&&◌, nat_lt}
+use Rattle.std.specs.Prelude.{◌≡◌, ℕ, ◌<◌, ◌≤◌, Bool, true, false, List, [], ◌∷◌, ◌++◌, length, Option, Some, None, is_none, count_by, ◌&&◌, nat_lt}
 use Rattle.std.specs.List.{list_all}
 use Rattle.lv_base.specs.declared.ids.Lit.{Lit}
-use Rattle.lv_base.specs.declared.ids.ClauseId.{ClauseId}
 use Rattle.lv_clauses.specs.declared.marks.Finding.{Finding}
 use Rattle.lv_clauses.specs.declared.marks.Finding.TheVariants.{AllFalse, Unit, Open}
 use Rattle.lv_clauses.specs.ClauseMap.{Slots, clause_at}
 use Rattle.lv_clauses.specs.Marks.{Marks, has, marked, look_at}
 use Rattle.lv_ltms.specs.declared.labels.Link.{Link}
-use Rattle.lv_ltms.specs.declared.labels.Reason.TheVariants.{Clause}
 use Rattle.lv_ltms.specs.declared.propagation.Visit.{Visit}
 use Rattle.lv_ltms.specs.declared.propagation.Visit.TheVariants.{Quiet, Derived, Conflict}
 use Rattle.lv_ltms.specs.declared.propagation.Standing.{Standing}

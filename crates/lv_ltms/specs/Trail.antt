@@ -1,10 +1,9 @@
 -- The trail: the literals that are true, in an order in which each has its reason from those before it.
-use Rattle.std.specs.Prelude.{◌≡◌, ◌≢◌, ℕ, Bool, true, false, nat_eq, ◌&&◌, List, [], ◌∷◌, ◌++◌, Option, Some, None, Contains, option_map, find}
+use Rattle.std.specs.Prelude.{◌≡◌, ◌≢◌, ℕ, Bool, true, ◌&&◌, List, [], ◌∷◌, ◌++◌, Option, Some, Contains, option_map, find}
 use Rattle.std.specs.List.{list_any}
 use Rattle.lv_base.specs.declared.ids.Lit.{Lit}
 use Rattle.lv_clauses.specs.Literals.{neg, same_truth, same_var}
 use Rattle.lv_clauses.specs.ClauseMap.{Slots, clause_at}
-use Rattle.lv_clauses.specs.Marks.{Marks, has}
 use Rattle.lv_ltms.specs.declared.labels.Link.{Link}
 use Rattle.lv_ltms.specs.declared.labels.Reason.{Reason}
 use Rattle.lv_ltms.specs.declared.labels.Reason.TheVariants.{Assumed, Clause}

@@ -9,9 +9,15 @@
 #![tactic(auto)]
 
 pub mod labels;
+pub mod ltms;
 pub mod propagation;
 
 
 
 pub use labels::{Link, Reason};
+pub use ltms::{Label, Ltms};
+pub use propagation::Standing;
 
+
+#[cfg(test)]
+mod tests;

@@ -1,5 +1,5 @@
 -- one boolean more was gone over
-use Rattle.std.proofs.Common.{◌≡◌, ◌+◌, not, length, None, Some, ap, sym, subst, ◌∙◌, arith}
+use Rattle.std.proofs.Common.{◌+◌, not, sym, subst, ◌∙◌, arith}
 use Rattle.lv_ltms.specs.Steps.{IsAssumedBelow}
 use Rattle.lv_ltms.proofs.AssumeLemmas.{assumed_none, still_free, assumed_some, assumed_skip}
 use Rattle.lv_ltms.proofs.propagation.assume_all.Goals as goal

@@ -1,8 +1,7 @@
 -- one clause more was passed
-use Rattle.std.proofs.Common.{◌≡◌, ◌+◌, take, length, ap, sym, subst, ◌∙◌, refl}
-use Rattle.lv_ltms.specs.declared.propagation.Visit.{Visit}
+use Rattle.std.proofs.Common.{◌+◌, take, length, ap, sym, subst, ◌∙◌}
 use Rattle.lv_ltms.specs.declared.propagation.Visit.TheVariants.{Quiet, Derived}
-use Rattle.lv_ltms.specs.Steps.{Labelled, GoesOn, Passed, Visited}
+use Rattle.lv_ltms.specs.Steps.{Labelled, Passed, Visited}
 use Rattle.lv_ltms.proofs.PassLemmas.{quiet_next, derived_next}
 use Rattle.lv_ltms.proofs.propagation.pass.Goals as goal
 use Rattle.lv_ltms.proofs.propagation.pass.Goals.{in-Quiet, in-Derived}

@@ -1,10 +1,9 @@
 -- a clause that leaves one literal derives it
-use Rattle.std.proofs.Common.{◌≡◌, ◌<◌, length, arith, subst, sym, ◌∙◌, ap, false, rules, Some}
+use Rattle.std.proofs.Common.{◌≡◌, ◌<◌, length, arith, subst, sym, false, Some}
 use Rattle.lv_clauses.specs.declared.marks.Finding.TheVariants.{Unit}
-use Rattle.lv_clauses.specs.Literals.{neg}
 use Rattle.lv_clauses.specs.Marks.{has, look_at}
 use Rattle.lv_clauses.specs.ClauseMap.{clause_at}
-use Rattle.lv_ltms.specs.Steps.{GoesOn, free_count}
+use Rattle.lv_ltms.specs.Steps.{GoesOn}
 use Rattle.lv_ltms.proofs.VisitLemmas.{leaves_one, unit_within, goes_on_unit, fewer_unit}
 use Rattle.lv_ltms.proofs.propagation.visit_clause.Goals as goal
 
