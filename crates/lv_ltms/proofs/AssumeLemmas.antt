@@ -87,6 +87,7 @@ assumed_skip assumed var labels at is =
     and_false : (b : Bool) → (b && false) ≡ false
     and_false true = refl
     and_false false = refl
+
     at_var : (l : Lit) → (l.var.0 ≡ var) ⊎ (l.var.0 ≢ var) → (nat_lt l.var.0 var && has assumed l) ≡ (nat_lt l.var.0 (var + 1) && has assumed l)
     at_var l (inl same) =
         let here : has assumed l ≡ false = ap (λ v. mark_is (get_or assumed v None) l.sign) same ∙ ap (λ (o : Option Bool). mark_is o l.sign) at in

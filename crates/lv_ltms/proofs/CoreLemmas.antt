@@ -51,6 +51,7 @@ marked_listed first (Some s ∷ ms) l zero e m = here (nat_eq first l.var.0) (eq
   where
     eq_is : (a b : ℕ) → a ≡ b → nat_eq a b ≡ true
     eq_is a b e = grind (arith, nat_tests)
+
     here : (b : Bool) → b ≡ true → (d : Bool) → ((b && same_truth s l.sign) || d) ≡ true
     here b e d = rw (e, m) refl
 marked_listed first (Some s ∷ ms) l (suc k) e m = or_right (same_lit (record { var = record { 0 = first }; sign = s }) l) (in_list (literals_from (first + 1) ms) l) (marked_listed (first + 1) ms l k (omega arith) m)

@@ -4,3 +4,4 @@ pub mod PassLemmas
 pub mod AssumeLemmas
 pub mod ToldLemmas
 pub mod CoreLemmas
+pub mod GrowLemmas

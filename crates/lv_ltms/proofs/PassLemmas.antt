@@ -26,15 +26,15 @@ GoesOn-trans slots a b c p q =
 
 quiet_more : (marks : Marks) (slots : Slots) (key : ℕ) → are_quiet marks (take key slots) ≡ true → is_quiet_slot marks (clause_at slots key) ≡ true → are_quiet marks (take (key + 1) slots) ≡ true
 quiet_more marks slots key before here = elim (cases_lt key (length slots)) [
-    | inl within ↦
-        ap (are_quiet marks) (take_more slots key None within)
-        ∙ list_all-append (is_quiet_slot marks) (take key slots) (get_or slots key None ∷ [])
-        ∙ and_both (are_quiet marks (take key slots)) (is_quiet_slot marks (get_or slots key None) && true) before (and_both (is_quiet_slot marks (get_or slots key None)) true here refl)
-    | inr past ↦
-        let one : take (key + 1) slots ≡ slots = take_all (key + 1) slots (omega arith) in
-        let two : take key slots ≡ slots = take_all key slots past in
-        ap (are_quiet marks) (one ∙ sym two) ∙ before
-  ]
+  | inl within ↦
+      ap (are_quiet marks) (take_more slots key None within)
+      ∙ list_all-append (is_quiet_slot marks) (take key slots) (get_or slots key None ∷ [])
+      ∙ and_both (are_quiet marks (take key slots)) (is_quiet_slot marks (get_or slots key None) && true) before (and_both (is_quiet_slot marks (get_or slots key None)) true here refl)
+  | inr past ↦
+      let one : take (key + 1) slots ≡ slots = take_all (key + 1) slots (omega arith) in
+      let two : take key slots ≡ slots = take_all key slots past in
+      ap (are_quiet marks) (one ∙ sym two) ∙ before
+]
 
 -- a quiet visit after what was found so far
 pub quiet_next : (slots : Slots) (key : ℕ) (old mid new : Labelled) (found : Visit) → Passed slots (take key slots) old mid found → Visited slots key mid new Quiet → Passed slots (take (key + 1) slots) old new found

@@ -20,7 +20,7 @@ use Rattle.lv_ltms.specs.System.{System, IsKept, IsDerived, IsRefuted, TellsStan
 use Rattle.lv_ltms.proofs.TrailLemmas.{derivation_sound}
 use Rattle.lv_ltms.proofs.VisitLemmas.{all_false}
 
-quiet_at : (marks : Marks) (slots : Slots) (id : ℕ) (c : List Lit) → are_quiet marks slots ≡ true → clause_at slots id ≡ Some c → is_quiet_finding marks (look_at marks c) ≡ true
+pub quiet_at : (marks : Marks) (slots : Slots) (id : ℕ) (c : List Lit) → are_quiet marks slots ≡ true → clause_at slots id ≡ Some c → is_quiet_finding marks (look_at marks c) ≡ true
 quiet_at marks [] id c e at = absurd (cc)
 quiet_at marks (s ∷ ss) zero c e at = sym (ap (is_quiet_slot marks) at) ∙ and_left (is_quiet_slot marks s) (are_quiet marks ss) e
 quiet_at marks (s ∷ ss) (suc id) c e at = quiet_at marks ss id c (and_right (is_quiet_slot marks s) (are_quiet marks ss) e) at
@@ -37,13 +37,16 @@ only_left marks (x ∷ xs) l d h others =
   where
     apart : (v w : ℕ) → v ≡ w → not (nat_eq v w) ≡ true → ⊥
     apart v w e n = grind (arith, nat_tests)
+
     rest_false : x ≡ l → (m : Lit) → Contains xs m → has marks (neg m) ≡ true
     rest_false same m in_rest =
         let other : not (same_var x m) ≡ true = all_member (λ k. not (same_var x k)) xs m (and_left (list_all (λ k. not (same_var x k)) xs) (distinct xs) d) in_rest in
         others m (Contains-tail x m xs in_rest) (λ (e : m ≡ l). apart x.var.0 m.var.0 (ap (λ (k : Lit). k.var.0) (same ∙ sym e)) other)
+
     by_mark : (b : Bool) → has marks (neg x) ≡ b → x ≡ l → unmet marks xs ≡ [] → (cond (not (has marks (neg x))) (x ∷ unmet marks xs) (unmet marks xs) ≡ []) ⊎ (cond (not (has marks (neg x))) (x ∷ unmet marks xs) (unmet marks xs) ≡ l ∷ [])
     by_mark true e same none = rw e (inl none)
     by_mark false e same none = rw e (inr (ap (λ ls. x ∷ ls) none ∙ ap (λ (k : Lit). k ∷ []) same))
+
     by_head : (x ≡ l) ⊎ (x ≢ l) → (Contains xs l → (unmet marks xs ≡ []) ⊎ (unmet marks xs ≡ l ∷ [])) → (cond (not (has marks (neg x))) (x ∷ unmet marks xs) (unmet marks xs) ≡ []) ⊎ (cond (not (has marks (neg x))) (x ∷ unmet marks xs) (unmet marks xs) ≡ l ∷ [])
     by_head (inl same) ih = by_mark (has marks (neg x)) refl same (none_left marks xs (rest_false same))
     by_head (inr differs) ih =
@@ -94,12 +97,12 @@ conflict_refutes slots assumed labels standing is conflict =
 module _ (s : System) (labels : Labelled) where
   pub told_standing : (standing : Standing) → IsKept s labels standing → TellsStanding s standing
   told_standing Consistent kept = λ refuted.
-      quiet_consistent s.clauses (has s.assumed) labels.marks (quiet_closed s.bools s.clauses (has s.assumed) labels.marks kept.clauses kept.labelled.assumptions kept.labelled.settles) kept.labelled.settles refuted
-  told_standing Contradiction kept = conflict_refutes s.clauses (has s.assumed) labels Contradiction kept.labelled kept.labelled.settles
+      quiet_consistent s.clauses (has s.assumed) labels.marks (quiet_closed s.bools s.clauses (has s.assumed) labels.marks kept.clauses kept.labelled.comes.assumptions kept.labelled.comes.quiet) kept.labelled.comes.quiet refuted
+  told_standing Contradiction kept = conflict_refutes s.clauses (has s.assumed) labels Contradiction kept.labelled kept.labelled.comes
 
   -- what is derived is marked
   pub derived_marked : (standing : Standing) → IsKept s labels standing → ¬ IsRefuted s → (l : Lit) → IsDerived s l → has labels.marks l ≡ true
-  derived_marked Consistent kept calm l h = least (has labels.marks) (quiet_closed s.bools s.clauses (has s.assumed) labels.marks kept.clauses kept.labelled.assumptions kept.labelled.settles) l h
+  derived_marked Consistent kept calm l h = least (has labels.marks) (quiet_closed s.bools s.clauses (has s.assumed) labels.marks kept.clauses kept.labelled.comes.assumptions kept.labelled.comes.quiet) l h
   derived_marked Contradiction kept calm l h = absurd (calm (told_standing Contradiction kept))
 
   pub unmarked_not_derived : (standing : Standing) → IsKept s labels standing → ¬ IsRefuted s → (l : Lit) → has labels.marks l ≡ false → IsDerived s l → ⊥
@@ -132,7 +135,6 @@ new_kept bools set items labels e f g =
               record {
                 derivation = start;
                 agrees = record { same = λ l. has-nothing bools l };
-                assumptions = λ l h. h;
-                settles = refl;
+                comes = record { assumptions = λ l h. h; quiet = refl };
               };
         }

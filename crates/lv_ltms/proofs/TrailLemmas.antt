@@ -72,6 +72,7 @@ module _ {clauses : Slots} {assumed : Lit → Bool} where
       reached : (k : Lit) (r : Reason) → IsReason clauses assumed before k r → ((m : Lit) → trail_has before m ≡ true → InClosure clauses assumed m) → InClosure clauses assumed k
       reached k Assumed is earlier = assumption is
       reached k (Clause id) is earlier = unit id.0 is.clause is.present is.member (λ m in_clause differs. earlier (neg m) (is.others m in_clause differs))
+
       by_place : (trail_has before l ≡ true) ⊎ (same_lit link.lit l ≡ true) → ((m : Lit) → trail_has before m ≡ true → InClosure clauses assumed m) → InClosure clauses assumed l
       by_place (inl here) earlier = earlier l here
       by_place (inr same) earlier = subst (InClosure clauses assumed) (same_lit-equal link.lit l same) (reached link.lit link.reason reason earlier)

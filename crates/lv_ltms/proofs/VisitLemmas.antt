@@ -54,9 +54,11 @@ left_of marks (x ∷ xs) l h = by_mark (has marks (neg x)) refl h (λ (rest : Co
   where
     more : IsLeft marks xs l → IsLeft marks (x ∷ xs) l
     more is = record { member = Contains-tail x l xs is.member; open_still = is.open_still }
+
     here : has marks (neg x) ≡ false → (x ≡ l) ⊎ Contains (unmet marks xs) l → (Contains (unmet marks xs) l → IsLeft marks xs l) → IsLeft marks (x ∷ xs) l
     here e (inl same) ih = record { member = subst (Contains (x ∷ xs)) same (Contains-head x xs); open_still = ap (λ (k : Lit). has marks (neg k)) (sym same) ∙ e }
     here e (inr rest) ih = more (ih rest)
+
     by_mark : (b : Bool) → has marks (neg x) ≡ b → Contains (cond (not (has marks (neg x))) (x ∷ unmet marks xs) (unmet marks xs)) l → (Contains (unmet marks xs) l → IsLeft marks xs l) → IsLeft marks (x ∷ xs) l
     by_mark true e k ih = more (ih (rw e at k))
     by_mark false e k ih = here e (Contains-cases x l (unmet marks xs) (rw e at k)) ih
@@ -78,17 +80,17 @@ leaves_one marks c l e =
           λ m in_clause differs. elim (false_or_left marks c m in_clause) [
             | inl is_false ↦ is_false
             | inr still ↦ elim (Contains-cases l m [] (subst (λ (ls : List Lit). Contains ls m) just still)) [
-                | inl same ↦ absurd (differs (sym same))
-                | inr none ↦ absurd (Contains-nil m none)
-              ]
+              | inl same ↦ absurd (differs (sym same))
+              | inr none ↦ absurd (Contains-nil m none)
+            ]
           ];
     }
 
 pub all_false : (marks : Marks) (c : List Lit) → look_at marks c ≡ AllFalse → (m : Lit) → Contains c m → has marks (neg m) ≡ true
 all_false marks c e m in_clause = elim (false_or_left marks c m in_clause) [
-    | inl is_false ↦ is_false
-    | inr still ↦ absurd (Contains-nil m (subst (λ (ls : List Lit). Contains ls m) (false_is (unmet marks c) e) still))
-  ]
+  | inl is_false ↦ is_false
+  | inr still ↦ absurd (Contains-nil m (subst (λ (ls : List Lit). Contains ls m) (false_is (unmet marks c) e) still))
+]
 
 pub unit_within : (bools : ℕ) (marks : Marks) (c : List Lit) (l : Lit) → IsTrue (is_clause bools c) → look_at marks c ≡ Unit l → l.var.0 < bools
 unit_within bools marks c l clause e =
@@ -107,12 +109,12 @@ goes_on_unit slots old id c l at e within unmarked =
       derivation =
           λ agrees assumed before.
           let is : IsUnit slots old.trail l id.0 =
-              record {
-                clause = c;
-                present = at;
-                member = one.member;
-                others = λ m in_clause differs. sym (agrees.same (neg m)) ∙ one.others m in_clause differs;
-              } in
+          record {
+            clause = c;
+            present = at;
+            member = one.member;
+            others = λ m in_clause differs. sym (agrees.same (neg m)) ∙ one.others m in_clause differs;
+          } in
           next old.trail link before is refl;
       agrees = λ agrees. Agrees-push old link within unmarked one.open_still agrees;
       kept = λ k e. has-marked_free old.marks l k within unmarked one.open_still ∙ or_left (has old.marks k) (same_var l k && same_truth l.sign k.sign) e;

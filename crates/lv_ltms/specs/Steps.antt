@@ -1,5 +1,5 @@
 -- Labels in the making, and what a visit to a clause, a pass over all clauses and the passes together make of them.
-use Rattle.std.specs.Prelude.{◌≡◌, ℕ, ◌<◌, ◌≤◌, Bool, true, false, List, [], ◌∷◌, ◌++◌, length, Option, Some, None, is_none, count_by, ◌&&◌, nat_lt}
+use Rattle.std.specs.Prelude.{◌≡◌, ◌≢◌, ℕ, ◌<◌, ◌≤◌, Bool, true, false, List, [], ◌∷◌, ◌++◌, length, Option, Some, None, is_none, count_by, ◌&&◌, nat_lt, ◌⊎◌}
 use Rattle.std.specs.List.{list_all}
 use Rattle.lv_base.specs.declared.ids.Lit.{Lit}
 use Rattle.lv_clauses.specs.declared.marks.Finding.{Finding}
@@ -88,9 +88,38 @@ pub record IsAssumedBelow (assumed : Marks) (bound : ℕ) (labels : Labelled) : 
   pub same : (l : Lit) → has labels.marks l ≡ (nat_lt l.var.0 bound && has assumed l)
   pub len : length labels.marks ≡ length assumed
 
+-- the assumptions are marked, and nothing new follows
+pub record IsCalm (slots : Slots) (assumed : Lit → Bool) (marks : Marks) : Type 0 where
+  pub assumptions : (l : Lit) → assumed l ≡ true → has marks l ≡ true
+  pub quiet : are_quiet marks slots ≡ true
+
+abbrev pub Comes : Slots → (Lit → Bool) → Marks → Standing → Type 0
+Comes slots assumed marks Consistent = IsCalm slots assumed marks
+Comes slots assumed marks Contradiction = HasConflict slots marks
+
 -- the labels are what the clauses present derive from the assumptions, up to a conflict where there is one
 pub record IsLabelled (slots : Slots) (assumed : Lit → Bool) (labels : Labelled) (standing : Standing) : Type 0 where
   pub derivation : IsDerivation slots assumed labels.trail
   pub agrees : Agrees labels
-  pub assumptions : (l : Lit) → assumed l ≡ true → has labels.marks l ≡ true
-  pub settles : Settles slots labels.marks standing
+  pub comes : Comes slots assumed labels.marks standing
+
+-- the new slots have this clause more, at a number that was vacant
+pub record HasOneMore (old new : Slots) (id : ℕ) : Type 0 where
+  pub vacant : clause_at old id ≡ None
+  pub others : (other : ℕ) → other ≢ id → clause_at new other ≡ clause_at old other
+
+-- the new test has this literal more
+pub record HasAlso (old new : Lit → Bool) (l : Lit) : Type 0 where
+  pub added : new l ≡ true
+  pub kept : (m : Lit) → old m ≡ true → new m ≡ true
+  pub only : (m : Lit) → new m ≡ true → (m ≡ l) ⊎ (old m ≡ true)
+
+-- labels of the old clauses were made into labels of the new ones
+pub record TakesClause (old : Labelled) (was : Standing) (slots : Slots) (id : ℕ) (new : Labelled) (standing : Standing) : Type 0 where
+  pub labelled : (before : Slots) (assumed : Lit → Bool) → HasOneMore before slots id → IsLabelled before assumed old was → IsLabelled slots assumed new standing
+  pub len : length new.marks ≡ length old.marks
+
+-- labels of the old assumptions were made into labels of the new ones
+pub record TakesLiteral (slots : Slots) (old : Labelled) (was : Standing) (assumed : Lit → Bool) (l : Lit) (new : Labelled) (standing : Standing) : Type 0 where
+  pub labelled : (before : Lit → Bool) → HasAlso before assumed l → IsLabelled slots before old was → IsLabelled slots assumed new standing
+  pub len : length new.marks ≡ length old.marks

@@ -31,7 +31,7 @@ IsReason clauses assumed before l (Clause id) = IsUnit clauses before l id.0
 pub data IsDerivation (clauses : Slots) (assumed : Lit → Bool) : List Link → Type 0 where
   start : IsDerivation clauses assumed []
   next : {trail : List Link} → (before : List Link) (link : Link) → IsDerivation clauses assumed before
-    → IsReason clauses assumed before link.lit link.reason → trail ≡ before ++ link ∷ [] → IsDerivation clauses assumed trail
+      → IsReason clauses assumed before link.lit link.reason → trail ≡ before ++ link ∷ [] → IsDerivation clauses assumed trail
 
 -- the reason of a literal on the trail, which is also that of its negation
 abbrev pub reason_in : List Link → Lit → Option Reason

@@ -9,7 +9,7 @@ ghost use Rattle.lv_ltms.specs.Trail.{reason_in};
 ghost use Rattle.lv_ltms.specs.Marked.{literals_from};
 
 use super::labels::{Labels, Link, Reason};
-use super::propagation::{Standing, relabel};
+use super::propagation::{Standing, relabel, take_clause, take_literal};
 use lv_base::{BoolId, ClauseId, Lit};
 use lv_clauses::{ClauseSet, has, negation};
 use std::alloc::{AllocError, Global};
@@ -67,7 +67,7 @@ impl Ltms {
         ensures kept { OnErr result (self.new ≡ self.old) }
     {
         let id = self.set.add(lits)?;
-        self.standing = relabel(&self.set, self.assumed.as_slice(), &mut self.labels);
+        self.standing = take_clause(&self.set, id, &mut self.labels, self.standing);
         Ok(id)
     }
 
@@ -87,7 +87,13 @@ impl Ltms {
         ensures { PutsAssumed self.old self.new (marked self.old.assumed lit) }
     {
         self.assumed[lit.var.0 as usize] = Some(lit.sign);
-        self.standing = relabel(&self.set, self.assumed.as_slice(), &mut self.labels);
+        self.standing = take_literal(
+            &self.set,
+            self.assumed.as_slice(),
+            lit,
+            &mut self.labels,
+            self.standing,
+        );
     }
 
     /// Takes back an assumption.

@@ -2,13 +2,14 @@
 //! a conflict. It goes on until a pass over all clauses finds nothing new.
 #![tactic(auto)]
 
-ghost use Rattle.std.specs.Prelude.{◌≡◌, [], length};
+ghost use Rattle.std.specs.Prelude.{◌≡◌, [], length, IsTrue};
 ghost use Rattle.lv_clauses.specs.Marks.{has, nothing};
-ghost use Rattle.lv_ltms.specs.Steps.{Visited, Passed, Saturated, IsAssumedBelow, IsLabelled};
+ghost use Rattle.lv_ltms.specs.Steps.{Visited, Passed, Saturated, IsAssumedBelow, IsLabelled, TakesClause, TakesLiteral};
+ghost use Rattle.lv_clauses.specs.Literals.{in_range};
 
 use super::labels::{Labels, Link, Reason};
 use lv_base::{BoolId, ClauseId, Lit};
-use lv_clauses::{ClauseSet, Finding, has, look};
+use lv_clauses::{ClauseSet, Finding, has, look, negation};
 
 /// What a visit to a clause, or a pass over all of them, found.
 #[derive(Clone, Copy, Debug, PartialEq, Eq)]
@@ -38,6 +39,58 @@ pub fn relabel(set: &ClauseSet, assumed: &[Option<bool>], labels: &mut Labels) -
     labels.clear();
     assume_all(set.bools(), assumed, labels);
     saturate(set, labels)
+}
+
+/// Takes a clause that was added into the labels. Where there is a contradiction it stays.
+pub fn take_clause(
+    set: &ClauseSet,
+    id: ClauseId,
+    labels: &mut Labels,
+    standing: Standing,
+) -> Standing
+    requires { length labels.old.marks ≡ set.now.bools }
+    ensures { TakesClause labels.old standing set.now.slots id.0 labels.new result }
+{
+    match standing {
+        Standing::Contradiction => Standing::Contradiction,
+        Standing::Consistent => match visit_clause(set, id, labels) {
+            Visit::Quiet => Standing::Consistent,
+            Visit::Derived => saturate(set, labels),
+            Visit::Conflict => Standing::Contradiction,
+        },
+    }
+}
+
+/// Takes a literal that was assumed into the labels. Where there is a contradiction it stays; one between the literal
+/// and what was derived is found by labelling anew.
+pub fn take_literal(
+    set: &ClauseSet,
+    assumed: &[Option<bool>],
+    lit: Lit,
+    labels: &mut Labels,
+    standing: Standing,
+) -> Standing
+    requires assumed { length assumed.now ≡ set.now.bools }
+    requires marks { length labels.old.marks ≡ set.now.bools }
+    requires range { IsTrue (in_range set.now.bools lit) }
+    ensures { TakesLiteral set.now.slots labels.old standing (has assumed.now) lit labels.new result }
+{
+    match standing {
+        Standing::Contradiction => Standing::Contradiction,
+        Standing::Consistent => {
+            if has(labels.marks(), lit) {
+                return Standing::Consistent;
+            }
+            if has(labels.marks(), negation(lit)) {
+                return relabel(set, assumed, labels);
+            }
+            labels.push(Link {
+                lit,
+                reason: Reason::Assumed,
+            });
+            saturate(set, labels)
+        }
+    }
 }
 
 /// Marks the assumptions.

@@ -1,6 +1,5 @@
 //! Clauses and assumptions that come and go. Each call is made where its condition holds.
 use super::*;
-
 use lv_base::{BoolId, ClauseId, Lit};
 use lv_clauses::is_clause;
 use std::alloc::AllocError;
@@ -10,18 +9,22 @@ const A: Lit = Lit {
     var: BoolId(0),
     sign: true,
 };
+
 const B: Lit = Lit {
     var: BoolId(1),
     sign: true,
 };
+
 const C: Lit = Lit {
     var: BoolId(2),
     sign: true,
 };
+
 const NOT_A: Lit = Lit {
     var: BoolId(0),
     sign: false,
 };
+
 const NOT_B: Lit = Lit {
     var: BoolId(1),
     sign: false,
@@ -85,7 +88,10 @@ fn contradictions_go_with_their_assumption(rt: HostRuntime) -> Result<(), Fail> 
     let mut ltms = Ltms::new(rt.alloc(), 3)?;
     let not_both = add(&mut ltms, &[NOT_A, NOT_B])?;
     assume(&mut ltms, A);
-    assert_eq!(rt; (label(&ltms, A), label(&ltms, B)), (Some(Label::True), Some(Label::False)));
+    assert_eq!(rt;
+        (label(&ltms, A), label(&ltms, B)),
+        (Some(Label::True), Some(Label::False))
+    );
     assert_eq!(rt; label(&ltms, C), Some(Label::Unknown));
     assert_eq!(rt; reason(&ltms, A), Some(Reason::Assumed));
     assert_eq!(rt; reason(&ltms, B), not_both.map(|id| Reason::Clause(id)));
@@ -93,7 +99,10 @@ fn contradictions_go_with_their_assumption(rt: HostRuntime) -> Result<(), Fail> 
     assume(&mut ltms, B);
     assert_eq!(rt; (label(&ltms, A), core_size(&ltms)), (None, Some(2)));
     retract(&mut ltms, A);
-    assert_eq!(rt; (label(&ltms, A), label(&ltms, B)), (Some(Label::False), Some(Label::True)));
+    assert_eq!(rt;
+        (label(&ltms, A), label(&ltms, B)),
+        (Some(Label::False), Some(Label::True))
+    );
     Ok(())
 }
 
@@ -108,7 +117,10 @@ fn labels_keep_another_support(rt: HostRuntime) -> Result<(), Fail> {
     drop_clause(&mut ltms, first);
     assert_eq!(rt; reason(&ltms, C), second.map(|id| Reason::Clause(id)));
     retract(&mut ltms, A);
-    assert_eq!(rt; (label(&ltms, A), label(&ltms, C)), (Some(Label::Unknown), Some(Label::True)));
+    assert_eq!(rt;
+        (label(&ltms, A), label(&ltms, C)),
+        (Some(Label::Unknown), Some(Label::True))
+    );
     drop_clause(&mut ltms, second);
     assert_eq!(rt; label(&ltms, C), Some(Label::Unknown));
     Ok(())
