@@ -1,0 +1,4 @@
+pub mod EntryLemmas
+pub mod LiteralLemmas
+pub mod ClosureLemmas
+pub mod MarkLemmas

@@ -1,0 +1,5 @@
+pub mod Literals
+pub mod ClauseMap
+pub mod Closure
+pub mod Marks
+pub mod Laws

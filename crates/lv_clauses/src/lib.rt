@@ -1,0 +1,26 @@
+//! Clauses over booleans, kept in an arena whose keys stay valid while their clause is present, and the definitions
+//! that all work on clauses shares: what satisfies them and what unit propagation derives from them.
+//!
+//! | part | items |
+//! |---|---|
+//! | one clause | `Clause` |
+//! | the arena | `ClauseSet` |
+//! | laws of the unit closure | `closure_is_least`, `closure_is_sound` |
+//! | literals | `negation`, `is_clause`, `lit_holds`, `clause_holds` |
+//! | marks of booleans | `has`, `look`, `Finding` |
+#![tactic(auto)]
+
+pub mod clause;
+pub mod clause_set;
+pub mod laws;
+pub mod literals;
+pub mod marks;
+
+pub use clause::Clause;
+pub use clause_set::ClauseSet;
+pub use laws::{closure_is_least, closure_is_sound};
+pub use literals::{clause_holds, is_clause, lit_holds, negation};
+pub use marks::{Finding, has, look};
+
+#[cfg(test)]
+mod tests;

@@ -1,0 +1,67 @@
+-- A truth maintenance system as contracts see it, and what its answers tell.
+use Rattle.std.specs.Prelude.{◌≡◌, ◌≢◌, ℕ, Bool, true, List, length, Option}
+use Rattle.std.specs.List.{list_any}
+use Rattle.lv_base.specs.declared.ids.Lit.{Lit}
+use Rattle.lv_clauses.specs.Literals.{distinct}
+use Rattle.lv_clauses.specs.ClauseMap.{Slots, clause_at, AreClauses}
+use Rattle.lv_clauses.specs.Closure.{InClosure, IsContradictory}
+use Rattle.lv_clauses.specs.Marks.{Marks, has}
+use Rattle.lv_ltms.specs.declared.labels.Link.{Link}
+use Rattle.lv_ltms.specs.declared.propagation.Standing.{Standing}
+use Rattle.lv_ltms.specs.declared.propagation.Standing.TheVariants.{Consistent, Contradiction}
+use Rattle.lv_ltms.specs.Trail.{same_lit, trail_has, IsDerivation}
+use Rattle.lv_ltms.specs.Steps.{Labelled, IsLabelled}
+
+-- the clauses present over so many booleans, the assumptions present as marks, and the trail of the true literals
+pub record System : Type 0 where
+  pub bools : ℕ
+  pub clauses : Slots
+  pub assumed : Marks
+  pub trail : List Link
+
+-- the literal is in the unit closure of the clauses and assumptions present
+abbrev pub IsDerived : System → Lit → Type 0
+IsDerived s l = InClosure s.clauses (has s.assumed) l
+
+-- the unit closure of the clauses and assumptions present is contradictory
+abbrev pub IsRefuted : System → Type 0
+IsRefuted s = IsContradictory s.clauses (has s.assumed)
+
+-- the new system has this clause or nothing at the number, all other clauses and the assumptions are as before
+pub record PutsClause (old new : System) (id : ℕ) (slot : Option (List Lit)) : Type 0 where
+  pub bools : new.bools ≡ old.bools
+  pub assumed : new.assumed ≡ old.assumed
+  pub changed : clause_at new.clauses id ≡ slot
+  pub others : (other : ℕ) → other ≢ id → clause_at new.clauses other ≡ clause_at old.clauses other
+
+-- the new system has these assumptions, and the clauses are as before
+pub record PutsAssumed (old new : System) (assumed : Marks) : Type 0 where
+  pub bools : new.bools ≡ old.bools
+  pub clauses : new.clauses ≡ old.clauses
+  pub changed : new.assumed ≡ assumed
+
+abbrev pub TellsStanding : System → Standing → Type 0
+TellsStanding s Consistent = ¬ IsRefuted s
+TellsStanding s Contradiction = IsRefuted s
+
+-- the trail holds just what is derived, each literal with its reason from those before it
+pub record IsWholeTrail (s : System) : Type 0 where
+  pub derivation : IsDerivation s.clauses (has s.assumed) s.trail
+  pub complete : (l : Lit) → IsDerived s l → trail_has s.trail l ≡ true
+
+abbrev pub in_list : List Lit → Lit → Bool
+in_list ls l = list_any (λ k. same_lit k l) ls
+
+-- assumptions present, of distinct booleans, which with the clauses present are contradictory
+pub record IsCore (s : System) (core : List Lit) : Type 0 where
+  pub present : (l : Lit) → in_list core l ≡ true → has s.assumed l ≡ true
+  pub distinct : distinct core ≡ true
+  pub contradictory : IsContradictory s.clauses (in_list core)
+
+-- the labels are those of the clauses and assumptions present
+pub record IsKept (s : System) (labels : Labelled) (standing : Standing) : Type 0 where
+  pub assumed : length s.assumed ≡ s.bools
+  pub marks : length labels.marks ≡ s.bools
+  pub clauses : AreClauses s.bools s.clauses
+  pub trail : s.trail ≡ labels.trail
+  pub labelled : IsLabelled s.clauses (has s.assumed) labels standing

@@ -1,0 +1,220 @@
+//! The truth maintenance system.
+#![tactic(auto)]
+
+ghost use Rattle.std.specs.Prelude.{◌≡◌, ◌<◌, ◌≤◌, ◌&&◌, option_map, [], length, take, drop, true, false, Some, None, IfOk, OnErr, IsSome, IsTrue, is_some, count_by, slice_set};
+ghost use Rattle.lv_clauses.specs.Literals.{is_clause, in_range};
+ghost use Rattle.lv_clauses.specs.ClauseMap.{clause_at};
+ghost use Rattle.lv_clauses.specs.Marks.{nothing, has, marked, is_free};
+ghost use Rattle.lv_ltms.specs.Trail.{reason_in};
+ghost use Rattle.lv_ltms.specs.Marked.{literals_from};
+
+use super::labels::{Labels, Link, Reason};
+use super::propagation::{Standing, relabel, take_clause, take_literal};
+use lv_base::{BoolId, ClauseId, Lit};
+use lv_clauses::{ClauseSet, has, negation};
+use std::alloc::{AllocError, Global};
+use std::marker::Model;
+
+/// What a literal is under the clauses and assumptions present.
+#[derive(Clone, Copy, Debug, PartialEq, Eq)]
+pub enum Label {
+    True,
+    False,
+    Unknown,
+}
+
+/// Clauses and assumptions that come and go over booleans counted from 0, with what unit propagation derives from those
+/// present.
+#[derive(Drop)]
+pub struct Ltms {
+    set: ClauseSet,
+    assumed: Vec<Option<bool>>,
+    labels: Labels,
+    standing: Standing,
+}
+
+impl Model for Ltms {
+    ghost use Rattle.lv_ltms.specs.System.{System, IsKept};
+
+    ghost Value = { System };
+
+    ghost view = { λ s. record { bools = s.set.bools; clauses = s.set.slots; assumed = s.assumed.items; trail = s.labels.trail } };
+
+    ghost invariant = { λ s. IsKept (record { bools = s.set.bools; clauses = s.set.slots; assumed = s.assumed.items; trail = s.labels.trail }) s.labels s.standing };
+}
+
+impl Ltms {
+    ghost use Rattle.lv_ltms.specs.System.{System, PutsClause, PutsAssumed, IsRefuted, TellsStanding, IsWholeTrail, IsCore};
+    ghost use Rattle.lv_ltms.specs.Told.{TellsLabel};
+
+    /// The system of no clauses and no assumptions over so many booleans.
+    pub fn new(alloc: Global, bools: u32) -> Result<Ltms, AllocError>
+        ensures { IfOk result (λ s. s ≡ record { bools = bools; clauses = []; assumed = nothing bools; trail = [] }) }
+    {
+        Ok(Ltms {
+            set: ClauseSet::new(alloc, bools)?,
+            assumed: vec![in alloc; None; bools as usize]?,
+            labels: Labels::new(alloc, bools)?,
+            standing: Standing::Consistent,
+        })
+    }
+
+    /// Adds a clause and answers its number, which no clause had. After want of memory the system is as it was.
+    pub fn add_clause(&mut self, lits: &[Lit]) -> Result<ClauseId, AllocError>
+        requires { IsTrue (is_clause self.old.bools lits.now) }
+        ensures vacant { IfOk result (λ id. clause_at self.old.clauses id.0 ≡ None) }
+        ensures added { IfOk result (λ id. PutsClause self.old self.new id.0 (Some lits.now)) }
+        ensures kept { OnErr result (self.new ≡ self.old) }
+    {
+        let id = self.set.add(lits)?;
+        self.standing = take_clause(&self.set, id, &mut self.labels, self.standing);
+        Ok(id)
+    }
+
+    /// Takes away a clause that is present.
+    pub fn drop_clause(&mut self, id: ClauseId)
+        requires { IsSome (clause_at self.old.clauses id.0) }
+        ensures { PutsClause self.old self.new id.0 None }
+    {
+        self.set.remove(id);
+        self.standing = relabel(&self.set, self.assumed.as_slice(), &mut self.labels);
+    }
+
+    /// Adds an assumption: a literal that isn't assumed, nor its negation.
+    pub fn assume(&mut self, lit: Lit)
+        requires range { IsTrue (in_range self.old.bools lit) }
+        requires free { IsTrue (is_free self.old.assumed lit) }
+        ensures { PutsAssumed self.old self.new (marked self.old.assumed lit) }
+    {
+        self.assumed[lit.var.0 as usize] = Some(lit.sign);
+        self.standing = take_literal(
+            &self.set,
+            self.assumed.as_slice(),
+            lit,
+            &mut self.labels,
+            self.standing,
+        );
+    }
+
+    /// Takes back an assumption.
+    pub fn retract(&mut self, lit: Lit)
+        requires { IsTrue (has self.old.assumed lit) }
+        ensures { PutsAssumed self.old self.new (slice_set self.old.assumed lit.var.0 None) }
+    {
+        let index = lit.var.0 as usize;
+        if index < self.assumed.len() {
+            self.assumed[index] = None;
+        }
+        self.standing = relabel(&self.set, self.assumed.as_slice(), &mut self.labels);
+    }
+
+    /// Whether a literal is one of the assumptions present.
+    pub fn is_assumed(&self, lit: Lit) -> bool
+        ensures { result ≡ has self.now.assumed lit }
+    {
+        has(self.assumed.as_slice(), lit)
+    }
+
+    /// Whether a literal may be assumed: its boolean is in range, and neither it nor its negation is assumed.
+    pub fn can_assume(&self, lit: Lit) -> bool
+        ensures { result ≡ (in_range self.now.bools lit && is_free self.now.assumed lit) }
+    {
+        let index = lit.var.0 as usize;
+        index < self.assumed.len() && self.assumed[index].is_none()
+    }
+
+    /// The literals of the clause of a number, None exactly where none is present.
+    pub fn find_clause(&self, id: ClauseId) -> Option<&[Lit]>
+        ensures { option_map (λ lits. lits.now) result ≡ clause_at self.now.clauses id.0 }
+    {
+        self.set.find(id)
+    }
+
+    /// The number of booleans.
+    pub fn bools(&self) -> u32
+        ensures { result ≡ self.now.bools }
+    {
+        self.set.bools()
+    }
+
+    /// Whether unit propagation over what is present comes to a contradiction.
+    pub fn status(&self) -> Standing
+        ensures { TellsStanding self.now result }
+    {
+        self.standing
+    }
+
+    /// What a literal is. Only while the system is consistent.
+    pub fn label(&self, lit: Lit) -> Label
+        requires { ¬ IsRefuted self.now }
+        ensures { TellsLabel self.now lit result }
+    {
+        if has(self.labels.marks(), lit) {
+            return Label::True;
+        }
+        if has(self.labels.marks(), negation(lit)) {
+            return Label::False;
+        }
+        Label::Unknown
+    }
+
+    /// Why a literal is true, or its negation where it is false; None exactly where it is unknown. Only while the system
+    /// is consistent.
+    pub fn reason(&self, lit: Lit) -> Option<Reason>
+        requires { ¬ IsRefuted self.now }
+        ensures reason { result ≡ reason_in self.now.trail lit }
+        ensures trail { IsWholeTrail self.now }
+    {
+        reason_on(self.labels.trail(), lit)
+    }
+
+    /// How many assumptions are present.
+    pub fn assumption_count(&self) -> usize
+        ensures { result ≡ count_by is_some self.now.assumed }
+    {
+        self.assumed.iter().filter(|mark| mark.is_some()).count()
+    }
+
+    /// Writes assumptions which with the clauses present are contradictory, and answers how many. Only while there is a
+    /// contradiction, and with room for all assumptions. In this plain form they are all the assumptions.
+    pub fn core(&self, out: &mut [Lit]) -> usize
+        requires refuted { IsRefuted self.now }
+        requires room { count_by is_some self.now.assumed ≤ length out.old }
+        ensures within { result ≤ length out.old }
+        ensures core { IsCore self.now (take result out.new) }
+    {
+        write_assumptions(self.set.bools(), self.assumed.as_slice(), out)
+    }
+}
+
+/// Writes the literals marked, by rising boolean, and answers how many.
+fn write_assumptions(bools: u32, assumed: &[Option<bool>], out: &mut [Lit]) -> usize
+    requires len { length assumed.now ≡ bools }
+    requires room { count_by is_some assumed.now ≤ length out.old }
+    ensures within { result ≤ length out.old }
+    ensures written { take result out.new ≡ literals_from 0 assumed.now }
+{
+    let mut written = 0;
+    for var in 0..bools {
+        if let Some(sign) = assumed[var as usize] {
+            out[written] = Lit {
+                var: BoolId(var),
+                sign,
+            };
+            written += 1;
+        }
+    }
+    written
+}
+
+/// The reason of a literal or its negation on a trail.
+fn reason_on(trail: &[Link], lit: Lit) -> Option<Reason>
+    ensures { result ≡ reason_in trail.now lit }
+{
+    for link in trail {
+        if link.lit.var == lit.var {
+            return Some(link.reason);
+        }
+    }
+    None
+}

@@ -1,0 +1,3 @@
+pub mod TakenLemmas
+pub mod DenialLemmas
+pub mod SoundLemmas
