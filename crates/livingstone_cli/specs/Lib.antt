@@ -5,3 +5,4 @@ pub mod Texts
 pub mod Scopes
 pub mod Types
 pub mod Checking
+pub mod Laws

@@ -1,0 +1,21 @@
+//! What holds of the model of a text, whatever the text.
+//!
+//! Each function does nothing: its contract is the law, which callers above cite by calling it.
+#![tactic(auto)]
+
+ghost use Rattle.livingstone_cli.specs.Laws.{OneModel, LinesGiveModel, LineWithoutTokensChangesNothing};
+
+/// A text gives at most one model.
+pub fn one_model()
+    ensures { OneModel }
+{}
+
+/// A carriage return before a line feed, or the last line feed missing, changes nothing: the lines are the same.
+pub fn lines_give_model()
+    ensures { LinesGiveModel }
+{}
+
+/// A line without tokens changes nothing.
+pub fn line_without_tokens_changes_nothing()
+    ensures { LineWithoutTokensChangesNothing }
+{}
