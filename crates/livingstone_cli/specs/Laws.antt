@@ -2,7 +2,9 @@
 use Rattle.std.specs.Prelude.{ℕ, ◌≤◌, ◌≡◌, List, [], ◌∷◌, ◌++◌, length, Some}
 use Rattle.lv_model.specs.declared.plant.Plant.{Plant}
 use Rattle.lv_text.specs.Tokens.{lexed, line_tokens}
+use Rattle.lv_text.specs.declared.lexer.Token.{Token}
 use Rattle.lv_text.specs.Lines.{lines_of}
+use Rattle.livingstone_cli.specs.Equations.{kinds_of, texts_of}
 use Rattle.livingstone_cli.specs.Checking.{model_of}
 
 -- a text gives at most one model
@@ -21,3 +23,20 @@ LinesGiveModel = (a b : List ℕ) → IsModelLong a → IsModelLong b → lines_
 abbrev pub LineWithoutTokensChangesNothing : Type 0
 LineWithoutTokensChangesNothing = (a b : List ℕ) (front back : List (List ℕ)) (line : List ℕ) → IsModelLong a → IsModelLong b
     → lines_of a ≡ front ++ line ∷ back → lines_of b ≡ front ++ back → line_tokens line ≡ lexed [] → model_of a ≡ model_of b
+
+-- two lines read as tokens of the same kinds and texts, wherever these stand
+pub record ReadAlike (x y : List ℕ) (ts us : List Token) : Type 0 where
+  pub first : line_tokens x ≡ lexed ts
+  pub second : line_tokens y ≡ lexed us
+  pub kinds : kinds_of ts ≡ kinds_of us
+  pub texts : texts_of x ts ≡ texts_of y us
+
+-- spaces between tokens and comments change nothing: a line may stand for one of the same tokens
+abbrev pub TokensGiveModel : Type 0
+TokensGiveModel = (a b : List ℕ) (front back : List (List ℕ)) (x y : List ℕ) (ts us : List Token) → IsModelLong a → IsModelLong b
+    → lines_of a ≡ front ++ x ∷ back → lines_of b ≡ front ++ y ∷ back → ReadAlike x y ts us → model_of a ≡ model_of b
+
+-- a comment behind a line changes nothing, if the line is not too long by it
+abbrev pub CommentGivesSameModel : Type 0
+CommentGivesSameModel = (a b : List ℕ) (front back : List (List ℕ)) (line comment : List ℕ) → IsModelLong a → IsModelLong b
+    → lines_of a ≡ front ++ (line ++ 35 ∷ comment) ∷ back → lines_of b ≡ front ++ line ∷ back → length (line ++ 35 ∷ comment) ≤ 4096 → model_of a ≡ model_of b
