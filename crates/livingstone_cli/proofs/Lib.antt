@@ -1,5 +1,6 @@
-pub mod Writing
-pub mod Serving
-pub mod OpenLemmas
+mod TextLaws
 pub mod DueLemmas
+pub mod OpenLemmas
+pub mod Serving
 pub mod TopLemmas
+pub mod Writing

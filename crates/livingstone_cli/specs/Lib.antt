@@ -4,6 +4,7 @@ pub mod Dues
 pub mod Equations
 pub mod Forms
 pub mod Inputs
+pub mod Laws
 pub mod Reply
 pub mod Scopes
 pub mod Serving

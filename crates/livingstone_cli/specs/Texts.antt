@@ -1,5 +1,5 @@
 -- The statements of a whole text, line by line.
-use Rattle.std.specs.Prelude.{ℕ, List, [], ◌∷◌, ◌++◌, length, nat_le, if◌then◌else◌, Option, Some, None, option_map}
+use Rattle.std.specs.Prelude.{ℕ, List, [], ◌∷◌, ◌++◌, length, nat_eq, nat_le, if◌then◌else◌, Option, Some, None, option_map}
 use Rattle.std.specs.Option.{option_and_then}
 use Rattle.lv_text.specs.declared.lexer.Token.{Token}
 use Rattle.lv_text.specs.Tokens.{Lexed, lexed, bad_byte, long_line, line_tokens}
@@ -7,12 +7,12 @@ use Rattle.lv_text.specs.Lines.{lines_of}
 use Rattle.livingstone_cli.specs.declared.statement.Statement.{Statement}
 use Rattle.livingstone_cli.specs.declared.reader.Said.{Said}
 use Rattle.livingstone_cli.specs.declared.reader.Said.TheVariants.{Nothing, One, Refused}
+use Rattle.livingstone_cli.specs.Equations.{kinds_of, texts_of}
 use Rattle.livingstone_cli.specs.Statements.{statement_of}
 
 -- what tokens say: nothing, or one statement
 abbrev pub said_by : List ℕ → List Token → Option (List Statement)
-said_by line [] = Some []
-said_by line (t ∷ ts) = option_map (λ s. s ∷ []) (statement_of line (t ∷ ts))
+said_by line ts = if nat_eq (length ts) 0 then Some [] else option_map (λ s. s ∷ []) (statement_of (texts_of line ts) (kinds_of ts))
 
 -- the same of what a line reads as; a fault of the line refuses it
 abbrev pub said_of : List ℕ → Lexed → Option (List Statement)

@@ -4,7 +4,7 @@
 ghost use Rattle.std.specs.Prelude.{◌≡◌, IfOk, All, map, drop, option_map};
 ghost use Rattle.lv_text.specs.declared.lexer.Token.{Token};
 ghost use Rattle.lv_text.specs.Kinds.{IsTokenOf, token_text};
-ghost use Rattle.livingstone_cli.specs.Equations.{is_word};
+ghost use Rattle.livingstone_cli.specs.Equations.{kinds_of, texts_of, is_word};
 ghost use Rattle.livingstone_cli.specs.Statements.{model_line, type_line, mode_line, end_line, are_words, domain_line, variable_line, part_line, law_line, in_line, step_line, fault_cost_at, fault_line, statement_in_type, statement_of};
 
 use crate::statement::Statement;
@@ -16,7 +16,7 @@ use std::alloc::{AllocError, Global};
 
 fn model_line(alloc: Global, line: &[u8], tokens: &[Token]) -> Result<Option<Statement>, AllocError>
     requires { All (IsTokenOf line.now) tokens.now }
-    ensures { IfOk result (λ read. read ≡ model_line line.now tokens.now) }
+    ensures { IfOk result (λ read. read ≡ model_line (texts_of line.now tokens.now) (kinds_of tokens.now)) }
 {
     if tokens.len() != 2 {
         return Ok(None);
@@ -29,7 +29,7 @@ fn model_line(alloc: Global, line: &[u8], tokens: &[Token]) -> Result<Option<Sta
 
 fn type_line(alloc: Global, line: &[u8], tokens: &[Token]) -> Result<Option<Statement>, AllocError>
     requires { All (IsTokenOf line.now) tokens.now }
-    ensures { IfOk result (λ read. read ≡ type_line line.now tokens.now) }
+    ensures { IfOk result (λ read. read ≡ type_line (texts_of line.now tokens.now) (kinds_of tokens.now)) }
 {
     if tokens.len() != 2 {
         return Ok(None);
@@ -42,7 +42,7 @@ fn type_line(alloc: Global, line: &[u8], tokens: &[Token]) -> Result<Option<Stat
 
 fn mode_line(alloc: Global, line: &[u8], tokens: &[Token]) -> Result<Option<Statement>, AllocError>
     requires { All (IsTokenOf line.now) tokens.now }
-    ensures { IfOk result (λ read. read ≡ mode_line line.now tokens.now) }
+    ensures { IfOk result (λ read. read ≡ mode_line (texts_of line.now tokens.now) (kinds_of tokens.now)) }
 {
     if tokens.len() != 2 {
         return Ok(None);
@@ -54,7 +54,7 @@ fn mode_line(alloc: Global, line: &[u8], tokens: &[Token]) -> Result<Option<Stat
 }
 
 fn end_line(tokens: &[Token]) -> Option<Statement>
-    ensures { result ≡ end_line tokens.now }
+    ensures { result ≡ end_line (kinds_of tokens.now) }
 {
     if tokens.len() == 1 {
         Some(Statement::EndLine)
@@ -64,11 +64,14 @@ fn end_line(tokens: &[Token]) -> Option<Statement>
 }
 
 fn are_words(tokens: &[Token]) -> bool
-    ensures { result ≡ are_words tokens.now }
+    ensures { result ≡ are_words (kinds_of tokens.now) }
 {
-    tokens
-        .iter()
-        .all(|token| matches!(token.kind, TokenKind::Word))
+    for token in tokens {
+        if !matches!(token.kind, TokenKind::Word) {
+            return false;
+        }
+    }
+    true
 }
 
 fn domain_line(
@@ -77,7 +80,7 @@ fn domain_line(
     tokens: &[Token],
 ) -> Result<Option<Statement>, AllocError>
     requires { All (IsTokenOf line.now) tokens.now }
-    ensures { IfOk result (λ read. read ≡ domain_line line.now tokens.now) }
+    ensures { IfOk result (λ read. read ≡ domain_line (texts_of line.now tokens.now) (kinds_of tokens.now)) }
 {
     if tokens.len() < 3 {
         return Ok(None);
@@ -100,7 +103,7 @@ fn variable_line(
     tokens: &[Token],
 ) -> Result<Option<Statement>, AllocError>
     requires { All (IsTokenOf line.now) tokens.now }
-    ensures { IfOk result (λ read. read ≡ variable_line class line.now tokens.now) }
+    ensures { IfOk result (λ read. read ≡ variable_line class (texts_of line.now tokens.now) (kinds_of tokens.now)) }
 {
     if tokens.len() != 3 {
         return Ok(None);
@@ -116,7 +119,7 @@ fn variable_line(
 
 fn part_line(alloc: Global, line: &[u8], tokens: &[Token]) -> Result<Option<Statement>, AllocError>
     requires { All (IsTokenOf line.now) tokens.now }
-    ensures { IfOk result (λ read. read ≡ part_line line.now tokens.now) }
+    ensures { IfOk result (λ read. read ≡ part_line (texts_of line.now tokens.now) (kinds_of tokens.now)) }
 {
     if tokens.len() != 4 {
         return Ok(None);
@@ -135,7 +138,7 @@ fn part_line(alloc: Global, line: &[u8], tokens: &[Token]) -> Result<Option<Stat
 
 fn law_line(alloc: Global, line: &[u8], tokens: &[Token]) -> Result<Option<Statement>, AllocError>
     requires { All (IsTokenOf line.now) tokens.now }
-    ensures { IfOk result (λ read. read ≡ law_line line.now tokens.now) }
+    ensures { IfOk result (λ read. read ≡ law_line (texts_of line.now tokens.now) (kinds_of tokens.now)) }
 {
     match equation_from(alloc, line, tokens, 1)? {
         Some(equation) => Ok(Some(Statement::LawLine(equation))),
@@ -145,7 +148,7 @@ fn law_line(alloc: Global, line: &[u8], tokens: &[Token]) -> Result<Option<State
 
 fn in_line(alloc: Global, line: &[u8], tokens: &[Token]) -> Result<Option<Statement>, AllocError>
     requires { All (IsTokenOf line.now) tokens.now }
-    ensures { IfOk result (λ read. read ≡ in_line line.now tokens.now) }
+    ensures { IfOk result (λ read. read ≡ in_line (texts_of line.now tokens.now) (kinds_of tokens.now)) }
 {
     let Some(mode) = name_at(alloc, line, tokens, 1)? else {
         return Ok(None);
@@ -158,7 +161,7 @@ fn in_line(alloc: Global, line: &[u8], tokens: &[Token]) -> Result<Option<Statem
 
 fn step_line(alloc: Global, line: &[u8], tokens: &[Token]) -> Result<Option<Statement>, AllocError>
     requires { All (IsTokenOf line.now) tokens.now }
-    ensures { IfOk result (λ read. read ≡ step_line line.now tokens.now) }
+    ensures { IfOk result (λ read. read ≡ step_line (texts_of line.now tokens.now) (kinds_of tokens.now)) }
 {
     if !is_arrow_at(tokens, 2) || !says(line, tokens, 4, b"when") {
         return Ok(None);
@@ -178,7 +181,7 @@ fn step_line(alloc: Global, line: &[u8], tokens: &[Token]) -> Result<Option<Stat
 /// The number at this place, if a fault may cost it.
 fn fault_cost_at(line: &[u8], tokens: &[Token], place: usize) -> Option<u64>
     requires { All (IsTokenOf line.now) tokens.now }
-    ensures { result ≡ fault_cost_at line.now tokens.now place }
+    ensures { result ≡ fault_cost_at (texts_of line.now tokens.now) (kinds_of tokens.now) place }
 {
     let cost = number_at(line, tokens, place)?;
     if limits::LEAST_FAULT_COST <= cost && cost <= limits::FAULT_COST {
@@ -190,7 +193,7 @@ fn fault_cost_at(line: &[u8], tokens: &[Token], place: usize) -> Option<u64>
 
 fn fault_line(alloc: Global, line: &[u8], tokens: &[Token]) -> Result<Option<Statement>, AllocError>
     requires { All (IsTokenOf line.now) tokens.now }
-    ensures { IfOk result (λ read. read ≡ fault_line line.now tokens.now) }
+    ensures { IfOk result (λ read. read ≡ fault_line (texts_of line.now tokens.now) (kinds_of tokens.now)) }
 {
     if tokens.len() != 6 || !is_arrow_at(tokens, 2) || !says(line, tokens, 4, b"cost") {
         return Ok(None);
@@ -214,7 +217,7 @@ fn statement_in_type(
     tokens: &[Token],
 ) -> Result<Option<Statement>, AllocError>
     requires { All (IsTokenOf line.now) tokens.now }
-    ensures { IfOk result (λ read. read ≡ statement_in_type line.now tokens.now) }
+    ensures { IfOk result (λ read. read ≡ statement_in_type (texts_of line.now tokens.now) (kinds_of tokens.now)) }
 {
     if says(line, tokens, 0, b"control") {
         variable_line(alloc, Class::Control, line, tokens)
@@ -244,7 +247,7 @@ pub fn statement_of(
     tokens: &[Token],
 ) -> Result<Option<Statement>, AllocError>
     requires { All (IsTokenOf line.now) tokens.now }
-    ensures { IfOk result (λ read. read ≡ statement_of line.now tokens.now) }
+    ensures { IfOk result (λ read. read ≡ statement_of (texts_of line.now tokens.now) (kinds_of tokens.now)) }
 {
     if says(line, tokens, 0, b"model") {
         model_line(alloc, line, tokens)

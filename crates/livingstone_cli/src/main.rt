@@ -4,6 +4,7 @@
 //! - `inputs`: the model and the session, opened and read.
 //! - `words`, `statement`, `forms`, `reader`: the statements of a model's text.
 //! - `draft`, `scope`, `types`, `checker`: the model that statements give.
+//! - `laws`: what holds of texts and their models.
 //! - `request`: what a line of a session asks for.
 //! - `session`, `reply`: what it does and the text of its reply.
 //! - `serve`: the lines of a session's text, and the replies written.
@@ -16,6 +17,7 @@ mod checker;
 mod draft;
 mod forms;
 mod inputs;
+mod laws;
 mod reader;
 mod reply;
 mod request;

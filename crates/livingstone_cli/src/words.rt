@@ -1,12 +1,11 @@
 //! The words of a line, by the places of their tokens, and the equation that a line ends with.
 #![tactic(auto)]
 
-ghost use Rattle.std.specs.Prelude.{◌≡◌, ◌≤◌, IfOk, All, map, option_map, slice_get};
+ghost use Rattle.std.specs.Prelude.{◌≡◌, ◌≤◌, IfOk, All, slice_get};
 ghost use Rattle.std.specs.Option.{option_copied};
-ghost use Rattle.lv_text.specs.declared.lexer.Token.{Token};
-ghost use Rattle.lv_text.specs.Kinds.{IsTokenOf, token_text};
+ghost use Rattle.lv_text.specs.Kinds.{IsTokenOf};
 ghost use Rattle.lv_model.specs.Names.{is_named};
-ghost use Rattle.livingstone_cli.specs.Equations.{is_arrow, is_equals, is_dot, word_at, number_at, has_kind_at, says, is_truth, is_reserved, free_word_at, path_width, path_at, truth_at, has_sides, equation_from};
+ghost use Rattle.livingstone_cli.specs.Equations.{kinds_of, texts_of, is_arrow, is_equals, is_dot, word_at, number_at, has_kind_at, says, is_truth, is_reserved, free_word_at, path_width, path_at, truth_at, has_sides, equation_from};
 
 use crate::statement::{Equation, Path};
 use lv_base::Seq;
@@ -16,26 +15,26 @@ use std::alloc::{AllocError, Global};
 
 /// The kind of the token at this place, counted from 0.
 fn kind_at(tokens: &[Token], place: usize) -> Option<TokenKind>
-    ensures { result ≡ option_map (λ (t : Token). t.kind) (slice_get tokens.now place) }
+    ensures { result ≡ slice_get (kinds_of tokens.now) place }
 {
     Some(tokens.get(place)?.kind)
 }
 
 /// Whether the token at this place is `->`.
 pub fn is_arrow_at(tokens: &[Token], place: usize) -> bool
-    ensures { result ≡ has_kind_at is_arrow tokens.now place }
+    ensures { result ≡ has_kind_at is_arrow (kinds_of tokens.now) place }
 {
     matches!(kind_at(tokens, place), Some(TokenKind::Arrow))
 }
 
 fn is_equals_at(tokens: &[Token], place: usize) -> bool
-    ensures { result ≡ has_kind_at is_equals tokens.now place }
+    ensures { result ≡ has_kind_at is_equals (kinds_of tokens.now) place }
 {
     matches!(kind_at(tokens, place), Some(TokenKind::Equals))
 }
 
 fn is_dot_at(tokens: &[Token], place: usize) -> bool
-    ensures { result ≡ has_kind_at is_dot tokens.now place }
+    ensures { result ≡ has_kind_at is_dot (kinds_of tokens.now) place }
 {
     matches!(kind_at(tokens, place), Some(TokenKind::Dot))
 }
@@ -43,7 +42,7 @@ fn is_dot_at(tokens: &[Token], place: usize) -> bool
 /// The word at this place.
 pub fn word_at<'a>(line: &'a [u8], tokens: &[Token], place: usize) -> Option<&'a [u8]>
     requires { All (IsTokenOf line.now) tokens.now }
-    ensures { option_copied result ≡ word_at line.now tokens.now place }
+    ensures { option_copied result ≡ word_at (texts_of line.now tokens.now) (kinds_of tokens.now) place }
 {
     let token = tokens.get(place)?;
     match token.kind {
@@ -55,7 +54,7 @@ pub fn word_at<'a>(line: &'a [u8], tokens: &[Token], place: usize) -> Option<&'a
 /// The value of the number at this place, if it is below 2^64.
 pub fn number_at(line: &[u8], tokens: &[Token], place: usize) -> Option<u64>
     requires { All (IsTokenOf line.now) tokens.now }
-    ensures { result ≡ number_at line.now tokens.now place }
+    ensures { result ≡ number_at (texts_of line.now tokens.now) (kinds_of tokens.now) place }
 {
     let token = tokens.get(place)?;
     match token.kind {
@@ -74,7 +73,7 @@ pub fn is_text(word: &[u8], text: &[u8]) -> bool
 /// Whether the word at this place is that one.
 pub fn says(line: &[u8], tokens: &[Token], place: usize, text: &[u8]) -> bool
     requires { All (IsTokenOf line.now) tokens.now }
-    ensures { result ≡ says text.now line.now tokens.now place }
+    ensures { result ≡ says text.now (texts_of line.now tokens.now) (kinds_of tokens.now) place }
 {
     match word_at(line, tokens, place) {
         Some(word) => is_text(word, text),
@@ -102,7 +101,7 @@ pub fn name_at(
     place: usize,
 ) -> Result<Option<Name>, AllocError>
     requires { All (IsTokenOf line.now) tokens.now }
-    ensures { IfOk result (λ name. name ≡ word_at line.now tokens.now place) }
+    ensures { IfOk result (λ name. name ≡ word_at (texts_of line.now tokens.now) (kinds_of tokens.now) place) }
 {
     match word_at(line, tokens, place) {
         Some(word) => Ok(Some(Seq::from_slice(alloc, word)?)),
@@ -118,7 +117,7 @@ pub fn free_name_at(
     place: usize,
 ) -> Result<Option<Name>, AllocError>
     requires { All (IsTokenOf line.now) tokens.now }
-    ensures { IfOk result (λ name. name ≡ free_word_at line.now tokens.now place) }
+    ensures { IfOk result (λ name. name ≡ free_word_at (texts_of line.now tokens.now) (kinds_of tokens.now) place) }
 {
     match word_at(line, tokens, place) {
         Some(word) => {
@@ -135,7 +134,7 @@ pub fn free_name_at(
 /// The texts of these tokens.
 pub fn names_of(alloc: Global, line: &[u8], tokens: &[Token]) -> Result<Seq<Name>, AllocError>
     requires { All (IsTokenOf line.now) tokens.now }
-    ensures { IfOk result (λ names. names ≡ map (token_text line.now) tokens.now) }
+    ensures { IfOk result (λ names. names ≡ texts_of line.now tokens.now) }
 {
     let mut names = Vec::new(alloc);
     for token in tokens {
@@ -147,7 +146,7 @@ pub fn names_of(alloc: Global, line: &[u8], tokens: &[Token]) -> Result<Seq<Name
 /// How many tokens the path at this place has.
 fn path_width(tokens: &[Token], place: usize) -> usize
     requires { place ≤ 16 }
-    ensures { result ≡ path_width tokens.now place }
+    ensures { result ≡ path_width (kinds_of tokens.now) place }
 {
     if is_dot_at(tokens, place + 1) { 3 } else { 1 }
 }
@@ -161,7 +160,7 @@ fn path_at(
 ) -> Result<Option<Path>, AllocError>
     requires token { All (IsTokenOf line.now) tokens.now }
     requires room { place ≤ 16 }
-    ensures { IfOk result (λ path. path ≡ path_at line.now tokens.now place) }
+    ensures { IfOk result (λ path. path ≡ path_at (texts_of line.now tokens.now) (kinds_of tokens.now) place) }
 {
     let Some(first) = name_at(alloc, line, tokens, place)? else {
         return Ok(None);
@@ -177,7 +176,7 @@ fn path_at(
 
 fn is_truth_at(line: &[u8], tokens: &[Token], place: usize) -> bool
     requires { All (IsTokenOf line.now) tokens.now }
-    ensures { result ≡ truth_at line.now tokens.now place }
+    ensures { result ≡ truth_at (texts_of line.now tokens.now) (kinds_of tokens.now) place }
 {
     match word_at(line, tokens, place) {
         Some(word) => is_truth(word),
@@ -189,7 +188,7 @@ fn is_truth_at(line: &[u8], tokens: &[Token], place: usize) -> bool
 fn has_sides(line: &[u8], tokens: &[Token], place: usize) -> bool
     requires token { All (IsTokenOf line.now) tokens.now }
     requires room { place ≤ 8 }
-    ensures { result ≡ has_sides line.now tokens.now place }
+    ensures { result ≡ has_sides (texts_of line.now tokens.now) (kinds_of tokens.now) place }
 {
     let middle = place + path_width(tokens, place);
     !is_truth_at(line, tokens, place)
@@ -206,7 +205,7 @@ pub fn equation_from(
 ) -> Result<Option<Equation>, AllocError>
     requires token { All (IsTokenOf line.now) tokens.now }
     requires room { place ≤ 8 }
-    ensures { IfOk result (λ equation. equation ≡ equation_from line.now tokens.now place) }
+    ensures { IfOk result (λ equation. equation ≡ equation_from (texts_of line.now tokens.now) (kinds_of tokens.now) place) }
 {
     if !has_sides(line, tokens, place) {
         return Ok(None);
