@@ -4,7 +4,7 @@ use Rattle.std.specs.Option.{option_and_then, option_map_or}
 use Rattle.lv_base.specs.declared.ids.ValId.{ValId}
 use Rattle.lv_base.specs.declared.ids.VarId.{VarId}
 use Rattle.lv_base.specs.declared.rank.Rank.{Rank}
-use Rattle.lv_text.specs.declared.lexer.Token.{Token}
+use Rattle.lv_text.specs.declared.lexer.TokenKind.{TokenKind}
 use Rattle.lv_text.specs.Tokens.{Lexed, lexed, bad_byte, long_line, line_tokens}
 use Rattle.lv_text.specs.Lines.{lines_of}
 use Rattle.lv_model.specs.declared.plant.Plant.{Plant}
@@ -18,7 +18,7 @@ use Rattle.livingstone_cli.specs.declared.draft.Comparison.TheVariants.{WithValu
 use Rattle.livingstone_cli.specs.declared.request.Command.{Command}
 use Rattle.livingstone_cli.specs.declared.request.Request.{Request}
 use Rattle.livingstone_cli.specs.declared.request.Request.TheVariants.{Nothing, Diagnose, SetControl, Unknown}
-use Rattle.livingstone_cli.specs.Equations.{says, equation_from}
+use Rattle.livingstone_cli.specs.Equations.{says, equation_from, texts_of, kinds_of}
 use Rattle.livingstone_cli.specs.Scopes.{system_comparison}
 use Rattle.livingstone_cli.specs.Reply.{diagnosis_text}
 
@@ -31,22 +31,23 @@ set_by plant (WithValue x v) = option_map (λ place. record { place = place; val
 set_by plant (WithVariable x y) = None
 
 -- `command P.C = V`, with a part, a control of that part and a value of its domain
-unfoldable pub command_of : Plant → List ℕ → List Token → Option Command
-command_of plant line ts =
-    if says (codes "command") line ts 0
-    then option_and_then (set_by plant) (option_and_then (system_comparison plant) (equation_from line ts 1))
+unfoldable pub command_of : Plant → List (List ℕ) → List TokenKind → Option Command
+command_of plant texts kinds =
+    if says (codes "command") texts kinds 0
+    then option_and_then (set_by plant) (option_and_then (system_comparison plant) (equation_from texts kinds 1))
     else None
 
--- what the tokens of a line ask for
-abbrev pub asked : Plant → List ℕ → List Token → Request
-asked plant line [] = Nothing
-asked plant line (t ∷ ts) =
-    if nat_eq (length (t ∷ ts)) 1 && says (codes "diagnose") line (t ∷ ts) 0
+-- what tokens of these texts and kinds ask for
+abbrev pub asked : Plant → List (List ℕ) → List TokenKind → Request
+asked plant texts kinds =
+    if nat_eq (length kinds) 0
+    then Nothing
+    else (if nat_eq (length kinds) 1 && says (codes "diagnose") texts kinds 0
     then Diagnose
-    else option_map_or SetControl (command_of plant line (t ∷ ts)) Unknown
+    else option_map_or SetControl (command_of plant texts kinds) Unknown)
 
 abbrev pub asked_by : Plant → List ℕ → Lexed → Request
-asked_by plant line (lexed ts) = asked plant line ts
+asked_by plant line (lexed ts) = asked plant (texts_of line ts) (kinds_of ts)
 asked_by plant line (bad_byte place) = Unknown
 asked_by plant line long_line = Unknown
 

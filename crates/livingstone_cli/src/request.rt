@@ -5,6 +5,7 @@ ghost use Rattle.std.specs.Prelude.{◌≡◌, ◌&&◌, IfOk, All, position, le
 ghost use Rattle.lv_text.specs.Kinds.{IsTokenOf};
 ghost use Rattle.lv_text.specs.Tokens.{line_tokens};
 ghost use Rattle.lv_model.specs.Lists.{controls};
+ghost use Rattle.livingstone_cli.specs.Equations.{texts_of, kinds_of};
 ghost use Rattle.livingstone_cli.specs.Session.{is_variable, set_by, command_of, asked, asked_by, request_of};
 
 use crate::draft::Comparison;
@@ -69,7 +70,7 @@ fn command_of(
     found: &[Token],
 ) -> Result<Option<Command>, AllocError>
     requires { All (IsTokenOf line.now) found.now }
-    ensures { IfOk result (λ command. command ≡ command_of model.now line.now found.now) }
+    ensures { IfOk result (λ command. command ≡ command_of model.now (texts_of line.now found.now) (kinds_of found.now)) }
 {
     if !says(line, found, 0, b"command") {
         return Ok(None);
@@ -86,7 +87,7 @@ fn command_of(
 /// What the tokens of a line ask for.
 fn asked(alloc: Global, model: &Model, line: &[u8], found: &[Token]) -> Result<Request, AllocError>
     requires { All (IsTokenOf line.now) found.now }
-    ensures { IfOk result (λ request. request ≡ asked model.now line.now found.now) }
+    ensures { IfOk result (λ request. request ≡ asked model.now (texts_of line.now found.now) (kinds_of found.now)) }
 {
     if found.is_empty() {
         return Ok(Request::Nothing);
