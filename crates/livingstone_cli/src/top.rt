@@ -30,7 +30,10 @@ pub fn livingstone<F: Shelf, O: Sink, E: Sink>(
     out: &mut O,
     err: &mut E,
 ) -> Status
-    // What was written, where the call is done: the transcript of the session, and nothing else.
+    // For every accepted model and every session, what is written is its transcript: each settled diagnosis lists the
+    // first k, by cost and then written order, of the transitions from the tracked states that some assignment allows
+    // with commands and observations; each settled recovery is the first command set that takes every tracked state
+    // nominally to the goals, or 'no recovery' exactly where none does. (No line of a session asks for a recovery yet.)
     ensures headline { (plant : Plant) (session : List ℕ) → Asks (F.file shelf.old) (map string_bytes words.items) plant session → result ≡ Status.Done
         → (O.text out.new ≡ append_known (O.text out.old) (transcript plant session)) × (E.text err.new ≡ E.text err.old) }
     ensures complete { (plant : Plant) (session : List ℕ) → Asks (F.file shelf.old) (map string_bytes words.items) plant session
