@@ -23,6 +23,8 @@ fn least_member(rt: HostRuntime) -> Result<(), Fail> {
     let zone = Zone::new(rt.alloc(), 5, Cost(10), &[0b111, 0b11])?;
     assert_eq!(rt; grid.len(), 2);
     assert_eq!(rt; zone.source(), 5);
+    assert_eq!(rt; zone.base(), Cost(10));
+    assert!(rt; zone.masks() == &[0b111, 0b11][..]);
     let mut out = [9, 9];
     assert_eq!(rt; grid.write_best(&zone, &mut out), Some(Cost(11)));
     assert_eq!(rt; out, [1, 0]);
