@@ -5,9 +5,11 @@
 //! |---|---|
 //! | `reason` | which of a candidate's choices already aren't possible together |
 //! | `walk` | which candidates are listed, which reasons are kept, and whether that settles the diagnosis |
+//! | `advance` | which states the listed candidates lead to |
 //! | `nominal` | whether a full choice has no fault |
 #![tactic(auto)]
 
+pub mod advance;
 pub mod nominal;
 pub mod reason;
 pub mod walk;
