@@ -1,0 +1,4 @@
+pub mod Reason
+pub mod Walk
+pub mod Nominal
+pub mod Advance
