@@ -1,0 +1,3 @@
+pub mod SomeList
+pub mod Possibility
+pub mod Rising

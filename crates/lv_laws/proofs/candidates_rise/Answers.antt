@@ -1,0 +1,5 @@
+use Rattle.lv_laws.proofs.Rising.{candidates_rise_law}
+use Rattle.lv_laws.proofs.candidates_rise.Goals as goal
+
+pub returns : goal.returns
+returns c = candidates_rise_law

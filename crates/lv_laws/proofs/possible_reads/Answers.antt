@@ -1,0 +1,5 @@
+use Rattle.lv_laws.proofs.Possibility.{witnessed, possible}
+use Rattle.lv_laws.proofs.possible_reads.Goals as goal
+
+pub returns : goal.returns
+returns c = record { witnessed = witnessed; possible = possible }

@@ -1,0 +1,25 @@
+//! Laws of the definitions by which the plain programs of possible choices and of candidates are proved: what these
+//! definitions say in the subject's own words.
+//!
+//! Each function does nothing: its contract is the law, which callers above cite by calling it.
+#![tactic(auto)]
+
+ghost use Rattle.lv_laws.specs.Possible.{PossibleReads, PossibleParts};
+ghost use Rattle.lv_laws.specs.Candidates.{CandidatesRise};
+
+/// A partial choice is possible exactly where there are a value for each variable before the step, one for each
+/// after it and a move for each part, all in range, that make a step, meet the facts and have the chosen moves.
+pub fn possible_reads()
+    ensures { PossibleReads }
+{}
+
+/// What is left of a possible partial choice where pairs are left out, in any order, is possible.
+pub fn possible_parts()
+    ensures { PossibleParts }
+{}
+
+/// The candidates are listed in strictly rising order of rank: by cost, then the tracked state's place, then the
+/// moves part by part. So none is listed twice.
+pub fn candidates_rise()
+    ensures { CandidatesRise }
+{}
