@@ -1,3 +1,6 @@
 pub mod SomeList
 pub mod Possibility
 pub mod Rising
+pub mod Among
+pub mod Listing
+pub mod Answering

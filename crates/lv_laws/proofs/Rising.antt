@@ -60,8 +60,10 @@ rise_inserted r (x ∷ xs) h = by (rank_cmp r x) refl (rise_inserted r xs behind
   where
     first : list_all (ranks_before x) xs ≡ true
     first = left_of (list_all (ranks_before x) xs) (rise xs) h
+
     behind : rise xs ≡ true
     behind = right_of (list_all (ranks_before x) xs) (rise xs) h
+
     by : (o : Ordering) → rank_cmp r x ≡ o → rise (insert_key rank_cmp xs r) ≡ true
         → rise (match_ordering o (r ∷ x ∷ xs) (x ∷ xs) (x ∷ insert_key rank_cmp xs r)) ≡ true
     by Less e rest =

@@ -5,7 +5,7 @@
 #![tactic(auto)]
 
 ghost use Rattle.lv_laws.specs.Possible.{PossibleReads, PossibleParts};
-ghost use Rattle.lv_laws.specs.Candidates.{CandidatesRise};
+ghost use Rattle.lv_laws.specs.Candidates.{CandidatesRise, CandidatesAreAll, AnswerIsFirst};
 
 /// A partial choice is possible exactly where there are a value for each variable before the step, one for each
 /// after it and a move for each part, all in range, that make a step, meet the facts and have the chosen moves.
@@ -22,4 +22,16 @@ pub fn possible_parts()
 /// moves part by part. So none is listed twice.
 pub fn candidates_rise()
     ensures { CandidatesRise }
+{}
+
+/// Listed are exactly the ranks that have a tracked state at their source's place, one move for each part from the
+/// part's mode in that state, and the cost of the state and of the moves together.
+pub fn candidates_are_all()
+    ensures { CandidatesAreAll }
+{}
+
+/// The answer of a diagnosis has at most `k` candidates, all possible, in rising order. Every other possible candidate
+/// ranks after all of them, and there is no other where the answer has fewer than `k`.
+pub fn answer_is_first()
+    ensures { AnswerIsFirst }
 {}

@@ -1,0 +1,5 @@
+use Rattle.lv_laws.proofs.Answering.{answer_law}
+use Rattle.lv_laws.proofs.answer_is_first.Goals as goal
+
+pub returns : goal.returns
+returns c = answer_law
