@@ -6,6 +6,7 @@
 
 ghost use Rattle.lv_laws.specs.Possible.{PossibleReads, PossibleParts};
 ghost use Rattle.lv_laws.specs.Candidates.{CandidatesRise, CandidatesAreAll, AnswerIsFirst};
+ghost use Rattle.lv_laws.specs.Example.{ValveExample};
 
 /// A partial choice is possible exactly where there are a value for each variable before the step, one for each
 /// after it and a move for each part, all in range, that make a step, meet the facts and have the chosen moves.
@@ -34,4 +35,10 @@ pub fn candidates_are_all()
 /// ranks after all of them, and there is no other where the answer has fewer than `k`.
 pub fn answer_is_first()
     ensures { AnswerIsFirst }
+{}
+
+/// A worked example: a closed valve may open at the command to, stay closed without it, or get stuck; a look at its flow
+/// tells which of these is possible.
+pub fn valve_example()
+    ensures { ValveExample }
 {}
