@@ -1,5 +1,5 @@
 -- The answer is the first of the possible candidates.
-use Rattle.std.proofs.Common.{◌≡◌, ℕ, zero, suc, ◌≤◌, ◌<◌, Bool, true, false, ◌&&◌, List, [], ◌∷◌, length, take, filter, cond, Contains, ◌⊎◌, inl, inr, ⊎_elim, refl, sym, subst, ◌∙◌, ap, arith}
+use Rattle.std.proofs.Common.{◌≡◌, ℕ, zero, suc, ◌≤◌, ◌<◌, Bool, true, false, List, [], ◌∷◌, length, take, filter, cond, inl, inr, refl, sym, subst, ◌∙◌, ap, arith}
 use Rattle.std.specs.List.{list_all}
 use Rattle.lv_base.specs.declared.rank.Rank.{Rank}
 use Rattle.lv_base.specs.Rank.{ranks_before}
@@ -7,7 +7,7 @@ use Rattle.lv_model.specs.declared.plant.Plant.{Plant}
 use Rattle.lv_meaning.specs.declared.facts.Facts.{Facts}
 use Rattle.lv_meaning.specs.declared.candidates.State.{State}
 use Rattle.lv_meaning.specs.Candidates.{candidates, can_be, first_possible}
-use Rattle.lv_laws.specs.Candidates.{rise, IsCandidate, IsAnswer}
+use Rattle.lv_laws.specs.Candidates.{rise, IsAnswer}
 use Rattle.lv_laws.proofs.SomeList.{both, left_of, right_of}
 use Rattle.lv_laws.proofs.Rising.{candidates_rise_law}
 use Rattle.lv_laws.proofs.Among.{Among, among, contained, all_among}
@@ -45,7 +45,7 @@ module _ {X : Type 0} where
   all_are_taken (suc k) (y ∷ ys) x few (inl e) = inl e
   all_are_taken (suc k) (y ∷ ys) x few (inr h) = inr (all_are_taken k ys x (omega arith) h)
 
-  among_passing : (p : X → Bool) (xs : List X) (x : X) → Among x xs → p x ≡ true → Among x (filter p xs)
+  pub among_passing : (p : X → Bool) (xs : List X) (x : X) → Among x xs → p x ≡ true → Among x (filter p xs)
   among_passing p [] x h passes = absurd h
   among_passing p (y ∷ ys) x (inl e) passes =
       subst (λ b. Among x (cond b (y ∷ filter p ys) (filter p ys))) (sym (ap p (sym e) ∙ passes)) (inl e)
@@ -55,7 +55,7 @@ module _ {X : Type 0} where
       by true a = inr a
       by false a = a
 
-  among_filtered : (p : X → Bool) (xs : List X) (x : X) → Among x (filter p xs) → Among x xs
+  pub among_filtered : (p : X → Bool) (xs : List X) (x : X) → Among x (filter p xs) → Among x xs
   among_filtered p [] x h = absurd h
   among_filtered p (y ∷ ys) x h = by (p y) (among_filtered p ys x) h
     where
@@ -64,7 +64,7 @@ module _ {X : Type 0} where
       by true rest (inr a) = inr (rest a)
       by false rest a = inr (rest a)
 
-  all_pass : (p : X → Bool) (xs : List X) → list_all p (filter p xs) ≡ true
+  pub all_pass : (p : X → Bool) (xs : List X) → list_all p (filter p xs) ≡ true
   all_pass p [] = refl
   all_pass p (y ∷ ys) = by (p y) refl (all_pass p ys)
     where
@@ -72,7 +72,7 @@ module _ {X : Type 0} where
       by true e rest = both (p y) (list_all p (filter p ys)) e rest
       by false e rest = rest
 
-rise_filtered : (p : Rank → Bool) (rs : List Rank) → rise rs ≡ true → rise (filter p rs) ≡ true
+pub rise_filtered : (p : Rank → Bool) (rs : List Rank) → rise rs ≡ true → rise (filter p rs) ≡ true
 rise_filtered p [] h = refl
 rise_filtered p (r ∷ rs) h = by (p r) (rise_filtered p rs (right_of (list_all (ranks_before r) rs) (rise rs) h))
   where

@@ -4,3 +4,4 @@ pub mod Rising
 pub mod Among
 pub mod Listing
 pub mod Answering
+pub mod OneAnswer

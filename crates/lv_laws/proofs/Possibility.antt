@@ -1,5 +1,5 @@
 -- Possible partial choices have witnesses, and a witness serves each part.
-use Rattle.std.proofs.Common.{◌≡◌, ℕ, Bool, true, false, ◌&&◌, List, [], ◌∷◌, ◌++◌, map, get_or, Contains, ⊎_elim, refl, sym, subst, ◌∙◌, ap, arith}
+use Rattle.std.proofs.Common.{◌≡◌, Bool, true, ◌&&◌, List, [], ◌∷◌, ◌++◌, map, get_or, Contains, ⊎_elim, subst}
 use Rattle.std.specs.List.{list_all}
 use Rattle.lv_base.specs.declared.ids.ValId.{ValId}
 use Rattle.lv_base.specs.declared.ids.MoveId.{MoveId}
@@ -14,7 +14,7 @@ use Rattle.lv_meaning.specs.Possible.{value, move_number, gives, extends, witnes
 use Rattle.std.proofs.lemmas.List.Sums.{AllPass-from_list_all, list_all-from_AllPass}
 use Rattle.std.proofs.lemmas.List.Elements.{Contains-get_or, Contains-append_left, Contains-append_right, Contains-append_cases}
 use Rattle.lv_laws.specs.Possible.{Witness}
-use Rattle.lv_laws.proofs.SomeList.{ListFound, list_found, found_list, both, left_of, right_of}
+use Rattle.lv_laws.proofs.SomeList.{list_found, found_list, both, left_of, right_of}
 
 module _ (plant : Plant) (facts : Facts) (partial : List Pair) where
   abbrev with_moves : List ValId → List ValId → Bool

@@ -65,3 +65,8 @@ pub record IsAnswer (k : ℕ) (plant : Plant) (facts : Facts) (tracked : List St
 
 abbrev pub AnswerIsFirst : Type 0
 AnswerIsFirst = (k : ℕ) (plant : Plant) (facts : Facts) (tracked : List State) → IsAnswer k plant facts tracked (first_possible k plant facts tracked)
+
+-- and no other list is an answer
+abbrev pub AnswerIsOne : Type 0
+AnswerIsOne = (k : ℕ) (plant : Plant) (facts : Facts) (tracked : List State) (answer : List Rank) → IsAnswer k plant facts tracked answer
+    → answer ≡ first_possible k plant facts tracked

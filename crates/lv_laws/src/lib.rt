@@ -5,7 +5,7 @@
 #![tactic(auto)]
 
 ghost use Rattle.lv_laws.specs.Possible.{PossibleReads, PossibleParts};
-ghost use Rattle.lv_laws.specs.Candidates.{CandidatesRise, CandidatesAreAll, AnswerIsFirst};
+ghost use Rattle.lv_laws.specs.Candidates.{CandidatesRise, CandidatesAreAll, AnswerIsFirst, AnswerIsOne};
 ghost use Rattle.lv_laws.specs.Example.{ValveExample};
 
 /// A partial choice is possible exactly where there are a value for each variable before the step, one for each
@@ -35,6 +35,11 @@ pub fn candidates_are_all()
 /// ranks after all of them, and there is no other where the answer has fewer than `k`.
 pub fn answer_is_first()
     ensures { AnswerIsFirst }
+{}
+
+/// No other list is such an answer: what `answer_is_first` says determines it.
+pub fn answer_is_one()
+    ensures { AnswerIsOne }
 {}
 
 /// A worked example: a closed valve may open at the command to, stay closed without it, or get stuck; a look at its flow

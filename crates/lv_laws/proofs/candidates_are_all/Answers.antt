@@ -1,3 +1,4 @@
+-- each way to choose is listed, and putting in order loses none
 use Rattle.lv_laws.proofs.Listing.{is_listed, is_candidate}
 use Rattle.lv_laws.proofs.candidates_are_all.Goals as goal
 

@@ -1,3 +1,4 @@
+-- a witness of the whole is one of the part
 use Rattle.lv_laws.proofs.Possibility.{part_possible, possible_without}
 use Rattle.lv_laws.proofs.possible_parts.Goals as goal
 

@@ -1,3 +1,4 @@
+-- both sides compute to the same
 use Rattle.std.proofs.Common.{refl}
 use Rattle.lv_laws.proofs.valve_example.Goals as goal
 
