@@ -1,0 +1,49 @@
+//! Laws of the definitions by which the plain programs of possible choices and of candidates are proved: what these
+//! definitions say in the subject's own words.
+//!
+//! Each function does nothing: its contract is the law, which callers above cite by calling it.
+#![tactic(auto)]
+
+ghost use Rattle.lv_laws.specs.Possible.{PossibleReads, PossibleParts};
+ghost use Rattle.lv_laws.specs.Candidates.{CandidatesRise, CandidatesAreAll, AnswerIsFirst, AnswerIsOne};
+ghost use Rattle.lv_laws.specs.Example.{ValveExample};
+
+/// A partial choice is possible exactly where there are a value for each variable before the step, one for each
+/// after it and a move for each part, all in range, that make a step, meet the facts and have the chosen moves.
+pub fn possible_reads()
+    ensures { PossibleReads }
+{}
+
+/// What is left of a possible partial choice where pairs are left out, in any order, is possible.
+pub fn possible_parts()
+    ensures { PossibleParts }
+{}
+
+/// The candidates are listed in strictly rising order of rank: by cost, then the tracked state's place, then the
+/// moves part by part. So none is listed twice.
+pub fn candidates_rise()
+    ensures { CandidatesRise }
+{}
+
+/// Listed are exactly the ranks that have a tracked state at their source's place, one move for each part from the
+/// part's mode in that state, and the cost of the state and of the moves together.
+pub fn candidates_are_all()
+    ensures { CandidatesAreAll }
+{}
+
+/// The answer of a diagnosis has at most `k` candidates, all possible, in rising order. Every other possible candidate
+/// ranks after all of them, and there is no other where the answer has fewer than `k`.
+pub fn answer_is_first()
+    ensures { AnswerIsFirst }
+{}
+
+/// No other list is such an answer: what `answer_is_first` says determines it.
+pub fn answer_is_one()
+    ensures { AnswerIsOne }
+{}
+
+/// A worked example: a closed valve may open at the command to, stay closed without it, or get stuck; a look at its flow
+/// tells which of these is possible.
+pub fn valve_example()
+    ensures { ValveExample }
+{}
