@@ -7,9 +7,9 @@ use Rattle.lv_base.specs.Choices.{contains_all}
 use Rattle.lv_model.specs.declared.plant.Plant.{Plant}
 use Rattle.lv_meaning.specs.declared.facts.Facts.{Facts}
 use Rattle.lv_meaning.specs.Possible.{is_possible}
-use Rattle.lv_meaning.specs.Candidates.{pairs_from}
+use Rattle.lv_meaning.specs.Candidates.{pairs_from, can_be}
 use Rattle.lv_walk.specs.Reason.{reduced, reason_of}
-use Rattle.lv_walk.specs.Walk.{walk}
+use Rattle.lv_walk.specs.Walk.{walk, rank_reason, diagnosis_walk}
 
 -- the reason of an impossible candidate is not possible, and each of its pairs is one of the candidate's choices
 pub record ReasonIsImpossiblePart : Type 0 where
@@ -43,3 +43,15 @@ pub record SettledWalkIsExact : Type 0 where
   pub exact : (fits : Rank → Bool) (reason : Rank → List Pair) → IsSound fits reason → (k budget : ℕ) (ranks : List Rank)
       → (walk fits reason k budget ranks).settled ≡ true → (walk fits reason k budget ranks).listed ≡ take k (filter fits ranks)
   pub ample : (fits : Rank → Bool) (reason : Rank → List Pair) (k budget : ℕ) (ranks : List Rank) → length ranks ≤ budget → (walk fits reason k budget ranks).settled ≡ true
+
+-- the test of a diagnosis is monotone, and so no choice can be left out of a reason: without it the others are possible
+pub record ReasonIsMinimal : Type 0 where
+  pub monotone : (plant : Plant) (facts : Facts) → IsMonotone (is_possible plant facts)
+  pub needed : (plant : Plant) (facts : Facts) (choices : List ℕ) → each_is_needed (is_possible plant facts) [] (reason_of plant facts choices) ≡ true
+
+-- reasons are sound, and so a settled walk of a diagnosis lists the first k candidates that can be, or all if fewer can
+pub record DiagnosisWalkIsExact : Type 0 where
+  pub sound : (plant : Plant) (facts : Facts) → IsSound (can_be plant facts) (rank_reason plant facts)
+  pub exact : (plant : Plant) (facts : Facts) (k budget : ℕ) (ranks : List Rank)
+      → (diagnosis_walk plant facts k budget ranks).settled ≡ true → (diagnosis_walk plant facts k budget ranks).listed ≡ take k (filter (can_be plant facts) ranks)
+  pub ample : (plant : Plant) (facts : Facts) (k budget : ℕ) (ranks : List Rank) → length ranks ≤ budget → (diagnosis_walk plant facts k budget ranks).settled ≡ true

@@ -1,7 +1,7 @@
 //! The laws of reasons and walks. The functions do nothing; their clauses are the laws.
 #![tactic(auto)]
 
-ghost use Rattle.lv_walk.specs.Laws.{ReasonIsImpossiblePart, ReducedIsMinimal, WalkListsFitting, SettledWalkIsExact};
+ghost use Rattle.lv_walk.specs.Laws.{ReasonIsImpossiblePart, ReducedIsMinimal, ReasonIsMinimal, WalkListsFitting, SettledWalkIsExact, DiagnosisWalkIsExact};
 
 /// The reason of an impossible candidate is not possible, and is a part of the candidate.
 pub fn reason_is_impossible_part()
@@ -22,4 +22,15 @@ pub fn walk_lists_fitting()
 /// walk with a trial for each candidate is settled.
 pub fn settled_walk_is_exact()
     ensures { SettledWalkIsExact }
+{}
+
+/// Fewer choices are possible where more are, and no choice can be left out of a reason.
+pub fn reason_is_minimal()
+    ensures { ReasonIsMinimal }
+{}
+
+/// No reason is in a candidate that can be, and so a settled walk of a diagnosis lists the first `k` candidates that can
+/// be, or all if fewer can.
+pub fn diagnosis_walk_is_exact()
+    ensures { DiagnosisWalkIsExact }
 {}
