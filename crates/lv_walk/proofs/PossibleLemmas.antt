@@ -1,10 +1,9 @@
 -- Fewer moves asked for are possible where more are, and so reasons of impossible candidates are in no possible one.
-use Rattle.std.proofs.Common.{◌≡◌, ℕ, zero, suc, ◌+◌, ◌<◌, Bool, true, false, ◌&&◌, ◌||◌, List, [], ◌∷◌, ◌++◌, length, get_or, refl, sym, ◌∙◌, ap, subst, nat_eq, nat_lt, arith}
+use Rattle.std.proofs.Common.{◌≡◌, ℕ, zero, suc, ◌+◌, ◌<◌, Bool, true, false, ◌&&◌, ◌||◌, List, [], ◌∷◌, ◌++◌, length, get_or, refl, sym, ◌∙◌, ap, nat_eq, nat_lt, arith}
 use Rattle.std.specs.List.{list_all}
 use Rattle.std.proofs.lemmas.Bool.{and_from, and_parts, eqb-true, ltb-true}
 use Rattle.std.proofs.lemmas.List.Folds.{list_all-append}
 use Rattle.lv_base.specs.declared.ids.MoveId.{MoveId}
-use Rattle.lv_base.specs.declared.rank.Rank.{Rank}
 use Rattle.lv_base.specs.declared.search.Pair.{Pair}
 use Rattle.lv_base.specs.Choices.{picks, contains_all}
 use Rattle.lv_model.specs.declared.plant.Plant.{Plant}
@@ -57,11 +56,11 @@ pub is_monotone : (plant : Plant) (facts : Facts) → IsMonotone (is_possible pl
 is_monotone plant facts =
     record {
       without =
-        λ front p back.
-        possible_less plant facts (front ++ (p ∷ back)) (front ++ back)
-        (λ moves is.
-        let parts = and_parts (list_all (gives moves) front) (list_all (gives moves) (p ∷ back)) (sym (list_all-append (gives moves) front (p ∷ back)) ∙ is) in
-        list_all-append (gives moves) front back ∙ and_from (list_all (gives moves) front) (list_all (gives moves) back) parts.0 (and_parts (gives moves p) (list_all (gives moves) back) parts.1).1);
+          λ front p back.
+          possible_less plant facts (front ++ (p ∷ back)) (front ++ back)
+          (λ moves is.
+          let parts = and_parts (list_all (gives moves) front) (list_all (gives moves) (p ∷ back)) (sym (list_all-append (gives moves) front (p ∷ back)) ∙ is) in
+          list_all-append (gives moves) front back ∙ and_from (list_all (gives moves) front) (list_all (gives moves) back) parts.0 (and_parts (gives moves p) (list_all (gives moves) back) parts.1).1);
     }
 
 -- a full choice with all pairs of the choices gives each
@@ -98,8 +97,8 @@ pub is_sound : (plant : Plant) (facts : Facts) → IsSound (can_be plant facts) 
 is_sound plant facts =
     record {
       apart =
-        λ r s cannot can.
-        apart_by (contains_all s.choices (rank_reason plant facts r)) (is_possible plant facts (rank_reason plant facts r))
-        (still_impossible (is_possible plant facts) [] (pairs_from 0 r.choices) cannot)
-        (λ is. possible_less plant facts (pairs_from 0 s.choices) (rank_reason plant facts r) (λ moves all. all_picked moves s.choices (rank_reason plant facts r) all is) can);
+          λ r s cannot can.
+          apart_by (contains_all s.choices (rank_reason plant facts r)) (is_possible plant facts (rank_reason plant facts r))
+          (still_impossible (is_possible plant facts) [] (pairs_from 0 r.choices) cannot)
+          (λ is. possible_less plant facts (pairs_from 0 s.choices) (rank_reason plant facts r) (λ moves all. all_picked moves s.choices (rank_reason plant facts r) all is) can);
     }

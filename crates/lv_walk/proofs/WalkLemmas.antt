@@ -1,6 +1,6 @@
 -- What a walk promises, by one way to go through its turns.
-use Rattle.std.proofs.Common.{◌≡◌, ◌≢◌, ℕ, suc, ◌+◌, ◌-◌, ◌<◌, ◌≤◌, Bool, true, false, ◌||◌, List, [], ◌∷◌, ◌++◌, length, take, filter, refl, sym, ◌∙◌, ap, cond, nat_eq, arith, append_assoc, append-nil}
-use Rattle.std.specs.List.{list_all, list_any}
+use Rattle.std.proofs.Common.{◌≡◌, ◌≢◌, ℕ, suc, ◌+◌, ◌-◌, ◌≤◌, Bool, true, false, ◌||◌, List, [], ◌∷◌, ◌++◌, length, take, filter, refl, sym, ◌∙◌, ap, cond, nat_eq, arith, append_assoc, append-nil}
+use Rattle.std.specs.List.{list_all}
 use Rattle.std.proofs.Math.Seq.{take-nil}
 use Rattle.std.proofs.lemmas.Bool.{and_from, eqb-true, eqb-false}
 use Rattle.std.proofs.lemmas.List.{length-append}

@@ -11,8 +11,8 @@ returns c =
     record {
       sound = is_sound;
       exact =
-        λ plant facts k budget ranks settled.
-        let all : k - 0 ≡ k = omega arith in
-        is_exact (can_be plant facts) (rank_reason plant facts) k budget (is_sound plant facts) ranks [] [] (omega arith) (λ s f. refl) settled ∙ ap (λ n. take n (filter (can_be plant facts) ranks)) all;
+          λ plant facts k budget ranks settled.
+          let all : k - 0 ≡ k = omega arith in
+          is_exact (can_be plant facts) (rank_reason plant facts) k budget (is_sound plant facts) ranks [] [] (omega arith) (λ s f. refl) settled ∙ ap (λ n. take n (filter (can_be plant facts) ranks)) all;
       ample = λ plant facts k budget ranks few. with_ample (can_be plant facts) (rank_reason plant facts) k budget ranks [] [] (omega (arith, few));
     }
