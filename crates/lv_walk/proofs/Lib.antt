@@ -1,1 +1,3 @@
 pub mod ReasonLemmas
+pub mod WalkLemmas
+pub mod PossibleLemmas

@@ -1,5 +1,13 @@
--- One step of leaving pairs out, over plain lists.
-use Rattle.std.proofs.Common.{◌≡◌, ℕ, suc, ◌+◌, ◌<◌, Bool, true, false, List, [], ◌∷◌, ◌++◌, length, drop, get_or, sym, ◌∙◌, ap, add-one, drop-cons, cond}
+-- Leaving pairs out, over plain lists: one step of it, and what is left at the end.
+use Rattle.std.proofs.Common.{◌≡◌, ℕ, ◌+◌, ◌<◌, Bool, true, false, List, [], ◌∷◌, ◌++◌, length, drop, get_or, refl, sym, ◌∙◌, ap, add-one, drop-cons, cond, ◌&&◌, nat_eq, nat_lt, append_assoc, append-nil, arith, eq-eqb}
+use Rattle.std.specs.List.{list_all}
+use Rattle.std.proofs.Math.Seq.{get_or-append_seam}
+use Rattle.std.proofs.lemmas.Bool.{and_from, and_parts, lt-ltb}
+use Rattle.std.proofs.lemmas.List.{length-append}
+use Rattle.std.proofs.lemmas.List.Folds.{list_all-append}
+use Rattle.lv_base.specs.Choices.{picks, contains_all}
+use Rattle.lv_meaning.specs.Candidates.{pairs_from}
+use Rattle.lv_walk.specs.Laws.{IsMonotone, each_is_needed}
 use Rattle.lv_base.specs.declared.search.Pair.{Pair}
 use Rattle.lv_walk.specs.Reason.{reduced}
 
@@ -18,3 +26,74 @@ module _ (possible : List Pair → Bool) (pairs kept : List Pair) (at : ℕ) (d 
   -- another is left out
   pub pair_left_out : possible (kept ++ drop (at + 1) pairs) ≡ false → reduced possible kept (drop at pairs) ≡ whole → reduced possible kept (drop (at + 1) pairs) ≡ whole
   pair_left_out e is = sym (step false e) ∙ is
+
+module _ (possible : List Pair → Bool) where
+  -- what isn't possible stays so
+  pub still_impossible : (before ps : List Pair) → possible (before ++ ps) ≡ false → possible (reduced possible before ps) ≡ false
+  still_impossible before [] is = sym (ap possible (append-nil before)) ∙ is
+  still_impossible before (p ∷ ps) is =
+      by (possible (before ++ ps)) refl (still_impossible (before ++ (p ∷ [])) ps (ap possible (append_assoc before (p ∷ []) ps) ∙ is)) (still_impossible before ps)
+    where
+      by : (b : Bool) → possible (before ++ ps) ≡ b → possible (reduced possible (before ++ (p ∷ [])) ps) ≡ false → (possible (before ++ ps) ≡ false → possible (reduced possible before ps) ≡ false)
+          → possible (cond b (reduced possible (before ++ (p ∷ [])) ps) (reduced possible before ps)) ≡ false
+      by true e kept left_out = kept
+      by false e kept left_out = left_out e
+
+  -- what all pairs pass, all that is left passes
+  pub part_of_all : (f : Pair → Bool) (before ps : List Pair) → list_all f before ≡ true → list_all f ps ≡ true → list_all f (reduced possible before ps) ≡ true
+  part_of_all f before [] front rest = front
+  part_of_all f before (p ∷ ps) front rest =
+      by (possible (before ++ ps))
+      (part_of_all f (before ++ (p ∷ [])) ps (list_all-append f before (p ∷ []) ∙ and_from (list_all f before) (list_all f (p ∷ [])) front (and_from (f p) true (and_parts (f p) (list_all f ps) rest).0 refl)) (and_parts (f p) (list_all f ps) rest).1)
+      (part_of_all f before ps front (and_parts (f p) (list_all f ps) rest).1)
+    where
+      by : (b : Bool) → list_all f (reduced possible (before ++ (p ∷ [])) ps) ≡ true → list_all f (reduced possible before ps) ≡ true
+          → list_all f (cond b (reduced possible (before ++ (p ∷ [])) ps) (reduced possible before ps)) ≡ true
+      by true kept left_out = kept
+      by false kept left_out = left_out
+
+  -- each pair behind the front is needed beside the others and the rest
+  abbrev pub needed_beside : List Pair → List Pair → List Pair → Bool
+  needed_beside front [] rest = true
+  needed_beside front (p ∷ back) rest = possible (front ++ (back ++ rest)) && needed_beside (front ++ (p ∷ [])) back rest
+
+  more : (front back rest : List Pair) (p : Pair) → needed_beside front back (p ∷ rest) ≡ true → possible (front ++ (back ++ rest)) ≡ true → needed_beside front (back ++ (p ∷ [])) rest ≡ true
+  more front [] rest p all here = and_from (possible (front ++ rest)) true here refl
+  more front (q ∷ back) rest p all here =
+      let both = and_parts (possible (front ++ (back ++ (p ∷ rest)))) (needed_beside (front ++ (q ∷ [])) back (p ∷ rest)) all in
+      and_from (possible (front ++ ((back ++ (p ∷ [])) ++ rest))) (needed_beside (front ++ (q ∷ [])) (back ++ (p ∷ [])) rest)
+      (ap (λ ys. possible (front ++ ys)) (append_assoc back (p ∷ []) rest) ∙ both.0)
+      (more (front ++ (q ∷ [])) back rest p both.1 (ap possible (append_assoc front (q ∷ []) (back ++ rest)) ∙ here))
+
+  fewer : IsMonotone possible → (front back rest : List Pair) (p : Pair) → needed_beside front back (p ∷ rest) ≡ true → needed_beside front back rest ≡ true
+  fewer monotone front [] rest p all = refl
+  fewer monotone front (q ∷ back) rest p all =
+      let both = and_parts (possible (front ++ (back ++ (p ∷ rest)))) (needed_beside (front ++ (q ∷ [])) back (p ∷ rest)) all in
+      and_from (possible (front ++ (back ++ rest))) (needed_beside (front ++ (q ∷ [])) back rest)
+      (sym (ap possible (append_assoc front back rest)) ∙ monotone.without (front ++ back) p rest (ap possible (append_assoc front back (p ∷ rest)) ∙ both.0))
+      (fewer monotone (front ++ (q ∷ [])) back rest p both.1)
+
+  alone : (front back : List Pair) → needed_beside front back [] ≡ each_is_needed possible front back
+  alone front [] = refl
+  alone front (p ∷ back) = λ i. possible (front ++ append-nil back i) && alone (front ++ (p ∷ [])) back i
+
+  -- where those before are needed, all that is left is
+  pub all_needed : IsMonotone possible → (before ps : List Pair) → needed_beside [] before ps ≡ true → each_is_needed possible [] (reduced possible before ps) ≡ true
+  all_needed monotone before [] all = sym (alone [] before) ∙ all
+  all_needed monotone before (p ∷ ps) all =
+      by (possible (before ++ ps)) refl (λ e. all_needed monotone (before ++ (p ∷ [])) ps (more [] before ps p all e)) (all_needed monotone before ps (fewer monotone [] before ps p all))
+    where
+      by : (b : Bool) → possible (before ++ ps) ≡ b → (possible (before ++ ps) ≡ true → each_is_needed possible [] (reduced possible (before ++ (p ∷ [])) ps) ≡ true) → each_is_needed possible [] (reduced possible before ps) ≡ true
+          → each_is_needed possible [] (cond b (reduced possible (before ++ (p ∷ [])) ps) (reduced possible before ps)) ≡ true
+      by true e kept left_out = kept e
+      by false e kept left_out = left_out
+
+-- choices have their own pairs
+pub own_pairs : (front cs : List ℕ) → contains_all (front ++ cs) (pairs_from (length front) cs) ≡ true
+own_pairs front [] = refl
+own_pairs front (c ∷ cs) =
+    let longer : length (front ++ (c ∷ [])) ≡ length front + 1 = length-append front (c ∷ []) ∙ omega arith in
+    let within : length front < length (front ++ (c ∷ cs)) = rw length-append (omega arith) in
+    and_from (picks (front ++ (c ∷ cs)) (record { slot = length front; choice = c })) (contains_all (front ++ (c ∷ cs)) (pairs_from (length front + 1) cs))
+    (and_from (nat_lt (length front) (length (front ++ (c ∷ cs)))) (nat_eq (get_or (front ++ (c ∷ cs)) (length front) 0) c) (lt-ltb (length front) (length (front ++ (c ∷ cs))) within) (eq-eqb (get_or (front ++ (c ∷ cs)) (length front) 0) c (get_or-append_seam front c cs 0)))
+    (sym (λ i. contains_all (append_assoc front (c ∷ []) cs i) (pairs_from (longer i) cs)) ∙ own_pairs (front ++ (c ∷ [])) cs)

@@ -2,3 +2,4 @@ pub mod Reason
 pub mod Walk
 pub mod Nominal
 pub mod Advance
+pub mod Laws

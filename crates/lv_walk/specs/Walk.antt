@@ -6,8 +6,7 @@ use Rattle.lv_base.specs.declared.search.Pair.{Pair}
 use Rattle.lv_base.specs.Choices.{contains_all}
 use Rattle.lv_model.specs.declared.plant.Plant.{Plant}
 use Rattle.lv_meaning.specs.declared.facts.Facts.{Facts}
-use Rattle.lv_meaning.specs.declared.candidates.State.{State}
-use Rattle.lv_meaning.specs.Candidates.{candidates, can_be}
+use Rattle.lv_meaning.specs.Candidates.{can_be}
 use Rattle.lv_walk.specs.declared.walk.Walked.{Walked}
 use Rattle.lv_walk.specs.Reason.{reason_of}
 

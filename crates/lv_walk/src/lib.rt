@@ -6,10 +6,12 @@
 //! | `reason` | which of a candidate's choices already aren't possible together |
 //! | `walk` | which candidates are listed, which reasons are kept, and whether that settles the diagnosis |
 //! | `advance` | which states the listed candidates lead to |
+//! | `laws` | what reasons and walks promise |
 //! | `nominal` | whether a full choice has no fault |
 #![tactic(auto)]
 
 pub mod advance;
+pub mod laws;
 pub mod nominal;
 pub mod reason;
 pub mod walk;

@@ -1,6 +1,5 @@
 -- each pair is kept or left out
-use Rattle.std.proofs.Common.{◌≡◌, ◌+◌, ◌++◌, [], ◌∷◌, length, drop, get_or, ap, ◌∙◌, sym}
-use Rattle.lv_base.specs.declared.search.Pair.{Pair}
+use Rattle.std.proofs.Common.{◌≡◌, ◌+◌, ◌++◌, drop, ap, ◌∙◌, sym}
 use Rattle.lv_meaning.specs.Possible.{is_possible}
 use Rattle.lv_walk.specs.Reason.{reduced}
 use Rattle.lv_walk.proofs.ReasonLemmas.{pair_kept, pair_left_out}
