@@ -1,7 +1,8 @@
+pub mod OccurrenceLemmas
+pub mod ArenaLemmas
 pub mod TrailLemmas
-pub mod VisitLemmas
-pub mod PassLemmas
-pub mod AssumeLemmas
-pub mod ToldLemmas
+pub mod CountLemmas
+pub mod LabelLemmas
+pub mod SettleLemmas
+pub mod PropagationLemmas
 pub mod CoreLemmas
-pub mod GrowLemmas

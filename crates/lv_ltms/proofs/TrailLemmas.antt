@@ -1,5 +1,5 @@
 -- What one link more makes of the trail, and that all on it is in the closure.
-use Rattle.std.proofs.Common.{◌≡◌, ◌⊎◌, ℕ, ◌+◌, ◌<◌, Bool, true, false, not, ◌||◌, nat_eq, List, [], ◌∷◌, ◌++◌, length, get_or, Option, Some, None, is_none, cond, refl, sym, ap, subst, ◌∙◌, arith, inl, inr}
+use Rattle.std.proofs.Common.{◌≡◌, ◌⊎◌, ℕ, ◌+◌, ◌<◌, Bool, true, false, not, ◌||◌, nat_eq, List, [], ◌∷◌, ◌++◌, length, get_or, Option, Some, None, is_none, cond, count_by, refl, sym, ap, subst, ◌∙◌, arith, inl, inr}
 use Rattle.std.proofs.lemmas.Bool.Decides.{nat_tests}
 use Rattle.std.proofs.lemmas.List.Folds.{list_any-append}
 use Rattle.std.proofs.lemmas.List.Sums.{sum_by-set}
@@ -14,7 +14,7 @@ use Rattle.lv_ltms.specs.declared.labels.Link.{Link}
 use Rattle.lv_ltms.specs.declared.labels.Reason.{Reason}
 use Rattle.lv_ltms.specs.declared.labels.Reason.TheVariants.{Assumed, Clause}
 use Rattle.lv_ltms.specs.Trail.{same_lit, trail_has, IsReason, IsDerivation, start, next}
-use Rattle.lv_ltms.specs.Steps.{Labelled, Agrees, with_link, free_count}
+use Rattle.lv_ltms.specs.Labelled.{Labelled, Agrees, Grows, with_link, has_boolean, is_once, support_at}
 
 eq_from : (a b : ℕ) → nat_eq a b ≡ true → a ≡ b
 eq_from a b e = grind (arith, nat_tests)
@@ -36,16 +36,6 @@ trail_has-push trail link l =
     list_any-append (λ (k : Link). same_lit k.lit l) trail (link ∷ [])
     ∙ ap (λ b. trail_has trail l || b) (or_false (same_lit link.lit l))
 
-pub Agrees-push : (labels : Labelled) (link : Link) → link.lit.var.0 < length labels.marks → has labels.marks link.lit ≡ false → has labels.marks (neg link.lit) ≡ false → Agrees labels → Agrees (with_link labels link)
-Agrees-push labels link within p q agrees =
-    record {
-      same =
-          λ l.
-          has-marked_free labels.marks link.lit l within p q
-          ∙ ap (λ b. b || same_lit link.lit l) (agrees.same l)
-          ∙ sym (trail_has-push labels.trail link l);
-    }
-
 unmarked : (o : Option Bool) (s : Bool) → mark_is o s ≡ false → mark_is o (not s) ≡ false → o ≡ None
 unmarked None s p q = refl
 unmarked (Some true) true p q = absurd (cc)
@@ -56,7 +46,8 @@ unmarked (Some false) false p q = absurd (cc)
 abbrev number : ℕ → ℕ
 number n = n
 
-pub free_count-push : (labels : Labelled) (link : Link) → link.lit.var.0 < length labels.marks → has labels.marks link.lit ≡ false → has labels.marks (neg link.lit) ≡ false → free_count (with_link labels link) + 1 ≡ free_count labels
+pub free_count-push : (labels : Labelled) (link : Link) → link.lit.var.0 < length labels.marks → has labels.marks link.lit ≡ false → has labels.marks (neg link.lit) ≡ false
+    → count_by is_none (with_link labels link).marks + 1 ≡ count_by is_none labels.marks
 free_count-push labels link within p q =
     let none : get_or labels.marks link.lit.var.0 None ≡ None = unmarked (get_or labels.marks link.lit.var.0 None) link.lit.sign p q in
     let one : number (cond (is_none (get_or labels.marks link.lit.var.0 None)) 1 0) ≡ 1 = ap (λ (o : Option Bool). number (cond (is_none o) 1 0)) none in

@@ -1,6 +1,10 @@
 pub mod Trail
-pub mod Room
-pub mod Steps
+pub mod Occurrences
+pub mod Counters
+pub mod Arena
+pub mod Labelled
+pub mod Propagating
+pub mod Revising
 pub mod Marked
 pub mod System
 pub mod Told

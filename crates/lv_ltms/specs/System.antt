@@ -1,16 +1,20 @@
 -- A truth maintenance system as contracts see it, and what its answers tell.
-use Rattle.std.specs.Prelude.{◌≡◌, ◌≢◌, ℕ, Bool, true, List, length, Option}
+use Rattle.std.specs.Prelude.{◌≡◌, ◌≢◌, ℕ, ◌≤◌, Bool, true, List, length, Option}
 use Rattle.std.specs.List.{list_any}
 use Rattle.lv_base.specs.declared.ids.Lit.{Lit}
 use Rattle.lv_clauses.specs.Literals.{distinct}
-use Rattle.lv_clauses.specs.ClauseMap.{Slots, clause_at, AreClauses}
+use Rattle.lv_clauses.specs.ClauseMap.{Slots, clause_at}
 use Rattle.lv_clauses.specs.Closure.{InClosure, IsContradictory}
 use Rattle.lv_clauses.specs.Marks.{Marks, has}
 use Rattle.lv_ltms.specs.declared.labels.Link.{Link}
-use Rattle.lv_ltms.specs.declared.propagation.Standing.{Standing}
-use Rattle.lv_ltms.specs.declared.propagation.Standing.TheVariants.{Consistent, Contradiction}
+use Rattle.lv_ltms.specs.declared.ltms.Standing.{Standing}
+use Rattle.lv_ltms.specs.declared.ltms.Standing.TheVariants.{Consistent, Contradiction}
 use Rattle.lv_ltms.specs.Trail.{same_lit, trail_has, IsDerivation}
-use Rattle.lv_ltms.specs.Steps.{Labelled, IsLabelled}
+use Rattle.lv_ltms.specs.Occurrences.{Rows}
+use Rattle.lv_ltms.specs.Counters.{Counted}
+use Rattle.lv_ltms.specs.Labelled.{Labelled}
+use Rattle.lv_ltms.specs.Propagating.{IsPropagating, none_excused}
+use Rattle.lv_ltms.specs.Revising.{AreMarked}
 
 -- the clauses present over so many booleans, the assumptions present as marks, and the trail of the true literals
 pub record System : Type 0 where
@@ -58,10 +62,13 @@ pub record IsCore (s : System) (core : List Lit) : Type 0 where
   pub distinct : distinct core ≡ true
   pub contradictory : IsContradictory s.clauses (in_list core)
 
--- the labels are those of the clauses and assumptions present
-pub record IsKept (s : System) (labels : Labelled) (standing : Standing) : Type 0 where
+-- what is kept beside the system: all that is marked is counted and settled, derived by what is present, and each
+-- assumption is marked; and there is room for each boolean to fall
+pub record IsKept (s : System) (rows : Rows) (counted : Counted) (labels : Labelled) (space : ℕ) : Type 0 where
   pub assumed : length s.assumed ≡ s.bools
-  pub marks : length labels.marks ≡ s.bools
-  pub clauses : AreClauses s.bools s.clauses
+  pub clauses : s.clauses ≡ counted.clauses
   pub trail : s.trail ≡ labels.trail
-  pub labelled : IsLabelled s.clauses (has s.assumed) labels standing
+  pub state : IsPropagating s.bools rows counted labels (length labels.trail) none_excused
+  pub derivation : IsDerivation s.clauses (has s.assumed) labels.trail
+  pub assumptions : AreMarked (has s.assumed) labels
+  pub room : s.bools ≤ space

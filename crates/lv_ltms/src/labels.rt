@@ -1,11 +1,13 @@
-//! Labels and their reasons: a mark or none for each boolean, and the trail, the literals marked in the order in which
-//! they were derived. The trail has room for every boolean from the start.
+//! Labels and their reasons: a mark or none for each boolean, the reason that supports each label, and the trail, the
+//! literals marked in the order in which they were derived. The trail has room for every boolean from the start.
 #![tactic(auto)]
 
-ghost use Rattle.std.specs.Prelude.{◌≡◌, ◌<◌, [], ◌∷◌, ◌++◌, length, take, false, IfOk, None, slice_index_or, Some, slice_get};
-ghost use Rattle.lv_clauses.specs.Literals.{neg};
-ghost use Rattle.lv_clauses.specs.Marks.{nothing, has};
-ghost use Rattle.lv_ltms.specs.Steps.{with_link};
+ghost use Rattle.std.specs.Prelude.{◌≡◌, ◌<◌, ◌≤◌, [], length, take, position, unwrap_or, IfOk, IsTrue, slice_set, replicate};
+ghost use Rattle.lv_clauses.specs.Literals.{same_var};
+ghost use Rattle.lv_clauses.specs.Marks.{nothing};
+ghost use Rattle.lv_ltms.specs.declared.labels.Reason.TheVariants.{Assumed};
+ghost use Rattle.lv_ltms.specs.Labelled.{with_link, without_mark, Agrees};
+ghost use Rattle.lv_ltms.specs.Trail.{reason_in};
 
 use lv_base::{BoolId, ClauseId, Lit};
 use std::alloc::{AllocError, Global};
@@ -27,42 +29,34 @@ pub struct Link {
     pub reason: Reason,
 }
 
-/// Marks and trail, seen by contracts as their lists.
+/// Marks, supports and trail, seen by contracts as their lists.
 #[derive(Drop)]
 pub struct Labels {
     marks: Vec<Option<bool>>,
-    links: Vec<Link>,
-    len: usize,
+    supports: Vec<Reason>,
+    trail: Vec<Link>,
 }
 
 impl Model for Labels {
-    ghost use Rattle.std.specs.Prelude.{take};
-    ghost use Rattle.lv_ltms.specs.Steps.{Labelled};
-    ghost use Rattle.lv_ltms.specs.Room.{HasRoom};
+    ghost use Rattle.std.specs.Prelude.{◌≤◌, length, vec_capacity};
+    ghost use Rattle.lv_ltms.specs.Labelled.{Labelled};
 
     ghost Value = { Labelled };
 
-    ghost view = { λ s. record { marks = s.marks.items; trail = take s.len s.links.items } };
+    ghost view = { λ s. record { marks = s.marks.items; supports = s.supports.items; trail = s.trail.items } };
 
-    ghost invariant = { λ s. HasRoom s.marks.items s.links.items s.len };
+    ghost invariant = { λ s. length s.marks.items ≤ vec_capacity s.trail };
 }
 
 impl Labels {
     /// Labels of so many booleans, none of them marked.
     pub fn new(alloc: Global, bools: u32) -> Result<Labels, AllocError>
-        ensures { IfOk result (λ s. s ≡ record { marks = nothing bools; trail = [] }) }
+        ensures { IfOk result (λ s. s ≡ record { marks = nothing bools; supports = replicate bools Assumed; trail = [] }) }
     {
-        let blank = Link {
-            lit: Lit {
-                var: BoolId(0),
-                sign: false,
-            },
-            reason: Reason::Assumed,
-        };
         Ok(Labels {
             marks: vec![in alloc; None; bools as usize]?,
-            links: vec![in alloc; blank; bools as usize]?,
-            len: 0,
+            supports: vec![in alloc; Reason::Assumed; bools as usize]?,
+            trail: Vec::with_capacity(alloc, bools as usize)?,
         })
     }
 
@@ -77,35 +71,65 @@ impl Labels {
     pub fn trail(&self) -> &[Link]
         ensures { result.now ≡ self.now.trail }
     {
-        &self.links[..self.len]
+        self.trail.as_slice()
     }
 
-    /// Unmarks every boolean.
-    pub fn clear(&mut self)
-        ensures { self.new ≡ record { marks = nothing (length self.old.marks); trail = [] } }
-    {
-        wipe(&mut self.marks);
-        self.len = 0;
-    }
-
-    /// Marks a literal that is unmarked.
+    /// Marks a literal, at the end of the trail.
     pub fn push(&mut self, link: Link)
-        requires within { link.lit.var.0 < length self.old.marks }
-        requires unmarked { has self.old.marks link.lit ≡ false }
-        requires negation { has self.old.marks (neg link.lit) ≡ false }
+        requires room { length self.old.trail < length self.old.marks }
+        requires mark { link.lit.var.0 < length self.old.marks }
+        requires support { link.lit.var.0 < length self.old.supports }
         ensures { self.new ≡ with_link self.old link }
     {
-        self.marks[link.lit.var.0 as usize] = Some(link.lit.sign);
-        self.links[self.len] = link;
-        self.len += 1;
+        let index = link.lit.var.0 as usize;
+        self.marks[index] = Some(link.lit.sign);
+        self.supports[index] = link.reason;
+        self.trail.push_reserved(link);
     }
-}
 
-/// Unmarks every boolean.
-fn wipe(marks: &mut Vec<Option<bool>>)
-    ensures { marks.new.items ≡ nothing (length marks.old.items) }
-{
-    for index in 0..marks.len() {
-        marks[index] = None;
+    /// Takes away a literal's mark. The trail stays as it is.
+    pub fn unmark(&mut self, lit: Lit)
+        requires { lit.var.0 < length self.old.marks }
+        ensures { self.new ≡ without_mark self.old lit }
+    {
+        self.marks[lit.var.0 as usize] = None;
+    }
+
+    /// Puts a link at a place of the trail. Marks and supports stay as they are.
+    pub fn put(&mut self, place: usize, link: Link)
+        requires { place < length self.old.trail }
+        ensures { self.new ≡ record { marks = self.old.marks; supports = self.old.supports; trail = slice_set self.old.trail place link } }
+    {
+        self.trail[place] = link;
+    }
+
+    /// Cuts the trail back to so many links. Marks and supports stay as they are.
+    pub fn cut(&mut self, len: usize)
+        ensures { self.new ≡ record { marks = self.old.marks; supports = self.old.supports; trail = take len self.old.trail } }
+    {
+        self.trail.truncate(len);
+    }
+
+    /// Where the literal's boolean stands on the trail; the trail's length where it doesn't.
+    pub fn place_of(&self, lit: Lit) -> usize
+        ensures { result ≡ unwrap_or (position (λ k. same_var k.lit lit) self.now.trail) (length self.now.trail) }
+    {
+        self.trail
+            .iter()
+            .position(|link| link.lit.var == lit.var)
+            .unwrap_or(self.trail.len())
+    }
+
+    /// The reason of a literal or its negation, None where neither is marked.
+    pub fn reason(&self, lit: Lit) -> Option<Reason>
+        requires { Agrees self.now.marks self.now.supports self.now.trail }
+        ensures { result ≡ reason_in self.now.trail lit }
+    {
+        let index = lit.var.0 as usize;
+        if index < self.marks.len() && index < self.supports.len() && self.marks[index].is_some() {
+            Some(self.supports[index])
+        } else {
+            None
+        }
     }
 }

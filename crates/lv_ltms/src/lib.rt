@@ -1,21 +1,31 @@
 //! Truth maintenance: clauses and assumptions come and go, and each literal's label is what unit propagation derives
 //! from those that are there now. A true literal has a reason, a contradiction has a core.
 //!
+//! Each clause has a counter of its literals that aren't false, and each literal a list of the clauses that hold it; so
+//! a change touches only the clauses in which a literal became false or stopped being false. Labels are kept from call
+//! to call, each with the support that it has.
+//!
 //! All room is taken when the system is made and when a clause is added, so every other call succeeds.
 //!
-//! This is the plain form. A clause or an assumption that comes goes on from the labels that are there; one that goes
-//! clears them, and all is derived anew from the assumptions. Propagation runs in passes over the clauses until a pass
-//! finds nothing new: there are no occurrence lists and no counters yet, so a change costs what its passes cost. A core
-//! is all assumptions.
+//! | part | items |
+//! |---|---|
+//! | the system | `Ltms`, `Standing`, `Label` |
+//! | labels and their reasons | `labels`, `Reason`, `Link` |
+//! | clauses with counters | `arena` |
+//! | the clauses that hold a literal | `occurrences` |
+//! | what follows | `propagation` |
+//! | what no longer follows | `revision` |
 #![tactic(auto)]
 
+pub mod arena;
 pub mod labels;
 pub mod ltms;
+pub mod occurrences;
 pub mod propagation;
+pub mod revision;
 
 pub use labels::{Link, Reason};
-pub use ltms::{Label, Ltms};
-pub use propagation::Standing;
+pub use ltms::{Label, Ltms, Standing};
 
 #[cfg(test)]
 mod tests;

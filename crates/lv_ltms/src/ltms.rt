@@ -1,17 +1,22 @@
-//! The truth maintenance system.
+//! The truth maintenance system. All room is taken when it is made and when a clause is added, so that nothing else can
+//! fail. Labels are kept from call to call: a call changes those alone that it touches.
 #![tactic(auto)]
 
-ghost use Rattle.std.specs.Prelude.{◌≡◌, ◌<◌, ◌≤◌, ◌&&◌, option_map, [], length, take, drop, true, false, Some, None, IfOk, OnErr, IsSome, IsTrue, is_some, count_by, slice_set};
+ghost use Rattle.std.specs.Prelude.{◌≡◌, ◌≤◌, ◌&&◌, option_map, [], length, take, position, unwrap_or, Some, None, IfOk, OnErr, IsSome, IsTrue, is_some, count_by, slice_set};
 ghost use Rattle.lv_clauses.specs.Literals.{is_clause, in_range};
 ghost use Rattle.lv_clauses.specs.ClauseMap.{clause_at};
 ghost use Rattle.lv_clauses.specs.Marks.{nothing, has, marked, is_free};
 ghost use Rattle.lv_ltms.specs.Trail.{reason_in};
 ghost use Rattle.lv_ltms.specs.Marked.{literals_from};
+ghost use Rattle.lv_ltms.specs.Labelled.{gives};
 
+use super::arena::Arena;
 use super::labels::{Labels, Link, Reason};
-use super::propagation::{Standing, relabel, take_clause, take_literal};
+use super::occurrences::Occurrences;
+use super::propagation::{left_in, propagate, settle};
+use super::revision::revise;
 use lv_base::{BoolId, ClauseId, Lit};
-use lv_clauses::{ClauseSet, has, negation};
+use lv_clauses::{has, negation};
 use std::alloc::{AllocError, Global};
 use std::marker::Model;
 
@@ -23,24 +28,35 @@ pub enum Label {
     Unknown,
 }
 
+/// Whether the clauses and assumptions present contradict each other by unit propagation.
+#[derive(Clone, Copy, Debug, PartialEq, Eq)]
+pub enum Standing {
+    Consistent,
+    Contradiction,
+}
+
 /// Clauses and assumptions that come and go over booleans counted from 0, with what unit propagation derives from those
 /// present.
 #[derive(Drop)]
 pub struct Ltms {
-    set: ClauseSet,
+    bools: u32,
+    arena: Arena,
+    index: Occurrences,
     assumed: Vec<Option<bool>>,
     labels: Labels,
-    standing: Standing,
+    // Room for the literals that lose their label in one call.
+    fallen: Vec<Lit>,
 }
 
 impl Model for Ltms {
+    ghost use Rattle.std.specs.Prelude.{vec_capacity};
     ghost use Rattle.lv_ltms.specs.System.{System, IsKept};
 
     ghost Value = { System };
 
-    ghost view = { λ s. record { bools = s.set.bools; clauses = s.set.slots; assumed = s.assumed.items; trail = s.labels.trail } };
+    ghost view = { λ s. record { bools = s.bools; clauses = s.arena.clauses; assumed = s.assumed.items; trail = s.labels.trail } };
 
-    ghost invariant = { λ s. IsKept (record { bools = s.set.bools; clauses = s.set.slots; assumed = s.assumed.items; trail = s.labels.trail }) s.labels s.standing };
+    ghost invariant = { λ s. IsKept (record { bools = s.bools; clauses = s.arena.clauses; assumed = s.assumed.items; trail = s.labels.trail }) s.index s.arena s.labels (vec_capacity s.fallen) };
 }
 
 impl Ltms {
@@ -52,10 +68,12 @@ impl Ltms {
         ensures { IfOk result (λ s. s ≡ record { bools = bools; clauses = []; assumed = nothing bools; trail = [] }) }
     {
         Ok(Ltms {
-            set: ClauseSet::new(alloc, bools)?,
+            bools,
+            arena: Arena::new(alloc)?,
+            index: Occurrences::new(alloc, bools)?,
             assumed: vec![in alloc; None; bools as usize]?,
             labels: Labels::new(alloc, bools)?,
-            standing: Standing::Consistent,
+            fallen: Vec::with_capacity(alloc, bools as usize)?,
         })
     }
 
@@ -66,8 +84,11 @@ impl Ltms {
         ensures added { IfOk result (λ id. PutsClause self.old self.new id.0 (Some lits.now)) }
         ensures kept { OnErr result (self.new ≡ self.old) }
     {
-        let id = self.set.add(lits)?;
-        self.standing = take_clause(&self.set, id, &mut self.labels, self.standing);
+        let from = self.labels.trail().len();
+        let left = left_in(lits, self.labels.marks());
+        let id = self.arena.add(lits, left, &mut self.index)?;
+        settle(id, &self.arena, &mut self.labels);
+        propagate(from, &self.index, &mut self.arena, &mut self.labels);
         Ok(id)
     }
 
@@ -76,24 +97,47 @@ impl Ltms {
         requires { IsSome (clause_at self.old.clauses id.0) }
         ensures { PutsClause self.old self.new id.0 None }
     {
-        self.set.remove(id);
-        self.standing = relabel(&self.set, self.assumed.as_slice(), &mut self.labels);
+        let from = place_given(self.labels.trail(), id);
+        self.arena.remove(id, &mut self.index);
+        revise(
+            from,
+            self.assumed.as_slice(),
+            &self.index,
+            &mut self.arena,
+            &mut self.labels,
+            &mut self.fallen,
+        );
     }
 
-    /// Adds an assumption: a literal that isn't assumed, nor its negation.
+    /// Adds an assumption: a literal that isn't assumed, nor its negation. Where its negation is derived, that label
+    /// gives way to the assumption.
     pub fn assume(&mut self, lit: Lit)
         requires range { IsTrue (in_range self.old.bools lit) }
         requires free { IsTrue (is_free self.old.assumed lit) }
         ensures { PutsAssumed self.old self.new (marked self.old.assumed lit) }
     {
         self.assumed[lit.var.0 as usize] = Some(lit.sign);
-        self.standing = take_literal(
-            &self.set,
-            self.assumed.as_slice(),
+        if has(self.labels.marks(), lit) {
+            return;
+        }
+        if has(self.labels.marks(), negation(lit)) {
+            let from = self.labels.place_of(lit);
+            revise(
+                from,
+                self.assumed.as_slice(),
+                &self.index,
+                &mut self.arena,
+                &mut self.labels,
+                &mut self.fallen,
+            );
+            return;
+        }
+        let from = self.labels.trail().len();
+        self.labels.push(Link {
             lit,
-            &mut self.labels,
-            self.standing,
-        );
+            reason: Reason::Assumed,
+        });
+        propagate(from, &self.index, &mut self.arena, &mut self.labels);
     }
 
     /// Takes back an assumption.
@@ -105,7 +149,15 @@ impl Ltms {
         if index < self.assumed.len() {
             self.assumed[index] = None;
         }
-        self.standing = relabel(&self.set, self.assumed.as_slice(), &mut self.labels);
+        let from = self.labels.place_of(lit);
+        revise(
+            from,
+            self.assumed.as_slice(),
+            &self.index,
+            &mut self.arena,
+            &mut self.labels,
+            &mut self.fallen,
+        );
     }
 
     /// Whether a literal is one of the assumptions present.
@@ -127,21 +179,25 @@ impl Ltms {
     pub fn find_clause(&self, id: ClauseId) -> Option<&[Lit]>
         ensures { option_map (λ lits. lits.now) result ≡ clause_at self.now.clauses id.0 }
     {
-        self.set.find(id)
+        self.arena.find(id)
     }
 
     /// The number of booleans.
     pub fn bools(&self) -> u32
         ensures { result ≡ self.now.bools }
     {
-        self.set.bools()
+        self.bools
     }
 
     /// Whether unit propagation over what is present comes to a contradiction.
     pub fn status(&self) -> Standing
         ensures { TellsStanding self.now result }
     {
-        self.standing
+        if self.arena.has_false() {
+            Standing::Contradiction
+        } else {
+            Standing::Consistent
+        }
     }
 
     /// What a literal is. Only while the system is consistent.
@@ -165,7 +221,7 @@ impl Ltms {
         ensures reason { result ≡ reason_in self.now.trail lit }
         ensures trail { IsWholeTrail self.now }
     {
-        reason_on(self.labels.trail(), lit)
+        self.labels.reason(lit)
     }
 
     /// How many assumptions are present.
@@ -183,7 +239,7 @@ impl Ltms {
         ensures within { result ≤ length out.old }
         ensures core { IsCore self.now (take result out.new) }
     {
-        write_assumptions(self.set.bools(), self.assumed.as_slice(), out)
+        write_assumptions(self.bools, self.assumed.as_slice(), out)
     }
 }
 
@@ -207,14 +263,12 @@ fn write_assumptions(bools: u32, assumed: &[Option<bool>], out: &mut [Lit]) -> u
     written
 }
 
-/// The reason of a literal or its negation on a trail.
-fn reason_on(trail: &[Link], lit: Lit) -> Option<Reason>
-    ensures { result ≡ reason_in trail.now lit }
+/// Where the first label stands on the trail that a clause supports; the trail's length where there is none.
+fn place_given(trail: &[Link], id: ClauseId) -> usize
+    ensures { result ≡ unwrap_or (position (gives id) trail.now) (length trail.now) }
 {
-    for link in trail {
-        if link.lit.var == lit.var {
-            return Some(link.reason);
-        }
-    }
-    None
+    trail
+        .iter()
+        .position(|link| link.reason == Reason::Clause(id))
+        .unwrap_or(trail.len())
 }
