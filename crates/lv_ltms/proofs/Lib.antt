@@ -5,4 +5,6 @@ pub mod CountLemmas
 pub mod LabelLemmas
 pub mod SettleLemmas
 pub mod PropagationLemmas
+pub mod SweepLemmas
+pub mod SweepingLemmas
 pub mod CoreLemmas

@@ -1,5 +1,5 @@
 -- Taking labels away whose support is gone, and finding other supports.
-use Rattle.std.specs.Prelude.{◌≡◌, ◌≢◌, ℕ, ◌+◌, ◌≤◌, Bool, true, false, ◌||◌, ◌&&◌, List, length, take, Option, Some, None, is_some, nat_eq, option_map, find, slice_get, Contains}
+use Rattle.std.specs.Prelude.{◌≡◌, ◌≢◌, ℕ, ◌+◌, ◌<◌, ◌≤◌, Bool, true, false, ◌||◌, ◌&&◌, List, length, take, Option, Some, None, is_some, nat_eq, option_map, find, slice_index_or, Contains}
 use Rattle.std.specs.List.{list_any}
 use Rattle.lv_base.specs.declared.ids.Lit.{Lit}
 use Rattle.lv_base.specs.declared.ids.ClauseId.{ClauseId}
@@ -29,8 +29,10 @@ pub record IsOneSided (assumed : Lit → Bool) : Type 0 where
 
 -- a clause that gave a label and is present has the literal, and its others are false before
 pub record IsBacked (clauses : Slots) (trail : List Link) : Type 0 where
-  pub backed : (at : ℕ) (link : Link) (id : ClauseId) (c : List Lit) → slice_get trail at ≡ Some link → link.reason ≡ Clause id → clause_at clauses id.0 ≡ Some c
-      → Contains c link.lit × ((m : Lit) → Contains c m → m ≢ link.lit → true_before at trail (neg m) ≡ true)
+  pub member : (at : ℕ) (d : Link) (id : ClauseId) (c : List Lit) → at < length trail → (slice_index_or trail at d).reason ≡ Clause id → clause_at clauses id.0 ≡ Some c
+      → Contains c (slice_index_or trail at d).lit
+  pub others : (at : ℕ) (d : Link) (id : ClauseId) (c : List Lit) (m : Lit) → at < length trail → (slice_index_or trail at d).reason ≡ Clause id → clause_at clauses id.0 ≡ Some c
+      → Contains c m → m ≢ (slice_index_or trail at d).lit → true_before at trail (neg m) ≡ true
 
 -- what has to hold before labels are taken away from a place of the trail on
 pub record IsShaken (assumed : Lit → Bool) (clauses : Slots) (trail : List Link) (from : ℕ) : Type 0 where

@@ -1,0 +1,271 @@
+-- Going along the trail: what stands stays, what doesn't is taken out.
+use Rattle.std.proofs.Common.{◌≡◌, ◌≢◌, ◌⊎◌, ℕ, ◌+◌, ◌<◌, ◌≤◌, suc, zero, Bool, true, false, not, ◌&&◌, ◌||◌, nat_eq, nat_lt, List, [], ◌∷◌, ◌++◌, length, take, drop, get_or, set, Option, Some, None, is_none, is_some, IsSome, cond, count_by, refl, sym, ap, ap₂, subst, ◌∙◌, arith, inl, inr, Contains}
+use Rattle.std.specs.List.{list_any, list_all}
+use Rattle.std.proofs.lemmas.Bool.{cases_eq, cases_lt}
+use Rattle.std.proofs.lemmas.Bool.Decides.{nat_tests}
+use Rattle.std.proofs.lemmas.List.{length-append, length-set, get_or-set_same, get_or-set_other, take-append-drop, take-append-le, take_more, take_more_set, take_all, drop_more, drop_all, drop-set-lt, append_assoc, append-nil, length-take-le}
+use Rattle.std.proofs.lemmas.List.Elements.{Contains-append_cases, Contains-append_left, Contains-append_right}
+use Rattle.std.proofs.lemmas.List.Folds.{list_any-append}
+use Rattle.std.proofs.lemmas.List.Sums.{sum_by-set, count_by-le-length}
+use Rattle.std.proofs.Math.Seq.{get_or-append_seam, take-append_seam, take-length}
+use Rattle.std.proofs.Math.ListN.{get_or-append}
+use Rattle.lv_base.specs.declared.ids.Lit.{Lit}
+use Rattle.lv_base.specs.declared.ids.ClauseId.{ClauseId}
+use Rattle.lv_clauses.specs.Literals.{neg, same_truth, same_var, in_range}
+use Rattle.lv_clauses.specs.ClauseMap.{Slots, clause_at, AreClauses}
+use Rattle.lv_clauses.specs.Marks.{Marks, has, mark_is, is_free}
+use Rattle.lv_clauses.proofs.LiteralLemmas.{Contains-nil, Contains-cases, Contains-tail, and_left, and_right, and_both, member_any}
+use Rattle.lv_ltms.specs.declared.labels.Link.{Link}
+use Rattle.lv_ltms.specs.declared.labels.Reason.{Reason}
+use Rattle.lv_ltms.specs.declared.labels.Reason.TheVariants.{Assumed, Clause}
+use Rattle.lv_ltms.specs.Trail.{same_lit, trail_has, IsDerivation, IsReason, IsUnit, start, next}
+use Rattle.lv_ltms.specs.Occurrences.{Rows, row_of, times_in, lit_count, slot_lit_count, IsIndex, HasWidth}
+use Rattle.lv_ltms.specs.Counters.{Counted, open_at}
+use Rattle.lv_ltms.specs.Labelled.{Labelled, Agrees, has_boolean, is_once, support_at}
+use Rattle.lv_ltms.specs.Propagating.{left_count, is_left, IsCounted, IsSettled, IsPropagating, true_before, none_excused}
+use Rattle.lv_ltms.specs.Revising.{is_fallen, NoneAgainst, IsOneSided, IsBacked, IsShaken, IsSwept, CanRaise, IsRaised, reason_stands}
+use Rattle.lv_ltms.proofs.TrailLemmas.{trail_has-push}
+use Rattle.lv_ltms.proofs.CountLemmas.{HasMore, left_count-more, left_count-same, none_left, one_left}
+use Rattle.lv_ltms.proofs.LabelLemmas.{trail_boolean, contained_has, has_within, has_not_neg}
+use Rattle.lv_ltms.proofs.PropagationLemmas.{IsCounted-same, IsSettled-same}
+
+eq_is : (a b : ℕ) → a ≡ b → nat_eq a b ≡ true
+eq_is a b e = grind (arith, nat_tests)
+
+eq_isnt : (a b : ℕ) → (a ≡ b → ⊥) → nat_eq a b ≡ false
+eq_isnt a b e = grind (arith, nat_tests)
+
+eq_from : (a b : ℕ) → nat_eq a b ≡ true → a ≡ b
+eq_from a b e = grind (arith, nat_tests)
+
+eq_swap : (a b : ℕ) → nat_eq a b ≡ nat_eq b a
+eq_swap a b = grind (arith, nat_tests)
+
+not_true : (b : Bool) → (b ≡ true → ⊥) → b ≡ false
+not_true true never = absurd (never refl)
+not_true false never = refl
+
+from_not : (b : Bool) → not b ≡ true → b ≡ false
+from_not true e = absurd (cc)
+from_not false e = refl
+
+or_parts : (a b : Bool) → (a || b) ≡ false → (a ≡ false) × (b ≡ false)
+or_parts true b e = absurd (cc)
+or_parts false b e = (refl, e)
+
+or_false : (b : Bool) → (b || false) ≡ b
+or_false true = refl
+or_false false = refl
+
+-- a link in the middle of a trail on which no boolean stands twice: its boolean isn't before or behind it
+pub record IsAlone (front rest : List Link) (link : Link) : Type 0 where
+  pub fresh : has_boolean (front ++ rest) link.lit ≡ false
+  pub once : is_once (front ++ rest) ≡ true
+
+pub alone : (front rest : List Link) (link : Link) → is_once (front ++ link ∷ rest) ≡ true → IsAlone front rest link
+alone [] rest link once = record { fresh = from_not (has_boolean rest link.lit) (and_left (not (has_boolean rest link.lit)) (is_once rest) once); once = and_right (not (has_boolean rest link.lit)) (is_once rest) once }
+alone (k ∷ ks) rest link once =
+    let inner : IsAlone ks rest link = alone ks rest link (and_right (not (has_boolean (ks ++ link ∷ rest) k.lit)) (is_once (ks ++ link ∷ rest)) once) in
+    let none : has_boolean (ks ++ link ∷ rest) k.lit ≡ false = from_not (has_boolean (ks ++ link ∷ rest) k.lit) (and_left (not (has_boolean (ks ++ link ∷ rest) k.lit)) (is_once (ks ++ link ∷ rest)) once) in
+    let split = or_parts (has_boolean ks k.lit) (has_boolean (link ∷ rest) k.lit) (sym (list_any-append (λ (j : Link). same_var j.lit k.lit) ks (link ∷ rest)) ∙ none) in
+    let behind = or_parts (same_var link.lit k.lit) (has_boolean rest k.lit) split.1 in
+    let gone : has_boolean (ks ++ rest) k.lit ≡ false = list_any-append (λ (j : Link). same_var j.lit k.lit) ks rest ∙ ap₂ (λ a b. a || b) split.0 behind.1 in
+    record {
+      fresh = ap₂ (λ a b. a || b) (eq_swap k.lit.var.0 link.lit.var.0 ∙ behind.0) inner.fresh;
+      once = and_both (not (has_boolean (ks ++ rest) k.lit)) (is_once (ks ++ rest)) (ap not gone) inner.once;
+    }
+
+swap_last : (a b c : Bool) → (a || (b || c)) ≡ ((a || c) || b)
+swap_last true b c = refl
+swap_last false true true = refl
+swap_last false true false = refl
+swap_last false false c = sym (or_false c)
+
+module _ (front rest : List Link) (link : Link) (marks : Marks) (supports : List Reason) (agrees : Agrees marks supports (front ++ link ∷ rest)) where
+  alone_here : IsAlone front rest link
+  alone_here = alone front rest link agrees.once
+
+  -- without the link one literal less is true
+  pub has_more : HasMore (trail_has (front ++ rest)) (trail_has (front ++ link ∷ rest)) link.lit
+  has_more =
+      record {
+        grown =
+            λ l.
+            list_any-append (λ (k : Link). same_lit k.lit l) front (link ∷ rest)
+            ∙ swap_last (trail_has front l) (same_lit link.lit l) (trail_has rest l)
+            ∙ ap (λ b. b || same_lit link.lit l) (sym (list_any-append (λ (k : Link). same_lit k.lit l) front rest));
+        fresh = not_true (trail_has (front ++ rest) link.lit) (λ e. cc (trail_boolean (front ++ rest) link.lit e, alone_here.fresh));
+      }
+
+  link_marked : has marks link.lit ≡ true
+  link_marked = agrees.same link.lit ∙ contained_has (front ++ link ∷ rest) link (Contains-append_right front (link ∷ rest) link (0, omega arith, refl))
+
+  pub link_within : link.lit.var.0 < length marks
+  link_within = has_within marks link.lit link_marked
+
+  other_var : (l : Lit) → l.var.0 ≢ link.lit.var.0 → same_lit link.lit l ≡ false
+  other_var l differs = ap (λ b. b && same_truth link.lit.sign l.sign) (eq_isnt link.lit.var.0 l.var.0 (λ e. differs (sym e)))
+
+  pub other_mark : (v : ℕ) → v ≢ link.lit.var.0 → get_or (set marks link.lit.var.0 None) v None ≡ get_or marks v None
+  other_mark v differs = get_or-set_other marks link.lit.var.0 v None None differs
+
+  same_after : (l : Lit) → (l.var.0 ≡ link.lit.var.0) ⊎ (l.var.0 ≢ link.lit.var.0) → has (set marks link.lit.var.0 None) l ≡ trail_has (front ++ rest) l
+  same_after l (inl same) =
+      let gone : get_or (set marks link.lit.var.0 None) l.var.0 None ≡ None = ap (λ v. get_or (set marks link.lit.var.0 None) v None) same ∙ get_or-set_same marks link.lit.var.0 None None link_within in
+      let fresh : has_boolean (front ++ rest) l ≡ false = ap (λ v. list_any (λ (k : Link). nat_eq k.lit.var.0 v) (front ++ rest)) same ∙ alone_here.fresh in
+      let none : trail_has (front ++ rest) l ≡ false = not_true (trail_has (front ++ rest) l) (λ e. cc (trail_boolean (front ++ rest) l e, fresh)) in
+      ap (λ (o : Option Bool). mark_is o l.sign) gone ∙ sym none
+  same_after l (inr differs) =
+      ap (λ (o : Option Bool). mark_is o l.sign) (other_mark l.var.0 differs)
+      ∙ agrees.same l
+      ∙ has_more.grown l
+      ∙ ap (λ b. trail_has (front ++ rest) l || b) (other_var l differs)
+      ∙ or_false (trail_has (front ++ rest) l)
+
+  abbrev number : ℕ → ℕ
+  number n = n
+
+  marked_some : (o : Option Bool) (s : Bool) → mark_is o s ≡ true → number (cond (is_none o) 1 0) ≡ 0
+  marked_some None s e = absurd (cc)
+  marked_some (Some b) s e = refl
+
+  pub agrees_without : Agrees (set marks link.lit.var.0 None) supports (front ++ rest)
+  agrees_without =
+      record {
+        same = λ l. same_after l (cases_eq l.var.0 link.lit.var.0);
+        once = alone_here.once;
+        room =
+            omega (arith, agrees.room, length-append front (link ∷ rest), length-append front rest, length-set marks link.lit.var.0 None,
+            sum_by-set (λ (o : Option Bool). cond (is_none o) 1 0) marks link.lit.var.0 None None link_within, marked_some (get_or marks link.lit.var.0 None) link.lit.sign link_marked);
+        backed =
+            λ k h.
+            agrees.backed k
+            (elim (Contains-append_cases front rest k h) [
+              | inl before ↦ Contains-append_left front (link ∷ rest) k before
+              | inr behind ↦ Contains-append_right front (link ∷ rest) k (Contains-tail link k rest behind)
+            ]);
+      }
+
+  row_count : (rows : Rows) (clauses : Slots) (id : ℕ) (c : List Lit) → IsIndex rows clauses → clause_at clauses id ≡ Some c → times_in (row_of rows (neg link.lit)) id ≡ lit_count (neg link.lit) c
+  row_count rows clauses id c index at = index.exact (neg link.lit) id ∙ ap (slot_lit_count (neg link.lit)) at
+
+  -- the clauses of the negation can be counted up
+  pub can_raise : (rows : Rows) (now : Counted) → IsIndex rows now.clauses → IsCounted now (trail_has (front ++ link ∷ rest)) [] → CanRaise now (row_of rows (neg link.lit))
+  can_raise rows now index counted =
+      record {
+        present =
+            λ id c at.
+            omega (arith, counted.present id c at, row_count rows now.clauses id c index at, left_count-more (trail_has (front ++ rest)) (trail_has (front ++ link ∷ rest)) link.lit has_more c,
+            count_by-le-length (is_left (trail_has (front ++ rest))) c);
+        absent = λ id at. index.exact (neg link.lit) id ∙ ap (slot_lit_count (neg link.lit)) at;
+      }
+
+  pub counted_without : (rows : Rows) (now after : Counted) → IsIndex rows now.clauses → IsCounted now (trail_has (front ++ link ∷ rest)) [] → IsRaised now after (row_of rows (neg link.lit))
+      → IsCounted after (trail_has (front ++ rest)) []
+  counted_without rows now after index counted raised =
+      record {
+        present =
+            λ id c at.
+            let was : clause_at now.clauses id ≡ Some c = ap (λ (s : Slots). clause_at s id) (sym raised.clauses) ∙ at in
+            omega (arith, raised.counters id, counted.present id c was, row_count rows now.clauses id c index was,
+            left_count-more (trail_has (front ++ rest)) (trail_has (front ++ link ∷ rest)) link.lit has_more c);
+        absent =
+            λ id at.
+            let was : clause_at now.clauses id ≡ None = ap (λ (s : Slots). clause_at s id) (sym raised.clauses) ∙ at in
+            omega (arith, raised.counters id, counted.absent id was, (can_raise rows now index counted).absent id was);
+      }
+
+  pub settled_without : (clauses : Slots) (fallen : List Lit) → IsSettled clauses (trail_has (front ++ link ∷ rest)) marks [] (is_fallen fallen)
+      → IsSettled clauses (trail_has (front ++ rest)) (set marks link.lit.var.0 None) [] (is_fallen (fallen ++ link.lit ∷ []))
+  settled_without clauses fallen settled =
+      record {
+        marked =
+            λ id c l at none one in_clause left fine.
+            let parts = or_parts (is_fallen fallen l) (same_var link.lit l || false) (sym (list_any-append (λ f. same_var f l) fallen (link.lit ∷ [])) ∙ fine) in
+            let apart : same_var link.lit l ≡ false = (or_parts (same_var link.lit l) false parts.1).0 in
+            let differs : l.var.0 ≢ link.lit.var.0 = λ e. absurd (cc (eq_is link.lit.var.0 l.var.0 (sym e), apart)) in
+            let still : trail_has (front ++ link ∷ rest) (neg l) ≡ false = has_more.grown (neg l) ∙ ap₂ (λ a b. a || b) left (other_var (neg l) differs) in
+            let counts : left_count (trail_has (front ++ rest)) c ≡ left_count (trail_has (front ++ link ∷ rest)) c + lit_count (neg link.lit) c =
+            left_count-more (trail_has (front ++ rest)) (trail_has (front ++ link ∷ rest)) link.lit has_more c in
+            let was : left_count (trail_has (front ++ link ∷ rest)) c ≡ 1 =
+            one_of (left_count (trail_has (front ++ link ∷ rest)) c) (lit_count (neg link.lit) c) (sym counts ∙ one)
+            (λ nothing. cc (none_left (trail_has (front ++ link ∷ rest)) c l nothing in_clause, still)) in
+            ap is_none (other_mark l.var.0 differs) ∙ settled.marked id c l at none was in_clause still parts.0;
+      }
+    where
+      one_of : (a b : ℕ) → a + b ≡ 1 → (a ≡ 0 → ⊥) → a ≡ 1
+      one_of a b e never = elim (cases_eq a 0) [ inl nothing ↦ absurd (never nothing) | inr some ↦ omega (arith, e, some) ]
+
+  -- what was marked is marked still, or its boolean fell
+  pub kept_without : (fallen : List Lit) (l : Lit) → (has marks l || is_fallen fallen l) ≡ true → (has (set marks link.lit.var.0 None) l || is_fallen (fallen ++ link.lit ∷ []) l) ≡ true
+  kept_without fallen l e = by_var (cases_eq l.var.0 link.lit.var.0)
+    where
+      pushed : is_fallen (fallen ++ link.lit ∷ []) l ≡ (is_fallen fallen l || (same_var link.lit l || false))
+      pushed = list_any-append (λ f. same_var f l) fallen (link.lit ∷ [])
+
+      last_true : (a b : Bool) → (a || (b || (true || false))) ≡ true
+      last_true true b = refl
+      last_true false true = refl
+      last_true false false = refl
+
+      keep : (a b c : Bool) → (a || b) ≡ true → (a || (b || c)) ≡ true
+      keep true b c f = refl
+      keep false true c f = refl
+      keep false false c f = absurd (cc)
+
+      by_var : (l.var.0 ≡ link.lit.var.0) ⊎ (l.var.0 ≢ link.lit.var.0) → (has (set marks link.lit.var.0 None) l || is_fallen (fallen ++ link.lit ∷ []) l) ≡ true
+      by_var (inl same) =
+          ap (λ b. has (set marks link.lit.var.0 None) l || b) (pushed ∙ ap (λ b. is_fallen fallen l || (b || false)) (eq_is link.lit.var.0 l.var.0 (sym same)))
+          ∙ last_true (has (set marks link.lit.var.0 None) l) (is_fallen fallen l)
+      by_var (inr differs) =
+          ap₂ (λ a b. a || b) (ap (λ (o : Option Bool). mark_is o l.sign) (other_mark l.var.0 differs)) pushed
+          ∙ keep (has marks l) (is_fallen fallen l) (same_var link.lit l || false) e
+
+-- where no boolean stands twice one that stands in front doesn't stand behind
+once_apart : (front rest : List Link) (l : Lit) → is_once (front ++ rest) ≡ true → has_boolean front l ≡ true → has_boolean rest l ≡ false
+once_apart [] rest l once e = absurd (cc)
+once_apart (k ∷ ks) rest l once e = by_value (same_var k.lit l) refl (λ (f : has_boolean ks l ≡ true). once_apart ks rest l (and_right (not (has_boolean (ks ++ rest) k.lit)) (is_once (ks ++ rest)) once) f)
+  where
+    by_value : (b : Bool) → same_var k.lit l ≡ b → (has_boolean ks l ≡ true → has_boolean rest l ≡ false) → has_boolean rest l ≡ false
+    by_value true p later =
+        let none : has_boolean (ks ++ rest) k.lit ≡ false = from_not (has_boolean (ks ++ rest) k.lit) (and_left (not (has_boolean (ks ++ rest) k.lit)) (is_once (ks ++ rest)) once) in
+        let behind = or_parts (has_boolean ks k.lit) (has_boolean rest k.lit) (sym (list_any-append (λ (j : Link). same_var j.lit k.lit) ks rest) ∙ none) in
+        ap (λ v. list_any (λ (j : Link). nat_eq j.lit.var.0 v) rest) (sym (eq_from k.lit.var.0 l.var.0 p)) ∙ behind.1
+    by_value false p later = later (sym (ap (λ b. b || has_boolean ks l) p) ∙ e)
+
+-- the reason of a link that stands is good with what stands before it
+pub stands_reason : (assumed : Lit → Bool) (now : Counted) (old front rest : List Link) (at : ℕ) (d link : Link) (marks : Marks) (supports : List Reason) → is_once old ≡ true → at < length old
+    → get_or old at d ≡ link → drop at old ≡ link ∷ rest → IsBacked now.clauses old → Agrees marks supports (front ++ link ∷ rest) → IsCounted now (trail_has (front ++ link ∷ rest)) []
+    → (r : Reason) → link.reason ≡ r → reason_stands assumed now link.lit r ≡ true → IsReason now.clauses assumed front link.lit r
+stands_reason assumed now old front rest at d link marks supports once within is behind backed agrees counted Assumed e stands = stands
+stands_reason assumed now old front rest at d link marks supports once within is behind backed agrees counted (Clause id) e stands = by_slot (clause_at now.clauses id.0) refl
+  where
+    one_from : (n : ℕ) → nat_eq n 1 ≡ true → n ≡ 1
+    one_from n f = grind (arith, nat_tests)
+
+    by_slot : (slot : Option (List Lit)) → clause_at now.clauses id.0 ≡ slot → IsReason now.clauses assumed front link.lit (Clause id)
+    by_slot None at_id = absurd (cc (sym (ap (λ (o : Option (List Lit)). is_some o && nat_eq (open_at now id.0) 1) at_id) ∙ stands))
+    by_slot (Some c) at_id =
+        let one : open_at now id.0 ≡ 1 = one_from (open_at now id.0) (and_right (is_some (clause_at now.clauses id.0)) (nat_eq (open_at now id.0) 1) stands) in
+        let left : left_count (trail_has (front ++ link ∷ rest)) c ≡ 1 = omega (arith, one, counted.present id.0 c at_id) in
+        let reason : (get_or old at d).reason ≡ Clause id = ap (λ (k : Link). k.reason) is ∙ e in
+        let member : Contains c link.lit = subst (λ (k : Link). Contains c k.lit) is (backed.member at d id c within reason at_id) in
+        let not_false : trail_has (front ++ link ∷ rest) (neg link.lit) ≡ false =
+        sym (agrees.same (neg link.lit)) ∙ has_not_neg marks link.lit (agrees.same link.lit ∙ contained_has (front ++ link ∷ rest) link (Contains-append_right front (link ∷ rest) link (0, omega arith, refl))) in
+        record {
+          clause = c;
+          present = at_id;
+          member = member;
+          others =
+              λ m in_clause differs.
+              let falls : trail_has (front ++ link ∷ rest) (neg m) ≡ true = one_left (trail_has (front ++ link ∷ rest)) c link.lit m left member not_false in_clause differs in
+              let before : true_before at old (neg m) ≡ true = backed.others at d id c m within reason at_id in_clause (λ f. differs (f ∙ ap (λ (k : Link). k.lit) is)) in
+              let apart : has_boolean (drop at old) (neg m) ≡ false =
+              once_apart (take at old) (drop at old) (neg m) (ap is_once (take-append-drop at old) ∙ once) (trail_boolean (take at old) (neg m) before) in
+              let not_behind : trail_has (link ∷ rest) (neg m) ≡ false =
+              not_true (trail_has (link ∷ rest) (neg m)) (λ f. cc (trail_boolean (link ∷ rest) (neg m) f, ap (λ (ks : List Link). has_boolean ks (neg m)) (sym behind) ∙ apart)) in
+              sym (or_false (trail_has front (neg m)))
+              ∙ ap (λ b. trail_has front (neg m) || b) (sym not_behind)
+              ∙ sym (list_any-append (λ (k : Link). same_lit k.lit (neg m)) front (link ∷ rest))
+              ∙ falls;
+        }
