@@ -7,4 +7,6 @@ pub mod SettleLemmas
 pub mod PropagationLemmas
 pub mod SweepLemmas
 pub mod SweepingLemmas
+pub mod SupportLemmas
+pub mod SupportAllLemmas
 pub mod CoreLemmas

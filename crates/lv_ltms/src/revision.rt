@@ -5,14 +5,14 @@
 //! one support of it does.
 #![tactic(auto)]
 
-ghost use Rattle.std.specs.Prelude.{◌≡◌, ◌<◌, ◌≤◌, ◌&&◌, [], length, not, vec_capacity, IsTrue};
+ghost use Rattle.std.specs.Prelude.{◌≡◌, ◌<◌, ◌≤◌, ◌&&◌, [], length, not, find, vec_capacity, IsTrue};
 ghost use Rattle.std.specs.List.{list_all};
 ghost use Rattle.lv_clauses.specs.Literals.{neg, in_range};
 ghost use Rattle.lv_clauses.specs.Marks.{has};
 ghost use Rattle.lv_ltms.specs.Occurrences.{row_of};
 ghost use Rattle.lv_ltms.specs.Labelled.{Agrees};
 ghost use Rattle.lv_ltms.specs.Propagating.{IsPropagating, none_excused};
-ghost use Rattle.lv_ltms.specs.Revising.{IsShaken, IsSwept, AreFixed, AreMarked, AreMarkedOrWait, NoneAgainst, IsOneSided, GetsSupport, CanRaise, IsRaised, is_fallen, reason_stands, reason_found};
+ghost use Rattle.lv_ltms.specs.Revising.{IsShaken, IsSwept, AreFixed, AreMarked, AreMarkedOrWait, NoneAgainst, IsOneSided, GetsSupport, CanRaise, IsRaised, is_fallen, reason_stands, reason_found, is_unit_at};
 ghost use Rattle.lv_ltms.specs.Trail.{IsDerivation};
 
 use super::arena::Arena;
@@ -166,9 +166,12 @@ fn reason_for(
     if has(assumed, lit) {
         return Some(Reason::Assumed);
     }
-    index
-        .of(lit)
-        .iter()
-        .find(|id| arena.is_unit(**id))
-        .map(|id| Reason::Clause(*id))
+    first_unit(index.of(lit), arena).map(|id| Reason::Clause(id))
+}
+
+/// The first clause of a row that has one literal left.
+fn first_unit(row: &[ClauseId], arena: &Arena) -> Option<ClauseId>
+    ensures { result ≡ find (is_unit_at arena.now) row.now }
+{
+    row.iter().copied().find(|id| arena.is_unit(*id))
 }
