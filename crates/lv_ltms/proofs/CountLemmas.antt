@@ -120,6 +120,11 @@ one_left truth (m ∷ ms) l k e h left g differs = by_value (truth (neg m)) refl
           | inr rest ↦ none_left truth ms k f rest
         ]
 
+-- where each is false nothing is left
+pub nothing_left : (truth : Lit → Bool) (ks : List Lit) → ((k : Lit) → Contains ks k → truth (neg k) ≡ true) → left_count truth ks ≡ 0
+nothing_left truth [] all = refl
+nothing_left truth (k ∷ ks) all = left_no truth k ks (all k (Contains-head k ks)) ∙ nothing_left truth ks (λ j g. all j (Contains-tail k j ks g))
+
 -- where all others are false and a literal isn't, one is left
 pub just_one_left : (truth : Lit → Bool) (c : List Lit) (l : Lit) → distinct c ≡ true → Contains c l → truth (neg l) ≡ false → ((k : Lit) → Contains c k → k ≢ l → truth (neg k) ≡ true) → left_count truth c ≡ 1
 just_one_left truth [] l d h left others = absurd (Contains-nil l h)
@@ -128,15 +133,11 @@ just_one_left truth (m ∷ ms) l d h left others = by_head (lit_cases m l) (λ (
     apart : (v w : ℕ) → v ≡ w → not (nat_eq v w) ≡ true → ⊥
     apart v w e n = grind (arith, nat_tests)
 
-    all_false : (ks : List Lit) → ((k : Lit) → Contains ks k → truth (neg k) ≡ true) → left_count truth ks ≡ 0
-    all_false [] all = refl
-    all_false (k ∷ ks) all = left_no truth k ks (all k (Contains-head k ks)) ∙ all_false ks (λ j g. all j (Contains-tail k j ks g))
-
     by_head : (m ≡ l) ⊎ (m ≢ l) → (Contains ms l → left_count truth ms ≡ 1) → left_count truth (m ∷ ms) ≡ 1
     by_head (inl same) ih =
         let p : truth (neg m) ≡ false = ap (λ k. truth (neg k)) same ∙ left in
         let rest : left_count truth ms ≡ 0 =
-        all_false ms
+        nothing_left truth ms
         (λ k g.
         let other : not (same_var m k) ≡ true = all_member (λ j. not (same_var m j)) ms k (and_left (list_all (λ j. not (same_var m j)) ms) (distinct ms) d) g in
         others k (Contains-tail m k ms g) (λ (e : k ≡ l). apart m.var.0 k.var.0 (ap (λ (j : Lit). j.var.0) (same ∙ sym e)) other)) in

@@ -9,4 +9,6 @@ pub mod SweepLemmas
 pub mod SweepingLemmas
 pub mod SupportLemmas
 pub mod SupportAllLemmas
+pub mod SystemLemmas
+pub mod AddLemmas
 pub mod CoreLemmas

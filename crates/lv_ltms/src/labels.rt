@@ -114,22 +114,27 @@ impl Labels {
     pub fn place_of(&self, lit: Lit) -> usize
         ensures { result ≡ unwrap_or (position (λ k. same_var k.lit lit) self.now.trail) (length self.now.trail) }
     {
-        self.trail
-            .iter()
-            .position(|link| link.lit.var == lit.var)
-            .unwrap_or(self.trail.len())
+        first_of(self.trail.as_slice(), lit).unwrap_or(self.trail.len())
     }
 
     /// The reason of a literal or its negation, None where neither is marked.
     pub fn reason(&self, lit: Lit) -> Option<Reason>
-        requires { Agrees self.now.marks self.now.supports self.now.trail }
+        requires supports { length self.now.supports ≡ length self.now.marks }
+        requires agrees { Agrees self.now.marks self.now.supports self.now.trail }
         ensures { result ≡ reason_in self.now.trail lit }
     {
         let index = lit.var.0 as usize;
-        if index < self.marks.len() && index < self.supports.len() && self.marks[index].is_some() {
+        if index < self.marks.len() && self.marks[index].is_some() {
             Some(self.supports[index])
         } else {
             None
         }
     }
+}
+
+/// The first place of a trail at which the literal's boolean stands.
+fn first_of(trail: &[Link], lit: Lit) -> Option<usize>
+    ensures { result ≡ position (λ k. same_var k.lit lit) trail.now }
+{
+    trail.iter().position(|link| link.lit.var == lit.var)
 }

@@ -2,7 +2,7 @@
 //! fail. Labels are kept from call to call: a call changes those alone that it touches.
 #![tactic(auto)]
 
-ghost use Rattle.std.specs.Prelude.{◌≡◌, ◌≤◌, ◌&&◌, option_map, [], length, take, position, unwrap_or, Some, None, IfOk, OnErr, IsSome, IsTrue, is_some, count_by, slice_set};
+ghost use Rattle.std.specs.Prelude.{◌≡◌, ◌≤◌, ◌&&◌, option_map, [], length, take, position, Some, None, IfOk, OnErr, IsSome, IsTrue, is_some, count_by, slice_set};
 ghost use Rattle.lv_clauses.specs.Literals.{is_clause, in_range};
 ghost use Rattle.lv_clauses.specs.ClauseMap.{clause_at};
 ghost use Rattle.lv_clauses.specs.Marks.{nothing, has, marked, is_free};
@@ -97,7 +97,8 @@ impl Ltms {
         requires { IsSome (clause_at self.old.clauses id.0) }
         ensures { PutsClause self.old self.new id.0 None }
     {
-        let from = place_given(self.labels.trail(), id);
+        let trail = self.labels.trail();
+        let from = first_given(trail, id).unwrap_or(trail.len());
         self.arena.remove(id, &mut self.index);
         revise(
             from,
@@ -263,12 +264,11 @@ fn write_assumptions(bools: u32, assumed: &[Option<bool>], out: &mut [Lit]) -> u
     written
 }
 
-/// Where the first label stands on the trail that a clause supports; the trail's length where there is none.
-fn place_given(trail: &[Link], id: ClauseId) -> usize
-    ensures { result ≡ unwrap_or (position (gives id) trail.now) (length trail.now) }
+/// The first place of a trail at which a clause of this number is the reason.
+fn first_given(trail: &[Link], id: ClauseId) -> Option<usize>
+    ensures { result ≡ position (gives id) trail.now }
 {
     trail
         .iter()
         .position(|link| link.reason == Reason::Clause(id))
-        .unwrap_or(trail.len())
 }
