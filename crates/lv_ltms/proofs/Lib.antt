@@ -11,4 +11,5 @@ pub mod SupportLemmas
 pub mod SupportAllLemmas
 pub mod SystemLemmas
 pub mod AddLemmas
+pub mod ShakenLemmas
 pub mod CoreLemmas
