@@ -12,4 +12,5 @@ pub mod SupportAllLemmas
 pub mod SystemLemmas
 pub mod AddLemmas
 pub mod ShakenLemmas
+pub mod DropLemmas
 pub mod CoreLemmas

@@ -1,5 +1,5 @@
 -- What the labels that are kept tell of the clauses and assumptions present.
-use Rattle.std.proofs.Common.{◌≡◌, ◌≢◌, ◌⊎◌, ℕ, suc, zero, ◌+◌, ◌<◌, ◌≤◌, Bool, true, false, not, nat_eq, List, [], ◌∷◌, length, take, get_or, replicate, Option, Some, None, is_none, find, option_map, refl, sym, ap, subst, ◌∙◌, arith, inl, inr, Contains}
+use Rattle.std.proofs.Common.{◌≡◌, ◌≢◌, ◌⊎◌, ℕ, suc, zero, ◌+◌, ◌<◌, ◌≤◌, Bool, true, false, not, nat_eq, List, [], ◌∷◌, length, take, get_or, replicate, Option, Some, None, is_none, cond, find, option_map, refl, sym, ap, subst, ◌∙◌, arith, inl, inr, Contains}
 use Rattle.std.specs.List.{list_any, list_all}
 use Rattle.std.proofs.lemmas.Bool.{cases_lt}
 use Rattle.std.proofs.lemmas.Bool.Decides.{nat_tests}
@@ -21,7 +21,7 @@ use Rattle.lv_ltms.specs.declared.labels.Reason.TheVariants.{Assumed}
 use Rattle.lv_ltms.specs.Trail.{same_lit, trail_has, IsDerivation, reason_in}
 use Rattle.lv_ltms.specs.Occurrences.{Rows}
 use Rattle.lv_ltms.specs.Counters.{Counted, open_at, has_zero}
-use Rattle.lv_ltms.specs.Labelled.{Labelled, Agrees, support_at}
+use Rattle.lv_ltms.specs.Labelled.{Labelled, Agrees, support_at, support_if_marked}
 use Rattle.lv_ltms.specs.Propagating.{left_count, true_before, none_excused}
 use Rattle.lv_ltms.specs.System.{System, IsKept, IsDerived, IsRefuted, IsWholeTrail}
 use Rattle.lv_ltms.proofs.TrailLemmas.{derivation_sound, same_lit-equal}
@@ -136,7 +136,7 @@ module _ (s : System) (rows : Rows) (counted : Counted) (labels : Labelled) (spa
 
 -- the reason kept is that on the trail
 module _ (marks : Marks) (supports : List Reason) (trail : List Link) (agrees : Agrees marks supports trail) (l : Lit) where
-  pub reason_known : is_free marks l ≡ false → reason_in trail l ≡ Some (support_at supports l)
+  reason_known : is_free marks l ≡ false → reason_in trail l ≡ Some (support_at supports l)
   reason_known marked = by_found (find (λ (k : Link). same_var k.lit l) trail) refl
     where
       on_trail : (m : Lit) → nat_eq m.var.0 l.var.0 ≡ true → has marks m ≡ true → find (λ (k : Link). same_var k.lit l) trail ≡ None → ⊥
@@ -157,7 +157,7 @@ module _ (marks : Marks) (supports : List Reason) (trail : List Link) (agrees : 
           ap (option_map (λ (j : Link). j.reason)) e
           ∙ ap Some (sym (agrees.backed k passes.1) ∙ ap (λ v. get_or supports v Assumed) (eq_from k.lit.var.0 l.var.0 passes.0))
 
-  pub reason_unknown : is_free marks l ≡ true → reason_in trail l ≡ None
+  reason_unknown : is_free marks l ≡ true → reason_in trail l ≡ None
   reason_unknown free = by_found (find (λ (k : Link). same_var k.lit l) trail) refl
     where
       by_found : (o : Option Link) → find (λ (k : Link). same_var k.lit l) trail ≡ o → reason_in trail l ≡ None
@@ -167,3 +167,10 @@ module _ (marks : Marks) (supports : List Reason) (trail : List Link) (agrees : 
           let there : has marks k.lit ≡ true = agrees.same k.lit ∙ contained_has trail k passes.1 in
           let busy : is_free marks l ≡ false = ap (λ v. is_none (get_or marks v None)) (sym (eq_from k.lit.var.0 l.var.0 passes.0)) ∙ has_not_free marks k.lit there in
           absurd (cc (free, busy))
+
+  pub reason_kept : support_if_marked marks supports l ≡ reason_in trail l
+  reason_kept = by_free (is_free marks l) refl
+    where
+      by_free : (b : Bool) → is_free marks l ≡ b → support_if_marked marks supports l ≡ reason_in trail l
+      by_free true e = ap (λ (b : Bool). cond b None (Some (support_at supports l))) e ∙ sym (reason_unknown e)
+      by_free false e = ap (λ (b : Bool). cond b None (Some (support_at supports l))) e ∙ sym (reason_known e)

@@ -1,11 +1,11 @@
 -- Labels: a mark or none for each boolean, the support of each label, and the trail of the literals marked.
-use Rattle.std.specs.Prelude.{◌≡◌, ℕ, ◌+◌, Bool, true, false, nat_eq, not, ◌&&◌, List, [], ◌∷◌, ◌++◌, length, drop, is_none, None, count_by, slice_index_or, slice_set, Contains}
+use Rattle.std.specs.Prelude.{◌≡◌, ℕ, ◌+◌, Bool, true, false, nat_eq, not, ◌&&◌, List, [], ◌∷◌, ◌++◌, length, drop, is_none, Option, Some, None, if◌then◌else◌, count_by, slice_index_or, slice_set, Contains}
 use Rattle.std.specs.List.{list_any}
 use Rattle.lv_base.specs.declared.ids.Lit.{Lit}
 use Rattle.lv_base.specs.declared.ids.ClauseId.{ClauseId}
 use Rattle.lv_clauses.specs.Literals.{same_var}
 use Rattle.lv_clauses.specs.ClauseMap.{Slots}
-use Rattle.lv_clauses.specs.Marks.{Marks, has, marked}
+use Rattle.lv_clauses.specs.Marks.{Marks, has, marked, is_free}
 use Rattle.lv_ltms.specs.declared.labels.Link.{Link}
 use Rattle.lv_ltms.specs.declared.labels.Reason.{Reason}
 use Rattle.lv_ltms.specs.declared.labels.Reason.TheVariants.{Assumed, Clause}
@@ -20,6 +20,10 @@ pub record Labelled : Type 0 where
 -- the support kept for the literal's boolean
 abbrev pub support_at : List Reason → Lit → Reason
 support_at supports l = slice_index_or supports l.var.0 Assumed
+
+-- the support kept for the literal's boolean, if that is marked
+abbrev pub support_if_marked : Marks → List Reason → Lit → Option Reason
+support_if_marked marks supports l = if is_free marks l then None else Some (support_at supports l)
 
 -- a link of the literal's boolean is on the trail
 abbrev pub has_boolean : List Link → Lit → Bool

@@ -6,7 +6,7 @@ ghost use Rattle.std.specs.Prelude.{◌≡◌, ◌<◌, ◌≤◌, [], length, t
 ghost use Rattle.lv_clauses.specs.Literals.{same_var};
 ghost use Rattle.lv_clauses.specs.Marks.{nothing};
 ghost use Rattle.lv_ltms.specs.declared.labels.Reason.TheVariants.{Assumed};
-ghost use Rattle.lv_ltms.specs.Labelled.{with_link, without_mark, Agrees};
+ghost use Rattle.lv_ltms.specs.Labelled.{with_link, without_mark, support_if_marked, Agrees};
 ghost use Rattle.lv_ltms.specs.Trail.{reason_in};
 
 use lv_base::{BoolId, ClauseId, Lit};
@@ -123,12 +123,22 @@ impl Labels {
         requires agrees { Agrees self.now.marks self.now.supports self.now.trail }
         ensures { result ≡ reason_in self.now.trail lit }
     {
-        let index = lit.var.0 as usize;
-        if index < self.marks.len() && self.marks[index].is_some() {
-            Some(self.supports[index])
-        } else {
-            None
-        }
+        kept_support(self.marks.as_slice(), self.supports.as_slice(), lit)
+    }
+}
+
+/// The support kept for the literal's boolean, if that is marked.
+fn kept_support(marks: &[Option<bool>], supports: &[Reason], lit: Lit) -> Option<Reason>
+    requires { length supports.now ≡ length marks.now }
+    ensures { result ≡ support_if_marked marks.now supports.now lit }
+{
+    let index = lit.var.0 as usize;
+    if index >= marks.len() {
+        return None;
+    }
+    match marks[index] {
+        Some(_) => Some(supports[index]),
+        None => None,
     }
 }
 

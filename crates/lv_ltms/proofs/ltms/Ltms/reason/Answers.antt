@@ -1,0 +1,10 @@
+-- the trail is that of the clauses and assumptions present
+use Rattle.std.proofs.Common.{vec_capacity, subst}
+use Rattle.lv_ltms.specs.System.{System, IsKept}
+use Rattle.lv_ltms.proofs.SystemLemmas.{whole_trail}
+use Rattle.lv_ltms.proofs.ltms.Ltms.reason.Goals as goal
+
+pub returns-clause-trail : goal.returns-clause-trail
+returns-clause-trail c =
+    whole_trail c.args.self.now c.self.inside.index c.self.inside.arena c.self.inside.labels (vec_capacity c.self.inside.fallen)
+    (subst (λ (s : System). IsKept s c.self.inside.index c.self.inside.arena c.self.inside.labels (vec_capacity c.self.inside.fallen)) c.self.view_is c.self.invariant) c.requires
