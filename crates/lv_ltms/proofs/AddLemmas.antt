@@ -1,5 +1,5 @@
 -- A new system, and a system with one clause more.
-use Rattle.std.proofs.Common.{◌≡◌, ◌≢◌, ◌⊎◌, ℕ, suc, zero, ◌+◌, ◌<◌, ◌≤◌, Bool, true, false, nat_eq, List, [], ◌∷◌, length, get_or, replicate, Option, Some, None, IsTrue, IsSome, is_none, is_some, cond, count_by, if◌then◌else◌, refl, sym, ap, subst, ◌∙◌, arith, inl, inr, Contains}
+use Rattle.std.proofs.Common.{◌≡◌, ◌≢◌, ◌⊎◌, ℕ, suc, zero, ◌+◌, ◌≤◌, Bool, true, false, nat_eq, List, [], ◌∷◌, length, get_or, replicate, Option, Some, None, IsTrue, is_none, count_by, if◌then◌else◌, refl, sym, ap, subst, ◌∙◌, arith, inl, inr, Contains}
 use Rattle.std.proofs.lemmas.Bool.{cases_eq}
 use Rattle.std.proofs.lemmas.Bool.Decides.{nat_tests}
 use Rattle.std.proofs.lemmas.List.{length-replicate}
@@ -16,11 +16,10 @@ use Rattle.lv_ltms.specs.declared.labels.Link.{Link}
 use Rattle.lv_ltms.specs.declared.labels.Reason.{Reason}
 use Rattle.lv_ltms.specs.declared.labels.Reason.TheVariants.{Assumed, Clause}
 use Rattle.lv_ltms.specs.Trail.{trail_has, IsDerivation, IsReason, start, next}
-use Rattle.lv_ltms.specs.Occurrences.{Rows, row_of, rows_of, occurs, times_in, lit_count, slot_lit_count, HasWidth, KeepsWidth, AddsTo, SameRows, IsIndex}
+use Rattle.lv_ltms.specs.Occurrences.{Rows, rows_of, occurs, times_in, lit_count, slot_lit_count, KeepsWidth, AddsTo, SameRows}
 use Rattle.lv_ltms.specs.Counters.{Counted, open_at, PutsEntry}
-use Rattle.lv_ltms.specs.Labelled.{Labelled, Agrees, Grows, GoesOn}
-use Rattle.lv_ltms.specs.Propagating.{left_count, IsCounted, IsSettled, IsPropagating, Settles, true_before, none_excused}
-use Rattle.lv_ltms.specs.Revising.{AreMarked}
+use Rattle.lv_ltms.specs.Labelled.{Labelled, Grows, GoesOn}
+use Rattle.lv_ltms.specs.Propagating.{left_count, IsPropagating, Settles, true_before, none_excused}
 use Rattle.lv_ltms.specs.System.{System, IsKept}
 use Rattle.lv_ltms.proofs.CountLemmas.{left_count-same, one_left, count_yes}
 use Rattle.lv_ltms.proofs.LabelLemmas.{Grows-len, before_kept}
@@ -124,7 +123,7 @@ same_rows_kept s rows new counted labels space kept same width =
     }
 
 module _ (s : System) (rows new_rows : Rows) (counted new : Counted) (labels : Labelled) (space : ℕ) (id : ℕ) (lits : List Lit) (n : ℕ) (kept : IsKept s rows counted labels space) (clause : IsTrue (is_clause s.bools lits))
-         (vacant : clause_at counted.clauses id ≡ None) (puts : PutsEntry counted new id (Some lits) n) (adds : AddsTo rows new_rows lits id) (width : KeepsWidth rows new_rows) (count : n ≡ left_count (has labels.marks) lits) where
+    (vacant : clause_at counted.clauses id ≡ None) (puts : PutsEntry counted new id (Some lits) n) (adds : AddsTo rows new_rows lits id) (width : KeepsWidth rows new_rows) (count : n ≡ left_count (has labels.marks) lits) where
   pub added_clauses : AreClauses s.bools new.clauses
   added_clauses i d at = elim (cases_eq i id) [
     | inl same ↦

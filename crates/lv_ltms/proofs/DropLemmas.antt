@@ -1,10 +1,10 @@
 -- A clause that goes.
-use Rattle.std.proofs.Common.{◌≡◌, ◌≢◌, ◌⊎◌, ℕ, ◌+◌, ◌≤◌, Bool, true, false, nat_eq, List, [], length, Option, Some, None, IfSome, IsSome, if◌then◌else◌, refl, sym, ap, subst, ◌∙◌, arith, inl, inr, Contains}
+use Rattle.std.proofs.Common.{◌≡◌, ◌≢◌, ◌⊎◌, ℕ, ◌+◌, Bool, true, false, nat_eq, List, length, Option, Some, None, IfSome, IsSome, if◌then◌else◌, refl, sym, ap, ◌∙◌, arith, inl, inr}
 use Rattle.std.proofs.lemmas.Bool.{cases_eq}
 use Rattle.std.proofs.lemmas.Bool.Decides.{nat_tests}
 use Rattle.lv_base.specs.declared.ids.Lit.{Lit}
-use Rattle.lv_clauses.specs.ClauseMap.{Slots, clause_at, AreClauses}
-use Rattle.lv_ltms.specs.Occurrences.{Rows, occurs, lit_count, slot_lit_count, HasAll, HasWidth, KeepsWidth, AddsTo, IsIndex}
+use Rattle.lv_clauses.specs.ClauseMap.{Slots, clause_at}
+use Rattle.lv_ltms.specs.Occurrences.{Rows, occurs, lit_count, slot_lit_count, HasAll, KeepsWidth, AddsTo, IsIndex}
 use Rattle.lv_ltms.specs.Counters.{Counted, open_at, PutsEntry}
 use Rattle.lv_ltms.specs.Labelled.{Labelled}
 use Rattle.lv_ltms.specs.Propagating.{IsPropagating, none_excused}
@@ -24,7 +24,7 @@ index_has rows clauses id index = by_slot (clause_at clauses id) refl
     by_slot (Some c) e = record { counts = λ l. omega (arith, index.exact l id, ap (slot_lit_count l) e) }
 
 module _ (bools : ℕ) (rows new_rows : Rows) (counted new : Counted) (labels : Labelled) (id : ℕ) (state : IsPropagating bools rows counted labels (length labels.trail) none_excused) (puts : PutsEntry counted new id None 1)
-         (adds : IfSome (clause_at counted.clauses id) (λ c. AddsTo new_rows rows c id)) (present : IsSome (clause_at counted.clauses id)) (width : KeepsWidth rows new_rows) where
+    (adds : IfSome (clause_at counted.clauses id) (λ c. AddsTo new_rows rows c id)) (present : IsSome (clause_at counted.clauses id)) (width : KeepsWidth rows new_rows) where
   index_row : (l : Lit) (i : ℕ) → (i ≡ id) ⊎ (i ≢ id) → occurs new_rows l i ≡ slot_lit_count l (clause_at new.clauses i)
   index_row l i which = by_slot (clause_at counted.clauses id) refl adds present which
     where

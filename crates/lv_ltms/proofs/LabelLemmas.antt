@@ -1,7 +1,6 @@
 -- What one link more makes of labels, and what labels that grow keep.
-use Rattle.std.proofs.Common.{◌≡◌, ◌≢◌, ◌⊎◌, ℕ, ◌+◌, ◌<◌, ◌≤◌, suc, zero, Bool, true, false, not, ◌&&◌, ◌||◌, nat_eq, List, [], ◌∷◌, ◌++◌, length, take, drop, get_or, Option, Some, None, is_none, count_by, refl, sym, ap, ap₂, subst, ◌∙◌, arith, inl, inr, Contains}
-use Rattle.std.specs.List.{list_any}
-use Rattle.std.proofs.lemmas.Bool.{cases_eq, cases_lt}
+use Rattle.std.proofs.Common.{◌≡◌, ◌≢◌, ◌⊎◌, ℕ, ◌+◌, ◌<◌, ◌≤◌, suc, zero, Bool, true, false, not, ◌||◌, nat_eq, List, [], ◌∷◌, ◌++◌, length, take, drop, get_or, Option, Some, None, is_none, refl, sym, ap, ap₂, ◌∙◌, arith, inl, inr, Contains}
+use Rattle.std.proofs.lemmas.Bool.{cases_lt}
 use Rattle.std.proofs.lemmas.Bool.Decides.{nat_tests}
 use Rattle.std.proofs.lemmas.List.{length-append, length-set, get_or-set_same, get_or-set_other, take-append-le, take-append-drop, append_assoc}
 use Rattle.std.proofs.lemmas.List.Elements.{Contains-append_cases}
@@ -9,17 +8,15 @@ use Rattle.std.proofs.lemmas.List.Folds.{list_any-append, list_any_more, list_an
 use Rattle.std.proofs.Math.Seq.{drop-append_seam}
 use Rattle.lv_base.specs.declared.ids.Lit.{Lit}
 use Rattle.lv_clauses.specs.Literals.{neg, same_truth, same_var}
-use Rattle.lv_clauses.specs.ClauseMap.{Slots}
-use Rattle.lv_clauses.specs.Marks.{Marks, has, marked, mark_is, is_free}
-use Rattle.lv_clauses.proofs.LiteralLemmas.{Contains-nil, Contains-cases, Contains-head, and_left, and_right, and_both, or_right, any_member, member_any, same_or_neg}
+use Rattle.lv_clauses.specs.Marks.{Marks, has, mark_is, is_free}
+use Rattle.lv_clauses.proofs.LiteralLemmas.{Contains-nil, Contains-cases, and_left, and_right, and_both, any_member, member_any, same_or_neg}
 use Rattle.lv_clauses.proofs.MarkLemmas.{has-marked_free, same_truth-self}
 use Rattle.lv_ltms.specs.declared.labels.Link.{Link}
-use Rattle.lv_ltms.specs.declared.labels.Reason.{Reason}
 use Rattle.lv_ltms.specs.declared.labels.Reason.TheVariants.{Assumed}
 use Rattle.lv_ltms.specs.Trail.{same_lit, trail_has}
 use Rattle.lv_ltms.specs.Labelled.{Labelled, Agrees, Grows, with_link, has_boolean, is_once, support_at}
 use Rattle.lv_ltms.specs.Propagating.{true_before}
-use Rattle.lv_ltms.proofs.TrailLemmas.{same_lit-equal, trail_has-push, free_count-push, or_cases}
+use Rattle.lv_ltms.proofs.TrailLemmas.{trail_has-push, free_count-push}
 use Rattle.lv_ltms.proofs.CountLemmas.{HasMore, same_lit-self}
 
 eq_from : (a b : ℕ) → nat_eq a b ≡ true → a ≡ b
@@ -130,7 +127,7 @@ once_push (k ∷ ks) link once fresh =
     (once_push ks link (and_right (not (has_boolean ks k.lit)) (is_once ks) once) (or_false_right (same_var k.lit link.lit) (has_boolean ks link.lit) fresh))
 
 module _ (labels : Labelled) (link : Link) (within : link.lit.var.0 < length labels.marks) (inside : link.lit.var.0 < length labels.supports)
-         (p : has labels.marks link.lit ≡ false) (q : has labels.marks (neg link.lit) ≡ false) (agrees : Agrees labels.marks labels.supports labels.trail) where
+    (p : has labels.marks link.lit ≡ false) (q : has labels.marks (neg link.lit) ≡ false) (agrees : Agrees labels.marks labels.supports labels.trail) where
   boolean_fresh : has_boolean labels.trail link.lit ≡ false
   boolean_fresh =
       not_true (has_boolean labels.trail link.lit)

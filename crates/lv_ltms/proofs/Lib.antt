@@ -13,4 +13,5 @@ pub mod SystemLemmas
 pub mod AddLemmas
 pub mod ShakenLemmas
 pub mod DropLemmas
+pub mod AssumeLemmas
 pub mod CoreLemmas

@@ -10,8 +10,8 @@ use Rattle.lv_clauses.specs.Literals.{neg}
 use Rattle.lv_clauses.specs.ClauseMap.{Slots, clause_at, AreClauses}
 use Rattle.lv_clauses.specs.Marks.{Marks, has, is_free}
 use Rattle.lv_ltms.specs.declared.labels.Link.{Link}
-use Rattle.lv_ltms.specs.Trail.{same_lit, trail_has, IsDerivation}
-use Rattle.lv_ltms.specs.Occurrences.{Rows, row_of, times_in, has_number, lit_count, slot_lit_count, IsIndex, HasWidth}
+use Rattle.lv_ltms.specs.Trail.{same_lit, IsDerivation}
+use Rattle.lv_ltms.specs.Occurrences.{Rows, row_of, times_in, has_number, lit_count, slot_lit_count, IsIndex}
 use Rattle.lv_ltms.specs.Counters.{Counted, open_at, Recounts}
 use Rattle.lv_ltms.specs.Labelled.{Labelled, Agrees, Grows, GoesOn}
 use Rattle.lv_ltms.specs.Propagating.{left_count, IsCounted, IsSettled, IsPropagating, Settles, true_before, none_excused}
@@ -96,7 +96,7 @@ module _ (clauses : Slots) (rows : Rows) (before after : Lit → Bool) (x : Lit)
       not_before l e = or_false_left (before l) (same_lit x l) (sym (more.grown l) ∙ e)
 
 module _ (clauses : Slots) (after : Lit → Bool) (start : Labelled) (id : ClauseId) (waiting : List ClauseId) (now : Counted) (labels : Labelled)
-         (is : IsFalling clauses after start (id ∷ waiting) now labels) where
+    (is : IsFalling clauses after start (id ∷ waiting) now labels) where
   -- a clause that waits isn't counted out
   pub falling_open : IsSome (clause_at now.clauses id.0) → 0 < open_at now id.0
   falling_open some = by_slot (clause_at now.clauses id.0) refl some

@@ -142,7 +142,7 @@ settles_by clauses id c bools old new are at kept marks =
     by_left l (inr one) h = marks l (ap finding_of one)
 
 module _ (clauses : Slots) (old : Labelled) (id : ClauseId) (c : List Lit) (l : Lit) (at : clause_at clauses id.0 ≡ Some c) (are : AreClauses (length old.marks) clauses) (e : look_at old.marks c ≡ Unit l)
-         (unmarked : has old.marks l ≡ false) (supports : length old.supports ≡ length old.marks) (agrees : Agrees old.marks old.supports old.trail) where
+    (unmarked : has old.marks l ≡ false) (supports : length old.supports ≡ length old.marks) (agrees : Agrees old.marks old.supports old.trail) where
   abbrev pub link : Link
   link = record { lit = l; reason = Clause id }
 

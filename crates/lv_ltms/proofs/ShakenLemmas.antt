@@ -1,10 +1,9 @@
 -- What has to hold before labels are taken away, where an assumption went, one came against a label, or a clause went.
-use Rattle.std.proofs.Common.{◌≡◌, ◌≢◌, ◌⊎◌, ℕ, suc, zero, ◌+◌, ◌<◌, ◌≤◌, Bool, true, false, not, ◌&&◌, ◌||◌, nat_eq, nat_lt, List, [], ◌∷◌, ◌++◌, length, take, get_or, set, position, unwrap_or, Option, Some, None, IsSome, IsTrue, is_some, is_none, cond, refl, sym, ap, subst, ◌∙◌, arith, inl, inr, Contains}
+use Rattle.std.proofs.Common.{◌≡◌, ◌≢◌, ◌⊎◌, ℕ, ◌+◌, ◌<◌, ◌≤◌, Bool, true, false, not, ◌&&◌, ◌||◌, nat_eq, nat_lt, List, [], ◌∷◌, ◌++◌, length, take, get_or, set, position, unwrap_or, Option, Some, None, cond, refl, sym, ap, subst, ◌∙◌, arith, inl, inr, Contains}
 use Rattle.std.specs.List.{position_or_len}
 use Rattle.std.proofs.lemmas.Bool.{cases_eq, cases_lt}
 use Rattle.std.proofs.lemmas.Bool.Decides.{nat_tests}
-use Rattle.std.proofs.lemmas.List.{length-append, length-set, get_or-set_same, get_or-set_other, set_past, take-append-le, take_all, take-append-drop, length-take-le, get_or-take}
-use Rattle.std.proofs.lemmas.List.Elements.{Contains-append_left, Contains-append_right}
+use Rattle.std.proofs.lemmas.List.{length-append, get_or-set_same, get_or-set_other, set_past, take-append-le, take_all, length-take-le, get_or-take}
 use Rattle.std.proofs.lemmas.List.Sums.{prefix_len-le-length, prefix_len_passes}
 use Rattle.std.proofs.Math.Seq.{get_or-append_seam, take-append_seam}
 use Rattle.std.proofs.Math.ListN.{get_or-append}
@@ -13,7 +12,7 @@ use Rattle.lv_base.specs.declared.ids.ClauseId.{ClauseId}
 use Rattle.lv_clauses.specs.Literals.{neg, same_truth, same_var}
 use Rattle.lv_clauses.specs.ClauseMap.{Slots, clause_at}
 use Rattle.lv_clauses.specs.Marks.{Marks, has, marked, mark_is, is_free}
-use Rattle.lv_clauses.proofs.LiteralLemmas.{Contains-nil, Contains-cases, neg_neg, lit_of, any_member}
+use Rattle.lv_clauses.proofs.LiteralLemmas.{any_member}
 use Rattle.lv_clauses.proofs.MarkLemmas.{has-marked_free, has-marked_cases, same_truth-self}
 use Rattle.lv_ltms.specs.declared.labels.Link.{Link}
 use Rattle.lv_ltms.specs.declared.labels.Reason.{Reason}
@@ -22,9 +21,9 @@ use Rattle.lv_ltms.specs.Trail.{trail_has, IsDerivation, IsReason, start, next}
 use Rattle.lv_ltms.specs.Occurrences.{Rows}
 use Rattle.lv_ltms.specs.Counters.{Counted}
 use Rattle.lv_ltms.specs.System.{System, IsKept}
-use Rattle.lv_ltms.specs.Labelled.{Labelled, Agrees, has_boolean, gives, is_reason}
+use Rattle.lv_ltms.specs.Labelled.{Labelled, gives, is_reason}
 use Rattle.lv_ltms.specs.Propagating.{true_before}
-use Rattle.lv_ltms.specs.Revising.{NoneAgainst, IsOneSided, IsBacked, IsShaken}
+use Rattle.lv_ltms.specs.Revising.{IsBacked, IsShaken}
 use Rattle.lv_ltms.proofs.AddLemmas.{derivation_to}
 use Rattle.lv_ltms.proofs.LabelLemmas.{has_not_neg, before_has, trail_boolean, free_not_has}
 
@@ -209,7 +208,7 @@ module _ (s : System) (rows : Rows) (counted : Counted) (labels : Labelled) (spa
             (λ f.
             let front = take (unwrap_or (position (λ (k : Link). same_var k.lit lit) labels.trail) (length labels.trail)) labels.trail in
             let found = any_member (λ (k : Link). same_var k.lit (neg l)) front (trail_boolean front (neg l) f) in
-            cc (before_fails (λ (j : Link). same_var j.lit lit) labels.trail found.0 found.1, ap (λ (m : Lit). same_var found.0.lit m) same, found.2))
+            cc (before_fails (λ (j : Link). same_var j.lit lit) labels.trail found.0 found.1, same, found.2))
 
   pub shaken_drop : (id : ClauseId) (after : Slots) → clause_at after id.0 ≡ None → ((other : ℕ) → other ≢ id.0 → clause_at after other ≡ clause_at counted.clauses other)
       → IsShaken (has s.assumed) after labels.trail (unwrap_or (position (gives id) labels.trail) (length labels.trail))

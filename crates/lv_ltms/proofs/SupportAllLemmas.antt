@@ -1,21 +1,19 @@
 -- Both literals of a boolean got the support that there is, so it waits no longer.
-use Rattle.std.proofs.Common.{◌≡◌, ◌⊎◌, ℕ, ◌+◌, ◌<◌, ◌≤◌, Bool, true, false, ◌||◌, nat_eq, nat_lt, List, [], ◌∷◌, length, get_or, drop, Some, refl, sym, ap, subst, ◌∙◌, arith, inl, inr, Contains, IsTrue}
-use Rattle.std.specs.List.{list_all, list_any}
+use Rattle.std.proofs.Common.{◌≡◌, ◌⊎◌, ℕ, Bool, true, false, ◌||◌, nat_eq, List, [], ◌∷◌, length, Some, refl, sym, ap, subst, ◌∙◌, arith, inl, inr, Contains}
 use Rattle.std.proofs.lemmas.Bool.Decides.{nat_tests}
-use Rattle.std.proofs.lemmas.List.{drop_more}
 use Rattle.lv_base.specs.declared.ids.Lit.{Lit}
-use Rattle.lv_clauses.specs.Literals.{neg, same_var, in_range}
+use Rattle.lv_clauses.specs.Literals.{neg, same_var}
 use Rattle.lv_clauses.specs.ClauseMap.{Slots, clause_at}
 use Rattle.lv_clauses.specs.Marks.{has, is_free}
-use Rattle.lv_clauses.proofs.LiteralLemmas.{same_or_neg, neg_neg, all_member}
+use Rattle.lv_clauses.proofs.LiteralLemmas.{same_or_neg, neg_neg}
 use Rattle.lv_ltms.specs.Trail.{IsDerivation}
 use Rattle.lv_ltms.specs.Occurrences.{Rows, times_in}
 use Rattle.lv_ltms.specs.Counters.{Counted}
-use Rattle.lv_ltms.specs.Labelled.{Labelled, Agrees, Grows}
-use Rattle.lv_ltms.specs.Propagating.{left_count, IsPropagating, IsSettled, true_before, none_excused}
-use Rattle.lv_ltms.specs.Revising.{is_fallen, NoneAgainst, IsOneSided, GetsSupport, IsSupported, IsUnitFor, AreMarked, AreMarkedOrWait, AreFixed, IsSwept}
+use Rattle.lv_ltms.specs.Labelled.{Labelled, Grows}
+use Rattle.lv_ltms.specs.Propagating.{left_count, IsPropagating, IsSettled, true_before}
+use Rattle.lv_ltms.specs.Revising.{is_fallen, NoneAgainst, GetsSupport, IsSupported, IsUnitFor, AreMarked, AreMarkedOrWait, AreFixed, IsSwept}
 use Rattle.lv_ltms.proofs.CountLemmas.{left_count-same}
-use Rattle.lv_ltms.proofs.LabelLemmas.{Grows-then, Grows-len, Grows-self, before_kept, has_not_free, neg_not_free, not_free_cases}
+use Rattle.lv_ltms.proofs.LabelLemmas.{Grows-then, Grows-len, Grows-self, before_kept, neg_not_free, not_free_cases}
 use Rattle.lv_ltms.proofs.PropagationLemmas.{IsCounted-same, IsSettled-same, free_kept}
 
 eq_from : (a b : ℕ) → nat_eq a b ≡ true → a ≡ b
@@ -63,7 +61,7 @@ or_right true b e = refl
 or_right false b e = e
 
 module _ (assumed : Lit → Bool) (rows : Rows) (counted : Counted) (start old mid new : Labelled) (f : Lit) (waiting : List Lit) (is : IsSupporting assumed rows counted start (f ∷ waiting) old)
-         (first : GetsSupport assumed rows counted old mid f) (second : GetsSupport assumed rows counted mid new (neg f)) where
+    (first : GetsSupport assumed rows counted old mid f) (second : GetsSupport assumed rows counted mid new (neg f)) where
   mid_state : IsPropagating (length start.marks) rows counted mid (length start.trail) (is_fallen (f ∷ waiting))
   mid_state = grown_state (length start.marks) rows counted old mid (length start.trail) (is_fallen (f ∷ waiting)) first.grows is.state
 

@@ -1,20 +1,20 @@
 -- Another support of a boolean that lost its label.
-use Rattle.std.proofs.Common.{◌≡◌, ◌≢◌, ◌⊎◌, ℕ, ◌+◌, ◌<◌, Bool, true, false, ◌&&◌, ◌||◌, nat_eq, List, [], ◌∷◌, length, cond, find, count_by, option_map, Option, Some, None, is_some, refl, sym, ap, ap₂, subst, ◌∙◌, arith, inl, inr, Contains}
+use Rattle.std.proofs.Common.{◌≡◌, ℕ, ◌<◌, Bool, true, false, ◌&&◌, ◌||◌, nat_eq, List, [], ◌∷◌, length, cond, find, option_map, Option, Some, None, is_some, refl, sym, ap, ap₂, subst, ◌∙◌, arith, inl, inr, Contains}
 use Rattle.std.proofs.lemmas.Bool.Decides.{nat_tests}
 use Rattle.lv_base.specs.declared.ids.Lit.{Lit}
 use Rattle.lv_base.specs.declared.ids.ClauseId.{ClauseId}
 use Rattle.lv_clauses.specs.Literals.{neg}
-use Rattle.lv_clauses.specs.ClauseMap.{Slots, clause_at}
+use Rattle.lv_clauses.specs.ClauseMap.{clause_at}
 use Rattle.lv_clauses.specs.Marks.{has, is_free}
-use Rattle.lv_clauses.proofs.LiteralLemmas.{Contains-head, Contains-tail, Contains-cases, Contains-nil, neg_neg, and_left, and_right}
+use Rattle.lv_clauses.proofs.LiteralLemmas.{Contains-head, Contains-tail, Contains-cases, Contains-nil, neg_neg, and_right}
 use Rattle.lv_clauses.proofs.MarkLemmas.{has-marked_free}
 use Rattle.lv_ltms.specs.declared.labels.Link.{Link}
 use Rattle.lv_ltms.specs.declared.labels.Reason.{Reason}
 use Rattle.lv_ltms.specs.declared.labels.Reason.TheVariants.{Assumed, Clause}
-use Rattle.lv_ltms.specs.Trail.{same_lit, trail_has, IsDerivation, IsReason, next}
+use Rattle.lv_ltms.specs.Trail.{same_lit, IsReason, next}
 use Rattle.lv_ltms.specs.Occurrences.{Rows, row_of, times_in, has_number, lit_count, slot_lit_count}
 use Rattle.lv_ltms.specs.Counters.{Counted, open_at}
-use Rattle.lv_ltms.specs.Labelled.{Labelled, Agrees, Grows, with_link}
+use Rattle.lv_ltms.specs.Labelled.{Labelled, Agrees, with_link}
 use Rattle.lv_ltms.specs.Propagating.{left_count, IsPropagating, true_before}
 use Rattle.lv_ltms.specs.Revising.{NoneAgainst, IsOneSided, GetsSupport, IsSupported, IsUnitFor, is_unit_at, reason_found}
 use Rattle.lv_ltms.proofs.TrailLemmas.{same_lit-equal}
@@ -140,7 +140,7 @@ module _ (assumed : Lit → Bool) (rows : Rows) (counted : Counted) (old : Label
 
   -- a support was found
   module _ (r : Reason) (found : reason_found (assumed l) counted (row_of rows l) ≡ Some r) (within : l.var.0 < length old.marks) (inside : l.var.0 < length old.supports) (p : has old.marks l ≡ false)
-           (q : has old.marks (neg l) ≡ false) (free : assumed (neg l) ≡ false) where
+      (q : has old.marks (neg l) ≡ false) (free : assumed (neg l) ≡ false) where
     abbrev pub link : Link
     link = record { lit = l; reason = r }
 

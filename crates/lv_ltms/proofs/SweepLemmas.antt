@@ -1,33 +1,28 @@
 -- Going along the trail: what stands stays, what doesn't is taken out.
-use Rattle.std.proofs.Common.{◌≡◌, ◌≢◌, ◌⊎◌, ℕ, ◌+◌, ◌<◌, ◌≤◌, suc, zero, Bool, true, false, not, ◌&&◌, ◌||◌, nat_eq, nat_lt, List, [], ◌∷◌, ◌++◌, length, take, drop, get_or, set, Option, Some, None, is_none, is_some, IsSome, cond, count_by, refl, sym, ap, ap₂, subst, ◌∙◌, arith, inl, inr, Contains}
-use Rattle.std.specs.List.{list_any, list_all}
-use Rattle.std.proofs.lemmas.Bool.{cases_eq, cases_lt}
+use Rattle.std.proofs.Common.{◌≡◌, ◌≢◌, ◌⊎◌, ℕ, ◌+◌, ◌<◌, Bool, true, false, not, ◌&&◌, ◌||◌, nat_eq, List, [], ◌∷◌, ◌++◌, length, take, drop, get_or, set, Option, Some, None, is_none, is_some, cond, refl, sym, ap, ap₂, subst, ◌∙◌, arith, inl, inr, Contains}
+use Rattle.std.specs.List.{list_any}
+use Rattle.std.proofs.lemmas.Bool.{cases_eq}
 use Rattle.std.proofs.lemmas.Bool.Decides.{nat_tests}
-use Rattle.std.proofs.lemmas.List.{length-append, length-set, get_or-set_same, get_or-set_other, take-append-drop, take-append-le, take_more, take_more_set, take_all, drop_more, drop_all, drop-set-lt, append_assoc, append-nil, length-take-le}
+use Rattle.std.proofs.lemmas.List.{length-append, length-set, get_or-set_same, get_or-set_other, take-append-drop}
 use Rattle.std.proofs.lemmas.List.Elements.{Contains-append_cases, Contains-append_left, Contains-append_right}
 use Rattle.std.proofs.lemmas.List.Folds.{list_any-append}
 use Rattle.std.proofs.lemmas.List.Sums.{sum_by-set, count_by-le-length}
-use Rattle.std.proofs.Math.Seq.{get_or-append_seam, take-append_seam, take-length}
-use Rattle.std.proofs.Math.ListN.{get_or-append}
 use Rattle.lv_base.specs.declared.ids.Lit.{Lit}
-use Rattle.lv_base.specs.declared.ids.ClauseId.{ClauseId}
-use Rattle.lv_clauses.specs.Literals.{neg, same_truth, same_var, in_range}
-use Rattle.lv_clauses.specs.ClauseMap.{Slots, clause_at, AreClauses}
-use Rattle.lv_clauses.specs.Marks.{Marks, has, mark_is, is_free}
-use Rattle.lv_clauses.proofs.LiteralLemmas.{Contains-nil, Contains-cases, Contains-tail, and_left, and_right, and_both, member_any}
+use Rattle.lv_clauses.specs.Literals.{neg, same_truth, same_var}
+use Rattle.lv_clauses.specs.ClauseMap.{Slots, clause_at}
+use Rattle.lv_clauses.specs.Marks.{Marks, has, mark_is}
+use Rattle.lv_clauses.proofs.LiteralLemmas.{Contains-tail, and_left, and_right, and_both}
 use Rattle.lv_ltms.specs.declared.labels.Link.{Link}
 use Rattle.lv_ltms.specs.declared.labels.Reason.{Reason}
 use Rattle.lv_ltms.specs.declared.labels.Reason.TheVariants.{Assumed, Clause}
-use Rattle.lv_ltms.specs.Trail.{same_lit, trail_has, IsDerivation, IsReason, IsUnit, start, next}
-use Rattle.lv_ltms.specs.Occurrences.{Rows, row_of, times_in, lit_count, slot_lit_count, IsIndex, HasWidth}
+use Rattle.lv_ltms.specs.Trail.{same_lit, trail_has, IsReason}
+use Rattle.lv_ltms.specs.Occurrences.{Rows, row_of, times_in, lit_count, slot_lit_count, IsIndex}
 use Rattle.lv_ltms.specs.Counters.{Counted, open_at}
-use Rattle.lv_ltms.specs.Labelled.{Labelled, Agrees, has_boolean, is_once, support_at}
-use Rattle.lv_ltms.specs.Propagating.{left_count, is_left, IsCounted, IsSettled, IsPropagating, true_before, none_excused}
-use Rattle.lv_ltms.specs.Revising.{is_fallen, NoneAgainst, IsOneSided, IsBacked, IsShaken, IsSwept, CanRaise, IsRaised, reason_stands}
-use Rattle.lv_ltms.proofs.TrailLemmas.{trail_has-push}
-use Rattle.lv_ltms.proofs.CountLemmas.{HasMore, left_count-more, left_count-same, none_left, one_left}
+use Rattle.lv_ltms.specs.Labelled.{Agrees, has_boolean, is_once}
+use Rattle.lv_ltms.specs.Propagating.{left_count, is_left, IsCounted, IsSettled, true_before}
+use Rattle.lv_ltms.specs.Revising.{is_fallen, IsBacked, CanRaise, IsRaised, reason_stands}
+use Rattle.lv_ltms.proofs.CountLemmas.{HasMore, left_count-more, none_left, one_left}
 use Rattle.lv_ltms.proofs.LabelLemmas.{trail_boolean, contained_has, has_within, has_not_neg}
-use Rattle.lv_ltms.proofs.PropagationLemmas.{IsCounted-same, IsSettled-same}
 
 eq_is : (a b : ℕ) → a ≡ b → nat_eq a b ≡ true
 eq_is a b e = grind (arith, nat_tests)
@@ -135,8 +130,15 @@ module _ (front rest : List Link) (link : Link) (marks : Marks) (supports : List
         same = λ l. same_after l (cases_eq l.var.0 link.lit.var.0);
         once = alone_here.once;
         room =
-            omega (arith, agrees.room, length-append front (link ∷ rest), length-append front rest, length-set marks link.lit.var.0 None,
-            sum_by-set (λ (o : Option Bool). cond (is_none o) 1 0) marks link.lit.var.0 None None link_within, marked_some (get_or marks link.lit.var.0 None) link.lit.sign link_marked);
+            omega (
+              arith,
+              agrees.room,
+              length-append front (link ∷ rest),
+              length-append front rest,
+              length-set marks link.lit.var.0 None,
+              sum_by-set (λ (o : Option Bool). cond (is_none o) 1 0) marks link.lit.var.0 None None link_within,
+              marked_some (get_or marks link.lit.var.0 None) link.lit.sign link_marked,
+            );
         backed =
             λ k h.
             agrees.backed k
@@ -155,8 +157,13 @@ module _ (front rest : List Link) (link : Link) (marks : Marks) (supports : List
       record {
         present =
             λ id c at.
-            omega (arith, counted.present id c at, row_count rows now.clauses id c index at, left_count-more (trail_has (front ++ rest)) (trail_has (front ++ link ∷ rest)) link.lit has_more c,
-            count_by-le-length (is_left (trail_has (front ++ rest))) c);
+            omega (
+              arith,
+              counted.present id c at,
+              row_count rows now.clauses id c index at,
+              left_count-more (trail_has (front ++ rest)) (trail_has (front ++ link ∷ rest)) link.lit has_more c,
+              count_by-le-length (is_left (trail_has (front ++ rest))) c,
+            );
         absent = λ id at. index.exact (neg link.lit) id ∙ ap (slot_lit_count (neg link.lit)) at;
       }
 
@@ -167,8 +174,13 @@ module _ (front rest : List Link) (link : Link) (marks : Marks) (supports : List
         present =
             λ id c at.
             let was : clause_at now.clauses id ≡ Some c = ap (λ (s : Slots). clause_at s id) (sym raised.clauses) ∙ at in
-            omega (arith, raised.counters id, counted.present id c was, row_count rows now.clauses id c index was,
-            left_count-more (trail_has (front ++ rest)) (trail_has (front ++ link ∷ rest)) link.lit has_more c);
+            omega (
+              arith,
+              raised.counters id,
+              counted.present id c was,
+              row_count rows now.clauses id c index was,
+              left_count-more (trail_has (front ++ rest)) (trail_has (front ++ link ∷ rest)) link.lit has_more c,
+            );
         absent =
             λ id at.
             let was : clause_at now.clauses id ≡ None = ap (λ (s : Slots). clause_at s id) (sym raised.clauses) ∙ at in

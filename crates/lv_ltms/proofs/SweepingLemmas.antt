@@ -1,18 +1,17 @@
 -- The loop of the sweep: what it keeps true from link to link.
-use Rattle.std.proofs.Common.{◌≡◌, ◌≢◌, ◌⊎◌, ℕ, ◌+◌, ◌<◌, ◌≤◌, Bool, true, false, not, ◌&&◌, ◌||◌, nat_lt, List, [], ◌∷◌, ◌++◌, length, take, drop, get_or, set, Some, None, IsSome, refl, sym, ap, ap₂, subst, ◌∙◌, arith, inl, inr, Contains}
-use Rattle.std.specs.List.{list_any, list_all}
+use Rattle.std.proofs.Common.{◌≡◌, ℕ, ◌+◌, ◌<◌, ◌≤◌, Bool, true, false, not, ◌&&◌, ◌||◌, nat_lt, List, [], ◌∷◌, ◌++◌, length, take, drop, get_or, set, None, refl, sym, ap, ap₂, subst, ◌∙◌, arith}
+use Rattle.std.specs.List.{list_all}
 use Rattle.std.proofs.lemmas.Bool.Decides.{nat_tests}
 use Rattle.std.proofs.lemmas.Grind.{drop_more_same}
-use Rattle.std.proofs.lemmas.List.{length-append, length-set, take-append-drop, take_more_set, take_all, take-set-le, drop_more, drop_all, drop-set-lt, append_assoc, append-nil, length-take-le}
+use Rattle.std.proofs.lemmas.List.{length-append, length-set, take-append-drop, take_more_set, drop_more, drop_all, drop-set-lt, append_assoc, append-nil}
 use Rattle.std.proofs.lemmas.List.Folds.{list_all-append}
 use Rattle.std.proofs.Math.Seq.{take-length}
 use Rattle.lv_base.specs.declared.ids.Lit.{Lit}
-use Rattle.lv_clauses.specs.Literals.{neg, same_var, same_truth, in_range}
-use Rattle.lv_clauses.specs.ClauseMap.{Slots, clause_at, AreClauses}
-use Rattle.lv_clauses.specs.Marks.{Marks, has}
+use Rattle.lv_clauses.specs.Literals.{neg, in_range}
+use Rattle.lv_clauses.specs.ClauseMap.{Slots, AreClauses}
+use Rattle.lv_clauses.specs.Marks.{has}
 use Rattle.lv_clauses.proofs.LiteralLemmas.{and_left, and_right, and_both, neg_neg}
 use Rattle.lv_ltms.specs.declared.labels.Link.{Link}
-use Rattle.lv_ltms.specs.declared.labels.Reason.{Reason}
 use Rattle.lv_ltms.specs.Trail.{same_lit, trail_has, IsDerivation, IsReason, next}
 use Rattle.lv_ltms.specs.Occurrences.{Rows, row_of, IsIndex}
 use Rattle.lv_ltms.specs.Counters.{Counted}
@@ -84,8 +83,8 @@ module _ (assumed : Lit → Bool) (bools : ℕ) (rows : Rows) (old : Labelled) w
       }
 
   module _ (clauses : Slots) (at kept : ℕ) (now : Counted) (labels : Labelled) (fallen : List Lit) (link d : Link) (index : IsIndex rows clauses) (backed : IsBacked clauses old.trail)
-           (once : Agrees old.marks old.supports old.trail) (within : at < length labels.trail) (is_link : get_or labels.trail at d ≡ link)
-           (is : IsSweeping assumed bools clauses old at kept now labels fallen) where
+      (once : Agrees old.marks old.supports old.trail) (within : at < length labels.trail) (is_link : get_or labels.trail at d ≡ link)
+      (is : IsSweeping assumed bools clauses old at kept now labels fallen) where
     behind : drop at labels.trail ≡ link ∷ drop (at + 1) labels.trail
     behind = drop_more labels.trail at d within ∙ ap (λ (k : Link). k ∷ drop (at + 1) labels.trail) is_link
 

@@ -1,9 +1,9 @@
 -- What the labels that are kept tell of the clauses and assumptions present.
-use Rattle.std.proofs.Common.{◌≡◌, ◌≢◌, ◌⊎◌, ℕ, suc, zero, ◌+◌, ◌<◌, ◌≤◌, Bool, true, false, not, nat_eq, List, [], ◌∷◌, length, take, get_or, replicate, Option, Some, None, is_none, cond, find, option_map, refl, sym, ap, subst, ◌∙◌, arith, inl, inr, Contains}
+use Rattle.std.proofs.Common.{◌≡◌, ◌≢◌, ℕ, suc, zero, ◌<◌, Bool, true, false, nat_eq, List, [], ◌∷◌, length, get_or, Option, Some, None, is_none, cond, find, option_map, refl, sym, ap, subst, ◌∙◌, arith, inl, inr, Contains}
 use Rattle.std.specs.List.{list_any, list_all}
 use Rattle.std.proofs.lemmas.Bool.{cases_lt}
 use Rattle.std.proofs.lemmas.Bool.Decides.{nat_tests}
-use Rattle.std.proofs.lemmas.List.{length-replicate, get_or_past}
+use Rattle.std.proofs.lemmas.List.{get_or_past}
 use Rattle.std.proofs.lemmas.List.Folds.{list_any_at}
 use Rattle.std.proofs.Math.Seq.{take-length}
 use Rattle.lv_base.specs.declared.ids.Lit.{Lit}
@@ -11,10 +11,9 @@ use Rattle.lv_clauses.specs.Literals.{neg, same_var, distinct, in_range}
 use Rattle.lv_clauses.specs.ClauseMap.{Slots, clause_at}
 use Rattle.lv_clauses.specs.Closure.{InClosure, IsContradictory, unit, both_signs, empty_clause}
 use Rattle.lv_clauses.specs.Laws.{IsClosed}
-use Rattle.lv_clauses.specs.Marks.{Marks, nothing, has, is_free}
+use Rattle.lv_clauses.specs.Marks.{Marks, has, is_free}
 use Rattle.lv_clauses.proofs.LiteralLemmas.{Contains-head, any_member, and_right, lit_cases}
 use Rattle.lv_clauses.proofs.ClosureLemmas.{least}
-use Rattle.lv_clauses.proofs.MarkLemmas.{has-nothing}
 use Rattle.lv_ltms.specs.declared.labels.Link.{Link}
 use Rattle.lv_ltms.specs.declared.labels.Reason.{Reason}
 use Rattle.lv_ltms.specs.declared.labels.Reason.TheVariants.{Assumed}
@@ -22,11 +21,11 @@ use Rattle.lv_ltms.specs.Trail.{same_lit, trail_has, IsDerivation, reason_in}
 use Rattle.lv_ltms.specs.Occurrences.{Rows}
 use Rattle.lv_ltms.specs.Counters.{Counted, open_at, has_zero}
 use Rattle.lv_ltms.specs.Labelled.{Labelled, Agrees, support_at, support_if_marked}
-use Rattle.lv_ltms.specs.Propagating.{left_count, true_before, none_excused}
+use Rattle.lv_ltms.specs.Propagating.{left_count, true_before}
 use Rattle.lv_ltms.specs.System.{System, IsKept, IsDerived, IsRefuted, IsWholeTrail}
 use Rattle.lv_ltms.proofs.TrailLemmas.{derivation_sound, same_lit-equal}
 use Rattle.lv_ltms.proofs.CountLemmas.{none_left, just_one_left, nothing_left}
-use Rattle.lv_ltms.proofs.LabelLemmas.{not_free_cases, has_not_free, neg_not_free, has_not_neg, contained_has}
+use Rattle.lv_ltms.proofs.LabelLemmas.{not_free_cases, has_not_free, has_not_neg, contained_has}
 use Rattle.lv_ltms.proofs.SupportLemmas.{found_passes, none_passes}
 
 eq_from : (a b : ℕ) → nat_eq a b ≡ true → a ≡ b

@@ -9,12 +9,12 @@ use Rattle.lv_clauses.specs.ClauseMap.{Slots}
 use Rattle.lv_clauses.specs.Closure.{InClosure, assumption, unit}
 use Rattle.lv_clauses.specs.Marks.{has, mark_is}
 use Rattle.lv_clauses.proofs.LiteralLemmas.{lit_of, and_left, and_right}
-use Rattle.lv_clauses.proofs.MarkLemmas.{same_truth-equal, has-marked_free}
+use Rattle.lv_clauses.proofs.MarkLemmas.{same_truth-equal}
 use Rattle.lv_ltms.specs.declared.labels.Link.{Link}
 use Rattle.lv_ltms.specs.declared.labels.Reason.{Reason}
 use Rattle.lv_ltms.specs.declared.labels.Reason.TheVariants.{Assumed, Clause}
 use Rattle.lv_ltms.specs.Trail.{same_lit, trail_has, IsReason, IsDerivation, start, next}
-use Rattle.lv_ltms.specs.Labelled.{Labelled, Agrees, Grows, with_link, has_boolean, is_once, support_at}
+use Rattle.lv_ltms.specs.Labelled.{Labelled, with_link}
 
 eq_from : (a b : ℕ) → nat_eq a b ≡ true → a ≡ b
 eq_from a b e = grind (arith, nat_tests)

@@ -146,10 +146,7 @@ impl Ltms {
         requires { IsTrue (has self.old.assumed lit) }
         ensures { PutsAssumed self.old self.new (slice_set self.old.assumed lit.var.0 None) }
     {
-        let index = lit.var.0 as usize;
-        if index < self.assumed.len() {
-            self.assumed[index] = None;
-        }
+        take_back(&mut self.assumed, lit);
         let from = self.labels.place_of(lit);
         revise(
             from,
@@ -241,6 +238,16 @@ impl Ltms {
         ensures core { IsCore self.now (take result out.new) }
     {
         write_assumptions(self.bools, self.assumed.as_slice(), out)
+    }
+}
+
+/// Takes away the mark of a literal's boolean, if that is in range.
+fn take_back(assumed: &mut Vec<Option<bool>>, lit: Lit)
+    ensures { assumed.new.items ≡ slice_set assumed.old.items lit.var.0 None }
+{
+    let index = lit.var.0 as usize;
+    if index < assumed.len() {
+        assumed[index] = None;
     }
 }
 

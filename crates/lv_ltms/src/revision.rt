@@ -146,7 +146,10 @@ fn support(
     requires against { NoneAgainst (has assumed.now) (has labels.old.marks) }
     ensures { GetsSupport (has assumed.now) index.now arena.now labels.old labels.new lit }
 {
-    if has(labels.marks(), lit) || has(labels.marks(), negation(lit)) || has(assumed, negation(lit)) {
+    if has(labels.marks(), lit)
+        || has(labels.marks(), negation(lit))
+        || has(assumed, negation(lit))
+    {
         return;
     }
     if let Some(reason) = reason_for(lit, assumed, index, arena) {

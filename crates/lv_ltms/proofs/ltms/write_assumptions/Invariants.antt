@@ -1,6 +1,5 @@
 -- the literals written and those still to come are all, and there is room for the rest
 use Rattle.std.proofs.Common.{◌≡◌, ◌+◌, ◌≤◌, ◌++◌, take, drop, length, count_by, is_some}
-use Rattle.lv_ltms.proofs.ShakenLemmas.{shaken_drop}
 use Rattle.lv_ltms.specs.Marked.{literals_from}
 use Rattle.lv_ltms.proofs.ltms.write_assumptions.Given as goal
 

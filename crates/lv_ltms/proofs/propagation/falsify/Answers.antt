@@ -1,6 +1,5 @@
 -- each clause of the row is counted down in turn
-use Rattle.std.proofs.Common.{◌≡◌, ℕ, ◌+◌, false, ◌<◌, ◌≤◌, length, get_or, drop, refl, sym, ap, subst, ◌∙◌, arith, IsSome, IsTrue, List, Contains}
-use Rattle.lv_base.specs.declared.ids.Lit.{Lit}
+use Rattle.std.proofs.Common.{◌≡◌, ℕ, ◌+◌, false, length, get_or, drop, refl, sym, ap, subst, ◌∙◌, IsSome, List}
 use Rattle.lv_base.specs.declared.ids.ClauseId.{ClauseId}
 use Rattle.lv_clauses.specs.Literals.{neg}
 use Rattle.lv_clauses.specs.ClauseMap.{Slots, clause_at, AreClauses}

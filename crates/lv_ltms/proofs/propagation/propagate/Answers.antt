@@ -1,5 +1,5 @@
 -- one place further along the trail is counted at each turn
-use Rattle.std.proofs.Common.{◌≡◌, ◌+◌, ◌<◌, ◌≤◌, ℕ, List, length, refl, sym, ap, subst, ◌∙◌, arith}
+use Rattle.std.proofs.Common.{◌≡◌, ℕ, List, length, refl, ap, subst, ◌∙◌, arith}
 use Rattle.lv_ltms.specs.declared.labels.Link.{Link}
 use Rattle.lv_ltms.specs.Propagating.{IsPropagating, none_excused}
 use Rattle.lv_ltms.proofs.SettleLemmas.{goes_on_self}

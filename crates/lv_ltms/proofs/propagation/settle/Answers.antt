@@ -1,10 +1,8 @@
 -- the literal that the clause leaves is marked, or was
-use Rattle.std.proofs.Common.{◌≡◌, length, Some, true, false, subst, sym, ap, ◌∙◌}
-use Rattle.lv_clauses.specs.declared.marks.Finding.{Finding}
+use Rattle.std.proofs.Common.{◌≡◌, true, false, subst, sym, ap, ◌∙◌}
 use Rattle.lv_clauses.specs.declared.marks.Finding.TheVariants.{Unit}
-use Rattle.lv_clauses.specs.ClauseMap.{clause_at}
 use Rattle.lv_clauses.specs.Marks.{Marks, has, look_at}
-use Rattle.lv_ltms.specs.Labelled.{Labelled, GoesOn}
+use Rattle.lv_ltms.specs.Labelled.{GoesOn}
 use Rattle.lv_ltms.specs.Propagating.{Settles}
 use Rattle.lv_ltms.proofs.SettleLemmas.{unit_room, unit_inside, unit_supports, goes_on_unit, settles_unit, settles_known, settles_other, goes_on_self}
 use Rattle.lv_ltms.proofs.propagation.settle.Goals as goal

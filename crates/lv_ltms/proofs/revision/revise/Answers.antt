@@ -1,6 +1,5 @@
 -- an assumption whose boolean was marked is marked still, or its boolean fell
-use Rattle.std.proofs.Common.{List, sym, subst}
-use Rattle.lv_base.specs.declared.ids.Lit.{Lit}
+use Rattle.std.proofs.Common.{sym, subst}
 use Rattle.lv_clauses.specs.Marks.{has}
 use Rattle.lv_ltms.specs.Revising.{AreMarkedOrWait}
 use Rattle.lv_ltms.proofs.SupportAllLemmas.{swept_marked}

@@ -1,5 +1,5 @@
 -- a support was found, or there is none
-use Rattle.std.proofs.Common.{◌≡◌, ◌<◌, Some, None, false, length, sym, ap, subst, ◌∙◌, arith}
+use Rattle.std.proofs.Common.{◌≡◌, false, sym, ap, subst, ◌∙◌, arith}
 use Rattle.lv_base.specs.declared.ids.Lit.{Lit}
 use Rattle.lv_clauses.specs.Literals.{neg}
 use Rattle.lv_clauses.specs.Marks.{Marks, has}

@@ -1,5 +1,5 @@
 -- one boolean fewer waits
-use Rattle.std.proofs.Common.{◌+◌, ◌∷◌, get_or, drop, false, List, subst, sym}
+use Rattle.std.proofs.Common.{◌+◌, get_or, drop, false, List, subst}
 use Rattle.std.proofs.lemmas.List.{drop_more}
 use Rattle.lv_base.specs.declared.ids.Lit.{Lit}
 use Rattle.lv_clauses.specs.Marks.{has}

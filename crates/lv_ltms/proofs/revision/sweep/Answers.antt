@@ -1,15 +1,13 @@
 -- each link stays or falls
-use Rattle.std.proofs.Common.{◌≡◌, ◌+◌, ◌<◌, ◌≤◌, ◌&&◌, ℕ, false, true, not, [], ◌∷◌, ◌++◌, List, length, take, get_or, Vec, Global, vec_capacity, refl, sym, ap, subst, ◌∙◌, arith}
+use Rattle.std.proofs.Common.{◌<◌, false, List, length, get_or, Vec, Global, vec_capacity, refl, sym, ap, subst, ◌∙◌, arith}
 use Rattle.lv_base.specs.declared.ids.Lit.{Lit}
-use Rattle.lv_clauses.specs.Literals.{neg}
 use Rattle.lv_clauses.specs.Marks.{has}
 use Rattle.lv_ltms.specs.declared.labels.Link.{Link}
 use Rattle.lv_ltms.specs.declared.labels.Reason.TheVariants.{Assumed}
 use Rattle.lv_ltms.specs.Occurrences.{row_of}
 use Rattle.lv_ltms.specs.Labelled.{Labelled}
-use Rattle.lv_ltms.specs.Counters.{Counted}
 use Rattle.lv_ltms.specs.Propagating.{IsPropagating}
-use Rattle.lv_ltms.specs.Revising.{CanRaise, IsRaised, IsSwept, is_fallen, reason_stands}
+use Rattle.lv_ltms.specs.Revising.{CanRaise, IsRaised, is_fallen}
 use Rattle.lv_ltms.proofs.SweepingLemmas.{IsSweeping, sweeping_start, sweeping_keep, sweeping_fall, sweeping_can_raise, sweeping_link_within, sweeping_state, sweeping_same}
 use Rattle.lv_ltms.proofs.revision.sweep.Goals as goal
 use Rattle.lv_ltms.proofs.revision.sweep.Goals.{then-stands, else-stands}

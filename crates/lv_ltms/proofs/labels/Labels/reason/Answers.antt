@@ -1,5 +1,5 @@
 -- the support kept for a boolean is the reason on the trail
-use Rattle.std.proofs.Common.{◌≡◌, List, ap, ap₂, ◌∙◌}
+use Rattle.std.proofs.Common.{List, ap, ap₂, ◌∙◌}
 use Rattle.lv_clauses.specs.Marks.{Marks}
 use Rattle.lv_ltms.specs.declared.labels.Reason.{Reason}
 use Rattle.lv_ltms.specs.Labelled.{Labelled, support_if_marked}

@@ -1,26 +1,53 @@
-use Rattle.std.proofs.Common.{rules, ◌≡◌, ◌≤◌, ◌&&◌, option_map, [], length, take, position, Some, None, IfOk, OnErr, IsSome, IsTrue, is_some, count_by, slice_set, ℕ, ◌+◌, ◌-◌, ◌*◌, ◌<◌, ◌/◌, ◌%◌, Bool, true, false, nat_eq, nat_lt, List, ◌∷◌, ◌++◌, slice_index_or, bit_and, bit_or, Fits, w8, w32, w64, Bor, MutBor}
-use Rattle.lv_clauses.specs.Literals.{is_clause, in_range}
-use Rattle.lv_clauses.specs.ClauseMap.{clause_at}
-use Rattle.lv_clauses.specs.Marks.{nothing, has, marked, is_free}
-use Rattle.lv_ltms.specs.Trail.{reason_in}
-use Rattle.lv_ltms.specs.Marked.{literals_from}
-use Rattle.lv_ltms.specs.Labelled.{gives}
-use Rattle.lv_ltms.specs.System.{System, PutsClause, PutsAssumed, IsRefuted, TellsStanding, IsWholeTrail, IsCore}
-use Rattle.lv_ltms.specs.Told.{TellsLabel}
+-- the literal is marked, or its negation's label falls
+use Rattle.std.proofs.Common.{◌≡◌, List, length, false, IsTrue, vec_capacity, sym, ap, subst, ◌∙◌, ℕ}
+use Rattle.lv_base.specs.declared.ids.Lit.{Lit}
+use Rattle.lv_clauses.specs.Literals.{neg, in_range}
+use Rattle.lv_clauses.specs.Marks.{Marks, has, is_free}
+use Rattle.lv_ltms.specs.declared.labels.Link.{Link}
+use Rattle.lv_ltms.specs.declared.labels.Reason.TheVariants.{Assumed}
+use Rattle.lv_ltms.specs.Labelled.{Labelled, GoesOn, with_link}
+use Rattle.lv_ltms.specs.Propagating.{IsPropagating, none_excused}
+use Rattle.lv_ltms.specs.Revising.{IsShaken}
+use Rattle.lv_ltms.specs.System.{System}
+use Rattle.lv_ltms.proofs.ShakenLemmas.{shaken_assume}
+use Rattle.lv_ltms.proofs.AssumeLemmas.{within, known_kept, pushed_state, pushed_kept}
 use Rattle.lv_ltms.proofs.ltms.Ltms.assume.Goals as goal
 
--- src/ltms.rt:122:13
 pub invariant_of-self : goal.invariant_of-self
-invariant_of-self c = ?
+invariant_of-self c =
+    let range : IsTrue (in_range c.self.inside.bools c.args.lit) = subst (λ (s : System). IsTrue (in_range s.bools c.args.lit)) (sym c.self.view_is) c.requires.range in
+    let free : IsTrue (is_free c.self.inside.assumed.items c.args.lit) = subst (λ (s : System). IsTrue (is_free s.assumed c.args.lit)) (sym c.self.view_is) c.requires.free in
+    known_kept _ c.self.inside.index c.self.inside.arena c.self.inside.labels (vec_capacity c.self.inside.fallen) c.self.invariant c.args.lit range free
+    (ap (λ (m : Marks). has m c.args.lit) (sym c.marks.ensures) ∙ sym c.if-has.ensures)
 
--- src/ltms.rt:126:13
 pub revise-requires-clause-shaken : goal.revise-requires-clause-shaken
-revise-requires-clause-shaken c = ?
+revise-requires-clause-shaken c =
+    let range : IsTrue (in_range c.self.inside.bools c.args.lit) = subst (λ (s : System). IsTrue (in_range s.bools c.args.lit)) (sym c.self.view_is) c.requires.range in
+    let free : IsTrue (is_free c.self.inside.assumed.items c.args.lit) = subst (λ (s : System). IsTrue (is_free s.assumed c.args.lit)) (sym c.self.view_is) c.requires.free in
+    subst (IsShaken (has c.as_slice.result.now) c.self.inside.arena.clauses c.self.inside.labels.trail) (sym c.place_of-from.ensures)
+    (shaken_assume _ c.self.inside.index c.self.inside.arena c.self.inside.labels (vec_capacity c.self.inside.fallen) c.self.invariant c.args.lit
+    (within _ c.self.inside.index c.self.inside.arena c.self.inside.labels (vec_capacity c.self.inside.fallen) c.self.invariant c.args.lit range free) free c.as_slice.result.now c.as_slice.ensures.value)
 
--- src/ltms.rt:141:9
 pub propagate-requires : goal.propagate-requires
-propagate-requires c = ?
+propagate-requires c =
+    let range : IsTrue (in_range c.self.inside.bools c.args.lit) = subst (λ (s : System). IsTrue (in_range s.bools c.args.lit)) (sym c.self.view_is) c.requires.range in
+    let free : IsTrue (is_free c.self.inside.assumed.items c.args.lit) = subst (λ (s : System). IsTrue (is_free s.assumed c.args.lit)) (sym c.self.view_is) c.requires.free in
+    let p : has c.self.inside.labels.marks c.args.lit ≡ false = ap (λ (m : Marks). has m c.args.lit) (sym c.marks.ensures) ∙ sym c.if-has.ensures in
+    let q : has c.self.inside.labels.marks (neg c.args.lit) ≡ false = ap (λ (m : Marks). has m (neg c.args.lit)) (sym c.marks-2.ensures) ∙ ap (λ (l : Lit). has c.marks-2.result.now l) (sym c.negation.ensures) ∙ sym c.if-has-2.ensures in
+    let state = pushed_state _ c.self.inside.index c.self.inside.arena c.self.inside.labels (vec_capacity c.self.inside.fallen) c.self.invariant c.args.lit range free p q in
+    let grown : Labelled = with_link c.self.inside.labels (record { lit = c.args.lit; reason = Assumed }) in
+    subst (λ (x : Labelled). IsPropagating (length x.marks) c.self.inside.index c.self.inside.arena x (length c.trail-from.result.now) none_excused) (sym c.push.ensures)
+    (subst (λ (t : List Link). IsPropagating (length grown.marks) c.self.inside.index c.self.inside.arena grown (length t) none_excused) (sym c.trail-from.ensures)
+    (subst (λ (n : ℕ). IsPropagating n c.self.inside.index c.self.inside.arena grown (length c.self.inside.labels.trail) none_excused) (sym state.marks) state))
 
--- src/ltms.rt:115:5
 pub invariant_of-self-2 : goal.invariant_of-self-2
-invariant_of-self-2 c = ?
+invariant_of-self-2 c =
+    let range : IsTrue (in_range c.self.inside.bools c.args.lit) = subst (λ (s : System). IsTrue (in_range s.bools c.args.lit)) (sym c.self.view_is) c.requires.range in
+    let free : IsTrue (is_free c.self.inside.assumed.items c.args.lit) = subst (λ (s : System). IsTrue (is_free s.assumed c.args.lit)) (sym c.self.view_is) c.requires.free in
+    let p : has c.self.inside.labels.marks c.args.lit ≡ false = ap (λ (m : Marks). has m c.args.lit) (sym c.marks.ensures) ∙ sym c.if-has.ensures in
+    let q : has c.self.inside.labels.marks (neg c.args.lit) ≡ false = ap (λ (m : Marks). has m (neg c.args.lit)) (sym c.marks-2.ensures) ∙ ap (λ (l : Lit). has c.marks-2.result.now l) (sym c.negation.ensures) ∙ sym c.if-has-2.ensures in
+    let state = pushed_state _ c.self.inside.index c.self.inside.arena c.self.inside.labels (vec_capacity c.self.inside.fallen) c.self.invariant c.args.lit range free p q in
+    pushed_kept _ c.self.inside.index c.self.inside.arena c.self.inside.labels (vec_capacity c.self.inside.fallen) c.self.invariant c.args.lit range free p q c.propagate.new.labels c.propagate.new.arena c.propagate.ensures.clauses
+    (subst (λ (n : ℕ). IsPropagating n c.self.inside.index c.propagate.new.arena c.propagate.new.labels (length c.propagate.new.labels.trail) none_excused)
+    (c.propagate.ensures.goes_on.grows.marks ∙ ap (λ (x : Labelled). length x.marks) c.push.ensures ∙ state.marks) c.propagate.ensures.state)
+    (subst (λ (x : Labelled). GoesOn c.self.inside.arena.clauses x c.propagate.new.labels) c.push.ensures c.propagate.ensures.goes_on)

@@ -1,14 +1,11 @@
-use Rattle.std.proofs.Common.{rules, ◌≡◌, ◌≤◌, ◌&&◌, option_map, [], length, take, position, Some, None, IfOk, OnErr, IsSome, IsTrue, is_some, count_by, slice_set, ℕ, ◌+◌, ◌-◌, ◌*◌, ◌<◌, ◌/◌, ◌%◌, Bool, true, false, nat_eq, nat_lt, List, ◌∷◌, ◌++◌, slice_index_or, bit_and, bit_or, Fits, w8, w32, w64, Bor, MutBor}
-use Rattle.lv_clauses.specs.Literals.{is_clause, in_range}
-use Rattle.lv_clauses.specs.ClauseMap.{clause_at}
-use Rattle.lv_clauses.specs.Marks.{nothing, has, marked, is_free}
-use Rattle.lv_ltms.specs.Trail.{reason_in}
-use Rattle.lv_ltms.specs.Marked.{literals_from}
-use Rattle.lv_ltms.specs.Labelled.{gives}
-use Rattle.lv_ltms.specs.System.{System, PutsClause, PutsAssumed, IsRefuted, TellsStanding, IsWholeTrail, IsCore}
-use Rattle.lv_ltms.specs.Told.{TellsLabel}
+-- what the assumption supported falls
+use Rattle.std.proofs.Common.{vec_capacity, sym, subst, ◌∙◌}
+use Rattle.lv_clauses.specs.Marks.{has}
+use Rattle.lv_ltms.specs.Revising.{IsShaken}
+use Rattle.lv_ltms.proofs.ShakenLemmas.{shaken_retract}
 use Rattle.lv_ltms.proofs.ltms.Ltms.retract.Goals as goal
 
--- src/ltms.rt:154:9
 pub revise-requires-clause-shaken : goal.revise-requires-clause-shaken
-revise-requires-clause-shaken c = ?
+revise-requires-clause-shaken c =
+    subst (IsShaken (has c.as_slice.result.now) c.self.inside.arena.clauses c.self.inside.labels.trail) (sym c.place_of-from.ensures)
+    (shaken_retract _ c.self.inside.index c.self.inside.arena c.self.inside.labels (vec_capacity c.self.inside.fallen) c.self.invariant c.args.lit c.as_slice.result.now (c.as_slice.ensures.value ∙ c.take_back.ensures))
