@@ -11,13 +11,15 @@
 # isn't timed. A label that a retraction takes back and gives again doesn't count, and nothing that is done during a
 # contradiction does.
 #
-# Sizes other than these are given by the environment, as in: length=1000 bools=200 clauses=600 bench/ltms.sh
+# Sizes other than these are given by the environment, as in: length=1000 few_rounds=1 many_rounds=1 bench/ltms.sh
 set -eu
 . "$(dirname "$0")/common.sh"
 build bench_ltms 'chain 0 0'
 
 : "${length:=100000}" "${chain_rounds:=100}"
-: "${bools:=20000}" "${clauses:=60000}" "${few:=50}" "${many:=500}" "${calls:=1000}" "${random_rounds:=1000}"
+: "${bools:=20000}" "${clauses:=60000}"
+: "${few:=50}" "${few_calls:=1000}" "${few_rounds:=1000}"
+: "${many:=500}" "${many_calls:=3000}" "${many_rounds:=300}"
 
 # report SETTING ROUNDS COUNTED: a run of these rounds, in each of which as much is done as the program says of COUNTED
 report() {
@@ -39,6 +41,7 @@ per() {
 }
 
 report "chain $length" "$chain_rounds" "chain $length 1"
-for held in $few $many; do
-  report "random $bools $clauses $held $calls" "$random_rounds" "count $bools $clauses $held $calls"
-done
+few_sizes="$bools $clauses $few $few_calls"
+report "random $few_sizes" "$few_rounds" "count $few_sizes"
+many_sizes="$bools $clauses $many $many_calls"
+report "random $many_sizes" "$many_rounds" "count $many_sizes"
