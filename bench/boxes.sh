@@ -3,16 +3,8 @@
 # among kept conflicts, on 256 slots. Builds the program crates/bench_boxes, which says what its words mean, and takes
 # the time of a run of no rounds off, so that making the settings doesn't count.
 set -eu
-cd "$(dirname "$0")/../crates/bench_boxes"
-rt run -- 0 0 0 >/dev/null
-TIMEFORMAT=%3U
-
-# the milliseconds that a run with these words takes
-taken_by() {
-  local taken
-  taken=$({ time ./out/bench_boxes "$@" >/dev/null; } 2>&1)
-  echo $((10#${taken/./}))
-}
+. "$(dirname "$0")/common.sh"
+build bench_boxes 0 0 0
 
 # report NAME CALLS ROUNDS..: a run of these rounds makes that many calls
 report() {

@@ -1,0 +1,66 @@
+//! Assumes and retracts literals of a truth maintenance system many times over, and prints what became of them: counts
+//! that are the same in each run. Each of its words is one setting, with numbers behind spaces; what the calls take is
+//! measured from outside, by bench/ltms.sh.
+//!
+//! | setting | calls |
+//! |---|---|
+//! | `chain LENGTH ROUNDS` | in each round the first literal of a chain of implications is assumed and retracted |
+//! | `random BOOLS CLAUSES HELD CALLS ROUNDS` | in each round random literals are assumed over clauses of three random literals and, once so many are held, the oldest retracted; at its end all |
+//! | `count BOOLS CLAUSES HELD CALLS` | one such round, with a look at every label after each call |
+#![tactic(auto)]
+
+mod held;
+mod numbers;
+mod rounds;
+mod setting;
+mod tally;
+
+use held::Sizes;
+use std::alloc::{AllocError, Global};
+use std::{env, io};
+use tally::Tally;
+
+fn main(rt: HostRuntime) -> io::Result<()> {
+    for setting in env::args(&rt)?.skip(1) {
+        match tally_of(rt.alloc(), setting.as_str())? {
+            Some(tally) => println!(rt; "{setting}: {tally}")?,
+            None => println!(rt; "{setting}: no setting")?,
+        }
+    }
+    Ok(())
+}
+
+/// What the calls of a setting came to; None where a word says no setting.
+fn tally_of(alloc: Global, setting: &str) -> Result<Option<Tally>, AllocError> {
+    let words: Vec<&str> = setting.split_whitespace().collect(alloc)?;
+    match words.as_slice() {
+        ["chain", length, rounds] => {
+            let tally = rounds::chain(alloc, number_of(length), number_of(rounds))?;
+            Ok(Some(tally))
+        }
+        ["random", bools, clauses, held, calls, rounds] => {
+            let sizes = sizes_of(bools, clauses, held, calls);
+            let tally = rounds::random(alloc, sizes, number_of(rounds))?;
+            Ok(Some(tally))
+        }
+        ["count", bools, clauses, held, calls] => {
+            let tally = rounds::count(alloc, sizes_of(bools, clauses, held, calls))?;
+            Ok(Some(tally))
+        }
+        _ => Ok(None),
+    }
+}
+
+fn sizes_of(bools: &str, clauses: &str, held: &str, calls: &str) -> Sizes {
+    Sizes {
+        bools: number_of(bools),
+        clauses: number_of(clauses),
+        held: number_of(held),
+        calls: number_of(calls),
+    }
+}
+
+/// The number that a word says; 0 where it says none.
+fn number_of(word: &str) -> u32 {
+    word.parse::<u32>().unwrap_or(0)
+}
