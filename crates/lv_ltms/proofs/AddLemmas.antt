@@ -24,12 +24,7 @@ use Rattle.lv_ltms.specs.System.{System, IsKept}
 use Rattle.lv_ltms.proofs.CountLemmas.{left_count-same, one_left, count_yes}
 use Rattle.lv_ltms.proofs.LabelLemmas.{Grows-len, before_kept}
 use Rattle.lv_ltms.proofs.PropagationLemmas.{free_kept}
-
-eq_is : (a b : ℕ) → a ≡ b → nat_eq a b ≡ true
-eq_is a b e = grind (arith, nat_tests)
-
-eq_isnt : (a b : ℕ) → (a ≡ b → ⊥) → nat_eq a b ≡ false
-eq_isnt a b e = grind (arith, nat_tests)
+use Rattle.lv_ltms.proofs.BoolLemmas.{eq_is, eq_isnt}
 
 -- a derivation goes over to other clauses and assumptions where each reason does
 pub derivation_to : (clauses after : Slots) (assumed now : Lit → Bool) → {trail : List Link} → IsDerivation clauses assumed trail

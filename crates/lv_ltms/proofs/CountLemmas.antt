@@ -12,9 +12,7 @@ use Rattle.lv_ltms.specs.Trail.{same_lit}
 use Rattle.lv_ltms.specs.Occurrences.{times_in, lit_count}
 use Rattle.lv_ltms.specs.Propagating.{is_left, left_count}
 use Rattle.lv_ltms.proofs.TrailLemmas.{same_lit-equal}
-
-eq_swap : (a b : ℕ) → nat_eq a b ≡ nat_eq b a
-eq_swap a b = grind (arith, nat_tests)
+use Rattle.lv_ltms.proofs.BoolLemmas.{eq_swap, or_false}
 
 eq_refl : (a : ℕ) → nat_eq a a ≡ true
 eq_refl a = grind (arith, nat_tests)
@@ -61,10 +59,6 @@ left_count-same before after same (m ∷ ms) = by_value (before (neg m)) refl (l
     by_value true e later = left_no before m ms e ∙ later ∙ sym (left_no after m ms (sym (same (neg m)) ∙ e))
     by_value false e later = left_yes before m ms e ∙ ap (λ n. 1 + n) later ∙ sym (left_yes after m ms (sym (same (neg m)) ∙ e))
 
-or_none : (b : Bool) → (b || false) ≡ b
-or_none true = refl
-or_none false = refl
-
 -- a literal that became true takes its negations off what is left
 pub left_count-more : (before after : Lit → Bool) (x : Lit) → HasMore before after x → (c : List Lit) → left_count before c ≡ left_count after c + lit_count (neg x) c
 left_count-more before after x more [] = refl
@@ -80,7 +74,7 @@ left_count-more before after x more (m ∷ ms) = by_same (same_lit m (neg x)) re
         let q : after (neg m) ≡ true = more.grown (neg m) ∙ ap₂ (λ a b. a || b) p (same_lit-swap x m ∙ e) in
         omega (arith, later, left_yes before m ms p, left_no after m ms q, count_yes is_it m ms e)
     by_same false e later =
-        let q : after (neg m) ≡ before (neg m) = more.grown (neg m) ∙ ap (λ b. before (neg m) || b) (same_lit-swap x m ∙ e) ∙ or_none (before (neg m)) in
+        let q : after (neg m) ≡ before (neg m) = more.grown (neg m) ∙ ap (λ b. before (neg m) || b) (same_lit-swap x m ∙ e) ∙ or_false (before (neg m)) in
         by_value q (before (neg m)) refl
       where
         by_value : after (neg m) ≡ before (neg m) → (b : Bool) → before (neg m) ≡ b → left_count before (m ∷ ms) ≡ left_count after (m ∷ ms) + lit_count (neg x) (m ∷ ms)

@@ -8,12 +8,7 @@ use Rattle.lv_ltms.specs.Occurrences.{Rows, occurs, lit_count, slot_lit_count, H
 use Rattle.lv_ltms.specs.Counters.{Counted, open_at, PutsEntry}
 use Rattle.lv_ltms.specs.Labelled.{Labelled}
 use Rattle.lv_ltms.specs.Propagating.{IsPropagating, none_excused}
-
-eq_is : (a b : ℕ) → a ≡ b → nat_eq a b ≡ true
-eq_is a b e = grind (arith, nat_tests)
-
-eq_isnt : (a b : ℕ) → (a ≡ b → ⊥) → nat_eq a b ≡ false
-eq_isnt a b e = grind (arith, nat_tests)
+use Rattle.lv_ltms.proofs.BoolLemmas.{eq_is, eq_isnt}
 
 -- the index has a clause that is present in the rows of its literals
 pub index_has : (rows : Rows) (clauses : Slots) (id : ℕ) → IsIndex rows clauses → IfSome (clause_at clauses id) (λ c. HasAll rows c id)

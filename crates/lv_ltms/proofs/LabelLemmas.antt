@@ -18,23 +18,7 @@ use Rattle.lv_ltms.specs.Labelled.{Labelled, Agrees, Grows, with_link, has_boole
 use Rattle.lv_ltms.specs.Propagating.{true_before}
 use Rattle.lv_ltms.proofs.TrailLemmas.{trail_has-push, free_count-push}
 use Rattle.lv_ltms.proofs.CountLemmas.{HasMore, same_lit-self}
-
-eq_from : (a b : ℕ) → nat_eq a b ≡ true → a ≡ b
-eq_from a b e = grind (arith, nat_tests)
-
-eq_is : (a b : ℕ) → a ≡ b → nat_eq a b ≡ true
-eq_is a b e = grind (arith, nat_tests)
-
-eq_swap : (a b : ℕ) → nat_eq a b ≡ nat_eq b a
-eq_swap a b = grind (arith, nat_tests)
-
-not_true : (b : Bool) → (b ≡ true → ⊥) → b ≡ false
-not_true true never = absurd (never refl)
-not_true false never = refl
-
-from_not : (b : Bool) → not b ≡ true → b ≡ false
-from_not true e = absurd (cc)
-from_not false e = refl
+use Rattle.lv_ltms.proofs.BoolLemmas.{eq_from, eq_is, eq_swap, from_not, not_true, or_parts}
 
 -- a mark is a mark of one sign
 marked_cases : (o : Option Bool) (s : Bool) → mark_is o s ≡ true → (mark_is o (not s) ≡ false) × (is_none o ≡ false)
@@ -43,13 +27,6 @@ marked_cases (Some true) true e = (refl, refl)
 marked_cases (Some true) false e = absurd (cc)
 marked_cases (Some false) true e = absurd (cc)
 marked_cases (Some false) false e = (refl, refl)
-
-unmarked : (o : Option Bool) (s : Bool) → mark_is o s ≡ false → mark_is o (not s) ≡ false → is_none o ≡ true
-unmarked None s p q = refl
-unmarked (Some true) true p q = absurd (cc)
-unmarked (Some true) false p q = absurd (cc)
-unmarked (Some false) true p q = absurd (cc)
-unmarked (Some false) false p q = absurd (cc)
 
 not_marked : (o : Option Bool) (s : Bool) → is_none o ≡ true → mark_is o s ≡ false
 not_marked None s e = refl
@@ -63,9 +40,6 @@ has_not_free marks l e = (marked_cases _ l.sign e).1
 
 pub neg_not_free : (marks : Marks) (l : Lit) → has marks (neg l) ≡ true → is_free marks l ≡ false
 neg_not_free marks l e = (marked_cases _ (not l.sign) e).1
-
-pub free_from : (marks : Marks) (l : Lit) → has marks l ≡ false → has marks (neg l) ≡ false → is_free marks l ≡ true
-free_from marks l p q = unmarked _ l.sign p q
 
 pub free_not_has : (marks : Marks) (l : Lit) → is_free marks l ≡ true → has marks l ≡ false
 free_not_has marks l e = not_marked _ l.sign e
@@ -109,22 +83,14 @@ boolean_cases trail l e =
 pub contained_has : (trail : List Link) (k : Link) → Contains trail k → trail_has trail k.lit ≡ true
 contained_has trail k h = member_any (λ (j : Link). same_lit j.lit k.lit) trail k h (same_lit-self k.lit)
 
-or_false_left : (a b : Bool) → (a || b) ≡ false → a ≡ false
-or_false_left true b e = absurd (cc)
-or_false_left false b e = refl
-
-or_false_right : (a b : Bool) → (a || b) ≡ false → b ≡ false
-or_false_right true b e = absurd (cc)
-or_false_right false b e = e
-
 once_push : (trail : List Link) (link : Link) → is_once trail ≡ true → has_boolean trail link.lit ≡ false → is_once (trail ++ link ∷ []) ≡ true
 once_push [] link once fresh = refl
 once_push (k ∷ ks) link once fresh =
     let here : has_boolean ks k.lit ≡ false = from_not (has_boolean ks k.lit) (and_left (not (has_boolean ks k.lit)) (is_once ks) once) in
-    let other : same_var link.lit k.lit ≡ false = eq_swap link.lit.var.0 k.lit.var.0 ∙ or_false_left (same_var k.lit link.lit) (has_boolean ks link.lit) fresh in
+    let other : same_var link.lit k.lit ≡ false = eq_swap link.lit.var.0 k.lit.var.0 ∙ (or_parts (same_var k.lit link.lit) (has_boolean ks link.lit) fresh).0 in
     let none : has_boolean (ks ++ link ∷ []) k.lit ≡ false = list_any-append (λ (j : Link). same_var j.lit k.lit) ks (link ∷ []) ∙ ap₂ (λ a b. a || (b || false)) here other in
     and_both (not (has_boolean (ks ++ link ∷ []) k.lit)) (is_once (ks ++ link ∷ [])) (ap not none)
-    (once_push ks link (and_right (not (has_boolean ks k.lit)) (is_once ks) once) (or_false_right (same_var k.lit link.lit) (has_boolean ks link.lit) fresh))
+    (once_push ks link (and_right (not (has_boolean ks k.lit)) (is_once ks) once) ((or_parts (same_var k.lit link.lit) (has_boolean ks link.lit) fresh).1))
 
 module _ (labels : Labelled) (link : Link) (within : link.lit.var.0 < length labels.marks) (inside : link.lit.var.0 < length labels.supports)
     (p : has labels.marks link.lit ≡ false) (q : has labels.marks (neg link.lit) ≡ false) (agrees : Agrees labels.marks labels.supports labels.trail) where

@@ -1,3 +1,4 @@
+pub mod BoolLemmas
 pub mod OccurrenceLemmas
 pub mod ArenaLemmas
 pub mod TrailLemmas

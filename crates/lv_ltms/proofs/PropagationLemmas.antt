@@ -18,12 +18,7 @@ use Rattle.lv_ltms.specs.Propagating.{left_count, IsCounted, IsSettled, IsPropag
 use Rattle.lv_ltms.proofs.CountLemmas.{HasMore, left_count-same, left_count-more, one_left, count_yes, count_no, times_in-none}
 use Rattle.lv_ltms.proofs.SettleLemmas.{goes_on_self}
 use Rattle.lv_ltms.proofs.LabelLemmas.{Grows-then, Grows-len, before_kept, before_has, before_more, not_free_cases, has_not_free, neg_not_free}
-
-eq_is : (a b : ℕ) → a ≡ b → nat_eq a b ≡ true
-eq_is a b e = grind (arith, nat_tests)
-
-eq_isnt : (a b : ℕ) → (a ≡ b → ⊥) → nat_eq a b ≡ false
-eq_isnt a b e = grind (arith, nat_tests)
+use Rattle.lv_ltms.proofs.BoolLemmas.{eq_is, eq_isnt}
 
 pub times_same : (id : ClauseId) (ids : List ClauseId) → times_in (id ∷ ids) id.0 ≡ 1 + times_in ids id.0
 times_same id ids = count_yes (has_number id.0) id ids (eq_is id.0 id.0 refl)

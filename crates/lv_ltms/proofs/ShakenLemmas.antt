@@ -26,13 +26,7 @@ use Rattle.lv_ltms.specs.Propagating.{true_before}
 use Rattle.lv_ltms.specs.Revising.{IsBacked, IsShaken}
 use Rattle.lv_ltms.proofs.AddLemmas.{derivation_to}
 use Rattle.lv_ltms.proofs.LabelLemmas.{has_not_neg, before_has, trail_boolean, free_not_has}
-
-eq_is : (a b : ℕ) → a ≡ b → nat_eq a b ≡ true
-eq_is a b e = grind (arith, nat_tests)
-
-not_true : (b : Bool) → (b ≡ true → ⊥) → b ≡ false
-not_true true never = absurd (never refl)
-not_true false never = refl
+use Rattle.lv_ltms.proofs.BoolLemmas.{eq_is, not_true, or_left}
 
 -- a front of a derivation is one
 pub derivation_front : {clauses : Slots} {assumed : Lit → Bool} {trail : List Link} (n : ℕ) → IsDerivation clauses assumed trail → IsDerivation clauses assumed (take n trail)
@@ -127,10 +121,6 @@ module _ {X : Type 0} (p : X → Bool) (xs : List X) where
       from_not : (b : Bool) → not b ≡ true → b ≡ false
       from_not true e = absurd (cc)
       from_not false e = refl
-
-or_left : (a b : Bool) → a ≡ true → (a || b) ≡ true
-or_left true b e = refl
-or_left false b e = absurd (cc)
 
 -- an assumption taken back adds none
 pub has_unset : (marks : Marks) (v : ℕ) (l : Lit) → has (set marks v None) l ≡ true → has marks l ≡ true

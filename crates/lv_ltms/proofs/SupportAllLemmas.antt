@@ -5,7 +5,7 @@ use Rattle.lv_base.specs.declared.ids.Lit.{Lit}
 use Rattle.lv_clauses.specs.Literals.{neg, same_var}
 use Rattle.lv_clauses.specs.ClauseMap.{Slots, clause_at}
 use Rattle.lv_clauses.specs.Marks.{has, is_free}
-use Rattle.lv_clauses.proofs.LiteralLemmas.{same_or_neg, neg_neg}
+use Rattle.lv_clauses.proofs.LiteralLemmas.{or_right, same_or_neg, neg_neg}
 use Rattle.lv_ltms.specs.Trail.{IsDerivation}
 use Rattle.lv_ltms.specs.Occurrences.{Rows, times_in}
 use Rattle.lv_ltms.specs.Counters.{Counted}
@@ -15,9 +15,7 @@ use Rattle.lv_ltms.specs.Revising.{is_fallen, NoneAgainst, GetsSupport, IsSuppor
 use Rattle.lv_ltms.proofs.CountLemmas.{left_count-same}
 use Rattle.lv_ltms.proofs.LabelLemmas.{Grows-then, Grows-len, Grows-self, before_kept, neg_not_free, not_free_cases}
 use Rattle.lv_ltms.proofs.PropagationLemmas.{IsCounted-same, IsSettled-same, free_kept}
-
-eq_from : (a b : ℕ) → nat_eq a b ≡ true → a ≡ b
-eq_from a b e = grind (arith, nat_tests)
+use Rattle.lv_ltms.proofs.BoolLemmas.{eq_from, or_left, or_right_only}
 
 -- booleans that wait for another support, and the labels meanwhile
 pub record IsSupporting (assumed : Lit → Bool) (rows : Rows) (counted : Counted) (start : Labelled) (waiting : List Lit) (labels : Labelled) : Type 0 where
@@ -43,22 +41,6 @@ grown_state bools rows counted old new at excused grows state =
       counters = IsCounted-same counted (true_before at old.trail) (true_before at new.trail) [] before state.counters;
       settled = record { marked = λ id c l there none one in_clause left fine. free_kept old new grows l (settled.marked id c l there none one in_clause left fine) };
     }
-
-or_cases_false : (a b : Bool) → (a || b) ≡ false → (a ≡ false) × (b ≡ false)
-or_cases_false true b e = absurd (cc)
-or_cases_false false b e = (refl, e)
-
-or_right_only : (a b : Bool) → (a || b) ≡ true → a ≡ false → b ≡ true
-or_right_only true b e f = absurd (cc)
-or_right_only false b e f = e
-
-or_left : (a b : Bool) → a ≡ true → (a || b) ≡ true
-or_left true b e = refl
-or_left false b e = absurd (cc)
-
-or_right : (a b : Bool) → b ≡ true → (a || b) ≡ true
-or_right true b e = refl
-or_right false b e = e
 
 module _ (assumed : Lit → Bool) (rows : Rows) (counted : Counted) (start old mid new : Labelled) (f : Lit) (waiting : List Lit) (is : IsSupporting assumed rows counted start (f ∷ waiting) old)
     (first : GetsSupport assumed rows counted old mid f) (second : GetsSupport assumed rows counted mid new (neg f)) where
@@ -150,18 +132,6 @@ module _ (assumed : Lit → Bool) (rows : Rows) (counted : Counted) (start old m
           by_mark false h =
               let waits : is_fallen (f ∷ waiting) l ≡ true = or_right_only (has old.marks l) (is_fallen (f ∷ waiting) l) (is.marked.marked l a) h in
               or_right (has new.marks l) (is_fallen waiting l) (or_right_only (same_var f l) (is_fallen waiting l) waits e)
-
-pub supporting_start : (assumed : Lit → Bool) (rows : Rows) (counted : Counted) (start : Labelled) (fallen : List Lit) → IsPropagating (length start.marks) rows counted start (length start.trail) (is_fallen fallen)
-    → NoneAgainst assumed (has start.marks) → AreMarkedOrWait assumed start fallen → IsSupporting assumed rows counted start fallen start
-supporting_start assumed rows counted start fallen state against marked = record { state = state; grows = Grows-self start state.agrees; derivation = λ d. d; against = against; marked = marked }
-
--- where none waits each assumption is marked
-pub supporting_done : (assumed : Lit → Bool) (rows : Rows) (counted : Counted) (start labels : Labelled) → IsSupporting assumed rows counted start [] labels → AreMarked assumed labels
-supporting_done assumed rows counted start labels is = record { marked = λ l a. left_only (has labels.marks l) (is.marked.marked l a) }
-  where
-    left_only : (b : Bool) → (b || false) ≡ true → b ≡ true
-    left_only true e = refl
-    left_only false e = absurd (cc)
 
 -- an assumption whose boolean was marked is marked still, or its boolean fell
 pub swept_marked : (assumed : Lit → Bool) (clauses : Slots) (old new : Labelled) (fallen : List Lit) → AreFixed assumed old → IsSwept assumed clauses old new fallen → AreMarkedOrWait assumed new fallen

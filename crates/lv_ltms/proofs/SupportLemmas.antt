@@ -20,16 +20,7 @@ use Rattle.lv_ltms.specs.Revising.{NoneAgainst, IsOneSided, GetsSupport, IsSuppo
 use Rattle.lv_ltms.proofs.TrailLemmas.{same_lit-equal}
 use Rattle.lv_ltms.proofs.CountLemmas.{lit_count-some, times_in-none, count_no, one_left}
 use Rattle.lv_ltms.proofs.LabelLemmas.{Grows-push, Grows-self, before_has, has_not_free, neg_not_free, pushed_has, pushed_marked}
-
-eq_is : (a b : ℕ) → a ≡ b → nat_eq a b ≡ true
-eq_is a b e = grind (arith, nat_tests)
-
-eq_from : (a b : ℕ) → nat_eq a b ≡ true → a ≡ b
-eq_from a b e = grind (arith, nat_tests)
-
-not_true : (b : Bool) → (b ≡ true → ⊥) → b ≡ false
-not_true true never = absurd (never refl)
-not_true false never = refl
+use Rattle.lv_ltms.proofs.BoolLemmas.{eq_from, not_true}
 
 -- what is found passes and is of the list; where nothing is found nothing passes
 pub found_passes : {X : Type 0} (p : X → Bool) (xs : List X) (x : X) → find p xs ≡ Some x → (p x ≡ true) × Contains xs x
@@ -85,33 +76,6 @@ module _ (assumed : Lit → Bool) (rows : Rows) (counted : Counted) (old : Label
         derivation = λ bools at excused state d. d;
         supported = supported;
       }
-
-  pub supported_marked : has old.marks l ≡ true → GetsSupport assumed rows counted old old l
-  supported_marked e =
-      kept_as_is
-      (λ bools at excused state.
-      record {
-        by_assumption = λ a. e;
-        by_clause = λ id c unit free. has_not_free old.marks l e;
-      })
-
-  pub supported_turned : has old.marks (neg l) ≡ true → GetsSupport assumed rows counted old old l
-  supported_turned e =
-      kept_as_is
-      (λ bools at excused state.
-      record {
-        by_assumption = λ a. absurd (cc (against.against l a, e));
-        by_clause = λ id c unit free. neg_not_free old.marks l e;
-      })
-
-  pub supported_against : assumed (neg l) ≡ true → GetsSupport assumed rows counted old old l
-  supported_against e =
-      kept_as_is
-      (λ bools at excused state.
-      record {
-        by_assumption = λ a. absurd (cc (one_sided.one_side l a, e));
-        by_clause = λ id c unit free. absurd (cc (e, free));
-      })
 
   -- nothing supports the literal
   pub supported_by_none : reason_found (assumed l) counted (row_of rows l) ≡ None → GetsSupport assumed rows counted old old l

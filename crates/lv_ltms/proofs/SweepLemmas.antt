@@ -23,34 +23,7 @@ use Rattle.lv_ltms.specs.Propagating.{left_count, is_left, IsCounted, IsSettled,
 use Rattle.lv_ltms.specs.Revising.{is_fallen, IsBacked, CanRaise, IsRaised, reason_stands}
 use Rattle.lv_ltms.proofs.CountLemmas.{HasMore, left_count-more, none_left, one_left}
 use Rattle.lv_ltms.proofs.LabelLemmas.{trail_boolean, contained_has, has_within, has_not_neg}
-
-eq_is : (a b : ℕ) → a ≡ b → nat_eq a b ≡ true
-eq_is a b e = grind (arith, nat_tests)
-
-eq_isnt : (a b : ℕ) → (a ≡ b → ⊥) → nat_eq a b ≡ false
-eq_isnt a b e = grind (arith, nat_tests)
-
-eq_from : (a b : ℕ) → nat_eq a b ≡ true → a ≡ b
-eq_from a b e = grind (arith, nat_tests)
-
-eq_swap : (a b : ℕ) → nat_eq a b ≡ nat_eq b a
-eq_swap a b = grind (arith, nat_tests)
-
-not_true : (b : Bool) → (b ≡ true → ⊥) → b ≡ false
-not_true true never = absurd (never refl)
-not_true false never = refl
-
-from_not : (b : Bool) → not b ≡ true → b ≡ false
-from_not true e = absurd (cc)
-from_not false e = refl
-
-or_parts : (a b : Bool) → (a || b) ≡ false → (a ≡ false) × (b ≡ false)
-or_parts true b e = absurd (cc)
-or_parts false b e = (refl, e)
-
-or_false : (b : Bool) → (b || false) ≡ b
-or_false true = refl
-or_false false = refl
+use Rattle.lv_ltms.proofs.BoolLemmas.{eq_from, eq_is, eq_isnt, eq_swap, from_not, not_true, or_false, or_parts}
 
 -- a link in the middle of a trail on which no boolean stands twice: its boolean isn't before or behind it
 pub record IsAlone (front rest : List Link) (link : Link) : Type 0 where

@@ -21,6 +21,7 @@ use Rattle.lv_ltms.specs.Revising.{is_fallen, NoneAgainst, IsBacked, IsShaken, I
 use Rattle.lv_ltms.proofs.TrailLemmas.{trail_has-push, same_lit-equal}
 use Rattle.lv_ltms.proofs.PropagationLemmas.{IsCounted-same, IsSettled-same}
 use Rattle.lv_ltms.proofs.SweepLemmas.{agrees_without, can_raise, counted_without, settled_without, kept_without, stands_reason, link_within}
+use Rattle.lv_ltms.proofs.BoolLemmas.{from_not, lt_is, not_true, or_left}
 
 -- the trail as it stands at this place: what was kept, and what is still to come
 abbrev pub standing_trail : List Link → ℕ → ℕ → List Link
@@ -42,21 +43,6 @@ pub record IsSweeping (assumed : Lit → Bool) (bools : ℕ) (clauses : Slots) (
   pub against : NoneAgainst assumed (trail_has (take kept labels.trail))
   pub marked : (l : Lit) → has old.marks l ≡ true → (has labels.marks l || is_fallen fallen l) ≡ true
   pub range : list_all (in_range bools) fallen ≡ true
-
-lt_is : (a b : ℕ) → a < b → nat_lt a b ≡ true
-lt_is a b h = grind (arith, nat_tests)
-
-not_true : (b : Bool) → (b ≡ true → ⊥) → b ≡ false
-not_true true never = absurd (never refl)
-not_true false never = refl
-
-from_not : (b : Bool) → not b ≡ true → b ≡ false
-from_not true e = absurd (cc)
-from_not false e = refl
-
-or_left : (a b : Bool) → a ≡ true → (a || b) ≡ true
-or_left true b e = refl
-or_left false b e = absurd (cc)
 
 module _ (assumed : Lit → Bool) (bools : ℕ) (rows : Rows) (old : Labelled) where
   pub sweeping_start : (now : Counted) (from : ℕ) → IsPropagating bools rows now old (length old.trail) none_excused → from ≤ length old.trail → IsShaken assumed now.clauses old.trail from

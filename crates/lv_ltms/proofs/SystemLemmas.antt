@@ -27,9 +27,7 @@ use Rattle.lv_ltms.proofs.TrailLemmas.{derivation_sound, same_lit-equal}
 use Rattle.lv_ltms.proofs.CountLemmas.{none_left, just_one_left, nothing_left}
 use Rattle.lv_ltms.proofs.LabelLemmas.{not_free_cases, has_not_free, has_not_neg, contained_has}
 use Rattle.lv_ltms.proofs.SupportLemmas.{found_passes, none_passes}
-
-eq_from : (a b : ℕ) → nat_eq a b ≡ true → a ≡ b
-eq_from a b e = grind (arith, nat_tests)
+use Rattle.lv_ltms.proofs.BoolLemmas.{eq_from}
 
 -- a clause whose literals are all negated in the closure contradicts it
 refuted_by : (slots : Slots) (assumed : Lit → Bool) (id : ℕ) (c : List Lit) → clause_at slots id ≡ Some c → ((m : Lit) → Contains c m → InClosure slots assumed (neg m)) → IsContradictory slots assumed

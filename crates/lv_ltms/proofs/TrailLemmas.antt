@@ -15,17 +15,11 @@ use Rattle.lv_ltms.specs.declared.labels.Reason.{Reason}
 use Rattle.lv_ltms.specs.declared.labels.Reason.TheVariants.{Assumed, Clause}
 use Rattle.lv_ltms.specs.Trail.{same_lit, trail_has, IsReason, IsDerivation, start, next}
 use Rattle.lv_ltms.specs.Labelled.{Labelled, with_link}
-
-eq_from : (a b : ℕ) → nat_eq a b ≡ true → a ≡ b
-eq_from a b e = grind (arith, nat_tests)
+use Rattle.lv_ltms.proofs.BoolLemmas.{eq_from, or_false}
 
 pub same_lit-equal : (a b : Lit) → same_lit a b ≡ true → a ≡ b
 same_lit-equal a b e =
     lit_of a b (eq_from a.var.0 b.var.0 (and_left (same_var a b) (same_truth a.sign b.sign) e)) (same_truth-equal a.sign b.sign (and_right (same_var a b) (same_truth a.sign b.sign) e))
-
-pub or_false : (b : Bool) → (b || false) ≡ b
-or_false true = refl
-or_false false = refl
 
 pub or_cases : (a b : Bool) → (a || b) ≡ true → (a ≡ true) ⊎ (b ≡ true)
 or_cases true b e = inl refl
