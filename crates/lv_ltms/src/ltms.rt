@@ -230,7 +230,8 @@ impl Ltms {
     }
 
     /// Writes assumptions which with the clauses present are contradictory, and answers how many. Only while there is a
-    /// contradiction, and with room for all assumptions. In this plain form they are all the assumptions.
+    /// contradiction, and with room for all assumptions. They are all that are present: which of them the contradiction
+    /// rests on isn't worked out.
     pub fn core(&self, out: &mut [Lit]) -> usize
         requires refuted { IsRefuted self.now }
         requires room { count_by is_some self.now.assumed ≤ length out.old }
