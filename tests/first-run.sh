@@ -1,11 +1,6 @@
 #!/usr/bin/env bash
 # Runs the built program over real files and compares what it writes and how it ends.
-set -u
-root="$(dirname "$(dirname "$(readlink -f "${BASH_SOURCE[0]}")")")"
-work="$(mktemp -d)" || exit 1
-trap 'rm -rf "$work"' EXIT
-passed=0
-failed=0
+. "$(dirname "$(readlink -f "${BASH_SOURCE[0]}")")/common.sh"
 
 usage='usage: livingstone run MODEL SESSION, check MODEL CERT, print MODEL, generate KIND N, drive N'
 diagnosis='ok
@@ -88,5 +83,4 @@ status=$?
 : >"$work/out"
 expect 'a full device as output' 6 '' ''
 
-echo "$passed passed, $failed failed"
-[ "$failed" = 0 ]
+verdict

@@ -5,15 +5,9 @@
 # The models of models.txt each begin with a line `== VERDICT: NAME`. Their lines may hold the escapes of printf's
 # %b; `\c` at the end of the last line leaves out its line feed. The models that are too large for a table are
 # made below.
-set -u
-root="$(dirname "$(dirname "$(readlink -f "${BASH_SOURCE[0]}")")")"
-work="$(mktemp -d)" || exit 1
-trap 'rm -rf "$work"' EXIT
-passed=0
-failed=0
+. "$(dirname "$(readlink -f "${BASH_SOURCE[0]}")")/common.sh"
 
-# Builds the program, so that no run below says that it does.
-"$root/livingstone" >/dev/null 2>&1 </dev/null
+build
 
 : >"$work/silence"
 echo 'model 0 M00' >"$work/refusal"
@@ -162,5 +156,4 @@ text_of() {
 large accepted 'a text of 4194304 bytes' < <(text_of 4194304)
 large refused 'a text of 4194305 bytes' < <(text_of 4194305)
 
-echo "$passed passed, $failed failed"
-[ "$passed" -gt 0 ] && [ "$failed" = 0 ]
+verdict

@@ -2,15 +2,9 @@
 # Runs the built program over the pairs random/NN.lv and random/NN.ses and compares what it writes and how it
 # ends with random/NN.out, which an independent reference program, which is not part of this repository, wrote.
 # A model that is to be refused has a file random/NN.err too.
-set -u
-root="$(dirname "$(dirname "$(readlink -f "${BASH_SOURCE[0]}")")")"
-work="$(mktemp -d)" || exit 1
-trap 'rm -rf "$work"' EXIT
-passed=0
-failed=0
+. "$(dirname "$(readlink -f "${BASH_SOURCE[0]}")")/common.sh"
 
-# Builds the program, so that no run below says that it does.
-"$root/livingstone" >/dev/null 2>&1 </dev/null
+build
 
 for model in "$root"/tests/random/[0-9][0-9].lv; do
     pair="${model%.lv}"
@@ -32,5 +26,4 @@ for model in "$root"/tests/random/[0-9][0-9].lv; do
     fi
 done
 
-echo "$passed passed, $failed failed"
-[ "$passed" -gt 0 ] && [ "$failed" = 0 ]
+verdict
