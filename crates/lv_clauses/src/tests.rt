@@ -35,6 +35,37 @@ fn clauses_come_and_go(rt: HostRuntime) -> Result<(), Fail> {
 }
 
 #[test]
+fn empty_clause_comes_and_goes(rt: HostRuntime) -> Result<(), Fail> {
+    let mut set = ClauseSet::new(rt.alloc(), 2)?;
+    set.add(&[lit(0, true)])?;
+    let empty = set.add(&[])?;
+    assert!(rt; set.contains(empty));
+    assert_eq!(rt; set.get(empty).len(), 0);
+    assert!(rt; !set.satisfied(&[true, true]));
+    set.remove(empty);
+    assert!(rt; !set.contains(empty));
+    assert!(rt; set.satisfied(&[true, true]));
+    Ok(())
+}
+
+#[test]
+fn number_is_given_again(rt: HostRuntime) -> Result<(), Fail> {
+    let mut set = ClauseSet::new(rt.alloc(), 2)?;
+    let first = set.add(&[lit(0, true)])?;
+    let second = set.add(&[lit(1, true)])?;
+    assert!(rt; set.contains(first));
+    set.remove(first);
+    let third = set.add(&[lit(0, false), lit(1, false)])?;
+    assert_eq!(rt; third, first);
+    assert!(rt; set.contains(second) && set.contains(third));
+    assert_eq!(rt; set.get(second), [lit(1, true)].as_slice());
+    assert_eq!(rt; set.get(third), [lit(0, false), lit(1, false)].as_slice());
+    assert_eq!(rt; set.ids(rt.alloc())?.as_slice(), [third, second].as_slice());
+    assert!(rt; second.0 < set.bound());
+    Ok(())
+}
+
+#[test]
 fn literals_say_of_values(rt: HostRuntime) -> Result<(), Fail> {
     let clause = Clause::from_slice(rt.alloc(), &[lit(0, true), negation(lit(1, true))])?;
     assert_eq!(rt; clause.lits(), [lit(0, true), lit(1, false)].as_slice());

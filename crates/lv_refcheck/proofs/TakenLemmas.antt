@@ -1,11 +1,14 @@
--- Unmarking what was taken leaves nothing marked.
-use Rattle.std.proofs.Common.{◌≡◌, ℕ, suc, zero, true, List, [], ◌∷◌, length, get_or, set, Some, None, is_some, refl, sym, ap, ◌∙◌, arith, inl, inr}
+-- Unmarking what was taken leaves nothing marked, and taking one more literal notes just what is marked.
+use Rattle.std.proofs.Common.{◌≡◌, ℕ, suc, zero, ◌<◌, Bool, true, false, ◌||◌, List, [], ◌∷◌, ◌++◌, length, get_or, set, Some, None, is_some, refl, sym, ap, ◌∙◌, arith, ◌⊎◌, inl, inr}
 use Rattle.std.specs.List.{list_any}
 use Rattle.std.proofs.lemmas.Bool.{cases_eq}
-use Rattle.std.proofs.lemmas.List.{get_or-set_other}
+use Rattle.std.proofs.lemmas.Bool.Decides.{nat_tests}
+use Rattle.std.proofs.lemmas.List.{get_or-set_same, get_or-set_other}
+use Rattle.std.proofs.lemmas.List.Elements.{All-push, All-weaker}
+use Rattle.std.proofs.lemmas.List.Folds.{list_any-append}
 use Rattle.lv_base.specs.declared.ids.Lit.{Lit}
 use Rattle.lv_clauses.specs.Marks.{Marks, nothing}
-use Rattle.lv_refcheck.specs.Checking.{AreTaken, is_of}
+use Rattle.lv_refcheck.specs.Checking.{AreTaken, AreNoted, IsMarked, is_of}
 
 -- a slot that was set to nothing holds nothing
 none_at : (marks : Marks) (k : ℕ) → get_or (set marks k None) k None ≡ None
@@ -32,3 +35,32 @@ nothing-from_none (Some b ∷ ms) none = absurd (none 0 refl)
 
 pub nothing-from_taken : (marks : Marks) → AreTaken marks [] → marks ≡ nothing (length marks)
 nothing-from_taken marks taken = nothing-from_none marks (λ var e. let found : list_any (is_of var) [] ≡ true = taken var e in absurd (cc))
+
+-- where a slot was set to something there is something
+some_at : (marks : Marks) (k : ℕ) (b : Bool) → k < length marks → is_some (get_or (set marks k (Some b)) k None) ≡ true
+some_at marks k b below = ap is_some (get_or-set_same marks k (Some b) None below)
+
+-- what is marked stays so
+still_marked : (marks : Marks) (k : ℕ) (b : Bool) → k < length marks → (m : Lit) → IsMarked marks m → IsMarked (set marks k (Some b)) m
+still_marked marks k b below m h = elim (cases_eq m.var.0 k) [
+  | inl same ↦ record { marked = ap (λ i. is_some (get_or (set marks k (Some b)) i None)) same ∙ some_at marks k b below }
+  | inr differs ↦ record { marked = ap is_some (get_or-set_other marks k m.var.0 (Some b) None differs) ∙ h.marked }
+]
+
+or_true : (a : Bool) → (a || true) ≡ true
+or_true true = refl
+or_true false = refl
+
+is_of_itself : (l : Lit) → list_any (is_of l.var.0) (l ∷ []) ≡ true
+is_of_itself l = grind (arith, nat_tests)
+
+pub AreNoted-take : (marks : Marks) (noted : List Lit) (l : Lit) (b : Bool) → l.var.0 < length marks → AreNoted marks noted → AreNoted (set marks l.var.0 (Some b)) (noted ++ l ∷ [])
+AreNoted-take marks noted l b below h =
+    record {
+      each_marked = λ var marked. list_any-append (is_of var) noted (l ∷ []) ∙ found var marked (cases_eq var l.var.0);
+      each_noted = All-push (IsMarked (set marks l.var.0 (Some b))) noted l (All-weaker (IsMarked marks) (IsMarked (set marks l.var.0 (Some b))) (still_marked marks l.var.0 b below) noted h.each_noted) (record { marked = some_at marks l.var.0 b below });
+    }
+  where
+    found : (var : ℕ) → is_some (get_or (set marks l.var.0 (Some b)) var None) ≡ true → (var ≡ l.var.0) ⊎ (var ≡ l.var.0 → ⊥) → (list_any (is_of var) noted || list_any (is_of var) (l ∷ [])) ≡ true
+    found var marked (inl same) = ap (λ k. list_any (is_of var) noted || list_any (is_of k) (l ∷ [])) same ∙ ap (λ a. list_any (is_of var) noted || a) (is_of_itself l) ∙ or_true (list_any (is_of var) noted)
+    found var marked (inr differs) = rw (h.each_marked var (sym (ap is_some (get_or-set_other marks l.var.0 var (Some b) None differs)) ∙ marked)) refl

@@ -19,13 +19,13 @@ pub struct Marks {
 
 impl Model for Marks {
     ghost use Rattle.std.specs.Prelude.{List, Bool, Option};
-    ghost use Rattle.lv_refcheck.specs.Checking.{AreTaken};
+    ghost use Rattle.lv_refcheck.specs.Checking.{AreNoted};
 
     ghost Value = { List (Option Bool) };
 
     ghost view = { λ m. m.marks.items };
 
-    ghost invariant = { λ m. AreTaken m.marks.items m.taken.items };
+    ghost invariant = { λ m. AreNoted m.marks.items m.taken.items };
 }
 
 impl Marks {
@@ -57,9 +57,9 @@ impl Marks {
         ensures taken { OnOk result (self.new ≡ marked self.old lit) }
         ensures kept { OnErr result (self.new ≡ self.old) }
     {
-        self.taken.push(lit)?;
         let index = lit.var.0 as usize;
         if index < self.marks.len() {
+            self.taken.push(lit)?;
             self.marks[index] = Some(lit.sign);
         }
         Ok(())

@@ -1,5 +1,6 @@
 //! Logs that are valid and logs that aren't, over the clauses `a or b`, `not a or b`, `not b`.
 use super::*;
+use crate::marks::Marks;
 use lv_base::{BoolId, ClauseId, Lit};
 use lv_clauses::ClauseSet;
 use lv_reflog::{Hint, Log};
@@ -46,6 +47,18 @@ fn answer(
     log.push(first.0, first.1)?;
     log.push(second.0, second.1)?;
     check(alloc, &set, &log)
+}
+
+#[test]
+fn marks_come_and_go(rt: HostRuntime) -> Result<(), Fail> {
+    let mut marks = Marks::new(rt.alloc(), 2)?;
+    assert!(rt; marks.is_open(A) && marks.is_open(NOT_B));
+    marks.take(NOT_A)?;
+    assert!(rt; !marks.is_open(A) && marks.is_open(B));
+    assert_eq!(rt; marks.as_slice(), [Some(false), None].as_slice());
+    marks.clear();
+    assert_eq!(rt; marks.as_slice(), [None, None].as_slice());
+    Ok(())
 }
 
 #[test]
