@@ -1,6 +1,8 @@
 //! Small texts, with the verdict that the rules of a model's text give.
 
-use crate::{ModelFault, read_model};
+use crate::{Comparison, ModelFault, read_model, system_comparison};
+use lv_base::Seq;
+use lv_reader::{Equation, Path};
 use std::alloc::AllocError;
 
 const VALVE: &[u8] = b"model valve
@@ -46,6 +48,24 @@ fn reads_a_valve(rt: HostRuntime) -> Result<(), AllocError> {
         }
     }
     assert!(rt; lines.as_slice() == &[1, 0, 3, 6, 2, 0, 4, 5, 0, 0][..]);
+    Ok(())
+}
+
+#[test]
+fn compares_a_control(rt: HostRuntime) -> Result<(), AllocError> {
+    let read = read_model(rt.alloc(), VALVE);
+    assert!(rt; read.is_ok());
+    let Ok(model) = read else {
+        return Ok(());
+    };
+    let part = Seq::from_slice(rt.alloc(), b"v")?;
+    let control = Seq::from_slice(rt.alloc(), b"cmd")?;
+    let equation = Equation {
+        left: Path::OfPart(part, control),
+        right: Path::Own(Seq::from_slice(rt.alloc(), b"close")?),
+    };
+    let found = system_comparison(model.plant(), &equation);
+    assert!(rt; matches!(found, Some(Comparison::WithValue(1, 2))));
     Ok(())
 }
 
