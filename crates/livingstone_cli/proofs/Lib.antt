@@ -1,4 +1,3 @@
-mod TextLaws
 pub mod DueLemmas
 pub mod OpenLemmas
 pub mod Serving

@@ -4,7 +4,7 @@ use Rattle.lv_base.specs.declared.limits.TheConstants.{MODEL_BYTES}
 use Rattle.lv_io.specs.Outside.{Opened}
 use Rattle.lv_io.specs.declared.Role.TheVariants.{Model, Second}
 use Rattle.lv_model.specs.declared.plant.Plant.{Plant}
-use Rattle.livingstone_cli.specs.Checking.{model_of}
+use Rattle.lv_checker.specs.Checking.{model_of}
 
 -- the plant of a model text that is within the limit of its length
 unfoldable pub accepted_model : List ℕ → Option Plant

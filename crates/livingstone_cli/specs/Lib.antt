@@ -1,16 +1,8 @@
 pub mod Arguments
-pub mod Checking
 pub mod Dues
-pub mod Equations
-pub mod Forms
 pub mod Inputs
-pub mod Laws
 pub mod Reply
-pub mod Scopes
 pub mod Serving
 pub mod Session
-pub mod Statements
 pub mod Statuses
-pub mod Texts
 pub mod Top
-pub mod Types

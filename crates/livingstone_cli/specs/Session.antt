@@ -13,13 +13,13 @@ use Rattle.lv_model.specs.Lists.{controls}
 use Rattle.lv_meaning.specs.declared.facts.Facts.{Facts}
 use Rattle.lv_meaning.specs.declared.candidates.State.{State}
 use Rattle.lv_meaning.specs.Candidates.{first_possible}
-use Rattle.livingstone_cli.specs.declared.draft.Comparison.{Comparison}
-use Rattle.livingstone_cli.specs.declared.draft.Comparison.TheVariants.{WithValue, WithVariable}
+use Rattle.lv_checker.specs.declared.draft.Comparison.{Comparison}
+use Rattle.lv_checker.specs.declared.draft.Comparison.TheVariants.{WithValue, WithVariable}
 use Rattle.livingstone_cli.specs.declared.request.Command.{Command}
 use Rattle.livingstone_cli.specs.declared.request.Request.{Request}
 use Rattle.livingstone_cli.specs.declared.request.Request.TheVariants.{Nothing, Diagnose, SetControl, Unknown}
-use Rattle.livingstone_cli.specs.Equations.{says, equation_from, texts_of, kinds_of}
-use Rattle.livingstone_cli.specs.Scopes.{system_comparison}
+use Rattle.lv_reader.specs.Equations.{says, equation_from, texts_of, kinds_of}
+use Rattle.lv_checker.specs.Scopes.{system_comparison}
 use Rattle.livingstone_cli.specs.Reply.{diagnosis_text}
 
 abbrev pub is_variable : ℕ → VarId → Bool

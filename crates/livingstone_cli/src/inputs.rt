@@ -7,9 +7,9 @@ ghost use Rattle.lv_io.specs.declared.Role.TheVariants.{Model as OfModel, Second
 ghost use Rattle.livingstone_cli.specs.Inputs.{accepted_model, model_open, session_open, AddsOpens};
 ghost use Rattle.livingstone_cli.specs.Statuses.{ends_model, ends_session};
 
-use crate::checker::{ModelFault, read_model};
 use crate::status::Status;
 use lv_base::limits::{MODEL_BYTES, SESSION_BYTES};
+use lv_checker::{ModelFault, read_model};
 use lv_io::{ReadFault, Role, Shelf, read_file};
 use lv_model::Model;
 use std::alloc::Global;

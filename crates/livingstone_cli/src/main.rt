@@ -2,9 +2,6 @@
 //!
 //! - `arguments`: the words that the program is called with, and the run that they ask for.
 //! - `inputs`: the model and the session, opened and read.
-//! - `words`, `statement`, `forms`, `reader`: the statements of a model's text.
-//! - `draft`, `scope`, `types`, `checker`: the model that statements give.
-//! - `laws`: what holds of texts and their models.
 //! - `request`: what a line of a session asks for.
 //! - `session`, `reply`: what it does and the text of its reply.
 //! - `serve`: the lines of a session's text, and the replies written.
@@ -13,22 +10,13 @@
 #![tactic(auto)]
 
 mod arguments;
-mod checker;
-mod draft;
-mod forms;
 mod inputs;
-mod laws;
-mod reader;
 mod reply;
 mod request;
-mod scope;
 mod serve;
 mod session;
-mod statement;
 mod status;
 mod top;
-mod types;
-mod words;
 
 use lv_io::{HostShelf, HostSink};
 use std::alloc::Global;
@@ -59,7 +47,5 @@ fn process_words(rt: &HostRuntime) -> io::Result<Vec<String>> {
     Ok(words.collect(rt.alloc())?)
 }
 
-#[cfg(test)]
-mod tests;
 #[cfg(test)]
 mod whole_calls;

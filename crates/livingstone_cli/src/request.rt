@@ -5,14 +5,13 @@ ghost use Rattle.std.specs.Prelude.{◌≡◌, ◌&&◌, IfOk, All, position, le
 ghost use Rattle.lv_text.specs.Kinds.{IsTokenOf};
 ghost use Rattle.lv_text.specs.Tokens.{line_tokens};
 ghost use Rattle.lv_model.specs.Lists.{controls};
-ghost use Rattle.livingstone_cli.specs.Equations.{texts_of, kinds_of};
+ghost use Rattle.lv_reader.specs.Equations.{texts_of, kinds_of};
 ghost use Rattle.livingstone_cli.specs.Session.{is_variable, set_by, command_of, asked, asked_by, request_of};
 
-use crate::draft::Comparison;
-use crate::scope::system_comparison;
-use crate::words::{equation_from, says};
 use lv_base::VarId;
+use lv_checker::{Comparison, system_comparison};
 use lv_model::Model;
+use lv_reader::{equation_from, says};
 use lv_text::{TextFault, Token, tokens};
 use std::alloc::{AllocError, Global};
 

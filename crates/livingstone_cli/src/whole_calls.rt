@@ -60,6 +60,16 @@ struct Call<'a> {
     out_fails: &'a [u64],
 }
 
+/// A call of these words over this session, in which nothing fails.
+fn faultless<'a>(words: &'a [&'a str], session: &'a str) -> Call<'a> {
+    Call {
+        words,
+        session,
+        shelf_fails: &[],
+        out_fails: &[],
+    }
+}
+
 /// What a call came to.
 #[derive(Drop)]
 struct Outcome {
@@ -98,105 +108,155 @@ fn carried_out(alloc: Global, call: &Call<'_>) -> Result<Outcome, AllocError> {
     })
 }
 
+/// Whether a call ends with this status and these texts on the output and on standard error, and a count of the shelf
+/// rises just where the status tells of it.
+fn ends_so(
+    alloc: Global,
+    call: &Call<'_>,
+    status: Status,
+    out: &str,
+    err: &str,
+) -> Result<bool, AllocError> {
+    let outcome = carried_out(alloc, call)?;
+    let model_failed = outcome.shelf.faults(Role::Model) > 0;
+    let session_failed = outcome.shelf.faults(Role::Second) > 0;
+    Ok(
+        outcome.status == status
+            && outcome.out.text() == out.as_bytes()
+            && outcome.err.text() == err.as_bytes()
+            && model_failed == (status == Status::ModelUnread)
+            && session_failed == (status == Status::SessionUnread),
+    )
+}
+
 const RUN: &[&str] = &["livingstone", "run", "valve.lv", "a.ses"];
 
+const FIRST: &str = "command v.cmd = open\ndiagnose\n";
+
 #[test]
-fn ends_as_it_should(rt: HostRuntime) {
-    let alloc = rt.alloc();
-    let first = "command v.cmd = open\ndiagnose\n";
-    let table: [(&[&str], &str, &[u64], &[u64], Status, &str, &str); 12] = [
-        (RUN, first, &[], &[], Status::Done, COMMANDED, ""),
-        (RUN, "diagnose", &[], &[], Status::Done, AT_REST, ""),
-        (RUN, "", &[], &[], Status::Done, "", ""),
-        (
-            &["livingstone", "run", "valve.lv"],
-            first,
-            &[],
-            &[],
-            Status::WordsRefused,
-            "",
-            USAGE,
-        ),
-        (
-            &["livingstone", "run", "-", "a.ses"],
-            first,
-            &[],
-            &[],
-            Status::WordsRefused,
-            "",
-            USAGE,
-        ),
-        (
-            &["livingstone", "run", "bad.lv", "a.ses"],
-            first,
-            &[],
-            &[],
-            Status::ModelRefused,
-            "",
-            "model 0 M00\n",
-        ),
-        (
-            &["livingstone", "run", "no.lv", "a.ses"],
-            first,
-            &[],
-            &[],
+fn command_and_diagnosis(rt: HostRuntime) -> Result<(), AllocError> {
+    let call = faultless(RUN, FIRST);
+    assert!(rt; ends_so(rt.alloc(), &call, Status::Done, COMMANDED, "")?);
+    Ok(())
+}
+
+#[test]
+fn last_line_without_its_end(rt: HostRuntime) -> Result<(), AllocError> {
+    let call = faultless(RUN, "diagnose");
+    assert!(rt; ends_so(rt.alloc(), &call, Status::Done, AT_REST, "")?);
+    Ok(())
+}
+
+#[test]
+fn empty_session(rt: HostRuntime) -> Result<(), AllocError> {
+    let call = faultless(RUN, "");
+    assert!(rt; ends_so(rt.alloc(), &call, Status::Done, "", "")?);
+    Ok(())
+}
+
+#[test]
+fn too_few_words(rt: HostRuntime) -> Result<(), AllocError> {
+    let call = faultless(&["livingstone", "run", "valve.lv"], FIRST);
+    assert!(rt; ends_so(rt.alloc(), &call, Status::WordsRefused, "", USAGE)?);
+    Ok(())
+}
+
+#[test]
+fn file_word_of_a_dash(rt: HostRuntime) -> Result<(), AllocError> {
+    let call = faultless(&["livingstone", "run", "-", "a.ses"], FIRST);
+    assert!(rt; ends_so(rt.alloc(), &call, Status::WordsRefused, "", USAGE)?);
+    Ok(())
+}
+
+#[test]
+fn refused_model(rt: HostRuntime) -> Result<(), AllocError> {
+    let call = faultless(&["livingstone", "run", "bad.lv", "a.ses"], FIRST);
+    assert!(rt; ends_so(rt.alloc(), &call, Status::ModelRefused, "", "model 0 M00\n")?);
+    Ok(())
+}
+
+#[test]
+fn model_that_is_not_there(rt: HostRuntime) -> Result<(), AllocError> {
+    let call = faultless(&["livingstone", "run", "no.lv", "a.ses"], FIRST);
+    assert!(rt;
+        ends_so(
+            rt.alloc(),
+            &call,
             Status::ModelUnread,
             "",
-            "cannot read model\n",
-        ),
-        (
-            RUN,
-            first,
-            &[3],
-            &[],
+            "cannot read model\n"
+        )?
+    );
+    Ok(())
+}
+
+#[test]
+fn failed_read_of_the_model(rt: HostRuntime) -> Result<(), AllocError> {
+    let call = Call {
+        shelf_fails: &[3],
+        ..faultless(RUN, FIRST)
+    };
+    assert!(rt;
+        ends_so(
+            rt.alloc(),
+            &call,
             Status::ModelUnread,
             "",
-            "cannot read model\n",
-        ),
-        (
-            RUN,
-            "diagnose",
-            &[5],
-            &[],
+            "cannot read model\n"
+        )?
+    );
+    Ok(())
+}
+
+#[test]
+fn session_that_is_not_there(rt: HostRuntime) -> Result<(), AllocError> {
+    let call = faultless(&["livingstone", "run", "valve.lv", ""], FIRST);
+    assert!(rt;
+        ends_so(
+            rt.alloc(),
+            &call,
             Status::SessionUnread,
             "",
-            "cannot read session\n",
-        ),
-        (
-            &["livingstone", "run", "valve.lv", ""],
-            first,
-            &[],
-            &[],
+            "cannot read session\n"
+        )?
+    );
+    Ok(())
+}
+
+#[test]
+fn failed_read_of_the_session(rt: HostRuntime) -> Result<(), AllocError> {
+    let call = Call {
+        shelf_fails: &[5],
+        ..faultless(RUN, "diagnose")
+    };
+    assert!(rt;
+        ends_so(
+            rt.alloc(),
+            &call,
             Status::SessionUnread,
             "",
-            "cannot read session\n",
-        ),
-        (RUN, "diagnose", &[], &[1], Status::OutputFailed, "", ""),
-        (RUN, first, &[], &[3], Status::OutputFailed, COMMANDED, ""),
-    ];
-    for (i, (words, session, shelf_fails, out_fails, status, out, err)) in table
-        .iter()
-        .enumerate()
-    {
-        let call = Call {
-            words,
-            session,
-            shelf_fails,
-            out_fails,
-        };
-        let outcome = carried_out(alloc, &call).expect(&rt, "memory");
-        assert_eq!(rt; outcome.status, *status, "at {i}");
-        assert!(rt; outcome.out.text() == out.as_bytes(), "output at {i}");
-        assert!(rt; outcome.err.text() == err.as_bytes(), "error at {i}");
-        assert_eq!(rt;
-            outcome.shelf.faults(Role::Model) > 0,
-            *status == Status::ModelUnread,
-            "at {i}"
-        );
-        assert_eq!(rt;
-            outcome.shelf.faults(Role::Second) > 0,
-            *status == Status::SessionUnread,
-            "at {i}"
-        );
-    }
+            "cannot read session\n"
+        )?
+    );
+    Ok(())
+}
+
+#[test]
+fn failed_write(rt: HostRuntime) -> Result<(), AllocError> {
+    let call = Call {
+        out_fails: &[1],
+        ..faultless(RUN, "diagnose")
+    };
+    assert!(rt; ends_so(rt.alloc(), &call, Status::OutputFailed, "", "")?);
+    Ok(())
+}
+
+#[test]
+fn failed_flush(rt: HostRuntime) -> Result<(), AllocError> {
+    let call = Call {
+        out_fails: &[3],
+        ..faultless(RUN, FIRST)
+    };
+    assert!(rt; ends_so(rt.alloc(), &call, Status::OutputFailed, COMMANDED, "")?);
+    Ok(())
 }

@@ -1,0 +1,4 @@
+pub mod Checking
+pub mod Laws
+pub mod Scopes
+pub mod Types

@@ -1,0 +1,4 @@
+pub mod Equations
+pub mod Forms
+pub mod Statements
+pub mod Texts
