@@ -9,36 +9,28 @@
 //! | 3 | `Store::contained_in` over 10,000 conflicts of 4 pairs on 256 slots |
 #![tactic(auto)]
 
-mod numbers;
 mod rounds;
 mod setting;
 
+use bench_numbers::number_of;
 use std::{env, io};
 
 fn main(rt: HostRuntime) -> io::Result<()> {
     let mut words = env::args(&rt)?.skip(1);
-    let written = rounds::write_best(rt.alloc(), rounds_of(words.next()))?;
+    let written = rounds::write_best(rt.alloc(), number_of(words.next()))?;
     println!(rt;
         "write_best: {} members, sum of costs {}",
         written.count, written.sum
     )?;
-    let parts = rounds::split_zone(rt.alloc(), rounds_of(words.next()))?;
+    let parts = rounds::split_zone(rt.alloc(), number_of(words.next()))?;
     println!(rt;
         "split: {} parts, sum of least costs {}",
         parts.count, parts.sum
     )?;
-    let contained = rounds::contained_in(rt.alloc(), rounds_of(words.next()))?;
+    let contained = rounds::contained_in(rt.alloc(), number_of(words.next()))?;
     println!(rt;
         "contained_in: {} found, sum of places {}",
         contained.count, contained.sum
     )?;
     Ok(())
-}
-
-/// The number that a word says; none where it is missing or no number.
-fn rounds_of(word: Option<String>) -> u32 {
-    match word {
-        Some(word) => word.as_str().parse::<u32>().unwrap_or(0),
-        None => 0,
-    }
 }

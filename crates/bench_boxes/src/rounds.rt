@@ -1,8 +1,8 @@
 //! The rounds of each call, over settings that are made once before.
 #![tactic(auto)]
 
-use super::numbers::Numbers;
 use super::setting;
+use bench_numbers::Numbers;
 use lv_boxes::{choices_as_conflict, split};
 use std::alloc::{AllocError, Global};
 
@@ -29,7 +29,7 @@ impl Tally {
 
 /// The least members of zones, written one after the other: how many there are, and what they cost.
 pub fn write_best(alloc: Global, rounds: u32) -> Result<Tally, AllocError> {
-    let mut numbers = Numbers::new();
+    let mut numbers = Numbers::new(1);
     let grid = setting::grid(alloc, &mut numbers)?;
     let mut zones = Vec::new(alloc);
     for _zone in 0..TAKEN_IN_TURN {
@@ -50,7 +50,7 @@ pub fn write_best(alloc: Global, rounds: u32) -> Result<Tally, AllocError> {
 /// A zone split by a choice at each of its slots: how many parts there are, and what the least member of the last
 /// costs.
 pub fn split_zone(alloc: Global, rounds: u32) -> Result<Tally, AllocError> {
-    let mut numbers = Numbers::new();
+    let mut numbers = Numbers::new(1);
     let grid = setting::grid(alloc, &mut numbers)?;
     let zone = setting::zone(alloc, &mut numbers)?;
     let choices = setting::choices(alloc, &mut numbers, 4)?;
@@ -70,7 +70,7 @@ pub fn split_zone(alloc: Global, rounds: u32) -> Result<Tally, AllocError> {
 
 /// Candidates looked up among the kept conflicts: how many contain one, and the sum of the places of the first.
 pub fn contained_in(alloc: Global, rounds: u32) -> Result<Tally, AllocError> {
-    let mut numbers = Numbers::new();
+    let mut numbers = Numbers::new(1);
     let store = setting::store(alloc, &mut numbers)?;
     let mut candidates = Vec::new(alloc);
     for _candidate in 0..TAKEN_IN_TURN {

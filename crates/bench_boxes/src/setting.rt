@@ -3,7 +3,7 @@
 
 ghost use Rattle.std.specs.Prelude.{◌≡◌, ◌+◌, ◌≤◌, ◌<◌, length, vec_len, IfOk};
 
-use super::numbers::Numbers;
+use bench_numbers::Numbers;
 use lv_base::{Candidate, Conflict, Cost, Pair};
 use lv_boxes::{Grid, Zone};
 use lv_conflicts::Store;

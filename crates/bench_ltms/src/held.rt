@@ -1,9 +1,9 @@
 //! Random literals that are assumed for a while, over random clauses.
 #![tactic(auto)]
 
-use super::numbers::Numbers;
 use super::setting;
 use super::tally::{Tally, label_of};
+use bench_numbers::Numbers;
 use lv_base::Lit;
 use lv_ltms::{Label, Ltms};
 use std::alloc::{AllocError, Global};

@@ -10,7 +10,6 @@
 #![tactic(auto)]
 
 mod held;
-mod numbers;
 mod rounds;
 mod setting;
 mod tally;

@@ -4,7 +4,7 @@
 ghost use Rattle.std.specs.Prelude.{◌≡◌, ◌<◌, IsTrue};
 ghost use Rattle.lv_clauses.specs.Literals.{in_range};
 
-use super::numbers::Numbers;
+use bench_numbers::Numbers;
 use lv_base::{BoolId, Lit};
 use lv_clauses::is_clause;
 use lv_ltms::Ltms;

@@ -6,6 +6,7 @@
 mod chain;
 mod reading;
 
+use bench_numbers::number_of;
 use chain::Chain;
 use std::{env, io};
 
@@ -24,12 +25,4 @@ fn main(rt: HostRuntime) -> io::Result<()> {
     let good = reading::good_rounds(rt.alloc(), &chain, rounds)?;
     println!(rt; "check: no bad step in {good} of {rounds} rounds")?;
     Ok(())
-}
-
-/// The number that a word says; none where it is missing or no number.
-fn number_of(word: Option<String>) -> u32 {
-    match word {
-        Some(word) => word.as_str().parse::<u32>().unwrap_or(0),
-        None => 0,
-    }
 }
