@@ -14,28 +14,14 @@ lines() {
     [ -z "$1" ] || printf '%s\n' "$1"
 }
 
-# expect NAME STATUS OUTPUT ERROR: how the last run ended, and what it wrote to $work/out and $work/err.
+# expect NAME STATUS OUTPUT ERROR: how the last run ended, and what it wrote.
 expect() {
     lines "$3" >"$work/wanted-out"
     lines "$4" >"$work/wanted-err"
-    if [ "$status" = "$2" ] && cmp -s "$work/wanted-out" "$work/out" && cmp -s "$work/wanted-err" "$work/err"; then
-        passed=$((passed + 1))
-    else
-        failed=$((failed + 1))
-        echo "FAILED: $1: status $status (wanted $2)"
-        diff "$work/wanted-out" "$work/out" | head -5
-        diff "$work/wanted-err" "$work/err" | head -5
-    fi
+    expect_files "$1" "$2" "$work/wanted-out" "$work/wanted-err"
 }
 
-# The program's words, in the folder that this is called in; its input is that of this function.
-run() {
-    "$root/livingstone" "$@" >"$work/out" 2>"$work/err"
-    status=$?
-}
-
-# Builds the program, so that no run below says that it does.
-"$root/livingstone" >"$work/out" 2>"$work/err" </dev/null
+build
 
 cd "$root" || exit 1
 run run examples/valve.lv examples/first.ses </dev/null

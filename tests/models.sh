@@ -20,16 +20,8 @@ try() {
         refused) wanted=3 error=refusal ;;
         *) wanted="no verdict $1" error=silence ;;
     esac
-    "$root/livingstone" run "$work/model.lv" "$work/silence" >"$work/out" 2>"$work/err" </dev/null
-    status=$?
-    if [ "$status" = "$wanted" ] && cmp -s "$work/silence" "$work/out" && cmp -s "$work/$error" "$work/err"; then
-        passed=$((passed + 1))
-    else
-        failed=$((failed + 1))
-        echo "FAILED: $2: status $status (wanted $wanted)"
-        head -c 200 "$work/out"
-        head -c 200 "$work/err"
-    fi
+    run run "$work/model.lv" "$work/silence" </dev/null
+    expect_files "$2" "$wanted" "$work/silence" "$work/$error"
 }
 
 # The models of the table.

@@ -14,16 +14,8 @@ for model in "$root"/tests/random/[0-9][0-9].lv; do
         wanted=3
         error="$pair.err"
     fi
-    "$root/livingstone" run "$model" "$pair.ses" >"$work/out" 2>"$work/err" </dev/null
-    status=$?
-    if [ "$status" = "$wanted" ] && cmp -s "$pair.out" "$work/out" && cmp -s "$error" "$work/err"; then
-        passed=$((passed + 1))
-    else
-        failed=$((failed + 1))
-        echo "FAILED: random/${pair##*/}: status $status (wanted $wanted)"
-        diff "$pair.out" "$work/out" | head -5
-        diff "$error" "$work/err" | head -5
-    fi
+    run run "$model" "$pair.ses" </dev/null
+    expect_files "random/${pair##*/}" "$wanted" "$pair.out" "$error"
 done
 
 verdict
