@@ -3,7 +3,7 @@ use Rattle.std.specs.Prelude.{◌≡◌, ℕ, List, [], ◌∷◌, Some, None, c
 use Rattle.lv_base.specs.declared.rank.Rank.{Rank}
 use Rattle.lv_formula.specs.Tree.{is}
 use Rattle.lv_model.specs.declared.plant.Plant.{Plant}
-use Rattle.lv_model.specs.declared.plant.Class.TheVariants.{Control, Observable}
+use Rattle.lv_base.specs.declared.names.Class.TheVariants.{Control, Observable}
 use Rattle.lv_model.specs.declared.plant.ComponentType.{ComponentType}
 use Rattle.lv_model.specs.declared.plant.Mode.{Mode}
 use Rattle.lv_model.specs.declared.plant.Move.{Move}

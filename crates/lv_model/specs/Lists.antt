@@ -7,8 +7,8 @@ use Rattle.lv_model.specs.declared.plant.Domain.{Domain}
 use Rattle.lv_model.specs.declared.plant.ComponentType.{ComponentType}
 use Rattle.lv_model.specs.declared.plant.Part.{Part}
 use Rattle.lv_model.specs.declared.plant.Variable.{Variable}
-use Rattle.lv_model.specs.declared.plant.Class.{Class}
-use Rattle.lv_model.specs.declared.plant.Class.TheVariants.{Control, Dependent, Observable}
+use Rattle.lv_base.specs.declared.names.Class.{Class}
+use Rattle.lv_base.specs.declared.names.Class.TheVariants.{Control, Dependent, Observable}
 use Rattle.lv_base.specs.declared.ids.VarId.{VarId}
 
 -- how many values the domain of this place has

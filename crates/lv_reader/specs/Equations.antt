@@ -6,7 +6,7 @@ use Rattle.lv_text.specs.declared.lexer.TokenKind.TheVariants.{Word, Number, Arr
 use Rattle.lv_text.specs.declared.lexer.Token.{Token}
 use Rattle.lv_text.specs.Kinds.{token_text}
 use Rattle.lv_text.specs.Numbers.{number_in_range}
-use Rattle.lv_model.specs.Names.{is_named}
+use Rattle.lv_base.specs.Names.{is_named}
 use Rattle.lv_reader.specs.declared.statement.Path.{Path}
 use Rattle.lv_reader.specs.declared.statement.Path.TheVariants.{Own, OfPart}
 use Rattle.lv_reader.specs.declared.statement.Equation.{Equation}

@@ -4,8 +4,8 @@ use Rattle.std.specs.List.{list_all}
 use Rattle.std.specs.Option.{option_and_then}
 use Rattle.lv_text.specs.declared.lexer.TokenKind.{TokenKind}
 use Rattle.lv_model.specs.WellFormed.{is_within}
-use Rattle.lv_model.specs.declared.plant.Class.{Class}
-use Rattle.lv_model.specs.declared.plant.Class.TheVariants.{Control, Dependent, Observable}
+use Rattle.lv_base.specs.declared.names.Class.{Class}
+use Rattle.lv_base.specs.declared.names.Class.TheVariants.{Control, Dependent, Observable}
 use Rattle.lv_reader.specs.declared.statement.Statement.{Statement}
 use Rattle.lv_reader.specs.declared.statement.Statement.TheVariants.{ModelLine, DomainLine, TypeLine, VariableLine, ModeLine, InLine, StepLine, FaultLine, EndLine, PartLine, LawLine}
 use Rattle.lv_reader.specs.Equations.{is_word, is_arrow, word_at, free_word_at, number_at, has_kind_at, says, equation_from}

@@ -4,7 +4,7 @@
 ghost use Rattle.std.specs.Prelude.{◌≡◌, ◌≤◌, IfOk, All, slice_get};
 ghost use Rattle.std.specs.Option.{option_copied};
 ghost use Rattle.lv_text.specs.Kinds.{IsTokenOf};
-ghost use Rattle.lv_model.specs.Names.{is_named};
+ghost use Rattle.lv_base.specs.Names.{is_named};
 ghost use Rattle.lv_reader.specs.Equations.{kinds_of, texts_of, is_arrow, is_equals, is_dot, word_at, number_at, has_kind_at, says, is_truth, is_reserved, free_word_at, path_width, path_at, truth_at, has_sides, equation_from};
 
 use crate::statement::{Equation, Path};
