@@ -9,6 +9,10 @@ ghost use Rattle.std.specs.Prelude.{◌≡◌, ◌+◌, ◌<◌, IsTrue, length,
 ghost use Rattle.lv_formula.specs.Tree.{tree_of, truth_of, reads_below, value_of};
 ghost use Rattle.lv_formula.specs.Fold.{is_true_in, reads_in};
 
+pub mod path;
+
+pub use path::Path;
+
 use lv_base::{ValId, VarId};
 use std::marker::Model;
 
