@@ -12,3 +12,4 @@ pub mod TextLaws
 pub mod SliceLaws
 pub mod BadBytes
 pub mod LexemeFacts
+pub mod Gaps

@@ -34,7 +34,7 @@ tokens_from-comment (x ∷ more) comment place zero le =
     ∙ piece_tokens-same (x ∷ more) place (piece_of (x ∷ more)) (piece_fits (x ∷ more)) (λ passed. tokens_from (place + 1) passed more) _
     (λ n less. tokens_from-comment more comment (place + 1) n (omega arith))
 
-short : (line : List ℕ) → length line ≤ LINE_BYTES → line_tokens line ≡ all_tokens line
+pub short : (line : List ℕ) → length line ≤ LINE_BYTES → line_tokens line ≡ all_tokens line
 short line le =
     let test : nat_lt LINE_BYTES (length line) ≡ false = grind (arith, nat_tests) in
     ap (λ c. cond c long_line (all_tokens line)) test
