@@ -13,7 +13,7 @@ pub mod lines;
 pub mod numbers;
 pub mod token_line;
 
-pub use lexer::{TextFault, Token, TokenKind, tokens};
+pub use lexer::{TextFault, Token, TokenKind, put_line, tokens};
 pub use lines::{Line, first_line, last_line, next_line};
 pub use numbers::number;
 pub use token_line::TokenLine;

@@ -1,16 +1,17 @@
 //! A line with its tokens, looked at by their places.
 //!
 //! Those above read a line as a list of lexemes, each a kind and the bytes of its text. The line's bytes are borrowed
-//! and its tokens lie in one buffer, so that a look takes no memory.
+//! and its tokens lie in one list, so that a look takes no memory. The room of that list can go from line to line, as a
+//! session may have a million of them.
 
-ghost use Rattle.std.specs.Prelude.{◌≡◌, length, nat_eq, IfOk, IfErr};
+ghost use Rattle.std.specs.Prelude.{◌≡◌, [], length, nat_eq, IfOk, IfErr};
 ghost use Rattle.std.specs.Option.{option_copied};
 ghost use Rattle.lv_text.specs.Lexemes.{line_reading, reads, Explains, kind_at, text_at, word_at, number_at, says};
 
-use crate::lexer::{TextFault, Token, TokenKind, tokens};
+use crate::lexer::{TextFault, Token, TokenKind, put_line, tokens};
 use crate::numbers::number;
 use std::alloc::Global;
-use std::marker;
+use std::{marker, mem};
 
 /// The tokens of a line, which is given without its end.
 #[derive(Debug, Drop)]
@@ -32,7 +33,7 @@ impl<'a> marker::Model for TokenLine<'a> {
 }
 
 impl<'a> TokenLine<'a> {
-    /// Reads a line. This alone takes memory.
+    /// Reads a line.
     pub fn read(alloc: Global, line: &'a [u8]) -> Result<TokenLine<'a>, TextFault>
         ensures ok { IfOk result (λ found. line_reading line.now ≡ reads found) }
 
@@ -41,6 +42,30 @@ impl<'a> TokenLine<'a> {
     {
         let tokens = tokens(alloc, line)?;
         Ok(TokenLine { line, tokens })
+    }
+
+    /// Reads a line into the room that the tokens of an earlier one had: memory is taken only where they don't fit in
+    /// there. After a fault the room can be used again; else it goes with the line, until `into_room`.
+    pub fn read_into(
+        alloc: Global,
+        room: &mut Vec<Token>,
+        line: &'a [u8],
+    ) -> Result<TokenLine<'a>, TextFault>
+        ensures ok { IfOk result (λ found. line_reading line.now ≡ reads found) }
+        ensures fault { IfErr result (λ fault. Explains fault (line_reading line.now)) }
+    {
+        put_line(room, line)?;
+        let tokens = mem::replace(room, Vec::new(alloc));
+        Ok(TokenLine { line, tokens })
+    }
+
+    /// The room of its tokens, empty.
+    pub fn into_room(self) -> Vec<Token>
+        ensures { result.items ≡ [] }
+    {
+        let mut room = self.tokens;
+        room.clear();
+        room
     }
 
     /// How many tokens the line has.
