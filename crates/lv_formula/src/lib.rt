@@ -11,9 +11,11 @@ ghost use Rattle.lv_formula.specs.Fits.{fits};
 ghost use Rattle.lv_formula.specs.Fold.{is_true_in, reads_in, fits_in};
 
 pub mod laws;
+pub mod path;
 pub mod range;
 
 use lv_base::{ValId, VarId};
+pub use path::Path;
 pub use range::{Range, Sort};
 use range::{are_alike, has_value};
 use std::marker::Model;

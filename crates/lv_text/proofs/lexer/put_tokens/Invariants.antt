@@ -1,6 +1,6 @@
 use Rattle.std.proofs.Common.{◌≡◌, ◌≤◌, ◌-◌, length}
 use Rattle.lv_text.specs.Tokens.{all_tokens, tokens_at, joined}
-use Rattle.lv_text.proofs.lexer.all_tokens.Given as goal
+use Rattle.lv_text.proofs.lexer.put_tokens.Given as goal
 
 -- the tokens found so far, and those from the place on, are those of the line
 abbrev pub invariant-loop-place : goal.invariant-loop-place
