@@ -2,7 +2,7 @@
 //! by slot. It is total: of two ranks that aren't equal exactly one comes before the other.
 #![tactic(auto)]
 
-ghost use Rattle.std.specs.Prelude.{◌≡◌, ◌==◌};
+ghost use Rattle.std.specs.Prelude.{◌≡◌, ◌==◌, IfOk};
 ghost use Rattle.std.proofs.Common.{rules};
 ghost use Rattle.std.specs.Cmp.{partial_order_from_own_ties};
 ghost use Rattle.std.specs.Cmp.Rules.{comparing};
@@ -12,6 +12,7 @@ ghost use Rattle.lv_base.specs.Rank.{rank_key, rank_cmp, ranks_before, RankIsTot
 
 use super::ids::Cost;
 use super::seq::Seq;
+use std::alloc::{AllocError, Global};
 use std::cmp::Ordering;
 
 /// What a candidate is ranked by. Lists of choices are of one length wherever ranks of one search are compared; of two
@@ -29,6 +30,17 @@ impl Rank {
         ensures { result ≡ ranks_before self.now other.now }
     {
         self.cmp(other).is_lt()
+    }
+
+    /// The same rank in memory of its own.
+    pub fn copied(&self, alloc: Global) -> Result<Rank, AllocError>
+        ensures { IfOk result (λ copy. copy ≡ self.now) }
+    {
+        Ok(Rank {
+            cost: self.cost,
+            source: self.source,
+            choices: Seq::from_slice(alloc, self.choices.as_slice())?,
+        })
     }
 }
 

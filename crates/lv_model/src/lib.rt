@@ -3,6 +3,7 @@
 //! | part | items |
 //! |---|---|
 //! | the lists | `Plant`, `Domain`, `ComponentType`, `Variable`, `ModeFormula`, `Move`, `Part`, `Price` |
+//! | states | `State`, `TrackedState` |
 //! | the model | `Model`: a plant that is well formed |
 //! | its meaning | `Model::is_feasible`, `takes`, `is_step`, `is_nominal`, `moves_from`, `price` |
 //! | its lists of numbers | `Model::sizes`, `controls`, `move_counts` |
@@ -19,8 +20,10 @@ pub mod names;
 pub mod plant;
 mod prices;
 mod ranges;
+pub mod state;
 pub mod variables;
 
 pub use lv_base::{Class, Name};
 pub use model::Model;
+pub use state::{State, TrackedState};
 pub use plant::{ComponentType, Domain, ModeFormula, Move, MoveKind, Part, Plant, Price, Variable};
