@@ -11,8 +11,8 @@ use lv_base::{ValId, VarId};
 /// Where the values of a variable stand: the modes of the type at a place, or the values of the domain at a place.
 #[derive(Clone, Copy, Debug, PartialEq, Eq)]
 pub enum Sort {
-    Modes(u32),
-    Values(u32),
+    Modes(usize),
+    Values(usize),
 }
 
 /// What a variable ranges over: values of this sort, which are so many.
