@@ -2,6 +2,7 @@
 use Rattle.std.proofs.Common.{◌≡◌, ℕ, ◌+◌, ◌-◌, Bool, true, false, cond, not, ◌&&◌, ◌||◌, nat_eq, nat_lt, List, [], ◌∷◌, ◌++◌, length, take, map, All, codes, refl, sym, ap, ap₂, subst, ◌∙◌, arith}
 use Rattle.std.proofs.lemmas.Bool.Decides.{nat_tests}
 use Rattle.std.proofs.lemmas.List.Elements.{All-head, All-tail, All-from_recursion}
+use Rattle.std.proofs.lemmas.List.{append-nil}
 use Rattle.std.proofs.Math.Seq.{take-append_seam}
 use Rattle.std.specs.List.{AllByRecursion, list_all}
 use Rattle.std.specs.Cmp.Lexicographic.{same_text}
@@ -178,13 +179,9 @@ ends_before_blank Dot rest = refl
 ends_at_end : (kind : TokenKind) → ends_token kind [] ≡ true
 ends_at_end kind = refl
 
-append_none : (xs : List ℕ) → xs ++ [] ≡ xs
-append_none [] = refl
-append_none (x ∷ xs) = ap (λ ys. x ∷ ys) (append_none xs)
-
 -- what stands first
 front_text : (m : Lexeme) (more : List Lexeme) → (rest : List ℕ) × (printed (m ∷ more) ≡ m.text ++ rest)
-front_text m [] = ([], sym (append_none m.text))
+front_text m [] = ([], sym (append-nil m.text))
 front_text m (n ∷ more) = (gap_between m n ++ printed (n ∷ more), refl)
 
 -- a lexeme in front of others, with the gap that they need
@@ -206,7 +203,7 @@ printed_reads : (ls : List Lexeme) → All IsLexeme ls → reading (printed ls) 
 printed_reads [] h = refl
 printed_reads (l ∷ []) h =
     let one : IsLexeme l = All-head IsLexeme l [] h in
-    ap reading (sym (append_none l.text)) ∙ reading-text l [] [] one.kind (ends_at_end l.kind) refl
+    ap reading (sym (append-nil l.text)) ∙ reading-text l [] [] one.kind (ends_at_end l.kind) refl
 printed_reads (l ∷ m ∷ more) h =
     let one : IsLexeme l = All-head IsLexeme l (m ∷ more) h in
     let rest : All IsLexeme (m ∷ more) = All-tail IsLexeme l (m ∷ more) h in
