@@ -1,0 +1,4 @@
+mod ListLemmas
+mod TrailLemmas
+mod SeenLemmas
+mod AnalysisLemmas

@@ -1,0 +1,21 @@
+//! Complete solving with refutations: whether clauses and assumptions can be made true together. Either values say so,
+//! or a log derives the clause of negations of assumptions, step by step, so that a checker can follow it.
+//!
+//! | part | items |
+//! |---|---|
+//! | the solver | `Solver` |
+//! | what it answers | `Answer` |
+//! | literals taken as true | `trail` |
+//! | what a false clause teaches | `analysis` |
+//! | the search | `search` |
+#![tactic(auto)]
+
+
+mod analysis;
+pub mod answer;
+
+
+pub mod trail;
+
+pub use answer::Answer;
+
