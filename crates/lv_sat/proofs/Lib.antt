@@ -2,3 +2,5 @@ mod ListLemmas
 mod TrailLemmas
 mod SeenLemmas
 mod AnalysisLemmas
+mod MeasureLemmas
+mod SearchLemmas

@@ -22,6 +22,9 @@ eq_from a b e = grind (arith, nat_tests)
 pub lt_from : (a b : ℕ) → nat_lt a b ≡ true → a < b
 lt_from a b e = grind (arith, nat_tests)
 
+pub lt_is : (a b : ℕ) → a < b → nat_lt a b ≡ true
+lt_is a b h = grind (arith, nat_tests)
+
 pub same_lit-equal : (a b : Lit) → same_lit a b ≡ true → a ≡ b
 same_lit-equal a b e =
     lit_of a b (eq_from a.var.0 b.var.0 (and_left (same_var a b) (same_truth a.sign b.sign) e)) (same_truth-equal a.sign b.sign (and_right (same_var a b) (same_truth a.sign b.sign) e))

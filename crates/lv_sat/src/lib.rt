@@ -10,12 +10,12 @@
 //! | the search | `search` |
 #![tactic(auto)]
 
-
 mod analysis;
 pub mod answer;
-
-
-pub mod trail;
+mod search;
+pub mod solver;
+mod trail;
 
 pub use answer::Answer;
+pub use solver::Solver;
 
