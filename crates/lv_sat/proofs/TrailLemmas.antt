@@ -110,8 +110,8 @@ module _ (cs : ClauseMap) (log : List Step) where
           chain =
               record {
                 clause =
-              ap (is_clause cs.bools) (lits_push entries e)
-              ∙ clause_push cs.bools (lits_of entries) e.lit trail.chain.clause (ap (λ n. in_range n e.lit) (sym trail.len) ∙ and_left (in_range (length marks) e.lit) (is_free marks e.lit) is_free_now) (λ m h same. busy e.lit m free h same);
+                    ap (is_clause cs.bools) (lits_push entries e)
+                    ∙ clause_push cs.bools (lits_of entries) e.lit trail.chain.clause (ap (λ n. in_range n e.lit) (sym trail.len) ∙ and_left (in_range (length marks) e.lit) (is_free marks e.lit) is_free_now) (λ m h same. busy e.lit m free h same);
                 forced = λ place d h below is. by_place place d h is (cases_lt place (length entries)) below;
               };
         }
@@ -145,15 +145,15 @@ module _ (cs : ClauseMap) (log : List Step) where
               omega (arith, trail.room, last, length-set marks e.lit.var.0 None, length-take-le place entries (omega (arith, last)), count_set marks e.lit.var.0 None within, none_of (get_or marks e.lit.var.0 None) busy_here);
           chain =
               record {
-              clause = clause_front cs.bools (lits_of front) (e.lit ∷ []) whole_clause;
-          forced =
-              λ k b h below is.
-              let size : length front ≡ place = length-take-le place entries (omega (arith, last)) in
-              let early : k < place = omega (arith, below, size) in
-              let same : get_or front k b ≡ get_or entries k b = get_or-take place entries k b early in
-              let fronts : take k front ≡ take k entries = take-take k place entries (omega (arith, early)) in
-              subst (λ (j : Entry). IsForced cs.slots log (lits_of (take k front)) j.lit h) (sym same)
-              (subst (λ (es : List Entry). IsForced cs.slots log (lits_of es) (get_or entries k b).lit h) (sym fronts) (trail.chain.forced k b h (omega (arith, early, last)) (sym (ap (λ (j : Entry). j.reason) same) ∙ is)));
+                clause = clause_front cs.bools (lits_of front) (e.lit ∷ []) whole_clause;
+                forced =
+                    λ k b h below is.
+                    let size : length front ≡ place = length-take-le place entries (omega (arith, last)) in
+                    let early : k < place = omega (arith, below, size) in
+                    let same : get_or front k b ≡ get_or entries k b = get_or-take place entries k b early in
+                    let fronts : take k front ≡ take k entries = take-take k place entries (omega (arith, early)) in
+                    subst (λ (j : Entry). IsForced cs.slots log (lits_of (take k front)) j.lit h) (sym same)
+                    (subst (λ (es : List Entry). IsForced cs.slots log (lits_of es) (get_or entries k b).lit h) (sym fronts) (trail.chain.forced k b h (omega (arith, early, last)) (sym (ap (λ (j : Entry). j.reason) same) ∙ is)));
               };
         }
       where

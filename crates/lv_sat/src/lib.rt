@@ -18,4 +18,3 @@ mod trail;
 
 pub use answer::Answer;
 pub use solver::Solver;
-

@@ -68,7 +68,12 @@ fn assume_all(alloc: Global, bools: u32, assumptions: &[Lit]) -> Result<Trail, A
 }
 
 /// Adds choices to the trail, and what clauses force, until each boolean is marked or a clause is false.
-fn extend(alloc: Global, set: &ClauseSet, log: &Log, trail: &mut Trail) -> Result<Reached, AllocError>
+fn extend(
+    alloc: Global,
+    set: &ClauseSet,
+    log: &Log,
+    trail: &mut Trail,
+) -> Result<Reached, AllocError>
     requires { IsTrail set.now log.now trail.old.marks.items trail.old.entries.items }
     ensures { IfOk result (λ reached. IsReached set.now log.now trail.old.entries.items trail.new.marks.items trail.new.entries.items reached) }
 {
@@ -134,7 +139,12 @@ fn propagate(set: &ClauseSet, log: &Log, trail: &mut Trail) -> Result<Option<Hin
 }
 
 /// Adds the literal that a clause forces, if it does; or answers the hint where the clause is false.
-fn examine(set: &ClauseSet, log: &Log, trail: &mut Trail, hint: Hint) -> Result<Option<Hint>, AllocError>
+fn examine(
+    set: &ClauseSet,
+    log: &Log,
+    trail: &mut Trail,
+    hint: Hint,
+) -> Result<Option<Hint>, AllocError>
     requires { IsTrail set.now log.now trail.old.marks.items trail.old.entries.items }
     ensures { IfOk result (λ found. IsExtended set.now log.now trail.old.entries.items trail.new.marks.items trail.new.entries.items found) }
 {
