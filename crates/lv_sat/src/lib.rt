@@ -7,11 +7,13 @@
 //! | what it answers | `Answer` |
 //! | literals taken as true | `trail` |
 //! | what a false clause teaches | `analysis` |
+//! | which clauses to look at | `index` |
 //! | the search | `search` |
 #![tactic(auto)]
 
 mod analysis;
 pub mod answer;
+mod index;
 mod search;
 pub mod solver;
 mod trail;

@@ -12,6 +12,7 @@ ghost use Rattle.lv_sat.specs.Trail.{IsTrail, IsExtended, IsReached, IsFalsified
 
 use super::analysis::{derive, find_clause};
 use super::answer::Answer;
+use super::index::Index;
 use super::trail::{Entry, Trail};
 use lv_base::{ClauseId, Lit, Seq};
 use lv_clauses::{ClauseSet, Finding, clause_holds, look, negation};
@@ -34,8 +35,10 @@ pub fn search(alloc: Global, set: &ClauseSet, assumptions: &[Lit]) -> Result<Ans
 {
     let mut trail = assume_all(alloc, set.bools(), assumptions)?;
     let mut log = Log::new(alloc)?;
+    let mut index = Index::new(alloc, set)?;
+    let mut from = 0;
     'conflicts: loop {
-        match extend(alloc, set, &log, &mut trail)? {
+        match extend(alloc, set, &log, &index, from, &mut trail)? {
             Reached::Values(values) => return Ok(Answer::Sat(values)),
             Reached::False(hint) => {
                 let floor = assumptions.len();
@@ -44,7 +47,12 @@ pub fn search(alloc: Global, set: &ClauseSet, assumptions: &[Lit]) -> Result<Ans
                         let core = negate_last(alloc, &log)?;
                         return Ok(Answer::Unsat { core, log });
                     }
-                    Some(place) => trail.turn(place, Hint::Earlier(log.len() - 1))?,
+                    Some(place) => {
+                        let last = log.len() - 1;
+                        trail.turn(place, Hint::Earlier(last))?;
+                        index.add(log.step(last).clause.as_slice(), Hint::Earlier(last))?;
+                        from = place;
+                    }
                 }
             }
         }
@@ -67,20 +75,25 @@ fn assume_all(alloc: Global, bools: u32, assumptions: &[Lit]) -> Result<Trail, A
     Ok(trail)
 }
 
-/// Adds choices to the trail, and what clauses force, until each boolean is marked or a clause is false.
+/// Adds choices to the trail, and what clauses force, until each boolean is marked or a clause is false. The entries from
+/// a place on are those whose clauses weren't looked at yet.
 fn extend(
     alloc: Global,
     set: &ClauseSet,
     log: &Log,
+    index: &Index,
+    from: usize,
     trail: &mut Trail,
 ) -> Result<Reached, AllocError>
     requires { IsTrail set.now log.now trail.old.marks.items trail.old.entries.items }
     ensures { IfOk result (λ reached. IsReached set.now log.now trail.old.entries.items trail.new.marks.items trail.new.entries.items reached) }
 {
+    let mut from = from;
     'choices: loop {
-        if let Some(hint) = propagate(set, log, trail)? {
+        if let Some(hint) = propagate(set, log, index, from, trail)? {
             return Ok(Reached::False(hint));
         }
+        from = trail.entries().len();
         match trail.free_lit(set.bools()) {
             Some(lit) => trail.push(Entry { lit, reason: None })?,
             None => return judge(alloc, set, log, trail),
@@ -124,15 +137,44 @@ fn is_false(set: &ClauseSet, values: &[bool], id: ClauseId) -> bool
     }
 }
 
-/// Adds what clauses force, as far as one pass over them shows; or finds a false clause.
-fn propagate(set: &ClauseSet, log: &Log, trail: &mut Trail) -> Result<Option<Hint>, AllocError>
+/// Adds what clauses force by the entries from a place on and by those that this adds; or finds a false clause.
+fn propagate(
+    set: &ClauseSet,
+    log: &Log,
+    index: &Index,
+    from: usize,
+    trail: &mut Trail,
+) -> Result<Option<Hint>, AllocError>
     requires { IsTrail set.now log.now trail.old.marks.items trail.old.entries.items }
     ensures { IfOk result (λ found. IsExtended set.now log.now trail.old.entries.items trail.new.marks.items trail.new.entries.items found) }
 {
-    for key in 0..set.bound() {
-        let hint = Hint::Given(ClauseId(key));
-        if let Some(hint) = examine(set, log, trail, hint)? {
+    if let Some(hint) = visit(set, log, index.short(), trail)? {
+        return Ok(Some(hint));
+    }
+    let mut at = from;
+    while at < trail.entries().len() {
+        let turned = negation(trail.entries()[at].lit);
+        if let Some(hint) = visit(set, log, index.of(turned), trail)? {
             return Ok(Some(hint));
+        }
+        at += 1;
+    }
+    Ok(None)
+}
+
+/// Adds what the clauses that hints name force; or finds a false one.
+fn visit(
+    set: &ClauseSet,
+    log: &Log,
+    hints: &[Hint],
+    trail: &mut Trail,
+) -> Result<Option<Hint>, AllocError>
+    requires { IsTrail set.now log.now trail.old.marks.items trail.old.entries.items }
+    ensures { IfOk result (λ found. IsExtended set.now log.now trail.old.entries.items trail.new.marks.items trail.new.entries.items found) }
+{
+    for hint in hints {
+        if let Some(found) = examine(set, log, trail, *hint)? {
+            return Ok(Some(found));
         }
     }
     Ok(None)
