@@ -1,23 +1,20 @@
 -- The walk back keeps that the hints taken end well, and what it ends with follows by them.
-use Rattle.std.proofs.Common.{◌≡◌, ◌≢◌, ◌⊎◌, ℕ, suc, zero, ◌+◌, ◌<◌, ◌≤◌, Bool, true, false, not, ◌&&◌, ◌||◌, List, [], ◌∷◌, ◌++◌, length, map, filter, take, drop, get_or, set, reverse, replicate, unwrap_or, Option, Some, None, refl, sym, ap, ap₂, subst, ◌∙◌, arith, inl, inr, Contains}
-use Rattle.std.proofs.lemmas.Bool.{cases_eq}
+use Rattle.std.proofs.Common.{◌≡◌, ◌≢◌, ◌⊎◌, ℕ, suc, zero, ◌+◌, ◌<◌, Bool, true, false, not, ◌||◌, List, [], ◌∷◌, ◌++◌, length, filter, take, drop, get_or, reverse, unwrap_or, Option, Some, None, refl, sym, ap, ap₂, subst, ◌∙◌, inl, inr, Contains}
 use Rattle.std.proofs.lemmas.List.{length-set, length-replicate, take_more, take-append-drop, reverse-append}
-use Rattle.std.proofs.lemmas.List.Folds.{list_any-append}
 use Rattle.std.proofs.Math.Seq.{take-length}
 use Rattle.lv_base.specs.declared.ids.Lit.{Lit}
-use Rattle.lv_clauses.specs.declared.marks.Finding.TheVariants.{AllFalse, Unit}
 use Rattle.lv_clauses.specs.Literals.{neg, distinct, in_range, is_clause}
 use Rattle.std.specs.List.{list_all}
-use Rattle.lv_clauses.specs.ClauseMap.{ClauseMap, Slots}
-use Rattle.lv_clauses.specs.Marks.{Marks, nothing, has, marked, unmet, finding_of, look_at}
-use Rattle.lv_clauses.proofs.LiteralLemmas.{neg_neg, and_left, and_right, and_both, or_right}
+use Rattle.lv_clauses.specs.ClauseMap.{ClauseMap}
+use Rattle.lv_clauses.specs.Marks.{Marks, nothing, has, marked, finding_of}
+use Rattle.lv_clauses.proofs.LiteralLemmas.{neg_neg, and_right, and_both, or_right}
 use Rattle.lv_clauses.proofs.MarkLemmas.{has-nothing, has-marked_cases}
 use Rattle.lv_reflog.specs.declared.log.Hint.{Hint}
 use Rattle.lv_reflog.specs.declared.log.Step.{Step}
 use Rattle.lv_reflog.specs.Following.{clause_of, is_last, goes_on, goes_on_from, ends_well, denied, follows_by_hints}
 use Rattle.lv_sat.specs.declared.trail.Entry.{Entry}
-use Rattle.lv_sat.specs.Trail.{same_lit, among, lits_of, left_of, IsForced, IsFalse, IsChain}
-use Rattle.lv_sat.specs.Analysis.{sees, seen_all, seen_by, needed, denial, Covers, IsPending, IsStopped, GoesPast, GivesWay, IsUnchanged, StopsAt, Derives, IsDerived, end_of}
+use Rattle.lv_sat.specs.Trail.{same_lit, among, lits_of, IsForced, IsFalse, IsChain}
+use Rattle.lv_sat.specs.Analysis.{sees, seen_all, seen_by, denial, Covers, IsPending, GoesPast, GivesWay, StopsAt, Derives, IsDerived, end_of}
 use Rattle.lv_sat.proofs.ListLemmas.{same_lit-equal, same_lit-self, among_member, among_contained, among_push, clause_range, clause_take, clause_last, clause_sides}
 use Rattle.lv_sat.proofs.TrailLemmas.{lits_push}
 use Rattle.lv_sat.proofs.SeenLemmas.{sees_keeps, sees_member, seen_len, in_filter, from_filter, filter_same, filter_none, in_map, from_map, denial_clause, denied_len, denied_only, denied_has, marked_other, marked_self}

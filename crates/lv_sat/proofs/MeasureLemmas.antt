@@ -1,5 +1,5 @@
 -- A longer trail leaves no more above, and a turned choice leaves less.
-use Rattle.std.proofs.Common.{◌≡◌, ℕ, suc, zero, ◌+◌, ◌<◌, ◌≤◌, List, [], ◌∷◌, ◌++◌, length, take, get_or, Option, Some, None, refl, sym, ap, subst, ◌∙◌, arith}
+use Rattle.std.proofs.Common.{◌≡◌, ℕ, suc, zero, ◌+◌, ◌<◌, ◌≤◌, List, [], ◌∷◌, ◌++◌, length, take, get_or, Option, Some, None, refl, ap, arith}
 use Rattle.lv_reflog.specs.declared.log.Hint.{Hint}
 use Rattle.lv_sat.specs.declared.trail.Entry.{Entry}
 use Rattle.lv_sat.specs.Measure.{all_above, left_by, above}

@@ -1,17 +1,13 @@
 -- What the search keeps at each turn, and what it shows at its ends.
-use Rattle.std.proofs.Common.{◌≡◌, ◌≢◌, ◌⊎◌, ℕ, suc, zero, ◌+◌, ◌-◌, ◌<◌, ◌≤◌, Bool, true, false, not, ◌&&◌, ◌||◌, List, [], ◌∷◌, ◌++◌, length, map, filter, take, drop, get_or, Option, Some, None, All, IfSome, is_some, slice_get, option_map, unwrap_or, cond, if◌then◌else◌, append_assoc, refl, sym, ap, ap₂, subst, ◌∙◌, arith, inl, inr, Contains}
-use Rattle.std.specs.List.{list_all}
-use Rattle.std.proofs.lemmas.Bool.{cases_lt}
-use Rattle.std.proofs.lemmas.List.{append-nil, length-append, take-append-le, take-map, take-take, take_more, take_all, map-append, length-take, length-take-le}
+use Rattle.std.proofs.Common.{◌≡◌, ℕ, suc, zero, ◌+◌, ◌-◌, ◌<◌, ◌≤◌, Bool, true, false, not, List, [], ◌∷◌, ◌++◌, length, map, filter, take, drop, get_or, Option, Some, None, All, IfSome, slice_get, option_map, cond, if◌then◌else◌, append_assoc, refl, sym, ap, ap₂, subst, ◌∙◌, arith, Contains}
+use Rattle.std.proofs.lemmas.List.{append-nil, length-append, take-append-le, take-map, take-take, take_more, map-append, length-take, length-take-le}
 use Rattle.std.proofs.lemmas.List.Elements.{filter-append}
 use Rattle.std.proofs.Math.Seq.{get_or-append_seam, take-length}
-use Rattle.std.proofs.lemmas.Option.{slice_get_read, slice_get-get_or}
 use Rattle.lv_base.specs.declared.ids.Lit.{Lit}
-use Rattle.lv_base.specs.declared.ids.ClauseId.{ClauseId}
-use Rattle.lv_clauses.specs.Literals.{neg, same_truth, lit_holds, clause_holds, is_clause}
+use Rattle.lv_clauses.specs.Literals.{neg, same_truth, lit_holds, is_clause}
 use Rattle.lv_clauses.specs.ClauseMap.{ClauseMap, Slots, satisfies}
 use Rattle.lv_clauses.specs.Marks.{Marks, has, marked, mark_is}
-use Rattle.lv_clauses.proofs.LiteralLemmas.{neg_neg, and_left, and_right, any_member, all_member, lit_or_neg, or_right}
+use Rattle.lv_clauses.proofs.LiteralLemmas.{neg_neg, any_member, all_member, lit_or_neg}
 use Rattle.lv_reflog.specs.declared.log.Hint.{Hint}
 use Rattle.lv_reflog.specs.declared.log.Hint.TheVariants.{Given, Earlier}
 use Rattle.lv_reflog.specs.declared.log.Step.{Step}
@@ -19,13 +15,13 @@ use Rattle.lv_reflog.specs.Following.{clause_of, follows_by_hints, first_bad_aft
 use Rattle.lv_reflog.proofs.SoundLemmas.{checked}
 use Rattle.lv_sat.specs.declared.trail.Entry.{Entry}
 use Rattle.lv_sat.specs.Answers.{IsModel, IsSublist, IsRefutation, last_clause, nothing, left_out, taken}
-use Rattle.lv_sat.specs.Trail.{among, lits_of, left_of, is_open, IsForced, IsFalse, IsFalsified, IsChain, IsTrail, IsTurned, IsSearch, IsExtended, IsReached, turned, values_of}
+use Rattle.lv_sat.specs.Trail.{among, lits_of, left_of, is_open, IsForced, IsTrail, IsTurned, IsSearch, IsExtended, IsReached, turned, values_of}
 use Rattle.lv_sat.specs.declared.search.Reached.{Reached}
 use Rattle.lv_sat.specs.declared.search.Reached.TheVariants.{Values, False}
 use Rattle.lv_sat.specs.Analysis.{sees, denial, IsDerived, IsTurning, Derives}
 use Rattle.lv_sat.specs.Measure.{above}
 use Rattle.lv_sat.proofs.ListLemmas.{among_member, among_contained, all_from, clause_take, clause_last}
-use Rattle.lv_sat.proofs.SeenLemmas.{in_filter, from_filter, filter_none, in_map, from_map}
+use Rattle.lv_sat.proofs.SeenLemmas.{from_filter, filter_none, from_map}
 use Rattle.lv_sat.proofs.TrailLemmas.{lits_push, trail_push, front_of, front_then, none_at, not_so}
 use Rattle.lv_sat.proofs.AnalysisLemmas.{front_among}
 use Rattle.lv_sat.proofs.MeasureLemmas.{above_longer, above_turned}

@@ -1,5 +1,5 @@
 -- What was seen stays so, and the negations of literals seen are a clause whose denial is these literals.
-use Rattle.std.proofs.Common.{◌≡◌, ◌≢◌, ◌⊎◌, ℕ, suc, zero, ◌+◌, ◌<◌, ◌≤◌, Bool, true, false, not, ◌&&◌, ◌||◌, cond, List, [], ◌∷◌, ◌++◌, length, map, filter, take, drop, get_or, set, Option, Some, None, refl, sym, ap, ap₂, subst, ◌∙◌, arith, inl, inr, Contains}
+use Rattle.std.proofs.Common.{◌≡◌, ◌≢◌, ◌⊎◌, ℕ, ◌<◌, ◌≤◌, Bool, true, false, not, cond, List, [], ◌∷◌, length, map, filter, get_or, set, Option, Some, None, refl, sym, ap, ap₂, subst, ◌∙◌, arith, inl, inr, Contains}
 use Rattle.std.specs.List.{list_all}
 use Rattle.std.proofs.lemmas.Bool.{cases_eq, cases_lt}
 use Rattle.std.proofs.lemmas.List.{get_or-set_same, get_or-set_other, length-set, set_past}
@@ -10,7 +10,7 @@ use Rattle.lv_clauses.proofs.LiteralLemmas.{neg_neg, and_left, and_right, and_bo
 use Rattle.lv_clauses.proofs.MarkLemmas.{has-marked_cases, same_truth-self}
 use Rattle.lv_reflog.specs.Following.{denied}
 use Rattle.lv_sat.specs.Analysis.{sees, seen_all}
-use Rattle.lv_sat.proofs.ListLemmas.{eq_is, lt_from, not_true}
+use Rattle.lv_sat.proofs.ListLemmas.{eq_is, not_true}
 
 -- sees
 sees_set : (seen : List Bool) (v : ℕ) (l : Lit) → sees seen l ≡ true → sees (set seen v true) l ≡ true

@@ -1,20 +1,19 @@
 -- What one entry more or less makes of a trail.
-use Rattle.std.proofs.Common.{◌≡◌, ◌≢◌, ◌⊎◌, ℕ, ◌+◌, ◌-◌, ◌<◌, ◌≤◌, Bool, true, false, not, ◌&&◌, ◌||◌, List, [], ◌∷◌, ◌++◌, length, map, take, drop, get_or, set, Option, Some, None, is_none, count_by, cond, zero, suc, option_map, slice_get, append_assoc, refl, sym, ap, ap₂, subst, ◌∙◌, arith, inl, inr, Contains}
+use Rattle.std.proofs.Common.{◌≡◌, ◌≢◌, ◌⊎◌, ℕ, ◌+◌, ◌-◌, ◌<◌, ◌≤◌, Bool, true, false, not, ◌&&◌, ◌||◌, List, [], ◌∷◌, ◌++◌, length, take, drop, get_or, set, Option, Some, None, is_none, count_by, cond, append_assoc, refl, sym, ap, subst, ◌∙◌, arith, inl, inr, Contains}
 use Rattle.std.proofs.lemmas.Bool.{cases_eq, cases_lt}
 use Rattle.std.proofs.lemmas.List.{get_or-set_same, get_or-set_other, length-set, length-replicate, get_or_append_left, take-append-le, map-append, take-map, take-take, take_more, get_or-take, length-take-le, length-append, append-nil}
 use Rattle.std.proofs.Math.Seq.{take-append_seam, drop-append_seam, get_or-append_seam, take-length}
 use Rattle.std.proofs.lemmas.List.Sums.{sum_by-set}
 use Rattle.std.proofs.lemmas.List.Folds.{sum_by-replicate}
-use Rattle.std.proofs.lemmas.Option.{slice_get_cases, slice_get_within, slice_get-get_or, same_Some, none-some}
+use Rattle.std.proofs.lemmas.Option.{same_Some, none-some}
 use Rattle.lv_base.specs.declared.ids.Lit.{Lit}
-use Rattle.lv_clauses.specs.Literals.{neg, same_truth, same_var, in_range, is_clause}
-use Rattle.lv_clauses.specs.ClauseMap.{ClauseMap, Slots}
+use Rattle.lv_clauses.specs.Literals.{neg, same_truth, in_range, is_clause}
+use Rattle.lv_clauses.specs.ClauseMap.{ClauseMap}
 use Rattle.lv_clauses.specs.Marks.{Marks, nothing, has, marked, mark_is, is_free, unmet, look_at, finding_of}
-use Rattle.lv_clauses.specs.declared.marks.Finding.TheVariants.{AllFalse, Unit, Open}
-use Rattle.lv_clauses.proofs.LiteralLemmas.{and_left, and_right, and_both, Contains-nil, or_right, lit_cases, same_or_neg}
+use Rattle.lv_clauses.specs.declared.marks.Finding.TheVariants.{AllFalse, Unit}
+use Rattle.lv_clauses.proofs.LiteralLemmas.{and_left, and_right, and_both, Contains-nil, or_right}
 use Rattle.lv_clauses.proofs.MarkLemmas.{has-nothing, has-marked_free}
 use Rattle.lv_reflog.specs.declared.log.Hint.{Hint}
-use Rattle.lv_reflog.specs.declared.log.Hint.TheVariants.{Given, Earlier}
 use Rattle.lv_reflog.specs.declared.log.Step.{Step}
 use Rattle.lv_reflog.specs.Following.{clause_of}
 use Rattle.lv_sat.specs.declared.trail.Entry.{Entry}

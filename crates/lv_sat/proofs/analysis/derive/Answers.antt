@@ -1,6 +1,5 @@
 -- the walk begins at the false clause; what it ends with is the step
-use Rattle.std.proofs.Common.{◌≡◌, ◌∙◌, ◌++◌, ◌∷◌, [], length, arith, rules, sym, ap, ap₂, replicate, false, ℕ, List, take}
-use Rattle.lv_sat.specs.declared.trail.Entry.{Entry}
+use Rattle.std.proofs.Common.{◌≡◌, ◌∙◌, ◌++◌, ◌∷◌, [], length, rules, ap, ap₂, take}
 use Rattle.lv_sat.specs.Analysis.{denial}
 use Rattle.lv_sat.proofs.AnalysisLemmas.{pending_start, derives}
 use Rattle.lv_sat.proofs.analysis.derive.Goals as goal

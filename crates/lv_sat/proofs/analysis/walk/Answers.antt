@@ -1,6 +1,5 @@
 -- each entry is left out or gives way to its reason
-use Rattle.std.proofs.Common.{◌≡◌, ◌-◌, ◌+◌, ◌<◌, Bool, true, false, List, Option, Some, None, length, get_or, ℕ, sym, ap, subst, arith}
-use Rattle.lv_reflog.specs.declared.log.Hint.{Hint}
+use Rattle.std.proofs.Common.{◌-◌, false, None, get_or, ℕ, subst, arith}
 use Rattle.lv_sat.specs.declared.trail.Entry.{Entry}
 use Rattle.lv_sat.specs.Analysis.{IsPending, Passes}
 use Rattle.lv_sat.proofs.AnalysisLemmas.{pending_goes}

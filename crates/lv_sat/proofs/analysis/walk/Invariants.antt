@@ -1,5 +1,5 @@
 -- the hints taken end well from the place at hand
-use Rattle.std.proofs.Common.{◌≤◌, ◌-◌, length}
+use Rattle.std.proofs.Common.{◌≤◌, length}
 use Rattle.lv_sat.specs.Analysis.{IsPending}
 use Rattle.lv_sat.proofs.analysis.walk.Given as goal
 

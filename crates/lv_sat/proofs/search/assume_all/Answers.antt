@@ -1,5 +1,5 @@
 -- each assumption is of a boolean that no earlier one has
-use Rattle.std.proofs.Common.{[], false, sym, ap, subst, ◌∙◌, ◌≡◌, ℕ, true}
+use Rattle.std.proofs.Common.{[], false, ap, ◌∙◌}
 use Rattle.lv_base.specs.declared.ids.Lit.{Lit}
 use Rattle.lv_clauses.specs.Literals.{is_clause}
 use Rattle.lv_sat.proofs.TrailLemmas.{assumed_trail, assumed_lits}

@@ -1,7 +1,7 @@
 -- a false clause is found, or a literal is forced
-use Rattle.std.proofs.Common.{Some, None, sym, ap, subst, ◌∙◌}
+use Rattle.std.proofs.Common.{sym, ap, subst, ◌∙◌}
 use Rattle.std.proofs.lemmas.Option.{same_Some, none-some}
-use Rattle.lv_clauses.specs.Marks.{Marks, look_at}
+use Rattle.lv_clauses.specs.Marks.{look_at}
 use Rattle.lv_sat.specs.Trail.{IsFalse, lits_of}
 use Rattle.lv_sat.proofs.TrailLemmas.{look_false, look_unit, front_self}
 use Rattle.lv_sat.proofs.search.examine.Goals as goal

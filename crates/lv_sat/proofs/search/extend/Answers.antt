@@ -1,5 +1,4 @@
 -- a choice goes on from what was forced
-use Rattle.std.proofs.Common.{None, sym, ap, ◌∙◌}
 use Rattle.lv_sat.proofs.SearchLemmas.{extended_choice}
 use Rattle.lv_sat.proofs.search.extend.Goals as goal
 

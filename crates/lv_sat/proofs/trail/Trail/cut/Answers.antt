@@ -1,5 +1,5 @@
 -- each turn takes the last entry back
-use Rattle.std.proofs.Common.{◌<◌, ◌≡◌, ◌-◌, List, length, take, sym, ap, ◌∙◌, arith}
+use Rattle.std.proofs.Common.{◌<◌, ◌-◌, List, length, take, ap, ◌∙◌, arith}
 use Rattle.std.proofs.lemmas.List.{take-take, length-take-le}
 use Rattle.lv_sat.specs.declared.trail.Entry.{Entry}
 use Rattle.lv_sat.proofs.TrailLemmas.{popped}

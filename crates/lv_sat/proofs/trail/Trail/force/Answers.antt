@@ -1,7 +1,7 @@
 -- the literal that is added is forced
-use Rattle.std.proofs.Common.{Some, sym, ap, subst, ◌∙◌}
+use Rattle.std.proofs.Common.{Some, sym, subst}
 use Rattle.std.proofs.lemmas.Option.{same_Some}
-use Rattle.lv_clauses.specs.Marks.{Marks, marked}
+use Rattle.lv_clauses.specs.Marks.{marked}
 use Rattle.lv_sat.specs.Trail.{IsTrail, IsForced, lits_of}
 use Rattle.lv_sat.proofs.TrailLemmas.{trail_push}
 use Rattle.lv_sat.proofs.trail.Trail.force.Goals as goal

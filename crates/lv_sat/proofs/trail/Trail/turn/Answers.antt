@@ -1,10 +1,10 @@
 -- the entries before the place are a trail, and no entry there has its boolean
-use Rattle.std.proofs.Common.{Some, None, false, length, get_or, take, sym, rules, ap, ap₂, subst, ◌∙◌, ◌≡◌, List, ◌++◌, ◌∷◌, []}
+use Rattle.std.proofs.Common.{Some, None, false, get_or, sym, rules, ap, ap₂, subst, ◌∙◌, ◌≡◌, List, ◌++◌, ◌∷◌, []}
 use Rattle.lv_base.specs.declared.ids.Lit.{Lit}
 use Rattle.lv_clauses.specs.Literals.{neg}
-use Rattle.lv_clauses.specs.Marks.{Marks, marked}
+use Rattle.lv_clauses.specs.Marks.{marked}
 use Rattle.lv_sat.specs.declared.trail.Entry.{Entry}
-use Rattle.lv_sat.specs.Trail.{IsTrail, turned}
+use Rattle.lv_sat.specs.Trail.{IsTrail}
 use Rattle.lv_sat.proofs.TrailLemmas.{trail_turned}
 use Rattle.lv_sat.proofs.trail.Trail.turn.Goals as goal
 
