@@ -1,0 +1,13 @@
+//! Certificates of answers as texts. A certificate states a question and its answer, and then, line by line, what
+//! shows that the answer is right, so that a small checker can judge it that need trust no search. This crate only
+//! writes such texts and reads them back; whether what a certificate says is right is judged elsewhere.
+//!
+//! - `line`: the lines of a certificate as values.
+//! - `writing`: their text.
+#![tactic(auto)]
+
+pub mod line;
+pub mod writing;
+
+pub use line::{Cert, Evidence, Head, Line, Literal, Moment, Question};
+pub use writing::write_cert;
