@@ -7,6 +7,7 @@
 #![tactic(auto)]
 
 pub mod line;
+pub mod numbers;
 pub mod writing;
 
 pub use line::{Cert, Evidence, Head, Line, Literal, Moment, Question};
