@@ -8,6 +8,8 @@
 
 pub mod line;
 pub mod numbers;
+pub mod reading;
+pub mod words;
 pub mod writing;
 
 pub use line::{Cert, Evidence, Head, Line, Literal, Moment, Question};

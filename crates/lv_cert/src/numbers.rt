@@ -7,7 +7,7 @@ ghost use Rattle.std.specs.Str.{bytes_eq};
 ghost use Rattle.std.specs.Fmt.{decimal};
 ghost use Rattle.lv_text.specs.Numbers as Digits;
 ghost use Rattle.lv_text.specs.Numbers.{number_value};
-ghost use Rattle.lv_cert.specs.Numbers.{within_limit, is_number, is_negated, magnitude, is_literal, literal_value};
+ghost use Rattle.lv_cert.specs.Numbers.{within_limit, is_number, is_positive, is_negated, magnitude, is_literal, literal_value};
 
 use crate::line::Literal;
 use itoa::Buffer;
@@ -21,6 +21,14 @@ pub fn number(word: &[u8]) -> Option<u128>
 {
     let n = value(word)?;
     if is_decimal_of(word, n) { Some(n) } else { None }
+}
+
+/// The number that a word spells, unless it is 0; none where it spells none.
+pub fn positive(word: &[u8]) -> Option<u128>
+    ensures { result ≡ (if is_positive word.now then Some (number_value word.now) else None) }
+{
+    let n = number(word)?;
+    if n > 0 { Some(n) } else { None }
 }
 
 /// The value of a word of digits, as far as it is within the limit.
@@ -60,12 +68,8 @@ pub fn literal(word: &[u8]) -> Option<Literal>
     ensures { result ≡ (if is_literal word.now then Some (literal_value word.now) else None) }
 {
     let negated = is_negated(word);
-    let n = number(if negated { &word[1..] } else { word })?;
-    if n > 0 {
-        Some(Literal { negated, number: n })
-    } else {
-        None
-    }
+    let number = positive(if negated { &word[1..] } else { word })?;
+    Some(Literal { negated, number })
 }
 
 /// Whether a word begins with a minus sign.
