@@ -8,6 +8,7 @@
 
 pub mod line;
 pub mod numbers;
+pub mod order;
 pub mod reading;
 pub mod words;
 pub mod writing;
