@@ -55,3 +55,27 @@ behind xs n = take_all (length xs - n) (drop n xs) (omega (arith, length-drop n 
 pub split_cut : {X : Type 0} (p : X → Bool) (xs : List X) (n : ℕ) (d : X) → position p xs ≡ Some n
     → slice_split p xs ≡ take n xs ∷ slice_split p (take (length xs - (n + 1)) (drop (n + 1) xs))
 split_cut p xs n d h = rw (behind xs (n + 1)) (split_found p xs n d h)
+
+-- a list cut at an element that is the only one to pass
+pub cut_found : {X : Type 0} (p : X → Bool) (z : X) → ((x : X) → p x ≡ true → x ≡ z) → (xs : List X) (n : ℕ) → position p xs ≡ Some n → xs ≡ take n xs ++ z ∷ drop (n + 1) xs
+cut_found {X = X} p z one xs n h =
+    let place = found_place p xs n h in
+    let inside : position_or_len p xs < length xs = omega (arith, place.0, place.1) in
+    subst (λ k. xs ≡ take k xs ++ z ∷ drop (k + 1) xs) (sym place.0) (cut xs inside)
+  where
+    cut : (ys : List X) → position_or_len p ys < length ys → ys ≡ take (position_or_len p ys) ys ++ z ∷ drop (position_or_len p ys + 1) ys
+    cut [] i = absurd (omega arith)
+    cut (y ∷ ys) i = by (cut ys) (p y) refl i
+      where
+        m : ℕ
+        m = position_or_len p ys
+
+        by : (m < length ys → ys ≡ take m ys ++ z ∷ drop (m + 1) ys) → (c : Bool) → p y ≡ c → cond (not c) (1 + m) 0 < suc (length ys)
+            → y ∷ ys ≡ take (cond (not c) (1 + m) 0) (y ∷ ys) ++ z ∷ drop (cond (not c) (1 + m) 0 + 1) (y ∷ ys)
+        by later true is j = ap (λ x. x ∷ ys) (one y is)
+        by later false is j =
+            let first : suc m ≡ 1 + m = omega arith in
+            let second : suc (m + 1) ≡ (1 + m) + 1 = omega arith in
+            let less : m < length ys = omega arith in
+            ap (λ t. y ∷ t) (later less) ∙ ap (λ k. take k (y ∷ ys) ++ z ∷ drop (m + 1) ys) first
+            ∙ ap (λ k. take (1 + m) (y ∷ ys) ++ z ∷ drop k (y ∷ ys)) second

@@ -3,3 +3,5 @@ pub mod Numbers
 pub mod Words
 pub mod Reading
 pub mod Order
+pub mod Form
+pub mod Laws

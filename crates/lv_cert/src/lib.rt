@@ -6,6 +6,7 @@
 //! - `writing`: their text.
 #![tactic(auto)]
 
+pub mod laws;
 pub mod line;
 pub mod numbers;
 pub mod order;

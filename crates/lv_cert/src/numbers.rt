@@ -20,7 +20,11 @@ pub fn number(word: &[u8]) -> Option<u128>
     ensures { result ≡ (if is_number word.now then Some (number_value word.now) else None) }
 {
     let n = value(word)?;
-    if is_decimal_of(word, n) { Some(n) } else { None }
+    if is_decimal_of(word, n) {
+        Some(n)
+    } else {
+        None
+    }
 }
 
 /// The number that a word spells, unless it is 0; none where it spells none.

@@ -276,11 +276,7 @@ fn first_zero(words: &[Word]) -> Option<usize>
 }
 
 /// A clause of words for its literals, and of words of which the last ends its hints.
-fn clause_from(
-    alloc: Global,
-    literals: &[Word],
-    hints: &[Word],
-) -> Result<Option<Line>, AllocError>
+fn clause_from(alloc: Global, literals: &[Word], hints: &[Word]) -> Result<Option<Line>, AllocError>
     ensures { IfOk result (λ line. line ≡ clause_from literals.now hints.now) }
 {
     let Some(at) = first_zero(hints) else {
@@ -329,11 +325,7 @@ fn model_of(alloc: Global, words: &[Word]) -> Result<Option<Line>, AllocError>
 }
 
 /// A line whose first word is not the head of a line of numbers.
-fn other_line_of(
-    alloc: Global,
-    word: &[u8],
-    words: &[Word],
-) -> Result<Option<Line>, AllocError>
+fn other_line_of(alloc: Global, word: &[u8], words: &[Word]) -> Result<Option<Line>, AllocError>
     ensures { IfOk result (λ line. line ≡ other_line_of word.now words.now) }
 {
     if is(word, b"clause") {
