@@ -5,3 +5,4 @@ pub mod SpellingLemmas
 pub mod ReadingLemmas
 pub mod BackLemmas
 pub mod TextLemmas
+pub mod TakingLemmas

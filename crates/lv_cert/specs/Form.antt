@@ -1,5 +1,5 @@
 -- Which lines have their form, and which texts are certificates.
-use Rattle.std.specs.Prelude.{ℕ, ◌+◌, ◌^◌, ◌≡◌, ◌++◌, List, [], Bool, true, length, nat_le, nat_lt, ◌&&◌, Option}
+use Rattle.std.specs.Prelude.{ℕ, ◌+◌, ◌^◌, ◌≡◌, ◌++◌, List, Bool, true, false, length, nat_eq, nat_le, nat_lt, ◌&&◌, Option}
 use Rattle.std.specs.declared.option.Option.TheVariants.{Some, None}
 use Rattle.std.specs.List.{list_all}
 use Rattle.lv_cert.specs.declared.line.Literal.{Literal}
@@ -57,13 +57,21 @@ pub record IsCertificate (bytes : List ℕ) (lines : List Line) : Type 0 where
 pub record IsStuck (place : Place) (rest : List ℕ) : Type 0 where
   pub none : (l : Line) (behind : List ℕ) → is_formed l ≡ true → rest ≡ line_text l ++ behind → place_after place l ≡ None
 
--- the first line out of form or order is the n-th: what stands before it is read, and the certificate has not ended with
--- it, and no line can be read next
+abbrev pub is_done : Place → Bool
+is_done Place.Done = true
+is_done _ = false
+
+-- the last line came, and nothing stands behind it
+abbrev pub has_ended : Place → List ℕ → Bool
+has_ended place rest = is_done place && nat_eq (length rest) 0
+
+-- the first line out of form or order is the n-th: the lines before it are read, with which the certificate has not
+-- ended, and no line can be read behind them
 pub record IsFaultAt (bytes : List ℕ) (n : ℕ) : Type 0 where
   pub place : Place
   pub front : List Line
   pub rest : List ℕ
   pub read : IsReadTo place front bytes rest
   pub at : n ≡ length front + 1
+  pub unended : has_ended place rest ≡ false
   pub stuck : IsStuck place rest
-  pub unended : ¬ ((place ≡ Place.Done) × (rest ≡ []))

@@ -5,3 +5,4 @@ pub mod Reading
 pub mod Order
 pub mod Form
 pub mod Laws
+pub mod Taking

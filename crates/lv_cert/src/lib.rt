@@ -4,6 +4,10 @@
 //!
 //! - `line`: the lines of a certificate as values.
 //! - `writing`: their text.
+//! - `numbers`, `words`, `reading`: the line that bytes are.
+//! - `order`: which line may come where.
+//! - `whole`: the certificate that bytes are, or the first line out of form or order.
+//! - `laws`: what holds of certificates whatever their text.
 #![tactic(auto)]
 
 pub mod laws;
@@ -11,8 +15,10 @@ pub mod line;
 pub mod numbers;
 pub mod order;
 pub mod reading;
+pub mod whole;
 pub mod words;
 pub mod writing;
 
 pub use line::{Cert, Evidence, Head, Line, Literal, Moment, Question};
+pub use whole::{CertFault, read_cert};
 pub use writing::write_cert;
