@@ -1,7 +1,6 @@
 -- A line in its form is read back from its words.
-use Rattle.std.proofs.Common.{◌≡◌, ℕ, suc, ◌+◌, ◌-◌, ◌^◌, ◌<◌, ◌≤◌, Bool, true, false, not, cond, ◌&&◌, nat_lt, nat_le, nat_eq, List, [], ◌∷◌, ◌++◌, length, take, drop, get_or, map, Option, Some, None, refl, sym, ap, ap₂, subst, ◌∙◌, arith, rules}
+use Rattle.std.proofs.Common.{◌≡◌, ℕ, suc, ◌+◌, Bool, true, false, not, cond, nat_lt, nat_eq, List, [], ◌∷◌, ◌++◌, length, take, drop, map, Option, Some, None, refl, sym, ap, ap₂, subst, ◌∙◌, arith}
 use Rattle.std.specs.Prelude.{codes, decimal}
-use Rattle.std.specs.Str.{bytes_eq}
 use Rattle.std.specs.List.{list_all, position, position_or_len}
 use Rattle.std.specs.Option.{option_map, option_and_then}
 use Rattle.std.proofs.lemmas.Bool.{and_parts, and_from, and_right}
@@ -10,20 +9,14 @@ use Rattle.std.proofs.lemmas.List.{length-map, length-append}
 use Rattle.std.proofs.Math.Seq.{take-append_seam, drop-append-add}
 use Rattle.lv_text.specs.Numbers.{number_value}
 use Rattle.lv_cert.specs.declared.line.Question.{Question}
-use Rattle.lv_cert.specs.declared.line.Question.TheVariants as Question
 use Rattle.lv_cert.specs.declared.line.Moment.{Moment}
-use Rattle.lv_cert.specs.declared.line.Moment.TheVariants as Moment
 use Rattle.lv_cert.specs.declared.line.Literal.{Literal}
 use Rattle.lv_cert.specs.declared.line.Evidence.{Evidence}
-use Rattle.lv_cert.specs.declared.line.Evidence.TheVariants as Evidence
 use Rattle.lv_cert.specs.declared.line.Head.{Head}
-use Rattle.lv_cert.specs.declared.line.Head.TheVariants as Head
 use Rattle.lv_cert.specs.declared.line.Line.{Line}
-use Rattle.lv_cert.specs.declared.line.Line.TheVariants as Line
-use Rattle.lv_cert.specs.Texts.{question_word, moment_word, head_word, literal_word, evidence_words, words_of}
-use Rattle.lv_cert.specs.Words.{is_word}
+use Rattle.lv_cert.specs.Texts.{head_word, literal_word, evidence_words, words_of}
 use Rattle.lv_cert.specs.Numbers.{is_number, is_positive, is_literal, literal_value}
-use Rattle.lv_cert.specs.Reading.{question_of, moment_of, head_of, has_fitting_count, numbers_of, literals_of, hints_of, row_of, only_word, number_of, fact_from, fact_of, evidence_of, split_of, is_zero, clause_from, clause_of, line_from, line_of}
+use Rattle.lv_cert.specs.Reading.{head_of, has_fitting_count, numbers_of, literals_of, hints_of, number_of, evidence_of, is_zero, clause_from, line_from, line_of}
 use Rattle.lv_cert.specs.Form.{is_within_limit, is_formed_hint, is_formed_literal, is_formed_evidence, is_formed}
 use Rattle.lv_cert.proofs.SpellingLemmas.{same_text, worth, is_number-decimal, is_positive-decimal, is_literal-word, literal_worth}
 

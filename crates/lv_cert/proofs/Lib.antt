@@ -6,3 +6,4 @@ pub mod ReadingLemmas
 pub mod BackLemmas
 pub mod TextLemmas
 pub mod TakingLemmas
+pub mod AgreeLemmas

@@ -1,5 +1,5 @@
 -- Words that read as a line are its words, and the line has its form.
-use Rattle.std.proofs.Common.{◌≡◌, ℕ, suc, ◌+◌, ◌-◌, ◌^◌, ◌<◌, ◌≤◌, Bool, true, false, not, cond, ◌&&◌, nat_lt, nat_le, nat_eq, List, [], ◌∷◌, ◌++◌, length, take, drop, get_or, map, Option, Some, None, refl, sym, ap, ap₂, subst, ◌∙◌, arith, rules}
+use Rattle.std.proofs.Common.{◌≡◌, ℕ, ◌+◌, ◌≤◌, Bool, true, false, cond, ◌&&◌, nat_eq, List, [], ◌∷◌, ◌++◌, length, take, drop, map, Option, Some, None, refl, sym, ap, ap₂, subst, ◌∙◌, arith}
 use Rattle.std.specs.Prelude.{codes, decimal}
 use Rattle.std.specs.Str.{bytes_eq}
 use Rattle.std.specs.List.{list_all, position}
@@ -10,20 +10,14 @@ use Rattle.std.proofs.lemmas.List.{length-map}
 use Rattle.std.proofs.Math.ListN.{drop_of_length-le}
 use Rattle.lv_text.specs.Numbers.{number_value}
 use Rattle.lv_cert.specs.declared.line.Question.{Question}
-use Rattle.lv_cert.specs.declared.line.Question.TheVariants as Question
 use Rattle.lv_cert.specs.declared.line.Moment.{Moment}
-use Rattle.lv_cert.specs.declared.line.Moment.TheVariants as Moment
-use Rattle.lv_cert.specs.declared.line.Literal.{Literal}
 use Rattle.lv_cert.specs.declared.line.Evidence.{Evidence}
-use Rattle.lv_cert.specs.declared.line.Evidence.TheVariants as Evidence
 use Rattle.lv_cert.specs.declared.line.Head.{Head}
-use Rattle.lv_cert.specs.declared.line.Head.TheVariants as Head
 use Rattle.lv_cert.specs.declared.line.Line.{Line}
-use Rattle.lv_cert.specs.declared.line.Line.TheVariants as Line
 use Rattle.lv_cert.specs.Texts.{question_word, moment_word, head_word, literal_word, evidence_words, words_of}
 use Rattle.lv_cert.specs.Words.{is_word}
 use Rattle.lv_cert.specs.Numbers.{is_number, is_positive, is_literal, literal_value}
-use Rattle.lv_cert.specs.Reading.{question_of, moment_of, rare_head_of, head_of, has_fitting_count, numbers_of, literals_of, hints_of, row_of, only_word, certificate_of, number_of, fact_from, fact_of, numbered, evidence_of, split_of, is_zero, clause_from, clause_of, goal_of, model_of, end_of, other_line_of, line_from, line_of}
+use Rattle.lv_cert.specs.Reading.{question_of, moment_of, rare_head_of, head_of, has_fitting_count, numbers_of, literals_of, hints_of, row_of, only_word, certificate_of, number_of, fact_of, numbered, evidence_of, split_of, is_zero, clause_of, goal_of, model_of, end_of, other_line_of, line_from, line_of}
 use Rattle.lv_cert.specs.Form.{is_within_limit, is_formed_hint, is_formed_literal, is_formed_evidence, is_formed}
 use Rattle.lv_cert.proofs.SpellingLemmas.{same_text, spelled, limited, literal_spelled}
 use Rattle.lv_cert.proofs.CutLemmas.{cut_found}

@@ -1,5 +1,5 @@
 -- A number's spelling, and what a spelling is worth.
-use Rattle.std.proofs.Common.{◌≡◌, ℕ, suc, ◌+◌, ◌-◌, ◌^◌, ◌<◌, ◌≤◌, Bool, true, false, not, cond, ◌&&◌, nat_lt, nat_le, nat_eq, List, [], ◌∷◌, ◌++◌, length, drop, get_or, fold, map, Some, None, refl, sym, ap, ap₂, subst, ◌∙◌, arith, rules}
+use Rattle.std.proofs.Common.{◌≡◌, ℕ, suc, ◌^◌, ◌<◌, ◌≤◌, Bool, true, false, not, cond, ◌&&◌, nat_lt, nat_eq, List, [], ◌∷◌, ◌++◌, length, drop, get_or, fold, refl, sym, ap, ap₂, subst, ◌∙◌, arith, rules}
 use Rattle.std.specs.Prelude.{codes, decimal}
 use Rattle.std.specs.Str.{bytes_eq}
 use Rattle.std.specs.List.{list_all}
@@ -12,7 +12,7 @@ use Rattle.lv_text.specs.Bytes.{is_digit}
 use Rattle.lv_text.specs.Numbers.{with_digit, number_value}
 use Rattle.lv_cert.specs.declared.line.Literal.{Literal}
 use Rattle.lv_cert.specs.Texts.{literal_word}
-use Rattle.lv_cert.specs.Words.{is_space, is_line_feed, is_inside, has_only_inside, is_word}
+use Rattle.lv_cert.specs.Words.{is_inside, has_only_inside, is_word}
 use Rattle.lv_cert.specs.Numbers.{is_number, is_positive, is_negated, magnitude, is_literal, literal_value}
 use Rattle.lv_cert.specs.Form.{is_within_limit, is_formed_hint, is_formed_literal}
 

@@ -1,6 +1,6 @@
 -- What is taken off a text, and where no line can be.
-use Rattle.std.proofs.Common.{◌≡◌, ℕ, suc, ◌+◌, ◌-◌, ◌<◌, ◌≤◌, Bool, true, false, ◌&&◌, nat_eq, List, [], ◌∷◌, ◌++◌, length, take, drop, Option, Some, None, refl, sym, ap, ap₂, subst, ◌∙◌, arith, rules}
-use Rattle.std.specs.List.{list_all, slice_split, position}
+use Rattle.std.proofs.Common.{◌≡◌, ℕ, ◌+◌, ◌-◌, ◌<◌, true, false, nat_eq, List, [], ◌∷◌, ◌++◌, length, take, drop, Option, Some, None, refl, sym, ap, ap₂, subst, ◌∙◌, arith}
+use Rattle.std.specs.List.{slice_split, position}
 use Rattle.std.specs.Option.{option_and_then}
 use Rattle.std.proofs.lemmas.Bool.{and_parts, and_from}
 use Rattle.std.proofs.lemmas.Bool.Decides.{nat_tests}
@@ -9,7 +9,6 @@ use Rattle.std.proofs.lemmas.List.Folds.{list_all-append}
 use Rattle.std.proofs.lemmas.List.Splits.{slice_split_at, length-slice_split}
 use Rattle.lv_cert.specs.declared.line.Line.{Line}
 use Rattle.lv_cert.specs.declared.order.Place.{Place}
-use Rattle.lv_cert.specs.declared.order.Place.TheVariants as Place
 use Rattle.lv_cert.specs.declared.whole.Taken.{Taken}
 use Rattle.lv_cert.specs.Texts.{words_of, joined, line_text, text_of}
 use Rattle.lv_cert.specs.Words.{is_space, is_line_feed}
@@ -21,7 +20,7 @@ use Rattle.lv_cert.proofs.CutLemmas.{found_place, split_none, split_found, cut_f
 use Rattle.lv_cert.proofs.TextLemmas.{line_read, line_written, line_inside}
 
 -- the parts at line feeds of a text that begins with a line
-line_first : (l : Line) (more : List ℕ) → is_formed l ≡ true → slice_split is_line_feed (line_text l ++ more) ≡ joined (words_of l) ∷ slice_split is_line_feed more
+pub line_first : (l : Line) (more : List ℕ) → is_formed l ≡ true → slice_split is_line_feed (line_text l ++ more) ≡ joined (words_of l) ∷ slice_split is_line_feed more
 line_first l more h = ap (slice_split is_line_feed) (append_assoc (joined (words_of l)) (10 ∷ []) more) ∙ slice_split_at is_line_feed (joined (words_of l)) 10 more (line_inside l h) refl
 
 -- the bytes before the first line feed are the line that the text begins with

@@ -1,25 +1,20 @@
 -- The text of a line in its form is cut into its words, and ends at its first line feed.
-use Rattle.std.proofs.Common.{◌≡◌, ℕ, suc, ◌+◌, ◌-◌, ◌^◌, ◌<◌, ◌≤◌, Bool, true, false, not, cond, ◌&&◌, nat_lt, nat_le, nat_eq, List, [], ◌∷◌, ◌++◌, length, take, drop, get_or, map, Option, Some, None, refl, sym, ap, ap₂, subst, ◌∙◌, arith, rules}
+use Rattle.std.proofs.Common.{◌≡◌, ℕ, ◌<◌, true, false, List, [], ◌∷◌, ◌++◌, length, map, Some, refl, sym, ap, ◌∙◌, arith}
 use Rattle.std.specs.Prelude.{codes, decimal}
-use Rattle.std.specs.List.{list_all, list_any, slice_split, join_with_byte, All}
+use Rattle.std.specs.List.{list_all, slice_split, join_with_byte, All}
 use Rattle.std.proofs.lemmas.Bool.{and_parts, and_from}
 use Rattle.std.proofs.lemmas.Bool.Decides.{nat_tests}
-use Rattle.std.proofs.lemmas.List.{append-nil, append_assoc}
+use Rattle.std.proofs.lemmas.List.{append-nil}
 use Rattle.std.proofs.lemmas.List.Elements.{All-cons, All-append}
 use Rattle.std.proofs.lemmas.List.Folds.{list_all-append}
 use Rattle.std.proofs.lemmas.List.Splits.{slice_split_none, slice_split_at, join_with_byte-slice_split}
 use Rattle.lv_cert.specs.declared.line.Question.{Question}
-use Rattle.lv_cert.specs.declared.line.Question.TheVariants as Question
 use Rattle.lv_cert.specs.declared.line.Moment.{Moment}
-use Rattle.lv_cert.specs.declared.line.Moment.TheVariants as Moment
 use Rattle.lv_cert.specs.declared.line.Literal.{Literal}
 use Rattle.lv_cert.specs.declared.line.Evidence.{Evidence}
-use Rattle.lv_cert.specs.declared.line.Evidence.TheVariants as Evidence
 use Rattle.lv_cert.specs.declared.line.Head.{Head}
-use Rattle.lv_cert.specs.declared.line.Head.TheVariants as Head
 use Rattle.lv_cert.specs.declared.line.Line.{Line}
-use Rattle.lv_cert.specs.declared.line.Line.TheVariants as Line
-use Rattle.lv_cert.specs.Texts.{question_word, moment_word, head_word, literal_word, evidence_words, words_of, spaced, joined}
+use Rattle.lv_cert.specs.Texts.{head_word, literal_word, evidence_words, words_of, spaced, joined}
 use Rattle.lv_cert.specs.Words.{is_space, is_line_feed, is_inside, has_only_inside, is_word}
 use Rattle.lv_cert.specs.Reading.{line_of}
 use Rattle.lv_cert.specs.Form.{is_within_limit, is_formed_hint, is_formed_literal, is_formed_evidence, is_formed}

@@ -1,14 +1,11 @@
 -- Which lines have their form, and which texts are certificates.
-use Rattle.std.specs.Prelude.{ℕ, ◌+◌, ◌^◌, ◌≡◌, ◌++◌, List, Bool, true, false, length, nat_eq, nat_le, nat_lt, ◌&&◌, Option}
+use Rattle.std.specs.Prelude.{ℕ, ◌+◌, ◌^◌, ◌≡◌, ◌++◌, List, Bool, true, false, length, nat_eq, nat_le, nat_lt, ◌&&◌}
 use Rattle.std.specs.declared.option.Option.TheVariants.{Some, None}
 use Rattle.std.specs.List.{list_all}
 use Rattle.lv_cert.specs.declared.line.Literal.{Literal}
 use Rattle.lv_cert.specs.declared.line.Evidence.{Evidence}
-use Rattle.lv_cert.specs.declared.line.Evidence.TheVariants as Evidence
 use Rattle.lv_cert.specs.declared.line.Line.{Line}
-use Rattle.lv_cert.specs.declared.line.Line.TheVariants as Line
 use Rattle.lv_cert.specs.declared.order.Place.{Place}
-use Rattle.lv_cert.specs.declared.order.Place.TheVariants as Place
 use Rattle.lv_cert.specs.Texts.{line_text, text_of}
 use Rattle.lv_cert.specs.Words.{is_word}
 use Rattle.lv_cert.specs.Reading.{has_fitting_count}

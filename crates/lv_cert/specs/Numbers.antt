@@ -1,5 +1,5 @@
 -- Words that spell numbers and literals.
-use Rattle.std.specs.Prelude.{ℕ, ◌^◌, List, [], ◌∷◌, Bool, drop, length, slice_index, nat_eq, nat_lt, nat_le, not, ◌&&◌, if◌then◌else◌, Option, decimal}
+use Rattle.std.specs.Prelude.{ℕ, ◌^◌, List, Bool, drop, length, slice_index, nat_eq, nat_lt, nat_le, not, ◌&&◌, if◌then◌else◌, Option, decimal}
 use Rattle.std.specs.declared.option.Option.TheVariants.{Some, None}
 use Rattle.std.specs.Str.{bytes_eq}
 use Rattle.lv_text.specs.Numbers.{number_value}

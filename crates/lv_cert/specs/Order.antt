@@ -4,20 +4,15 @@ use Rattle.std.specs.declared.option.Option.TheVariants.{Some, None}
 use Rattle.std.specs.Option.{option_and_then}
 use Rattle.std.specs.Cmp.Lexicographic.{pointwise}
 use Rattle.lv_cert.specs.declared.line.Question.{Question}
-use Rattle.lv_cert.specs.declared.line.Question.TheVariants as Question
 use Rattle.lv_cert.specs.declared.line.Moment.TheVariants as Moment
 use Rattle.lv_cert.specs.declared.line.Evidence.{Evidence}
-use Rattle.lv_cert.specs.declared.line.Evidence.TheVariants as Evidence
 use Rattle.lv_cert.specs.declared.line.Head.TheVariants as Head
 use Rattle.lv_cert.specs.declared.line.Line.{Line}
-use Rattle.lv_cert.specs.declared.line.Line.TheVariants as Line
 use Rattle.lv_cert.specs.declared.order.Listing.{Listing}
 use Rattle.lv_cert.specs.declared.order.Task.{Task}
 use Rattle.lv_cert.specs.declared.order.Stage.{Stage}
 use Rattle.lv_cert.specs.declared.order.Witness.{Witness}
-use Rattle.lv_cert.specs.declared.order.Witness.TheVariants as Witness
 use Rattle.lv_cert.specs.declared.order.Place.{Place}
-use Rattle.lv_cert.specs.declared.order.Place.TheVariants as Place
 
 -- the numbers of a conflict are pairs: in a recovery behind the number of a state
 abbrev pub has_pairs : Question → ℕ → Bool

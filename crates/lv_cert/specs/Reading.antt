@@ -1,21 +1,16 @@
 -- The line that words are.
-use Rattle.std.specs.Prelude.{ℕ, ◌+◌, ◌-◌, List, [], ◌∷◌, Bool, true, length, take, drop, map, position, nat_eq, nat_le, nat_lt, ◌&&◌, if◌then◌else◌, Option, codes}
+use Rattle.std.specs.Prelude.{ℕ, ◌+◌, List, [], ◌∷◌, Bool, true, length, take, drop, map, position, nat_eq, nat_le, ◌&&◌, if◌then◌else◌, Option, codes}
 use Rattle.std.specs.declared.option.Option.TheVariants.{Some, None}
 use Rattle.std.specs.Option.{option_map, option_and_then}
 use Rattle.std.specs.Str.{bytes_eq}
 use Rattle.std.specs.List.{list_all}
 use Rattle.lv_text.specs.Numbers.{number_value}
 use Rattle.lv_cert.specs.declared.line.Question.{Question}
-use Rattle.lv_cert.specs.declared.line.Question.TheVariants as Question
 use Rattle.lv_cert.specs.declared.line.Moment.{Moment}
-use Rattle.lv_cert.specs.declared.line.Moment.TheVariants as Moment
 use Rattle.lv_cert.specs.declared.line.Literal.{Literal}
 use Rattle.lv_cert.specs.declared.line.Evidence.{Evidence}
-use Rattle.lv_cert.specs.declared.line.Evidence.TheVariants as Evidence
 use Rattle.lv_cert.specs.declared.line.Head.{Head}
-use Rattle.lv_cert.specs.declared.line.Head.TheVariants as Head
 use Rattle.lv_cert.specs.declared.line.Line.{Line}
-use Rattle.lv_cert.specs.declared.line.Line.TheVariants as Line
 use Rattle.lv_cert.specs.Numbers.{is_number, is_positive, is_literal, literal_value}
 use Rattle.lv_cert.specs.Words.{is_word}
 

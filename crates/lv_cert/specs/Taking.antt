@@ -1,10 +1,9 @@
 -- What is taken off a text, and what a fault tells.
-use Rattle.std.specs.Prelude.{ℕ, ◌+◌, ◌<◌, ◌≤◌, ◌≡◌, ◌++◌, ⊤, List, Bool, true, length, drop, Option}
+use Rattle.std.specs.Prelude.{ℕ, ◌<◌, ◌≤◌, ◌≡◌, ◌++◌, ⊤, List, true, length, drop, Option}
 use Rattle.std.specs.declared.option.Option.TheVariants.{Some, None}
 use Rattle.lv_cert.specs.declared.order.Place.{Place}
 use Rattle.lv_cert.specs.declared.whole.Taken.{Taken}
 use Rattle.lv_cert.specs.declared.whole.CertFault.{CertFault}
-use Rattle.lv_cert.specs.declared.whole.CertFault.TheVariants as CertFault
 use Rattle.lv_cert.specs.Texts.{line_text}
 use Rattle.lv_cert.specs.Order.{place_after}
 use Rattle.lv_cert.specs.Form.{is_formed, IsStuck, IsFaultAt}

@@ -1,4 +1,4 @@
-use Rattle.std.proofs.Common.{ℕ, length}
+use Rattle.std.proofs.Common.{length}
 use Rattle.lv_cert.specs.Form.{IsReadTo}
 use Rattle.lv_cert.proofs.whole.read_cert.Given as goal
 

@@ -1,4 +1,4 @@
-use Rattle.std.proofs.Common.{◌≡◌, ℕ, ◌++◌, length}
+use Rattle.std.proofs.Common.{◌≡◌, ◌++◌, length}
 use Rattle.std.specs.List.{slice_split}
 use Rattle.lv_cert.specs.Words.{is_space}
 use Rattle.lv_cert.proofs.words.words.Given as goal
