@@ -1,8 +1,7 @@
-//! What no clause says: that the calls succeed with ample memory, and with which answers.
+//! Shelves and sinks in memory, and whole files and texts over them.
 
-use crate::{
-    HostShelf, HostSink, IoFault, MemShelf, MemSink, ReadFault, Role, Shelf, Sink, read_all,
-    read_file, write_all,
+use lv_io::{
+    IoFault, MemShelf, MemSink, ReadFault, Role, Shelf, Sink, read_all, read_file, write_all,
 };
 use std::alloc::{AllocError, Global};
 
@@ -68,33 +67,4 @@ fn writes_texts_whole_or_a_front(rt: HostRuntime) {
     assert_eq!(rt; write_all(&mut sink, b"more"), Ok(()));
     assert!(rt; sink.text() == b"ok\nmomore".as_slice());
     assert_eq!(rt; sink.faults(), 1);
-}
-
-/// A file that isn't there fails, standard input opens once, and this program begins as a program does.
-#[test]
-fn reads_files_of_the_system(rt: HostRuntime) {
-    let alloc = rt.alloc();
-    let mut shelf = HostShelf::new(alloc, &rt);
-    let missing = shelf.open(Role::Model, "no such folder/no such file");
-    assert_eq!(rt; missing.err(), Some(IoFault::Failed));
-    assert!(rt; shelf.open(Role::Second, "stdin").is_ok());
-    let again = shelf.open(Role::Second, "stdin");
-    assert_eq!(rt; again.err(), Some(IoFault::Failed));
-    let read = read_file(alloc, &mut shelf, Role::Model, "/dev/null", 0).expect(&rt, "read");
-    assert!(rt; read.is_empty());
-    let slot = shelf
-        .open(Role::Model, "/proc/self/exe")
-        .expect(&rt, "open");
-    let mut front = [0u8; 4];
-    assert_eq!(rt; shelf.read(slot, &mut front), Ok(4));
-    assert_eq!(rt; front, [0x7f, b'E', b'L', b'F']);
-}
-
-#[test]
-fn writes_to_a_writer(rt: HostRuntime) {
-    let mut text = Vec::new(rt.alloc());
-    let mut sink = HostSink::new(&mut text);
-    assert_eq!(rt; write_all(&mut sink, b"ok\n"), Ok(()));
-    assert_eq!(rt; sink.flush(), Ok(()));
-    assert!(rt; text.as_slice() == b"ok\n".as_slice());
 }
