@@ -1,0 +1,4 @@
+pub mod Trial
+pub mod Frontier
+pub mod Standing
+pub mod Turn
