@@ -1,2 +1,6 @@
 pub mod NextLemmas
 pub mod FollowLemmas
+pub mod Among
+pub mod MemberLemmas
+pub mod TimesLemmas
+pub mod LeftLemmas

@@ -2,3 +2,5 @@ pub mod Trial
 pub mod Frontier
 pub mod Standing
 pub mod Turn
+pub mod Members
+pub mod Zones

@@ -12,6 +12,7 @@
 pub mod frontier;
 pub mod trial;
 pub mod turn;
+mod zones;
 
 pub use lv_walk::Outcome;
 pub use trial::{Trial, Tried};
