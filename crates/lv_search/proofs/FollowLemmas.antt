@@ -1,5 +1,5 @@
 -- What a turn does leaves the walk as it was.
-use Rattle.std.proofs.Common.{◌≡◌, ◌≢◌, ℕ, suc, ◌+◌, ◌-◌, ◌<◌, ◌≤◌, Bool, true, false, ◌&&◌, List, [], ◌∷◌, ◌++◌, length, drop, filter, refl, sym, ◌∙◌, ap, subst, cond, arith}
+use Rattle.std.proofs.Common.{◌≡◌, ◌≢◌, ℕ, suc, ◌+◌, ◌≤◌, Bool, true, false, List, [], ◌∷◌, ◌++◌, length, drop, filter, refl, sym, ◌∙◌, ap, subst, cond, arith}
 use Rattle.std.specs.List.{list_all}
 use Rattle.std.proofs.lemmas.Bool.{and_from, and_parts}
 use Rattle.std.proofs.lemmas.List.{length-append}
@@ -9,7 +9,7 @@ use Rattle.lv_base.specs.declared.search.Pair.{Pair}
 use Rattle.lv_base.specs.declared.search.Candidate.{Candidate}
 use Rattle.lv_base.specs.Choices.{contains_all}
 use Rattle.lv_walk.specs.declared.outcome.Outcome.{Outcome}
-use Rattle.lv_walk.specs.Walk.{candidate_of, is_ruled_out}
+use Rattle.lv_walk.specs.Walk.{candidate_of}
 use Rattle.lv_walk.proofs.TurnLemmas.{walk_thinned, walk_listed, walk_refused}
 use Rattle.lv_search.specs.Frontier.{Thins}
 use Rattle.lv_search.specs.Standing.{Standing, trials_of, walk_on, conflict_at, all_suit, Follows, AreSame}

@@ -1,12 +1,12 @@
 -- What is left of the candidates when the first zone is split: the ranked list of the members of the zones that are open then.
-use Rattle.std.proofs.Common.{◌≡◌, ◌≢◌, ℕ, zero, suc, ◌+◌, ◌<◌, ◌≤◌, Bool, true, false, not, ◌&&◌, ◌||◌, List, [], ◌∷◌, ◌++◌, length, drop, filter, slice_index, refl, sym, ◌∙◌, ap, subst, cond, nat_eq, nat_lt, arith}
+use Rattle.std.proofs.Common.{◌≡◌, ℕ, zero, suc, ◌+◌, ◌<◌, ◌≤◌, Bool, true, false, not, ◌&&◌, ◌||◌, List, [], ◌∷◌, length, drop, filter, slice_index, refl, sym, ◌∙◌, ap, subst, cond, nat_eq, nat_lt, arith}
 use Rattle.std.specs.Prelude.{slice_get, Some, All}
 use Rattle.std.specs.List.{AllByRecursion, list_all, list_any}
 use Rattle.std.specs.Map.{keys_of}
 use Rattle.std.specs.Ordering.{is_gt}
 use Rattle.std.specs.declared.cmp.Ordering.TheVariants.{Less}
 use Rattle.std.proofs.Math.ListN.{length-set}
-use Rattle.std.proofs.lemmas.Bool.{and_from, and_parts, or_cases, or_left, or_right, or_parts, ltb-true, lt-ltb, eqb-true, eq-eqb, both_ways, false_from_ne_true, not-true, not-false, cases_Bool}
+use Rattle.std.proofs.lemmas.Bool.{and_from, and_parts, or_left, or_right, or_parts, ltb-true, lt-ltb, eq-eqb, both_ways, false_from_ne_true, not-true, not-false}
 use Rattle.std.proofs.lemmas.List.Elements.{All-head, All-tail}
 use Rattle.std.proofs.lemmas.List.Sums.{length-filter, count_by-le-length}
 use Rattle.lv_base.specs.declared.ids.Cost.{Cost}
@@ -26,11 +26,11 @@ use Rattle.lv_walk.specs.Walk.{candidate_of}
 use Rattle.lv_walk.proofs.RankedLemmas.{before_by_cmp, greater_is_after, neither_is_same, not_before_itself, not_both_before, same_rank, is_itself, before_each, not_among_later, one_list}
 use Rattle.lv_search.specs.declared.zones.Open.{Open}
 use Rattle.lv_search.specs.Frontier.{FirstContains, Thins}
-use Rattle.lv_search.specs.Members.{ranked_members, ranks_in, times_in, sources_differ, IsLeastRank}
+use Rattle.lv_search.specs.Members.{ranked_members, ranks_in, times_in, sources_differ}
 use Rattle.lv_search.specs.Zones.{zones_of, IsKeptByLeast, AreKept, HasMore, HasRoomFor}
 use Rattle.lv_search.proofs.NextLemmas.{first_and_rest}
 use Rattle.lv_search.proofs.MemberLemmas.{among_ranked_members, ranked_members_rise, rank_of_member, some_by_first}
-use Rattle.lv_search.proofs.TimesLemmas.{times_none, times_one, has_least_rank}
+use Rattle.lv_search.proofs.TimesLemmas.{times_one, has_least_rank}
 
 -- of a rising list what none ranks before is the first
 first_of_rising : (rs : List Rank) (m : Rank) → is_among m rs ≡ true → rises rs ≡ true → ((r : Rank) → is_among r rs ≡ true → ranks_before r m ≡ false) → slice_get rs 0 ≡ Some m
@@ -116,8 +116,8 @@ module _ (slots : List (List Cost)) where
           let parts = and_parts (is_member slots e.1.zone (candidate_of r)) (nat_eq r.cost.0 (e.1.zone.base.0 + choices_cost slots r.choices)) here in
           let first : ranks_before (rank_in slots e.1.zone r.choices) (rank_in slots e.1.zone e.0.choices) ≡ false = least.0.least.first (candidate_of r) parts.0 in
           let own : ranks_before r e.0 ≡ false =
-              subst (λ (q : Rank). ranks_before q e.0 ≡ false) (sym (rank_of_member slots r e.1.zone here))
-              (subst (λ (q : Rank). ranks_before (rank_in slots e.1.zone r.choices) q ≡ false) (sym least.0.is) first)
+          subst (λ (q : Rank). ranks_before q e.0 ≡ false) (sym (rank_of_member slots r e.1.zone here))
+          (subst (λ (q : Rank). ranks_before (rank_in slots e.1.zone r.choices) q ≡ false) (sym least.0.is) first)
           in
           none_before_on r e.0 m own keys.0
       by false here h later = later (sym (ap (λ b. b || nat_lt 0 (times_in slots r (zones_of es))) here) ∙ h)
@@ -132,15 +132,17 @@ module _ (slots : List (List Cost)) where
 
   keys_after : (k : Rank) (es : List (Rank × Open)) → All (λ q. is_gt (rank_cmp k q) ≡ false) (keys_of es) → NoKeyBefore k es
   keys_after k [] all = tt
-  keys_after k (e ∷ es) all =
-      (sym (greater_is_after (rank_key k) (rank_key e.0) (rank_cmp k e.0) refl) ∙ All-head (λ q. is_gt (rank_cmp k q) ≡ false) e.0 (keys_of es) all,
-      keys_after k es (All-tail (λ q. is_gt (rank_cmp k q) ≡ false) e.0 (keys_of es) all))
+  keys_after k (e ∷ es) all = (
+    sym (greater_is_after (rank_key k) (rank_key e.0) (rank_cmp k e.0) refl) ∙ All-head (λ q. is_gt (rank_cmp k q) ≡ false) e.0 (keys_of es) all,
+    keys_after k es (All-tail (λ q. is_gt (rank_cmp k q) ≡ false) e.0 (keys_of es) all),
+  )
 
   pub keys_above : (k : Rank) (es : List (Rank × Open)) → All (λ q. rank_cmp k q ≡ Less) (keys_of es) → NoKeyBefore k es
   keys_above k [] all = tt
-  keys_above k (e ∷ es) all =
-      (false_from_ne_true (ranks_before e.0 k) (not_both_before k e.0 (before_by_cmp k e.0 (All-head (λ q. rank_cmp k q ≡ Less) e.0 (keys_of es) all))),
-      keys_above k es (All-tail (λ q. rank_cmp k q ≡ Less) e.0 (keys_of es) all))
+  keys_above k (e ∷ es) all = (
+    false_from_ne_true (ranks_before e.0 k) (not_both_before k e.0 (before_by_cmp k e.0 (All-head (λ q. rank_cmp k q ≡ Less) e.0 (keys_of es) all))),
+    keys_above k es (All-tail (λ q. rank_cmp k q ≡ Less) e.0 (keys_of es) all),
+  )
 
   pub first_entry : (entries : List (Rank × Open)) (k : Rank) (v : Open) → AreKept slots entries → slice_get entries 0 ≡ Some (k, v)
       → All (λ q. is_gt (rank_cmp k q) ≡ false) (keys_of entries) → slice_get (left_of entries) 0 ≡ Some k

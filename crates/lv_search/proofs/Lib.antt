@@ -4,3 +4,4 @@ pub mod Among
 pub mod MemberLemmas
 pub mod TimesLemmas
 pub mod LeftLemmas
+pub mod RunLemmas

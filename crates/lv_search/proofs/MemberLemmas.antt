@@ -1,17 +1,19 @@
 -- The members of zones, as listed and as tested.
-use Rattle.std.proofs.Common.{◌≡◌, ℕ, ◌+◌, ◌<◌, ◌≤◌, Bool, true, false, not, ◌&&◌, ◌||◌, List, [], ◌∷◌, ◌++◌, ◌⊎◌, inl, inr, ⊎_elim, length, refl, sym, ◌∙◌, ap, subst, cond, nat_eq, nat_lt, arith}
+use Rattle.std.proofs.Common.{◌≡◌, ℕ, ◌+◌, ◌<◌, ◌≤◌, Bool, true, false, ◌||◌, List, [], ◌∷◌, ◌⊎◌, inl, inr, ⊎_elim, length, refl, sym, ◌∙◌, ap, subst, cond, nat_eq, nat_lt, arith}
 use Rattle.std.specs.Prelude.{map}
-use Rattle.std.specs.List.{flat_map, list_any}
+use Rattle.std.specs.List.{flat_map, list_any, list_all}
 use Rattle.std.proofs.lemmas.Bool.{and_from, and_parts, or_cases, or_left, or_right, eqb-true, eq-eqb, ltb-true, lt-ltb, cases_eq}
 use Rattle.std.proofs.lemmas.List.Folds.{list_any-append}
 use Rattle.lv_base.specs.declared.ids.Cost.{Cost}
 use Rattle.lv_base.specs.declared.rank.Rank.{Rank}
+use Rattle.lv_base.specs.declared.search.Candidate.{Candidate}
 use Rattle.lv_boxes.specs.Masks.{has_choice}
 use Rattle.lv_boxes.specs.Members.{ZoneValue, is_left, are_left, is_member, choices_cost, rank_in}
-use Rattle.lv_walk.specs.Ranked.{rises, is_rank, is_among, ranked}
+use Rattle.lv_walk.specs.Ranked.{rises, is_rank, is_among}
 use Rattle.lv_walk.specs.Walk.{candidate_of}
 use Rattle.lv_walk.proofs.RankedLemmas.{is_itself, same_rank, among_ranked, rises_ranked}
 use Rattle.lv_search.specs.Members.{choices_left, lists_left, members_of, ranked_members, ranks_in, times_in}
+use Rattle.lv_search.specs.Standing.{suit_all}
 use Rattle.lv_search.proofs.Among.{Among, MadeOf, made_of, among_flat, MappedFrom, mapped_from, among_map}
 
 -- tests that imply each other are one
@@ -146,3 +148,31 @@ among_ranked_members slots r zones = among_ranked r (flat_map (members_of slots)
 
 pub ranked_members_rise : (slots : List (List Cost)) (zones : List ZoneValue) → rises (ranked_members slots zones) ≡ true
 ranked_members_rise slots zones = rises_ranked (flat_map (members_of slots) zones)
+
+some_has : (slots : List (List Cost)) (r : Rank) (zones : List ZoneValue) → nat_lt 0 (times_in slots r zones) ≡ list_any (ranks_in slots r) zones
+some_has slots r [] = refl
+some_has slots r (zone ∷ zones) = some_by_first slots r zone zones ∙ ap (λ b. ranks_in slots r zone || b) (some_has slots r zones)
+
+pub among_ranked_members_any : (slots : List (List Cost)) (zones : List ZoneValue) (r : Rank) → is_among r (ranked_members slots zones) ≡ list_any (ranks_in slots r) zones
+among_ranked_members_any slots zones r = among_ranked_members slots r zones ∙ some_has slots r zones
+
+-- what passes wherever it is among some ranks passes among all of them
+all_among : (p : Rank → Bool) (rs : List Rank) → ((r : Rank) → is_among r rs ≡ true → p r ≡ true) → list_all p rs ≡ true
+all_among p [] h = refl
+all_among p (r ∷ rs) h =
+    and_from (p r) (list_all p rs) (h r (or_left (is_rank r r) (is_among r rs) (is_itself r))) (all_among p rs (λ q a. h q (or_right (is_rank q r) (is_among q rs) a)))
+
+member_of_some : (slots : List (List Cost)) (r : Rank) (zones : List ZoneValue) → list_any (ranks_in slots r) zones ≡ true → list_any (λ (zone : ZoneValue). is_member slots zone (candidate_of r)) zones ≡ true
+member_of_some slots r [] h = absurd (cc h)
+member_of_some slots r (zone ∷ zones) h =
+    ⊎_elim
+    (λ e. or_left (is_member slots zone (candidate_of r)) (list_any (λ (z : ZoneValue). is_member slots z (candidate_of r)) zones)
+    (and_parts (is_member slots zone (candidate_of r)) (nat_eq r.cost.0 (zone.base.0 + choices_cost slots r.choices)) e).0)
+    (λ e. or_right (is_member slots zone (candidate_of r)) (list_any (λ (z : ZoneValue). is_member slots z (candidate_of r)) zones) (member_of_some slots r zones e))
+    (or_cases (ranks_in slots r zone) (list_any (ranks_in slots r) zones) h)
+
+pub all_members_pass : (slots : List (List Cost)) (zones : List ZoneValue) (suits : Candidate → Bool)
+    → ((c : Candidate) → list_any (λ (zone : ZoneValue). is_member slots zone c) zones ≡ true → suits c ≡ true) → suit_all suits (ranked_members slots zones) ≡ true
+all_members_pass slots zones suits passes =
+    all_among (λ (r : Rank). suits (candidate_of r)) (ranked_members slots zones)
+    (λ r a. passes (candidate_of r) (member_of_some slots r zones (sym (among_ranked_members_any slots zones r) ∙ a)))

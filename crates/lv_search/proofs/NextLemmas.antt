@@ -1,5 +1,5 @@
 -- What comes next, by the first of what is left.
-use Rattle.std.proofs.Common.{◌≡◌, ◌≢◌, ℕ, ◌+◌, ◌<◌, Bool, true, false, List, [], ◌∷◌, length, get_or, refl, sym, ◌∙◌, ap, subst, arith, nat_lt, ◌≤◌, suc, not, ◌||◌, cond}
+use Rattle.std.proofs.Common.{◌≡◌, ◌≢◌, ℕ, ◌+◌, Bool, true, false, List, [], ◌∷◌, length, refl, sym, ◌∙◌, ap, subst, arith, nat_lt, ◌≤◌, suc, not, ◌||◌, cond}
 use Rattle.std.specs.Prelude.{slice_get, position, Option, Some, None}
 use Rattle.std.specs.List.{list_any, position_or_len}
 use Rattle.std.proofs.lemmas.Bool.{ltb-false}

@@ -1,5 +1,5 @@
 -- How many open zones have a rank, when zones are opened.
-use Rattle.std.proofs.Common.{◌≡◌, ℕ, ◌+◌, ◌<◌, ◌≤◌, Bool, true, false, ◌&&◌, List, [], ◌∷◌, ◌++◌, length, refl, sym, ◌∙◌, ap, subst, cond, nat_eq, nat_lt, arith}
+use Rattle.std.proofs.Common.{◌≡◌, ℕ, ◌+◌, ◌≤◌, Bool, true, false, List, [], ◌∷◌, ◌++◌, length, refl, sym, ◌∙◌, ap, subst, cond, nat_eq, arith}
 use Rattle.std.specs.List.{AllByRecursion}
 use Rattle.std.specs.BTreeMap.{insert_entry}
 use Rattle.std.specs.Ordering.{match_ordering}
@@ -8,7 +8,7 @@ use Rattle.std.specs.declared.cmp.Ordering.TheVariants.{Less, Equal, Greater}
 use Rattle.std.proofs.lemmas.Bool.{and_from, and_left, and_right, eq-eqb}
 use Rattle.lv_base.specs.declared.ids.Cost.{Cost}
 use Rattle.lv_base.specs.declared.rank.Rank.{Rank}
-use Rattle.lv_boxes.specs.Members.{ZoneValue, are_left, is_member, choices_cost, rank_in}
+use Rattle.lv_boxes.specs.Members.{ZoneValue, are_left, is_member, choices_cost}
 use Rattle.lv_boxes.specs.Least.{lacks_choice}
 use Rattle.lv_boxes.proofs.LeastLemmas.{lacks_choice-none}
 use Rattle.lv_walk.specs.Ranked.{rank_cmp}
@@ -77,7 +77,7 @@ module _ (slots : List (List Cost)) where
       let few = room.apart k in
       let none : times_in slots k (zones_of old) ≡ 0 = omega (arith, here, few) in
       let times : (r : Rank) → times_in slots r (zones_of new) ≡ times_in slots r (zones_of old) + times_in slots r (zone ∷ []) =
-          λ r. ap (λ es. times_in slots r (zones_of es)) is ∙ times_inserted old k (record { number = number; zone = zone }) room.kept.least none r
+      λ r. ap (λ es. times_in slots r (zones_of es)) is ∙ times_inserted old k (record { number = number; zone = zone }) room.kept.least none r
       in
       record {
         kept = record {

@@ -4,3 +4,5 @@ pub mod Standing
 pub mod Turn
 pub mod Members
 pub mod Zones
+pub mod Search
+pub mod Laws

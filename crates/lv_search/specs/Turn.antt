@@ -1,5 +1,5 @@
 -- What one turn of a search does to where it stands.
-use Rattle.std.specs.Prelude.{◌≡◌, ◌≢◌, ℕ, ◌+◌, ◌-◌, ◌<◌, ◌≤◌, Bool, true, false, List, [], ◌∷◌, ◌++◌, length, slice_get, Some, drop}
+use Rattle.std.specs.Prelude.{◌≡◌, ◌≢◌, ℕ, ◌+◌, ◌-◌, ◌<◌, ◌≤◌, Bool, false, List, length, slice_get, Some}
 use Rattle.lv_base.specs.declared.rank.Rank.{Rank}
 use Rattle.lv_base.specs.declared.search.Pair.{Pair}
 use Rattle.lv_base.specs.declared.search.Candidate.{Candidate}
@@ -11,7 +11,7 @@ use Rattle.lv_search.specs.declared.turn.Next.TheVariants.{Ends, PassOver, Try}
 use Rattle.lv_search.specs.declared.turn.Turn.{Turn}
 use Rattle.lv_search.specs.declared.turn.Turn.TheVariants as turn
 use Rattle.lv_search.specs.Frontier.{FirstContains}
-use Rattle.lv_search.specs.Standing.{Standing, trials_of, walk_on, conflict_at, Follows, all_suit}
+use Rattle.lv_search.specs.Standing.{Standing, trials_of, walk_on, conflict_at, Follows}
 
 -- where a search stands that holds this and has these candidates left
 abbrev pub standing : List Rank → Held → Standing

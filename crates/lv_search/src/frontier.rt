@@ -12,7 +12,7 @@ use std::alloc::AllocError;
 
 /// The candidates left. A call that changes them tells the number of the zone that it split. After want of memory a
 /// frontier is only dropped.
-pub trait Frontier {
+pub(crate) trait Frontier {
     ghost left: { Self → List Rank };
 
     /// The first of what is left. Takes no memory.

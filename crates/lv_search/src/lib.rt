@@ -4,15 +4,22 @@
 //!
 //! | file | what it holds |
 //! |---|---|
-//! | `trial` | what a search wants of its trial |
-//! | `frontier` | what is left to try, as a search sees it |
+//! | `search` | `Search`: `new`, `run`, and what it has listed and kept |
+//! | `trial` | `Trial`: what a search wants of its trial |
 //! | `turn` | one turn of a search, and the turns of one run |
+//! | `frontier` | what is left to try, as the turns see it |
+//! | `zones` | what is left to try, as zones in a queue |
+//! | `laws` | what the walk's entries are, and where a walk begins |
 #![tactic(auto)]
 
-pub mod frontier;
+mod frontier;
+pub mod laws;
+pub mod search;
 pub mod trial;
 pub mod turn;
 mod zones;
 
 pub use lv_walk::Outcome;
+pub use search::Search;
 pub use trial::{Trial, Tried};
+pub use turn::{By, Split};

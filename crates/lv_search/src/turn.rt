@@ -32,16 +32,16 @@ pub struct Split {
 
 /// What a search holds beside the candidates left.
 #[derive(Debug, Drop)]
-pub struct Held {
-    pub k: u32,
-    pub listed: Seq<Rank>,
-    pub conflicts: Store,
-    pub splits: Seq<Split>,
+pub(crate) struct Held {
+    pub(crate) k: u32,
+    pub(crate) listed: Seq<Rank>,
+    pub(crate) conflicts: Store,
+    pub(crate) splits: Seq<Split>,
 }
 
 impl Held {
     /// How many trials there were: each added one to what is listed or kept.
-    fn trials(&self) -> u64
+    pub(crate) fn trials(&self) -> u64
         ensures { result ≡ length self.now.listed + length self.now.conflicts }
     {
         self.listed.as_slice().len() as u64 + self.conflicts.as_slice().len() as u64
@@ -132,11 +132,7 @@ fn pass_over<F: Frontier>(
 }
 
 /// Lists the first candidate, and leaves it out of what is left.
-fn list_first<F: Frontier>(
-    frontier: &mut F,
-    held: &mut Held,
-    rank: Rank,
-) -> Result<(), AllocError>
+fn list_first<F: Frontier>(frontier: &mut F, held: &mut Held, rank: Rank) -> Result<(), AllocError>
     requires { F.left frontier.old ≢ [] }
     ensures { IfOk result (λ _. standing (F.left frontier.new) held.new ≡ record { k = held.old.k; listed = held.old.listed ++ rank ∷ []; kept = held.old.conflicts; left = drop 1 (F.left frontier.old) }) }
 {

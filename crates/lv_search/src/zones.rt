@@ -26,7 +26,7 @@ struct Open {
 
 /// The candidates left. Contracts see the list of them, each as its rank, in the order of their ranks.
 #[derive(Drop)]
-pub struct Zones {
+pub(crate) struct Zones {
     alloc: Global,
     grid: Grid,
     queue: BTreeMap<Rank, Open>,
@@ -118,7 +118,7 @@ fn open_parts(
 
 impl Zones {
     /// The members of these zones, whose sources differ, with what their choices cost.
-    pub fn new(alloc: Global, grid: Grid, zones: Vec<Zone>) -> Result<Zones, AllocError>
+    pub(crate) fn new(alloc: Global, grid: Grid, zones: Vec<Zone>) -> Result<Zones, AllocError>
         requires { sources_differ zones.items ≡ true }
         ensures { IfOk result (λ left. left ≡ ranked_members grid zones.items) }
     {
@@ -148,7 +148,14 @@ impl Frontier for Zones {
         match self.queue.pop_first() {
             Some((rank, open)) => {
                 let conflict = own_choices(self.alloc, &self.grid, &rank)?;
-                open_parts(self.alloc, &self.grid, &mut self.queue, &mut self.made, &open.zone, &conflict)?;
+                open_parts(
+                    self.alloc,
+                    &self.grid,
+                    &mut self.queue,
+                    &mut self.made,
+                    &open.zone,
+                    &conflict,
+                )?;
                 Ok(open.number)
             }
             None => Ok(self.made),
@@ -158,7 +165,14 @@ impl Frontier for Zones {
     fn split_first(&mut self, conflict: &Conflict) -> Result<usize, AllocError> {
         match self.queue.pop_first() {
             Some((_, open)) => {
-                open_parts(self.alloc, &self.grid, &mut self.queue, &mut self.made, &open.zone, conflict)?;
+                open_parts(
+                    self.alloc,
+                    &self.grid,
+                    &mut self.queue,
+                    &mut self.made,
+                    &open.zone,
+                    conflict,
+                )?;
                 Ok(open.number)
             }
             None => Ok(self.made),

@@ -1,7 +1,5 @@
 -- the store tells whether the candidate is ruled out
-use Rattle.std.proofs.Common.{◌≡◌, length, sym, ◌∙◌, ap}
-use Rattle.std.specs.Prelude.{position}
-use Rattle.lv_base.specs.Choices.{contains_all}
+use Rattle.std.proofs.Common.{sym, ◌∙◌, ap}
 use Rattle.lv_search.specs.Turn.{standing}
 use Rattle.lv_search.proofs.NextLemmas.{asked, passes_over, used_up, is_trial}
 use Rattle.lv_search.proofs.turn.next_at.Goals as goal

@@ -21,7 +21,7 @@ returns-in_ok-pass_over-in-PassOver-clause-told g c =
 pub returns-in_ok-try_first-in-Try-clause-told : goal.returns-in_ok-try_first-in-Try-clause-told
 returns-in_ok-try_first-in-Try-clause-told g c =
     let suit = first_suits (g.T.Trial.suits c.args.trial.now) (g.T.Trial.fits c.args.trial.now) (g.T.Trial.reason c.args.trial.now)
-        (standing (g.F.Frontier.left c.args.frontier.now) c.args.held.now) c.in-Try.rank c.in-Try.candidate c.args.budget (rw c.in-Try.is at c.in_ok-outcome.ensures) c.requires.suit
+    (standing (g.F.Frontier.left c.args.frontier.now) c.args.held.now) c.in-Try.rank c.in-Try.candidate c.args.budget (rw c.in-Try.is at c.in_ok-outcome.ensures) c.requires.suit
     in
     tried_goes_on (g.T.Trial.suits c.args.trial.now) (g.T.Trial.fits c.args.trial.now) (g.T.Trial.reason c.args.trial.now) c.args.budget
     (standing (g.F.Frontier.left c.args.frontier.now) c.args.held.now) c.requires.few c.in-Try.rank c.in-Try.candidate

@@ -1,7 +1,7 @@
 -- each turn follows the one before, and the last one ends the walk
 use Rattle.lv_search.specs.Turn.{standing}
 use Rattle.lv_search.proofs.FollowLemmas.{follows_itself, are_same_itself, are_same_on, suit_now, goes_on_after, ends_after}
-use Rattle.std.proofs.Common.{◌≡◌, sym, subst, ◌∙◌}
+use Rattle.std.proofs.Common.{sym, subst}
 use Rattle.lv_search.specs.Standing.{Standing, Follows}
 use Rattle.lv_search.proofs.turn.take_turns.Goals as goal
 

@@ -1,5 +1,5 @@
 -- the parts by all choices of the first have the others
-use Rattle.std.proofs.Common.{sym, ◌∙◌, ap, drop}
+use Rattle.std.proofs.Common.{◌∙◌, ap, drop}
 use Rattle.lv_search.proofs.LeftLemmas.{popped_kept, popped_each_slot, drop_room, drop_drops}
 use Rattle.lv_search.proofs.zones.ZonesFrontier.drop_first.Goals as goal
 
