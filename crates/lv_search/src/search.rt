@@ -1,7 +1,7 @@
 //! The search: zones of candidates, what is listed and kept so far, and runs that go on where the last one stopped.
 #![tactic(auto)]
 
-ghost use Rattle.std.specs.Prelude.{◌≡◌, ◌+◌, ◌<◌, ◌^◌, [], true, List, take, filter, IfOk};
+ghost use Rattle.std.specs.Prelude.{◌≡◌, ◌+◌, ◌<◌, ◌≤◌, ◌^◌, [], true, List, take, filter, IfOk};
 ghost use Rattle.lv_base.specs.declared.rank.Rank.{Rank};
 ghost use Rattle.lv_walk.specs.declared.outcome.Outcome.TheVariants.{Settled};
 ghost use Rattle.lv_walk.specs.Walk.{candidate_of, walk};
@@ -67,6 +67,9 @@ impl Search {
             IfOk result (λ outcome. walk (T.fits trial.old) (T.reason trial.old) self.old.standing.k (trials_of self.old.standing + more) entries ≡ record { outcome = outcome; listed = self.new.standing.listed; kept = self.new.standing.kept }) }
         ensures first { (entries : List Rank) → IsUnderWay (T.suits trial.old) (T.fits trial.old) (T.reason trial.old) entries self.old.standing → suit_all (T.suits trial.old) entries ≡ true →
             IfOk result (λ outcome. outcome ≡ Settled → self.new.standing.listed ≡ take self.old.standing.k (filter (λ r. T.fits trial.old (candidate_of r)) entries)) }
+
+        // No more trials are made than were given.
+        ensures few { IfOk result (λ _. trials_of self.new.standing ≤ trials_of self.old.standing + more) }
 
         // It can go on: it is on the same walk, under the same meanings.
         ensures under_way { (entries : List Rank) → IsUnderWay (T.suits trial.old) (T.fits trial.old) (T.reason trial.old) entries self.old.standing →

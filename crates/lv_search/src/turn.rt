@@ -201,6 +201,7 @@ pub(crate) fn take_turns<F: Frontier, T: Trial>(
     requires suit { all_suit (T.suits trial.old) (standing (F.left frontier.old) held.old) ≡ true }
     requires few { trials_of (standing (F.left frontier.old) held.old) ≤ budget }
     ensures same { AreSame T.suits T.fits T.reason trial.old trial.new }
+    ensures few { IfOk result (λ _. trials_of (standing (F.left frontier.new) held.new) ≤ budget) }
     ensures follows { IfOk result (λ _. Follows (T.suits trial.old) (T.fits trial.old) (T.reason trial.old) (standing (F.left frontier.old) held.old) (standing (F.left frontier.new) held.new)) }
     ensures ends { IfOk result (λ outcome. EndsAt outcome (T.fits trial.old) (T.reason trial.old) budget (standing (F.left frontier.old) held.old) (standing (F.left frontier.new) held.new)) }
 {

@@ -56,11 +56,7 @@ fn others_are_possible<T: Test>(
 
 /// What is left of the pairs when each that isn't needed is left out, from the first on. Of possible pairs all are left,
 /// where fewer pairs are possible wherever more are.
-pub fn reduce<T: Test>(
-    alloc: Global,
-    test: &mut T,
-    pairs: &[Pair],
-) -> Result<Vec<Pair>, AllocError>
+pub fn reduce<T: Test>(alloc: Global, test: &mut T, pairs: &[Pair]) -> Result<Vec<Pair>, AllocError>
     requires { T.takes test.old pairs.now ≡ true }
     ensures reduced { IfOk result (λ out. out.items ≡ reduced (T.possible test.old) [] pairs.now) }
     ensures takes { T.takes test.new ≡ T.takes test.old }

@@ -1,8 +1,8 @@
 -- each turn follows the one before, and the last one ends the walk
 use Rattle.lv_search.specs.Turn.{standing}
 use Rattle.lv_search.proofs.FollowLemmas.{follows_itself, are_same_itself, are_same_on, suit_now, goes_on_after, ends_after}
-use Rattle.std.proofs.Common.{sym, subst}
-use Rattle.lv_search.specs.Standing.{Standing, Follows}
+use Rattle.std.proofs.Common.{sym, subst, ◌≤◌}
+use Rattle.lv_search.specs.Standing.{Standing, Follows, trials_of}
 use Rattle.lv_search.proofs.turn.take_turns.Goals as goal
 
 pub turns-init : goal.turns-init
@@ -53,3 +53,7 @@ returns-in-Ends-clause-ends g c =
     ends_after g.T.Trial.suits g.T.Trial.fits g.T.Trial.reason c.args.trial.now c.turns.trial c.turns.invariant.same c.in-Ends.outcome c.args.budget
     (standing (g.F.Frontier.left c.args.frontier.now) c.args.held.now) (standing (g.F.Frontier.left c.turns.frontier) c.turns.held)
     (standing (g.F.Frontier.left c.take_turn.new.frontier) c.take_turn.new.held) c.turns.invariant.follows c.turns.invariant.few (rw c.in-Ends.is at c.in_ok-take_turn.ensures.told).1
+
+pub returns-in-Ends-clause-few : goal.returns-in-Ends-clause-few
+returns-in-Ends-clause-few g c =
+    subst (λ (s : Standing). trials_of s ≤ c.args.budget) (sym (rw c.in-Ends.is at c.in_ok-take_turn.ensures.told).0) c.turns.invariant.few

@@ -1,5 +1,5 @@
 -- each pair is kept or left out, and the test takes what is left
-use Rattle.std.proofs.Common.{◌≡◌, ◌+◌, ◌++◌, ◌∷◌, Bool, List, true, drop, refl, sym, ◌∙◌, ap, subst}
+use Rattle.std.proofs.Common.{◌≡◌, ◌+◌, ◌++◌, Bool, List, drop, refl, sym, ◌∙◌, ap}
 use Rattle.lv_base.specs.declared.search.Pair.{Pair}
 use Rattle.lv_walk.specs.Reason.{reduced}
 use Rattle.lv_walk.proofs.ReasonLemmas.{pair_kept, pair_left_out, taken_without, taken_with}
@@ -27,9 +27,9 @@ loop-at-preserved g c =
     let takes = g.T.Test.takes c.args.test.now in
     let behind = drop (c.loop-at.at + 1) c.args.pairs.now in
     let asked : c.in_ok-others_are_possible.field-0 ≡ possible (c.loop-at.kept.items ++ behind) =
-        c.in_ok-others_are_possible.ensures.answer
-        ∙ ap (λ (test : List Pair → Bool). test (c.as_slice.result.now ++ behind)) c.loop-at.invariant.possible_same
-        ∙ ap (λ kept. possible (kept ++ behind)) c.as_slice.ensures.value
+    c.in_ok-others_are_possible.ensures.answer
+    ∙ ap (λ (test : List Pair → Bool). test (c.as_slice.result.now ++ behind)) c.loop-at.invariant.possible_same
+    ∙ ap (λ kept. possible (kept ++ behind)) c.as_slice.ensures.value
     in
     elim c.if-branch.branch [
       | then-branch+in_ok-push w ↦
