@@ -7,7 +7,7 @@
 //! | `Store::new` | a store that keeps nothing |
 //! | `add` | keeps one more conflict, behind the others |
 //! | `contained_in` | which kept conflict a candidate contains first |
-//! | `get`, `len` | the kept conflicts |
+//! | `get`, `as_slice`, `len` | the kept conflicts |
 #![tactic(auto)]
 
 ghost use Rattle.std.specs.Prelude.{◌≡◌, ◌<◌, [], ◌∷◌, ◌++◌, length, position, slice_get, IfOk, OnOk, OnErr};
@@ -69,6 +69,13 @@ impl Store {
         ensures { slice_get self.now number ≡ Some result.now }
     {
         &self.conflicts.as_slice()[number]
+    }
+
+    /// All kept conflicts, in the order in which they were added. Takes no memory.
+    pub fn as_slice(&self) -> &[Conflict]
+        ensures { result.now ≡ self.now }
+    {
+        self.conflicts.as_slice()
     }
 
     /// How many conflicts are kept.
