@@ -1,4 +1,4 @@
--- The texts of replies.
+-- The text of a settled diagnosis.
 use Rattle.std.specs.Prelude.{ℕ, ◌+◌, List, [], ◌∷◌, ◌++◌, length, slice_get, codes, decimal}
 use Rattle.std.specs.Option.{option_map_or}
 use Rattle.lv_base.specs.declared.rank.Rank.{Rank}

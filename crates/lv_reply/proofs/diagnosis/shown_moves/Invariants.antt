@@ -1,6 +1,6 @@
 use Rattle.std.proofs.Common.{◌≡◌, ◌++◌, drop}
-use Rattle.livingstone_cli.specs.Reply.{shown_moves}
-use Rattle.livingstone_cli.proofs.reply.shown_moves.Given as goal
+use Rattle.lv_reply.specs.Diagnosis.{shown_moves}
+use Rattle.lv_reply.proofs.diagnosis.shown_moves.Given as goal
 
 -- what is shown, with what the moves that are left show, is all
 abbrev pub invariant-loop-i : goal.invariant-loop-i

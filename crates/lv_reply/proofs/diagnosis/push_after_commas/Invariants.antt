@@ -1,6 +1,6 @@
 use Rattle.std.proofs.Common.{◌≡◌, ◌++◌, drop}
-use Rattle.livingstone_cli.specs.Reply.{after_commas}
-use Rattle.livingstone_cli.proofs.reply.push_after_commas.Given as goal
+use Rattle.lv_reply.specs.Diagnosis.{after_commas}
+use Rattle.lv_reply.proofs.diagnosis.push_after_commas.Given as goal
 
 -- what was added, with the texts that are left, is all
 abbrev pub invariant-loop-text : goal.invariant-loop-text

@@ -4,7 +4,7 @@
 
 ghost use Rattle.std.specs.Prelude.{◌≡◌, ◌+◌, ◌<◌, ◌^◌, ◌++◌, [], ◌∷◌, IfOk, All, length, drop, decimal, codes, map};
 ghost use Rattle.std.specs.Option.{option_copied};
-ghost use Rattle.livingstone_cli.specs.Reply.{mode_name, move_text, shown, shown_move, shown_moves, after_commas, joined, moves_text, listed_line, listed_lines, diagnosis_text};
+ghost use Rattle.lv_reply.specs.Diagnosis.{mode_name, move_text, shown, shown_move, shown_moves, after_commas, joined, moves_text, listed_line, listed_lines, diagnosis_text};
 
 use itoa::Buffer;
 use lv_base::{MoveId, Rank, Seq, ValId};
@@ -180,7 +180,7 @@ fn push_lines(
 }
 
 /// The text of a diagnosis that lists these candidates.
-#[tactic(auto, unfolding(crate::specs::Reply::diagnosis_text))]
+#[tactic(auto, unfolding(crate::specs::Diagnosis::diagnosis_text))]
 pub fn diagnosis_text(alloc: Global, model: &Model, ranks: &[Rank]) -> Result<Vec<u8>, AllocError>
     ensures { IfOk result (λ out. out.items ≡ diagnosis_text model.now ranks.now) }
 {

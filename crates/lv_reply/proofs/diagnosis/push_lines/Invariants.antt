@@ -1,6 +1,6 @@
 use Rattle.std.proofs.Common.{◌≡◌, ◌+◌, ◌++◌, drop}
-use Rattle.livingstone_cli.specs.Reply.{listed_lines}
-use Rattle.livingstone_cli.proofs.reply.push_lines.Given as goal
+use Rattle.lv_reply.specs.Diagnosis.{listed_lines}
+use Rattle.lv_reply.proofs.diagnosis.push_lines.Given as goal
 
 -- what was added, with the lines of the candidates that are left, is all
 abbrev pub invariant-loop-i : goal.invariant-loop-i
