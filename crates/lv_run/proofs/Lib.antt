@@ -1,0 +1,4 @@
+pub mod ExpectedLemmas
+pub mod OpenLemmas
+pub mod TellLemmas
+pub mod TopLemmas
