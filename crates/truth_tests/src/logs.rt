@@ -1,5 +1,5 @@
 //! Each public call once, with ample memory.
-use super::*;
+use lv_reflog::{Hint, Log};
 use lv_base::{BoolId, ClauseId, Lit};
 use std::test::Fail;
 

@@ -1,5 +1,5 @@
 //! Clauses and assumptions that come and go. Each call is made where its condition holds.
-use super::*;
+use lv_ltms::{Label, Ltms, Reason, Standing};
 use lv_base::{BoolId, ClauseId, Lit};
 use lv_clauses::is_clause;
 use std::alloc::AllocError;

@@ -1,7 +1,7 @@
 //! Each public call once, with ample memory.
 ghost use Rattle.std.specs.Prelude.{◌≡◌};
 
-use super::*;
+use lv_clauses::*;
 use lv_base::{BoolId, Lit};
 use std::test::Fail;
 

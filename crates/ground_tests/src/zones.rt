@@ -2,7 +2,7 @@
 
 ghost use Rattle.std.specs.Prelude.{◌≡◌, length, IfOk};
 
-use super::{Grid, Zone, choices_as_conflict, split};
+use lv_boxes::{Grid, Zone, choices_as_conflict, split};
 use lv_base::Cost;
 use std::alloc::{AllocError, Global};
 use std::test::Fail;

@@ -1,6 +1,6 @@
 //! With ample memory each call answers. The candidates and what they contain are written out by hand.
 
-use super::Store;
+use lv_conflicts::Store;
 use lv_base::{Candidate, Conflict, Pair};
 use std::test::Fail;
 
