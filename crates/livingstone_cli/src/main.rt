@@ -1,24 +1,9 @@
-//! The program: runs a session of mode identification over the model of a plant.
-//!
-//! - `arguments`: the words that the program is called with, and the run that they ask for.
-//! - `inputs`: the model and the session, opened and read.
-//! - `request`: what a line of a session asks for.
-//! - `session`, `reply`: what it does and the text of its reply.
-//! - `serve`: the lines of a session's text, and the replies written.
-//! - `status`: how a call ends: its number, and its line on standard error.
-//! - `top`: the whole of a call, over any shelf of files and any two sinks.
+//! The program: runs a session of mode identification over the model of a plant. All that it does is `lv_run`'s; here
+//! it gets the words of the process, its files and its streams.
 #![tactic(auto)]
 
-mod arguments;
-mod inputs;
-mod reply;
-mod request;
-mod serve;
-mod session;
-mod status;
-mod top;
-
 use lv_io::{HostShelf, HostSink};
+use lv_run::{RunFault, livingstone, report};
 use std::alloc::Global;
 use std::io::ErrorKind;
 use std::process::ExitCode;
@@ -30,8 +15,8 @@ fn main(rt: HostRuntime) -> ExitCode {
     let mut out = HostSink::new(rt.stdout());
     let mut err = HostSink::new(rt.stderr());
     let status = match process_words(&rt) {
-        Ok(words) => top::livingstone(alloc, words, &mut shelf, &mut out, &mut err),
-        Err(_) => top::report(status::Status::OutOfMemory, &mut err),
+        Ok(words) => livingstone(alloc, words, &mut shelf, &mut out, &mut err),
+        Err(_) => report(alloc, RunFault::OutOfMemory, &mut err),
     };
     ExitCode::from(status.code())
 }
@@ -46,6 +31,3 @@ fn process_words(rt: &HostRuntime) -> io::Result<Vec<String>> {
     };
     Ok(words.collect(rt.alloc())?)
 }
-
-#[cfg(test)]
-mod whole_calls;

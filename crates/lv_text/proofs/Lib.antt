@@ -11,3 +11,6 @@ pub mod TokenLaws
 pub mod TextLaws
 pub mod SliceLaws
 pub mod BadBytes
+pub mod LexemeFacts
+pub mod Gaps
+pub mod ReadBack

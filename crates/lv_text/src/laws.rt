@@ -5,18 +5,24 @@
 ghost use Rattle.std.specs.Prelude.{◌≡◌, [], ◌∷◌, ◌++◌, codes};
 ghost use Rattle.lv_text.specs.Tokens.{line_tokens, lexed, bad_byte};
 ghost use Rattle.lv_text.specs.Lines.{lines_of};
-ghost use Rattle.lv_text.specs.Laws.{BadByteIsNotAllowed, token_at, CommentChangesNothing, BlankParts, BlankLineIsEmpty, TextIsToken, LineFeedEndsLine, ReturnGoesWithLineFeed, EndOfTextEndsLine, LinesPartAtLineFeed, FirstLineStays, TextMovesWithToken, TextStaysBeforeMore, PrintedNumberIsItself};
+ghost use Rattle.lv_text.specs.Laws.{BadByteIsNotAllowed, token_at, CommentChangesNothing, CommentKeepsReading, TokensLeaveBlanks, BlankParts, BlankLineIsEmpty, TextIsToken, LineFeedEndsLine, ReturnGoesWithLineFeed, EndOfTextEndsLine, LinesPartAtLineFeed, FirstLineStays, TextMovesWithToken, TextStaysBeforeMore, PrintedNumberIsItself, LexemesHaveKinds, PrintedIsReadAgain};
 
 use crate::lexer::TokenKind;
 
 /// A comment changes nothing.
 pub fn comment_changes_nothing()
-    ensures { CommentChangesNothing }
+    ensures tokens { CommentChangesNothing }
+    ensures reading { CommentKeepsReading }
 {}
 
 /// A space or a tab only parts what stands round it.
 pub fn blank_parts()
     ensures { BlankParts }
+{}
+
+/// Before the tokens of a line, between and behind them stand spaces, tabs and a comment alone.
+pub fn tokens_leave_blanks()
+    ensures { TokensLeaveBlanks }
 {}
 
 /// A line of spaces and tabs has no tokens.
@@ -73,6 +79,16 @@ pub fn text_stays_before_more()
 /// A number as it is printed is read as itself.
 pub fn printed_number_is_itself()
     ensures { PrintedNumberIsItself }
+{}
+
+/// The lexemes of a line have texts of their kinds.
+pub fn lexemes_have_kinds()
+    ensures { LexemesHaveKinds }
+{}
+
+/// Lexemes that are printed with no more spaces than needed are read again as themselves.
+pub fn printed_is_read_again()
+    ensures { PrintedIsReadAgain }
 {}
 
 /// Lines that read as tokens.

@@ -1,7 +1,0 @@
-use Rattle.std.proofs.Common.{◌≡◌, ◌+◌, ◌++◌, drop}
-use Rattle.livingstone_cli.specs.Reply.{listed_lines}
-use Rattle.livingstone_cli.proofs.reply.push_lines.Given as goal
-
--- what was added, with the lines of the candidates that are left, is all
-abbrev pub invariant-loop-i : goal.invariant-loop-i
-invariant-loop-i l = l.out.items ++ listed_lines l.model (l.i + 1) (drop l.i l.ranks) ≡ l.initial.out.items ++ listed_lines l.model 1 l.ranks

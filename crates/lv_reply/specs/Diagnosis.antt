@@ -1,0 +1,63 @@
+-- The text of a settled diagnosis.
+use Rattle.std.specs.Prelude.{ℕ, ◌+◌, List, [], ◌∷◌, ◌++◌, length, slice_get, codes, decimal}
+use Rattle.std.specs.Option.{option_map_or}
+use Rattle.lv_base.specs.declared.rank.Rank.{Rank}
+use Rattle.lv_model.specs.declared.plant.Plant.{Plant}
+use Rattle.lv_model.specs.declared.plant.ComponentType.{ComponentType}
+use Rattle.lv_model.specs.declared.plant.Mode.{Mode}
+use Rattle.lv_model.specs.declared.plant.Move.{Move}
+use Rattle.lv_model.specs.declared.plant.MoveKind.{MoveKind}
+use Rattle.lv_model.specs.declared.plant.MoveKind.TheVariants.{Step, Stay, Fault}
+use Rattle.lv_model.specs.declared.plant.Part.{Part}
+
+abbrev pub mode_name : List Mode → ℕ → List ℕ
+mode_name modes n = option_map_or (λ (m : Mode). m.name) (slice_get modes n) []
+
+-- a step or a fault, as `v closed>open #1`
+abbrev pub move_text : Part → List Mode → Move → List ℕ
+move_text p modes m =
+    p.name ++ codes " " ++ mode_name modes m.source.0 ++ codes ">" ++ mode_name modes m.target.0 ++ codes " #" ++ decimal m.line
+
+-- what a move of its kind shows: a stay nothing
+abbrev pub shown : MoveKind → List ℕ → List (List ℕ)
+shown Step text = text ∷ []
+shown Stay text = []
+shown Fault text = text ∷ []
+
+-- what the part's n-th move shows
+abbrev pub shown_move : List ComponentType → Part → ℕ → List (List ℕ)
+shown_move types p n =
+    option_map_or (λ (t : ComponentType). option_map_or (λ (m : Move). shown m.kind (move_text p t.modes m)) (slice_get t.moves n) []) (slice_get types p.kind) []
+
+-- what the moves of these parts show, in order
+abbrev pub shown_moves : List ComponentType → List Part → List ℕ → List (List ℕ)
+shown_moves types [] choices = []
+shown_moves types (p ∷ ps) [] = []
+shown_moves types (p ∷ ps) (c ∷ cs) = shown_move types p c ++ shown_moves types ps cs
+
+-- texts behind the first, each after a comma
+abbrev pub after_commas : List (List ℕ) → List ℕ
+after_commas [] = []
+after_commas (x ∷ xs) = codes ", " ++ x ++ after_commas xs
+
+-- texts with commas between them, or `-` where there are none
+abbrev pub joined : List (List ℕ) → List ℕ
+joined [] = codes "-"
+joined (x ∷ xs) = x ++ after_commas xs
+
+abbrev pub moves_text : Plant → List ℕ → List ℕ
+moves_text plant choices = joined (shown_moves plant.types plant.parts choices)
+
+-- `I cost C from S: MOVES`
+abbrev pub listed_line : Plant → ℕ → Rank → List ℕ
+listed_line plant n r =
+    decimal n ++ codes " cost " ++ decimal r.cost.0 ++ codes " from " ++ decimal (r.source + 1) ++ codes ": " ++ moves_text plant r.choices ++ codes "\n"
+
+-- a line for each listed candidate, the first with this number
+abbrev pub listed_lines : Plant → ℕ → List Rank → List ℕ
+listed_lines plant n [] = []
+listed_lines plant n (r ∷ rs) = listed_line plant n r ++ listed_lines plant (n + 1) rs
+
+-- `settled N` and the listed candidates
+unfoldable pub diagnosis_text : Plant → List Rank → List ℕ
+diagnosis_text plant ranks = codes "settled " ++ decimal (length ranks) ++ codes "\n" ++ listed_lines plant 1 ranks

@@ -1,0 +1,31 @@
+//! The text of a reply: its lines, each with a line feed.
+#![tactic(auto)]
+
+ghost use Rattle.std.specs.Prelude.{◌≡◌, IfOk};
+ghost use Rattle.lv_reply.specs.Texts.{refusal_text, reply_text};
+
+use crate::diagnosis::diagnosis_text;
+use crate::reply::{Refusal, Reply};
+use lv_model::Model;
+use std::alloc::{AllocError, Global};
+
+fn refusal_text(alloc: Global, refusal: Refusal) -> Result<Vec<u8>, AllocError>
+    ensures { IfOk result (λ text. text.items ≡ refusal_text refusal) }
+{
+    let mut text = Vec::from_slice(alloc, b"error ")?;
+    text.extend_from_slice(refusal.code().as_bytes())?;
+    text.extend_from_slice(b"\n")?;
+    Ok(text)
+}
+
+/// The text of a reply to a line of a session over this model.
+pub fn reply_text(alloc: Global, model: &Model, reply: &Reply) -> Result<Vec<u8>, AllocError>
+    ensures { IfOk result (λ text. text.items ≡ reply_text model.now reply.now) }
+{
+    match reply {
+        Reply::Nothing => Ok(Vec::new(alloc)),
+        Reply::Accepted => Vec::from_slice(alloc, b"ok\n"),
+        Reply::Refused(refusal) => refusal_text(alloc, *refusal),
+        Reply::Settled(listed) => diagnosis_text(alloc, model, listed.as_slice()),
+    }
+}

@@ -1,0 +1,3 @@
+pub mod ExpectedLemmas
+pub mod OpenLemmas
+pub mod TopLemmas

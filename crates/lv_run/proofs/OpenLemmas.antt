@@ -1,0 +1,188 @@
+-- The opens of a run, by how it ended.
+use Rattle.std.proofs.Common.{◌≡◌, ◌≢◌, ◌⊎◌, inl, inr, ℕ, zero, suc, List, [], ◌∷◌, ◌++◌, take, Option, Some, Result, Ok, Err, refl, sym, ◌∙◌, ap, subst, append_assoc, length, arith}
+use Rattle.std.proofs.lemmas.List.{append-nil, take_all}
+use Rattle.std.specs.Option.{option_map_or}
+use Rattle.std.specs.Prelude.{IsErrAnd}
+use Rattle.lv_io.specs.Outside.{Opened}
+use Rattle.lv_io.specs.declared.IoFault.{IoFault}
+use Rattle.lv_io.specs.declared.IoFault.TheVariants.{Failed, Memory}
+use Rattle.lv_run.specs.Inputs.{AddsOpens, model_open, session_open}
+use Rattle.lv_run.specs.Arguments.{RunWords, run_words}
+use Rattle.lv_run.specs.Expected.{opens_of}
+use Rattle.lv_run.specs.Opens.{HasOpened}
+use Rattle.lv_run.specs.Faults.{EndsModel, EndsSession, status_of, ended_status, fault_of_sink}
+use Rattle.lv_run.specs.declared.status.Status.{Status}
+use Rattle.lv_run.specs.declared.status.Status.TheVariants.{Done, WordsRefused, ModelRefused, ModelUnread, SessionUnread, OutputFailed, SessionTooLong, OutOfMemory}
+use Rattle.lv_run.specs.declared.fault.RunFault.{RunFault}
+use Rattle.lv_run.specs.declared.fault.RunFault.TheVariants.{WordsRefused as BadWords, ModelRefused as BadModel, ModelUnread as NoModel, SessionUnread as NoSession, OutputFailed as NoOutput, SessionTooLong as LongSession, OutOfMemory as NoMemory}
+
+none_taken : (n : ℕ) → take {A = Opened} n [] ≡ []
+none_taken zero = refl
+none_taken (suc n) = refl
+
+first_at_most : (a b : Opened) (old new : List Opened) (n : ℕ)
+    → new ≡ old ++ take n (a ∷ [])
+    → AddsOpens old (a ∷ b ∷ []) new
+first_at_most a b old new zero added = record { count = 0; added = added }
+first_at_most a b old new (suc n) added = record {
+  count = 1;
+  added = added ∙ ap (λ (more : List Opened). old ++ a ∷ more) (none_taken n);
+}
+
+first_and_more : (a b : Opened) (old middle new : List Opened) (n : ℕ)
+    → middle ≡ old ++ a ∷ []
+    → new ≡ middle ++ take n (b ∷ [])
+    → AddsOpens old (a ∷ b ∷ []) new
+first_and_more a b old middle new n first more = record {
+  count = suc n;
+  added = more ∙ ap (λ (m : List Opened). m ++ take n (b ∷ [])) first ∙ append_assoc old (a ∷ []) (take n (b ∷ []));
+}
+
+both : (a b : Opened) (old middle new : List Opened)
+    → middle ≡ old ++ a ∷ []
+    → new ≡ middle ++ b ∷ []
+    → new ≡ old ++ a ∷ b ∷ []
+both a b old middle new first second =
+    second ∙ ap (λ (m : List Opened). m ++ b ∷ []) first ∙ append_assoc old (a ∷ []) (b ∷ [])
+
+asked : (words : List (List ℕ)) (run : RunWords) (old new : List Opened) (status : Status)
+    → run_words words ≡ Some run
+    → HasOpened (model_open run.model ∷ session_open run.session ∷ []) old new status
+    → HasOpened (opens_of words) old new status
+asked words run old new status is opened =
+    subst (λ (o : Option RunWords). HasOpened (option_map_or (λ (r : RunWords). model_open r.model ∷ session_open r.session ∷ []) o []) old new status)
+    (sym is) opened
+
+at_model : (a b : Opened) (old new : List Opened) (fault : RunFault)
+    → EndsModel fault
+    → AddsOpens old (a ∷ []) new
+    → (fault ≢ NoMemory → new ≡ old ++ a ∷ [])
+    → HasOpened (a ∷ b ∷ []) old new (status_of fault)
+at_model a b old new BadWords ends adds opened = absurd ends
+at_model a b old new (BadModel code line) ends adds opened = opened (λ e. cc)
+at_model a b old new NoModel ends adds opened = opened (λ e. cc)
+at_model a b old new NoSession ends adds opened = absurd ends
+at_model a b old new NoOutput ends adds opened = absurd ends
+at_model a b old new LongSession ends adds opened = absurd ends
+at_model a b old new NoMemory ends adds opened = first_at_most a b old new adds.count adds.added
+
+at_session : (a b : Opened) (old middle new : List Opened) (fault : RunFault)
+    → EndsSession fault
+    → middle ≡ old ++ a ∷ []
+    → AddsOpens middle (b ∷ []) new
+    → (fault ≢ NoMemory → new ≡ middle ++ b ∷ [])
+    → HasOpened (a ∷ b ∷ []) old new (status_of fault)
+at_session a b old middle new BadWords ends first adds opened = absurd ends
+at_session a b old middle new (BadModel code line) ends first adds opened = absurd ends
+at_session a b old middle new NoModel ends first adds opened = absurd ends
+at_session a b old middle new NoSession ends first adds opened = both a b old middle new first (opened (λ e. cc))
+at_session a b old middle new NoOutput ends first adds opened = absurd ends
+at_session a b old middle new LongSession ends first adds opened = both a b old middle new first (opened (λ e. cc))
+at_session a b old middle new NoMemory ends first adds opened = first_and_more a b old middle new adds.count first adds.added
+
+handed : (result : Result (Unit {0}) RunFault) (fault : RunFault) → IsErrAnd result (λ e. e ≡ fault) → ended_status result ≡ status_of fault
+handed (Ok x) fault is = absurd is
+handed (Err e) fault is = ap status_of is
+
+-- where the run ended at the model's file
+pub opened_at_model : (words : List (List ℕ)) (run : RunWords) (old new : List Opened) (fault : RunFault) (result : Result (Unit {0}) RunFault)
+    → run_words words ≡ Some run
+    → EndsModel fault
+    → IsErrAnd result (λ e. e ≡ fault)
+    → AddsOpens old (model_open run.model ∷ []) new
+    → (fault ≢ NoMemory → new ≡ old ++ model_open run.model ∷ [])
+    → HasOpened (opens_of words) old new (ended_status result)
+opened_at_model words run old new fault result is ends err adds opened =
+    subst (HasOpened (opens_of words) old new) (sym (handed result fault err))
+    (asked words run old new (status_of fault) is (at_model (model_open run.model) (session_open run.session) old new fault ends adds opened))
+
+-- where it ended at the session's
+pub opened_at_session : (words : List (List ℕ)) (run : RunWords) (old middle new : List Opened) (fault : RunFault) (result : Result (Unit {0}) RunFault)
+    → run_words words ≡ Some run
+    → EndsSession fault
+    → IsErrAnd result (λ e. e ≡ fault)
+    → middle ≡ old ++ model_open run.model ∷ []
+    → AddsOpens middle (session_open run.session ∷ []) new
+    → (fault ≢ NoMemory → new ≡ middle ++ session_open run.session ∷ [])
+    → HasOpened (opens_of words) old new (ended_status result)
+opened_at_session words run old middle new fault result is ends err first adds opened =
+    subst (HasOpened (opens_of words) old new) (sym (handed result fault err))
+    (asked words run old new (status_of fault) is
+    (at_session (model_open run.model) (session_open run.session) old middle new fault ends first adds opened))
+
+front_of_both : (a b : Opened) (old middle new : List Opened)
+    → middle ≡ old ++ a ∷ []
+    → new ≡ middle ++ b ∷ []
+    → AddsOpens old (a ∷ b ∷ []) new
+front_of_both a b old middle new first second = record { count = 2; added = both a b old middle new first second }
+
+-- where both were opened
+pub opened_both : (words : List (List ℕ)) (run : RunWords) (old middle new : List Opened)
+    → run_words words ≡ Some run
+    → middle ≡ old ++ model_open run.model ∷ []
+    → new ≡ middle ++ session_open run.session ∷ []
+    → HasOpened (opens_of words) old new Done
+opened_both words run old middle new is first second =
+    asked words run old new Done is (both (model_open run.model) (session_open run.session) old middle new first second)
+
+-- and where writing failed then
+pub opened_at_output : (words : List (List ℕ)) (run : RunWords) (old middle new : List Opened) (status : Status)
+    → run_words words ≡ Some run
+    → middle ≡ old ++ model_open run.model ∷ []
+    → new ≡ middle ++ session_open run.session ∷ []
+    → (status ≡ OutputFailed) ⊎ (status ≡ OutOfMemory)
+    → HasOpened (opens_of words) old new status
+opened_at_output words run old middle new status is first second (inl failed) =
+    subst (HasOpened (opens_of words) old new) (sym failed)
+    (asked words run old new OutputFailed is (front_of_both (model_open run.model) (session_open run.session) old middle new first second))
+opened_at_output words run old middle new status is first second (inr memory) =
+    subst (HasOpened (opens_of words) old new) (sym memory)
+    (asked words run old new OutOfMemory is (front_of_both (model_open run.model) (session_open run.session) old middle new first second))
+
+-- whatever the status, a front of what was asked for was opened
+pub front_opened : (asks old new : List Opened) (status : Status) → HasOpened asks old new status → AddsOpens old asks new
+front_opened asks old new Done opened = record { count = length asks; added = opened ∙ ap (λ (l : List Opened). old ++ l) (sym (take_all (length asks) asks (omega arith))) }
+front_opened asks old new WordsRefused opened = record { count = 0; added = opened ∙ sym (append-nil old) }
+front_opened asks old new ModelRefused opened = record { count = 1; added = opened }
+front_opened asks old new ModelUnread opened = record { count = 1; added = opened }
+front_opened asks old new SessionUnread opened = record { count = length asks; added = opened ∙ ap (λ (l : List Opened). old ++ l) (sym (take_all (length asks) asks (omega arith))) }
+front_opened asks old new OutputFailed opened = opened
+front_opened asks old new SessionTooLong opened = record { count = length asks; added = opened ∙ ap (λ (l : List Opened). old ++ l) (sym (take_all (length asks) asks (omega arith))) }
+front_opened asks old new OutOfMemory opened = opened
+
+told_opened : (asks old new : List Opened) (status result : Status)
+    → (result ≡ status) ⊎ ((result ≡ OutputFailed) ⊎ (result ≡ OutOfMemory))
+    → HasOpened asks old new status
+    → HasOpened asks old new result
+told_opened asks old new status result (inl same) opened = subst (HasOpened asks old new) (sym same) opened
+told_opened asks old new status result (inr (inl failed)) opened =
+    subst (HasOpened asks old new) (sym failed) (front_opened asks old new status opened)
+told_opened asks old new status result (inr (inr memory)) opened =
+    subst (HasOpened asks old new) (sym memory) (front_opened asks old new status opened)
+
+-- the status that a call ends with is the run's own, or one of telling it
+pub kept_or_not : (status result : Status)
+    → (result ≢ OutputFailed → result ≢ OutOfMemory → result ≡ status)
+    → (result ≡ status) ⊎ ((result ≡ OutputFailed) ⊎ (result ≡ OutOfMemory))
+kept_or_not status Done kept = inl (kept (λ e. cc) (λ e. cc))
+kept_or_not status WordsRefused kept = inl (kept (λ e. cc) (λ e. cc))
+kept_or_not status ModelRefused kept = inl (kept (λ e. cc) (λ e. cc))
+kept_or_not status ModelUnread kept = inl (kept (λ e. cc) (λ e. cc))
+kept_or_not status SessionUnread kept = inl (kept (λ e. cc) (λ e. cc))
+kept_or_not status OutputFailed kept = inr (inl refl)
+kept_or_not status SessionTooLong kept = inl (kept (λ e. cc) (λ e. cc))
+kept_or_not status OutOfMemory kept = inr (inr refl)
+
+pub all_opened : (asks old new : List Opened) (status result : Status)
+    → (result ≢ OutputFailed → result ≢ OutOfMemory → result ≡ status)
+    → HasOpened asks old new status
+    → HasOpened asks old new result
+all_opened asks old new status result kept opened = told_opened asks old new status result (kept_or_not status result kept) opened
+
+-- a fault of the output ends a run with one of two statuses
+pub sink_end : (result : Result (Unit {0}) RunFault) (fault : IoFault)
+    → IsErrAnd result (λ e. e ≡ fault_of_sink fault)
+    → (ended_status result ≡ OutputFailed) ⊎ (ended_status result ≡ OutOfMemory)
+sink_end (Ok x) fault is = absurd is
+sink_end (Err e) Failed is = inl (ap status_of is)
+sink_end (Err e) Memory is = inr (ap status_of is)

@@ -1,0 +1,84 @@
+-- What ends a run before it is done: the status that it comes to, and its line on standard error.
+use Rattle.std.specs.Prelude.{◌≡◌, ℕ, Bool, true, false, nat_lt, List, [], ◌∷◌, ◌++◌, Option, None, IfSome, Result, Ok, Err, codes, decimal, if◌then◌else◌}
+use Rattle.lv_io.specs.declared.IoFault.{IoFault}
+use Rattle.lv_io.specs.declared.IoFault.TheVariants.{Failed, Memory}
+use Rattle.lv_run.specs.declared.status.Status.{Status}
+use Rattle.lv_run.specs.declared.status.Status.TheVariants.{Done, WordsRefused, ModelRefused, ModelUnread, SessionUnread, OutputFailed, SessionTooLong, OutOfMemory}
+use Rattle.lv_run.specs.declared.fault.RunFault.{RunFault}
+use Rattle.lv_run.specs.declared.fault.RunFault.TheVariants.{WordsRefused as BadWords, ModelRefused as BadModel, ModelUnread as NoModel, SessionUnread as NoSession, OutputFailed as NoOutput, SessionTooLong as LongSession, OutOfMemory as NoMemory}
+
+-- the status that a call ends with
+abbrev pub status_of : RunFault → Status
+status_of BadWords = WordsRefused
+status_of (BadModel code line) = ModelRefused
+status_of NoModel = ModelUnread
+status_of NoSession = SessionUnread
+status_of NoOutput = OutputFailed
+status_of LongSession = SessionTooLong
+status_of NoMemory = OutOfMemory
+
+-- the status of a run that ended so
+abbrev pub ended_status : Result (Unit {0}) RunFault → Status
+ended_status (Ok _) = Done
+ended_status (Err fault) = status_of fault
+
+-- a text as a line, with its line feed
+abbrev pub line : List ℕ → List ℕ
+line text = text ++ 10 ∷ []
+
+-- a number with at least two digits
+abbrev pub two_digits : ℕ → List ℕ
+two_digits n = if nat_lt n 10 then codes "0" ++ decimal n else decimal n
+
+-- `model LINE Mnn`
+abbrev pub model_line : ℕ → ℕ → List ℕ
+model_line code line = codes "model " ++ decimal line ++ codes " M" ++ two_digits code ++ codes "\n"
+
+-- the line that tells the fault on standard error; a failure of the output has none
+unfoldable pub line_of : RunFault → List ℕ
+line_of BadWords = line (codes "usage: livingstone run MODEL SESSION, check MODEL CERT, print MODEL, generate KIND N, drive N")
+line_of (BadModel code at) = model_line code at
+line_of NoModel = line (codes "cannot read model")
+line_of NoSession = line (codes "cannot read session")
+line_of NoOutput = []
+line_of LongSession = line (codes "session too long")
+line_of NoMemory = line (codes "out of memory")
+
+-- what a fault of writing ends a run with
+abbrev pub fault_of_sink : IoFault → RunFault
+fault_of_sink Failed = NoOutput
+fault_of_sink Memory = NoMemory
+
+-- the refusal of a model, one for all so long as its text is not told why
+abbrev pub model_refusal : RunFault
+model_refusal = BadModel 0 0
+
+-- a run ends so before the session's file is opened
+abbrev pub EndsModel : RunFault → Type 0
+EndsModel BadWords = ⊥
+EndsModel (BadModel code at) = (code ≡ 0) × (at ≡ 0)
+EndsModel NoModel = Unit {0}
+EndsModel NoSession = ⊥
+EndsModel NoOutput = ⊥
+EndsModel LongSession = ⊥
+EndsModel NoMemory = Unit {0}
+
+-- a run ends so where the session is opened and read
+abbrev pub EndsSession : RunFault → Type 0
+EndsSession BadWords = ⊥
+EndsSession (BadModel code at) = ⊥
+EndsSession NoModel = ⊥
+EndsSession NoSession = Unit {0}
+EndsSession NoOutput = ⊥
+EndsSession LongSession = Unit {0}
+EndsSession NoMemory = Unit {0}
+
+-- where the model is refused its text gives none
+abbrev pub RefusesOnly : RunFault → Option (List ℕ) → (List ℕ → Type 0) → Type 0
+RefusesOnly BadWords text none = Unit {0}
+RefusesOnly (BadModel code at) text none = IfSome text none
+RefusesOnly NoModel text none = Unit {0}
+RefusesOnly NoSession text none = Unit {0}
+RefusesOnly NoOutput text none = Unit {0}
+RefusesOnly LongSession text none = Unit {0}
+RefusesOnly NoMemory text none = Unit {0}

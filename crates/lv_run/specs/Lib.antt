@@ -1,0 +1,8 @@
+pub mod Arguments
+pub mod Expected
+pub mod Faults
+pub mod Inputs
+pub mod Opens
+pub mod Statuses
+pub mod Telling
+pub mod Top

@@ -1,0 +1,129 @@
+//! The whole of a call: the words, the model, the session, and the status that it ends with.
+
+ghost use Rattle.std.specs.Prelude.{◌≡◌, ◌≢◌, ◌++◌, ◌∷◌, ◌⊎◌, [], None, Some, List, ℕ, map, string_bytes, true, IfSome, IsTrue};
+ghost use Rattle.lv_io.specs.Outside.{Rose};
+ghost use Rattle.lv_io.specs.declared.Role.{Role};
+ghost use Rattle.lv_io.specs.declared.Role.TheVariants.{Model as OfModel, Second as OfSecond};
+ghost use Rattle.lv_run.specs.Arguments.{run_words};
+ghost use Rattle.lv_run.specs.Faults.{ended_status};
+ghost use Rattle.lv_run.specs.Expected.{expected, status_expected, opens_of, Meets, EndsAs, is_silent, keeps_shelf};
+ghost use Rattle.lv_run.specs.Opens.{HasOpened};
+ghost use Rattle.lv_run.specs.Telling.{Tells};
+ghost use Rattle.lv_session.specs.Transcript.{AddsTranscript};
+ghost use Rattle.lv_run.specs.Top.{Asks, HasNoFault, TellsOwnEnd};
+ghost use Rattle.lv_model.specs.declared.plant.Plant.{Plant};
+
+use crate::arguments::accepted;
+use crate::fault::RunFault;
+use crate::inputs::{load_model, load_session};
+use crate::status::Status;
+use crate::telling::report;
+use lv_io::{Shelf, Sink};
+use lv_session::write_transcript;
+use std::alloc::Global;
+
+/// A whole call of the program: `words` are those of the process, its own name first. What is written
+/// goes to `out`, and one line on the status, where it has one, to `err`.
+pub fn livingstone<F: Shelf, O: Sink, E: Sink>(
+    alloc: Global,
+    words: Vec<String>,
+    shelf: &mut F,
+    out: &mut O,
+    err: &mut E,
+) -> Status
+    // For every accepted model and every session, what is written is its transcript: each settled diagnosis lists the
+    // first k, by cost and then written order, of the transitions from the tracked states that some assignment allows
+    // with commands and observations; each settled recovery is the first command set that takes every tracked state
+    // nominally to the goals, or 'no recovery' exactly where none does. (No line of a session asks for a recovery yet.)
+    ensures headline { (plant : Plant) (session : List ℕ) → Asks (F.file shelf.old) (map string_bytes words.items) plant session → result ≡ Status.Done
+        → AddsTranscript plant session (O.text out.old) (O.text out.new) × (E.text err.new ≡ E.text err.old) }
+    ensures complete { (plant : Plant) (session : List ℕ) → Asks (F.file shelf.old) (map string_bytes words.items) plant session
+        → HasNoFault (F.faults shelf.old) (F.faults shelf.new) (O.faults out.old) (O.faults out.new) (E.faults err.old) (E.faults err.new)
+        → (result ≡ Status.Done) ⊎ (result ≡ Status.OutOfMemory) }
+
+    // Which status, where the shelf tells the files: with no fault the one that is expected.
+    ensures exact { IfSome (expected (F.file shelf.old) (map string_bytes words.items)) (λ e.
+        HasNoFault (F.faults shelf.old) (F.faults shelf.new) (O.faults out.old) (O.faults out.new) (E.faults err.old) (E.faults err.new)
+        → (result ≡ status_expected e) ⊎ (result ≡ Status.OutOfMemory)) }
+    ensures meets { IfSome (expected (F.file shelf.old) (map string_bytes words.items)) (λ e. Meets e (O.text out.old) (O.text out.new) result) }
+    ensures words { result ≡ Status.WordsRefused → run_words (map string_bytes words.items) ≡ None }
+    ensures refused { run_words (map string_bytes words.items) ≡ None → result ≢ Status.OutputFailed → result ≢ Status.OutOfMemory → result ≡ Status.WordsRefused }
+    ensures model_refused { IfSome (expected (F.file shelf.old) (map string_bytes words.items)) (λ e.
+        status_expected e ≡ Status.ModelRefused → ¬ Rose (F.faults shelf.old OfModel) (F.faults shelf.new OfModel)
+        → result ≢ Status.OutputFailed → result ≢ Status.OutOfMemory → result ≡ Status.ModelRefused) }
+
+    // What was written otherwise, and flushed. The line on standard error is of what this call came to.
+    ensures silent { IsTrue (is_silent result) → O.text out.new ≡ O.text out.old }
+    ensures told { TellsOwnEnd (expected (F.file shelf.old) (map string_bytes words.items)) (O.text out.old) (O.text out.new) (E.text err.old) (E.text err.new) result }
+    ensures out_flushed { result ≢ Status.OutputFailed → result ≢ Status.OutOfMemory → O.is_flushed out.old ≡ true → O.is_flushed out.new ≡ true }
+    ensures err_flushed { result ≢ Status.OutputFailed → result ≢ Status.OutOfMemory → E.is_flushed err.old ≡ true → E.is_flushed err.new ≡ true }
+
+    // What was opened.
+    ensures opens { HasOpened (opens_of (map string_bytes words.items)) (F.opens shelf.old) (F.opens shelf.new) result }
+
+    // Whose fault it was.
+    ensures model_unread { result ≡ Status.ModelUnread → Rose (F.faults shelf.old OfModel) (F.faults shelf.new OfModel) }
+    ensures session_unread { result ≡ Status.SessionUnread → Rose (F.faults shelf.old OfSecond) (F.faults shelf.new OfSecond) }
+    ensures output_failed { result ≡ Status.OutputFailed
+        → (Rose (O.faults out.old) (O.faults out.new) × (E.text err.new ≡ E.text err.old)) ⊎ Rose (E.faults err.old) (E.faults err.new) }
+    ensures shelf_as_before { IsTrue (keeps_shelf result) → (r : Role) → F.faults shelf.new r ≡ F.faults shelf.old r }
+    ensures out_as_before { result ≢ Status.OutputFailed → O.faults out.new ≡ O.faults out.old }
+    ensures err_as_before { result ≢ Status.OutputFailed → E.faults err.new ≡ E.faults err.old }
+{
+    let ended = carry_out(alloc, words.as_slice(), shelf, out);
+    tell_end(alloc, ended, err)
+}
+
+/// Tells how a run ended, if a fault did, and answers the status that the call ends with.
+fn tell_end<E: Sink>(alloc: Global, ended: Result<(), RunFault>, err: &mut E) -> Status
+    // Which status.
+    ensures status { result ≢ Status.OutputFailed → result ≢ Status.OutOfMemory → result ≡ ended_status ended }
+    ensures output { ended_status ended ≡ Status.OutputFailed → result ≡ Status.OutputFailed }
+
+    // What was written, and flushed.
+    ensures told { Tells ended (E.text err.old) (E.text err.new) result }
+    ensures untold { ended_status ended ≡ Status.OutputFailed → E.text err.new ≡ E.text err.old }
+    ensures flushed { result ≢ Status.OutputFailed → result ≢ Status.OutOfMemory → E.is_flushed err.old ≡ true → E.is_flushed err.new ≡ true }
+
+    // Whose fault it was.
+    ensures failed { result ≡ Status.OutputFailed → ended_status ended ≢ Status.OutputFailed → Rose (E.faults err.old) (E.faults err.new) }
+    ensures as_before { result ≢ Status.OutputFailed → E.faults err.new ≡ E.faults err.old }
+{
+    match ended {
+        Ok(()) => Status::Done,
+        Err(fault) => report(alloc, fault, err),
+    }
+}
+
+/// Reads the model and then the session that the words ask for, and writes the session's transcript.
+fn carry_out<F: Shelf, O: Sink>(
+    alloc: Global,
+    words: &[String],
+    shelf: &mut F,
+    out: &mut O,
+) -> Result<(), RunFault>
+    // What is expected.
+    ensures words { ended_status result ≡ Status.WordsRefused → run_words (map string_bytes words.now) ≡ None }
+    ensures meets { IfSome (expected (F.file shelf.old) (map string_bytes words.now)) (λ e. Meets e (O.text out.old) (O.text out.new) (ended_status result)) }
+    ensures refusal { IfSome (expected (F.file shelf.old) (map string_bytes words.now)) (λ e. EndsAs e result) }
+    ensures silent { IsTrue (is_silent (ended_status result)) → O.text out.new ≡ O.text out.old }
+    ensures flushed { ended_status result ≢ Status.OutputFailed → ended_status result ≢ Status.OutOfMemory → O.is_flushed out.old ≡ true → O.is_flushed out.new ≡ true }
+
+    // What is recorded.
+    ensures opens { HasOpened (opens_of (map string_bytes words.now)) (F.opens shelf.old) (F.opens shelf.new) (ended_status result) }
+
+    // Whose fault it was.
+    ensures model_unread { ended_status result ≡ Status.ModelUnread → Rose (F.faults shelf.old OfModel) (F.faults shelf.new OfModel) }
+    ensures session_unread { ended_status result ≡ Status.SessionUnread → Rose (F.faults shelf.old OfSecond) (F.faults shelf.new OfSecond) }
+    ensures shelf_as_before { ended_status result ≢ Status.ModelUnread → ended_status result ≢ Status.SessionUnread → (r : Role) → F.faults shelf.new r ≡ F.faults shelf.old r }
+    ensures output_failed { ended_status result ≡ Status.OutputFailed → Rose (O.faults out.old) (O.faults out.new) }
+    ensures out_as_before { ended_status result ≢ Status.OutputFailed → O.faults out.new ≡ O.faults out.old }
+{
+    let Some(run) = accepted(words) else {
+        return Err(RunFault::WordsRefused);
+    };
+    let model = load_model(alloc, shelf, run.model)?;
+    let session = load_session(alloc, shelf, run.session)?;
+    write_transcript(alloc, &model, session.as_slice(), out)?;
+    Ok(())
+}

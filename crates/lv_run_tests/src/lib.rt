@@ -1,0 +1,5 @@
+//! Tests of whole calls.
+#![tactic(auto)]
+
+#[cfg(test)]
+mod whole_calls;

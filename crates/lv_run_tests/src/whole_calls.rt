@@ -1,0 +1,294 @@
+//! Whole calls over files and sinks in memory: what no clause says is that they succeed with ample
+//! memory, and what the texts of the examples are.
+#![tactic(auto)]
+
+use lv_io::{MemShelf, MemSink, Role};
+use lv_run::{Status, livingstone};
+use std::alloc::{AllocError, Global};
+
+/// A valve that follows its command or is stuck, with its inflow present.
+const VALVE: &str = "model valve
+domain flow zero some
+domain order none open close
+type valve
+control cmd order
+variable inn flow
+observable out flow
+mode closed
+mode open
+mode stuck_closed
+mode stuck_open
+in closed out = zero
+in open out = inn
+in stuck_closed out = zero
+in stuck_open out = inn
+step closed -> open when cmd = open
+step open -> closed when cmd = close
+fault closed -> stuck_closed cost 3
+fault open -> stuck_open cost 5
+fault open -> stuck_closed cost 4
+fault closed -> stuck_open cost 8
+end
+part v valve closed
+law v.inn = some
+";
+
+const COMMANDED: &str = "ok
+settled 3
+1 cost 0 from 1: v closed>open #1
+2 cost 3 from 1: v closed>stuck_closed #3
+3 cost 8 from 1: v closed>stuck_open #6
+";
+
+const AT_REST: &str = "settled 3
+1 cost 0 from 1: -
+2 cost 3 from 1: v closed>stuck_closed #3
+3 cost 8 from 1: v closed>stuck_open #6
+";
+
+const USAGE: &str =
+    "usage: livingstone run MODEL SESSION, check MODEL CERT, print MODEL, generate KIND N, drive N
+";
+
+/// A call: its words, the session's text, and the numbers of the calls on the shelf and on the output
+/// that fail. The first three on the shelf open and read the model, the next three the session.
+#[derive(Clone, Copy)]
+struct Call<'a> {
+    words: &'a [&'a str],
+    session: &'a [u8],
+    shelf_fails: &'a [u64],
+    out_fails: &'a [u64],
+    err_fails: &'a [u64],
+}
+
+/// A call of these words over this session, in which nothing fails.
+fn faultless<'a>(words: &'a [&'a str], session: &'a str) -> Call<'a> {
+    Call {
+        words,
+        session: session.as_bytes(),
+        shelf_fails: &[],
+        out_fails: &[],
+        err_fails: &[],
+    }
+}
+
+/// What a call came to.
+#[derive(Drop)]
+struct Outcome {
+    status: Status,
+    out: MemSink,
+    err: MemSink,
+    shelf: MemShelf,
+}
+
+fn file(alloc: Global, name: &str, text: &[u8]) -> Result<(String, Vec<u8>), AllocError> {
+    Ok((
+        String::from_str(alloc, name)?,
+        Vec::from_slice(alloc, text)?,
+    ))
+}
+
+fn carried_out(alloc: Global, call: &Call<'_>) -> Result<Outcome, AllocError> {
+    let mut files = Vec::new(alloc);
+    files.push(file(alloc, "valve.lv", VALVE.as_bytes())?)?;
+    files.push(file(alloc, "bad.lv", b"no model\n")?)?;
+    files.push(file(alloc, "a.ses", call.session)?)?;
+    let mut words = Vec::new(alloc);
+    for word in call.words {
+        words.push(String::from_str(alloc, word)?)?;
+    }
+    let shelf_fails = Vec::from_slice(alloc, call.shelf_fails)?;
+    let mut shelf = MemShelf::new(alloc, files, 4096, shelf_fails);
+    let mut out = MemSink::new(alloc, 4096, Vec::from_slice(alloc, call.out_fails)?);
+    let mut err = MemSink::new(alloc, 7, Vec::from_slice(alloc, call.err_fails)?);
+    let status = livingstone(alloc, words, &mut shelf, &mut out, &mut err);
+    Ok(Outcome {
+        status,
+        out,
+        err,
+        shelf,
+    })
+}
+
+/// Whether a call ends with this status and these texts on the output and on standard error, and a count of the shelf
+/// rises just where the status tells of it.
+fn ends_so(
+    alloc: Global,
+    call: &Call<'_>,
+    status: Status,
+    out: &str,
+    err: &str,
+) -> Result<bool, AllocError> {
+    let outcome = carried_out(alloc, call)?;
+    let model_failed = outcome.shelf.faults(Role::Model) > 0;
+    let session_failed = outcome.shelf.faults(Role::Second) > 0;
+    Ok(
+        outcome.status == status
+            && outcome.out.text() == out.as_bytes()
+            && outcome.err.text() == err.as_bytes()
+            && model_failed == (status == Status::ModelUnread)
+            && session_failed == (status == Status::SessionUnread),
+    )
+}
+
+const RUN: &[&str] = &["livingstone", "run", "valve.lv", "a.ses"];
+
+const FIRST: &str = "command v.cmd = open\ndiagnose\n";
+
+#[test]
+fn command_and_diagnosis(rt: HostRuntime) -> Result<(), AllocError> {
+    let call = faultless(RUN, FIRST);
+    assert!(rt; ends_so(rt.alloc(), &call, Status::Done, COMMANDED, "")?);
+    Ok(())
+}
+
+#[test]
+fn last_line_without_its_end(rt: HostRuntime) -> Result<(), AllocError> {
+    let call = faultless(RUN, "diagnose");
+    assert!(rt; ends_so(rt.alloc(), &call, Status::Done, AT_REST, "")?);
+    Ok(())
+}
+
+#[test]
+fn empty_session(rt: HostRuntime) -> Result<(), AllocError> {
+    let call = faultless(RUN, "");
+    assert!(rt; ends_so(rt.alloc(), &call, Status::Done, "", "")?);
+    Ok(())
+}
+
+#[test]
+fn too_few_words(rt: HostRuntime) -> Result<(), AllocError> {
+    let call = faultless(&["livingstone", "run", "valve.lv"], FIRST);
+    assert!(rt; ends_so(rt.alloc(), &call, Status::WordsRefused, "", USAGE)?);
+    Ok(())
+}
+
+#[test]
+fn file_word_of_a_dash(rt: HostRuntime) -> Result<(), AllocError> {
+    let call = faultless(&["livingstone", "run", "-", "a.ses"], FIRST);
+    assert!(rt; ends_so(rt.alloc(), &call, Status::WordsRefused, "", USAGE)?);
+    Ok(())
+}
+
+#[test]
+fn refused_model(rt: HostRuntime) -> Result<(), AllocError> {
+    let call = faultless(&["livingstone", "run", "bad.lv", "a.ses"], FIRST);
+    assert!(rt; ends_so(rt.alloc(), &call, Status::ModelRefused, "", "model 0 M00\n")?);
+    Ok(())
+}
+
+#[test]
+fn model_that_is_not_there(rt: HostRuntime) -> Result<(), AllocError> {
+    let call = faultless(&["livingstone", "run", "no.lv", "a.ses"], FIRST);
+    assert!(rt;
+        ends_so(
+            rt.alloc(),
+            &call,
+            Status::ModelUnread,
+            "",
+            "cannot read model\n"
+        )?
+    );
+    Ok(())
+}
+
+#[test]
+fn failed_read_of_the_model(rt: HostRuntime) -> Result<(), AllocError> {
+    let call = Call {
+        shelf_fails: &[3],
+        ..faultless(RUN, FIRST)
+    };
+    assert!(rt;
+        ends_so(
+            rt.alloc(),
+            &call,
+            Status::ModelUnread,
+            "",
+            "cannot read model\n"
+        )?
+    );
+    Ok(())
+}
+
+#[test]
+fn session_that_is_not_there(rt: HostRuntime) -> Result<(), AllocError> {
+    let call = faultless(&["livingstone", "run", "valve.lv", ""], FIRST);
+    assert!(rt;
+        ends_so(
+            rt.alloc(),
+            &call,
+            Status::SessionUnread,
+            "",
+            "cannot read session\n"
+        )?
+    );
+    Ok(())
+}
+
+#[test]
+fn failed_read_of_the_session(rt: HostRuntime) -> Result<(), AllocError> {
+    let call = Call {
+        shelf_fails: &[5],
+        ..faultless(RUN, "diagnose")
+    };
+    assert!(rt;
+        ends_so(
+            rt.alloc(),
+            &call,
+            Status::SessionUnread,
+            "",
+            "cannot read session\n"
+        )?
+    );
+    Ok(())
+}
+
+#[test]
+fn failed_write(rt: HostRuntime) -> Result<(), AllocError> {
+    let call = Call {
+        out_fails: &[1],
+        ..faultless(RUN, "diagnose")
+    };
+    assert!(rt; ends_so(rt.alloc(), &call, Status::OutputFailed, "", "")?);
+    Ok(())
+}
+
+#[test]
+fn failed_flush(rt: HostRuntime) -> Result<(), AllocError> {
+    let call = Call {
+        out_fails: &[3],
+        ..faultless(RUN, FIRST)
+    };
+    assert!(rt; ends_so(rt.alloc(), &call, Status::OutputFailed, COMMANDED, "")?);
+    Ok(())
+}
+
+/// The second write of the line on standard error, which takes seven bytes at a time, fails.
+#[test]
+fn failed_write_of_a_line(rt: HostRuntime) -> Result<(), AllocError> {
+    let call = Call {
+        err_fails: &[2],
+        ..faultless(&["livingstone", "run", "bad.lv", "a.ses"], FIRST)
+    };
+    assert!(rt; ends_so(rt.alloc(), &call, Status::OutputFailed, "", "model 0")?);
+    Ok(())
+}
+
+#[test]
+fn session_over_its_limit(rt: HostRuntime) -> Result<(), AllocError> {
+    let session = vec![in rt.alloc(); b'\n'; 67_108_865]?;
+    let call = Call {
+        session: session.as_slice(),
+        ..faultless(RUN, "")
+    };
+    assert!(rt;
+        ends_so(
+            rt.alloc(),
+            &call,
+            Status::SessionTooLong,
+            "",
+            "session too long\n"
+        )?
+    );
+    Ok(())
+}

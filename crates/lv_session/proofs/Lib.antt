@@ -1,0 +1,3 @@
+pub mod Transcripts
+pub mod Serving
+pub mod Writing
