@@ -1,13 +1,10 @@
 -- What fits a list of ranges reads variables of that list alone.
 use Rattle.std.proofs.Common.{◌≡◌, ◌+◌, ◌≤◌, ◌<◌, ℕ, Bool, true, false, ◌&&◌, List, [], ◌∷◌, length, slice_get, Option, Some, None, refl, arith, nat_lt, zero, suc}
+use Rattle.std.proofs.lemmas.Bool.{and_parts}
 use Rattle.std.specs.Option.{option_map_or}
 use Rattle.lv_formula.specs.declared.range.Range.{Range}
 use Rattle.lv_formula.specs.Tree.{Tree, always, never, is, same, negation, all, any, implies, iff, Trees, none, more, reads_below, each_reads_below}
 use Rattle.lv_formula.specs.Fits.{is_same_sort, are_alike, fits, each_fits}
-
-both : (p q : Bool) → (p && q) ≡ true → (p ≡ true) × (q ≡ true)
-both true q h = (refl, h)
-both false q h = absurd (cc)
 
 -- what is found at a place stands within the list
 within : {R : Type 0} (xs : List R) (n : ℕ) (x : R) → slice_get xs n ≡ Some x → n < length xs
@@ -42,9 +39,9 @@ module _ (ranges : List Range) (bound base : ℕ) (ends : base + length ranges �
     fits_reads (negation f) h = fits_reads f h
     fits_reads (all fs) h = each_fits_reads fs h
     fits_reads (any fs) h = each_fits_reads fs h
-    fits_reads (implies f g) h = let two = both (fits ranges f) (fits ranges g) h in rw (fits_reads f two.0, fits_reads g two.1) refl
-    fits_reads (iff f g) h = let two = both (fits ranges f) (fits ranges g) h in rw (fits_reads f two.0, fits_reads g two.1) refl
+    fits_reads (implies f g) h = let two = and_parts (fits ranges f) (fits ranges g) h in rw (fits_reads f two.0, fits_reads g two.1) refl
+    fits_reads (iff f g) h = let two = and_parts (fits ranges f) (fits ranges g) h in rw (fits_reads f two.0, fits_reads g two.1) refl
 
     each_fits_reads : (fs : Trees) → each_fits ranges fs ≡ true → each_reads_below bound base fs ≡ true
     each_fits_reads none h = refl
-    each_fits_reads (more f fs) h = let two = both (fits ranges f) (each_fits ranges fs) h in rw (fits_reads f two.0, each_fits_reads fs two.1) refl
+    each_fits_reads (more f fs) h = let two = and_parts (fits ranges f) (each_fits ranges fs) h in rw (fits_reads f two.0, each_fits_reads fs two.1) refl

@@ -1,7 +1,7 @@
 -- Being among the items of a list, by recursion, and what it is for lists put together.
 use Rattle.std.proofs.Common.{◌≡◌, ℕ, zero, suc, Bool, true, List, [], ◌∷◌, ◌++◌, Contains, ◌⊎◌, inl, inr, ⊎_elim, refl, sym, subst, ◌∙◌, ap, arith}
+use Rattle.std.proofs.lemmas.Bool.{and_parts}
 use Rattle.std.specs.List.{flat_map, list_all}
-use Rattle.lv_laws.proofs.SomeList.{left_of, right_of}
 
 abbrev pub Among : {X : Type 0} → X → List X → Type 0
 Among x [] = ⊥
@@ -34,8 +34,8 @@ module _ {X : Type 0} where
 
   pub all_among : (f : X → Bool) (xs : List X) (x : X) → list_all f xs ≡ true → Among x xs → f x ≡ true
   all_among f [] x h a = absurd a
-  all_among f (y ∷ ys) x h (inl e) = ap f e ∙ left_of (f y) (list_all f ys) h
-  all_among f (y ∷ ys) x h (inr a) = all_among f ys x (right_of (f y) (list_all f ys) h) a
+  all_among f (y ∷ ys) x h (inl e) = ap f e ∙ (and_parts (f y) (list_all f ys) h).0
+  all_among f (y ∷ ys) x h (inr a) = all_among f ys x ((and_parts (f y) (list_all f ys) h).1) a
 
   -- an item of the list made of one number
   pub record FromNumber (f : ℕ → List X) (ns : List ℕ) (x : X) : Type 0 where

@@ -1,5 +1,6 @@
 -- The answer is the first of the possible candidates.
 use Rattle.std.proofs.Common.{◌≡◌, ℕ, zero, suc, ◌≤◌, ◌<◌, Bool, true, false, List, [], ◌∷◌, length, take, filter, cond, inl, inr, refl, sym, subst, ◌∙◌, ap, arith}
+use Rattle.std.proofs.lemmas.Bool.{and_parts, and_from}
 use Rattle.std.specs.List.{list_all}
 use Rattle.lv_base.specs.declared.rank.Rank.{Rank}
 use Rattle.lv_base.specs.Rank.{ranks_before}
@@ -9,7 +10,6 @@ use Rattle.lv_model.specs.declared.state.TrackedState.{TrackedState}
 use Rattle.lv_meaning.specs.Candidates.{candidates, is_possible_rank, first_possible}
 use Rattle.lv_walk.specs.Ranked.{rises}
 use Rattle.lv_laws.specs.Candidates.{IsAnswer}
-use Rattle.lv_laws.proofs.SomeList.{both, left_of, right_of}
 use Rattle.lv_laws.proofs.Rising.{candidates_rise_law}
 use Rattle.lv_laws.proofs.Among.{Among, among, contained, all_among}
 use Rattle.lv_laws.proofs.Listing.{is_listed, is_candidate}
@@ -17,17 +17,17 @@ use Rattle.lv_laws.proofs.Listing.{is_listed, is_candidate}
 module _ {X : Type 0} where
   all_filtered : (f p : X → Bool) (xs : List X) → list_all f xs ≡ true → list_all f (filter p xs) ≡ true
   all_filtered f p [] h = refl
-  all_filtered f p (x ∷ xs) h = by (p x) (all_filtered f p xs (right_of (f x) (list_all f xs) h))
+  all_filtered f p (x ∷ xs) h = by (p x) (all_filtered f p xs ((and_parts (f x) (list_all f xs) h).1))
     where
       by : (b : Bool) → list_all f (filter p xs) ≡ true → list_all f (cond b (x ∷ filter p xs) (filter p xs)) ≡ true
-      by true rest = both (f x) (list_all f (filter p xs)) (left_of (f x) (list_all f xs) h) rest
+      by true rest = and_from (f x) (list_all f (filter p xs)) ((and_parts (f x) (list_all f xs) h).0) rest
       by false rest = rest
 
   all_taken : (f : X → Bool) (k : ℕ) (xs : List X) → list_all f xs ≡ true → list_all f (take k xs) ≡ true
   all_taken f zero xs h = refl
   all_taken f (suc k) [] h = refl
   all_taken f (suc k) (x ∷ xs) h =
-      both (f x) (list_all f (take k xs)) (left_of (f x) (list_all f xs) h) (all_taken f k xs (right_of (f x) (list_all f xs) h))
+      and_from (f x) (list_all f (take k xs)) ((and_parts (f x) (list_all f xs) h).0) (all_taken f k xs ((and_parts (f x) (list_all f xs) h).1))
 
   among_taken : (k : ℕ) (xs : List X) (x : X) → Among x (take k xs) → Among x xs
   among_taken zero xs x h = absurd h
@@ -70,26 +70,26 @@ module _ {X : Type 0} where
   all_pass p (y ∷ ys) = by (p y) refl (all_pass p ys)
     where
       by : (b : Bool) → p y ≡ b → list_all p (filter p ys) ≡ true → list_all p (cond b (y ∷ filter p ys) (filter p ys)) ≡ true
-      by true e rest = both (p y) (list_all p (filter p ys)) e rest
+      by true e rest = and_from (p y) (list_all p (filter p ys)) e rest
       by false e rest = rest
 
 pub rise_filtered : (p : Rank → Bool) (rs : List Rank) → rises rs ≡ true → rises (filter p rs) ≡ true
 rise_filtered p [] h = refl
-rise_filtered p (r ∷ rs) h = by (p r) (rise_filtered p rs (right_of (list_all (ranks_before r) rs) (rises rs) h))
+rise_filtered p (r ∷ rs) h = by (p r) (rise_filtered p rs ((and_parts (list_all (ranks_before r) rs) (rises rs) h).1))
   where
     by : (b : Bool) → rises (filter p rs) ≡ true → rises (cond b (r ∷ filter p rs) (filter p rs)) ≡ true
     by true rest =
-        both (list_all (ranks_before r) (filter p rs)) (rises (filter p rs))
-        (all_filtered (ranks_before r) p rs (left_of (list_all (ranks_before r) rs) (rises rs) h)) rest
+        and_from (list_all (ranks_before r) (filter p rs)) (rises (filter p rs))
+        (all_filtered (ranks_before r) p rs ((and_parts (list_all (ranks_before r) rs) (rises rs) h).0)) rest
     by false rest = rest
 
 rise_taken : (k : ℕ) (rs : List Rank) → rises rs ≡ true → rises (take k rs) ≡ true
 rise_taken zero rs h = refl
 rise_taken (suc k) [] h = refl
 rise_taken (suc k) (r ∷ rs) h =
-    both (list_all (ranks_before r) (take k rs)) (rises (take k rs))
-    (all_taken (ranks_before r) k rs (left_of (list_all (ranks_before r) rs) (rises rs) h))
-    (rise_taken k rs (right_of (list_all (ranks_before r) rs) (rises rs) h))
+    and_from (list_all (ranks_before r) (take k rs)) (rises (take k rs))
+    (all_taken (ranks_before r) k rs ((and_parts (list_all (ranks_before r) rs) (rises rs) h).0))
+    (rise_taken k rs ((and_parts (list_all (ranks_before r) rs) (rises rs) h).1))
 
 -- of ranks in order one that is not among the first ranks after all of these
 rest_after : (k : ℕ) (rs : List Rank) (r other : Rank) → rises rs ≡ true → Among r (take k rs) → Among other rs → (Among other (take k rs) → ⊥) → ranks_before r other ≡ true
@@ -97,9 +97,9 @@ rest_after zero rs r other h taken there left = absurd taken
 rest_after (suc k) [] r other h taken there left = absurd taken
 rest_after (suc k) (x ∷ xs) r other h taken (inl e) left = absurd (left (inl e))
 rest_after (suc k) (x ∷ xs) r other h (inl e) (inr a) left =
-    ap (λ (y : Rank). ranks_before y other) e ∙ all_among (ranks_before x) xs other (left_of (list_all (ranks_before x) xs) (rises xs) h) a
+    ap (λ (y : Rank). ranks_before y other) e ∙ all_among (ranks_before x) xs other ((and_parts (list_all (ranks_before x) xs) (rises xs) h).0) a
 rest_after (suc k) (x ∷ xs) r other h (inr t) (inr a) left =
-    rest_after k xs r other (right_of (list_all (ranks_before x) xs) (rises xs) h) t a (λ b. left (inr b))
+    rest_after k xs r other ((and_parts (list_all (ranks_before x) xs) (rises xs) h).1) t a (λ b. left (inr b))
 
 pub answer_law : (k : ℕ) (plant : Plant) (facts : Facts) (tracked : List TrackedState) → IsAnswer k plant facts tracked (first_possible k plant facts tracked)
 answer_law k plant facts tracked =

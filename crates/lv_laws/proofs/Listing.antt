@@ -1,5 +1,6 @@
 -- Exactly the candidates are listed.
 use Rattle.std.proofs.Common.{◌≡◌, ℕ, zero, suc, ◌+◌, Bool, true, false, nat_eq, List, [], ◌∷◌, ◌++◌, cond, slice_get, Some, Contains, ◌⊎◌, inl, inr, ⊎_elim, refl, sym, subst, ◌∙◌, ap, arith, append_assoc}
+use Rattle.std.proofs.lemmas.Bool.{and_parts, and_from}
 use Rattle.std.proofs.lemmas.List.{append-nil}
 use Rattle.std.specs.declared.cmp.Ordering.{Ordering}
 use Rattle.std.specs.declared.cmp.Ordering.TheVariants.{Less, Equal, Greater}
@@ -17,7 +18,6 @@ use Rattle.lv_model.specs.declared.state.TrackedState.{TrackedState}
 use Rattle.lv_walk.specs.Ranked.{put_in_order}
 use Rattle.lv_meaning.specs.Candidates.{numbers_from, type_moves, move_cost, ranks_from, ranks_of, candidates}
 use Rattle.lv_laws.specs.Candidates.{goes_from, are_moves, moves_cost, IsCandidate}
-use Rattle.lv_laws.proofs.SomeList.{both, left_of, right_of}
 use Rattle.lv_base.specs.Rank.{rank_cmp}
 use Rattle.lv_laws.proofs.Among.{Among, among, contained, among_left, among_right, among_either, FromNumber, from_number, among_flat}
 
@@ -142,7 +142,7 @@ module _ (types : List ComponentType) (place : ℕ) where
       record {
         more = n ∷ rest.more;
         moves =
-            both (goes_from (type_moves types p) v.0 n) (are_moves types ps vs rest.more)
+            and_from (goes_from (type_moves types p) v.0 n) (are_moves types ps vs rest.more)
             (subst (λ k. goes_from (type_moves types p) v.0 k ≡ true) same taken.goes) rest.moves;
         cost_is = omega arith;
         source_is = rest.source_is;
@@ -158,8 +158,8 @@ module _ (types : List ComponentType) (place : ℕ) where
   leads_there (p ∷ ps) (v ∷ vs) cost choices [] r moves total source are = absurd (cc moves)
   leads_there (p ∷ ps) (v ∷ vs) cost choices (c ∷ cs) r moves total source are =
       among_flat (λ n. ranks_from types place ps vs (cost + move_cost (type_moves types p) n) (choices ++ (n ∷ []))) (numbers_from 0 v.0 (type_moves types p)) c r
-      (goes_number 0 v.0 (type_moves types p) c c (omega arith) (left_of (goes_from (type_moves types p) v.0 c) (are_moves types ps vs cs) moves))
-      (leads_there ps vs (cost + move_cost (type_moves types p) c) (choices ++ (c ∷ [])) cs r (right_of (goes_from (type_moves types p) v.0 c) (are_moves types ps vs cs) moves)
+      (goes_number 0 v.0 (type_moves types p) c c (omega arith) ((and_parts (goes_from (type_moves types p) v.0 c) (are_moves types ps vs cs) moves).0))
+      (leads_there ps vs (cost + move_cost (type_moves types p) c) (choices ++ (c ∷ [])) cs r ((and_parts (goes_from (type_moves types p) v.0 c) (are_moves types ps vs cs) moves).1)
       (omega arith) source (are ∙ sym (append_assoc choices (c ∷ []) cs)))
 
 -- a rank comes from one of these states, the first of which has this place

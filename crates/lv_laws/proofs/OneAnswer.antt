@@ -1,5 +1,6 @@
 -- Only one list of possible candidates is the answer.
 use Rattle.std.proofs.Common.{◌≡◌, ℕ, zero, suc, ◌≤◌, ◌<◌, true, false, List, [], ◌∷◌, length, take, filter, inl, inr, ⊎_elim, refl, sym, subst, ◌∙◌, ap₂, arith}
+use Rattle.std.proofs.lemmas.Bool.{and_parts}
 use Rattle.std.specs.List.{list_all}
 use Rattle.lv_base.specs.declared.rank.Rank.{Rank}
 use Rattle.lv_base.specs.Rank.{rank_key, ranks_before}
@@ -10,7 +11,6 @@ use Rattle.lv_model.specs.declared.state.TrackedState.{TrackedState}
 use Rattle.lv_meaning.specs.Candidates.{candidates, is_possible_rank, first_possible}
 use Rattle.lv_walk.specs.Ranked.{rises}
 use Rattle.lv_laws.specs.Candidates.{IsCandidate, IsAnswer}
-use Rattle.lv_laws.proofs.SomeList.{left_of, right_of}
 use Rattle.lv_laws.proofs.Rising.{candidates_rise_law}
 use Rattle.lv_laws.proofs.Among.{Among, among, contained, all_among}
 use Rattle.lv_laws.proofs.Listing.{is_listed, is_candidate}
@@ -36,8 +36,8 @@ not_first x r rs h a e = not_itself x (subst (λ (y : Rank). ranks_before x y �
 same_head : (k : ℕ) (x y : Rank) (xs ys : List Rank) → rises (x ∷ xs) ≡ true → IsFirst k (x ∷ xs) (y ∷ ys) → Among y (x ∷ xs) → y ≡ x
 same_head k x y xs ys h f (inl e) = e
 same_head k x y xs ys h f (inr a) =
-    let x_first : ranks_before x y ≡ true = all_among (ranks_before x) xs y (left_of (list_all (ranks_before x) xs) (rises xs) h) a in
-    let y_first : list_all (ranks_before y) ys ≡ true = left_of (list_all (ranks_before y) ys) (rises ys) f.rising in
+    let x_first : ranks_before x y ≡ true = all_among (ranks_before x) xs y ((and_parts (list_all (ranks_before x) xs) (rises xs) h).0) a in
+    let y_first : list_all (ranks_before y) ys ≡ true = (and_parts (list_all (ranks_before y) ys) (rises ys) f.rising).0 in
     let turned : ranks_before y x ≡ true → ⊥ = λ yx. not_itself x (transitive (rank_key x) (rank_key y) (rank_key x) x_first yx) in
     absurd (turned (f.others_after y x (inl refl) (inl refl)
     (⊎_elim (λ e. not_itself x (subst (λ (z : Rank). ranks_before x z ≡ true) (sym e) x_first)) (λ b. turned (all_among (ranks_before y) ys x y_first b)))))
@@ -45,12 +45,12 @@ same_head k x y xs ys h f (inr a) =
 -- behind the first the same holds of what is left
 behind_first : (k : ℕ) (x y : Rank) (xs ys : List Rank) → rises (x ∷ xs) ≡ true → y ≡ x → IsFirst (suc k) (x ∷ xs) (y ∷ ys) → IsFirst k xs ys
 behind_first k x y xs ys h e f =
-    let x_first : list_all (ranks_before x) xs ≡ true = left_of (list_all (ranks_before x) xs) (rises xs) h in
-    let y_first : list_all (ranks_before y) ys ≡ true = left_of (list_all (ranks_before y) ys) (rises ys) f.rising in
+    let x_first : list_all (ranks_before x) xs ≡ true = (and_parts (list_all (ranks_before x) xs) (rises xs) h).0 in
+    let y_first : list_all (ranks_before y) ys ≡ true = (and_parts (list_all (ranks_before y) ys) (rises ys) f.rising).0 in
     let few = f.few in
     record {
       few = omega arith;
-      rising = right_of (list_all (ranks_before y) ys) (rises ys) f.rising;
+      rising = (and_parts (list_all (ranks_before y) ys) (rises ys) f.rising).1;
       members = λ r a. ⊎_elim (λ is. absurd (not_first y r ys y_first a (is ∙ sym e))) (λ b. b) (f.members r (inr a));
       others_after = λ r other a b left. f.others_after r other (inr a) (inr b) (⊎_elim (λ is. not_first x other xs x_first b (is ∙ e)) left);
       none_left_out =
@@ -66,7 +66,7 @@ first_is (suc k) (x ∷ xs) [] h f = absurd (f.none_left_out (omega arith) x (in
 first_is (suc k) (x ∷ xs) (y ∷ ys) h f =
     let e : y ≡ x = same_head (suc k) x y xs ys h f (f.members y (inl refl)) in
     ap₂ (λ (r : Rank) (rs : List Rank). r ∷ rs) e
-    (first_is k xs ys (right_of (list_all (ranks_before x) xs) (rises xs) h) (behind_first k x y xs ys h e f))
+    (first_is k xs ys ((and_parts (list_all (ranks_before x) xs) (rises xs) h).1) (behind_first k x y xs ys h e f))
 
 pub one_answer : (k : ℕ) (plant : Plant) (facts : Facts) (tracked : List TrackedState) (answer : List Rank) → IsAnswer k plant facts tracked answer
     → answer ≡ first_possible k plant facts tracked

@@ -1,5 +1,6 @@
 -- Possible partial choices have witnesses, and a witness serves each part.
 use Rattle.std.proofs.Common.{◌≡◌, Bool, true, ◌&&◌, List, [], ◌∷◌, ◌++◌, map, get_or, Contains, ⊎_elim, subst}
+use Rattle.std.proofs.lemmas.Bool.{and_parts, and_from}
 use Rattle.std.specs.List.{list_all}
 use Rattle.lv_base.specs.declared.ids.ValId.{ValId}
 use Rattle.lv_base.specs.declared.ids.MoveId.{MoveId}
@@ -14,7 +15,7 @@ use Rattle.lv_meaning.specs.Possible.{value, move_number, gives, extends, witnes
 use Rattle.std.proofs.lemmas.List.Sums.{AllPass-from_list_all, list_all-from_AllPass}
 use Rattle.std.proofs.lemmas.List.Elements.{Contains-get_or, Contains-append_left, Contains-append_right, Contains-append_cases}
 use Rattle.lv_laws.specs.Possible.{Witness}
-use Rattle.lv_laws.proofs.SomeList.{list_found, found_list, both, left_of, right_of}
+use Rattle.lv_laws.proofs.SomeList.{list_found, found_list}
 
 module _ (plant : Plant) (facts : Facts) (partial : List Pair) where
   abbrev with_moves : List ValId → List ValId → Bool
@@ -56,7 +57,7 @@ possible_less plant facts more less weaker h =
       before_below = w.before_below;
       after_below = w.after_below;
       moves_below = w.moves_below;
-      step = both (extends moves less) steps (weaker moves (left_of (extends moves more) steps w.step)) (right_of (extends moves more) steps w.step);
+      step = and_from (extends moves less) steps (weaker moves ((and_parts (extends moves more) steps w.step).0)) ((and_parts (extends moves more) steps w.step).1);
     })
 
 pub part_possible : (plant : Plant) (facts : Facts) (part whole : List Pair) → ((p : Pair) → Contains part p → Contains whole p)

@@ -1,5 +1,6 @@
 -- The search for some list finds one exactly where there is one.
 use Rattle.std.proofs.Common.{◌≡◌, ℕ, zero, suc, Bool, true, false, ◌&&◌, ◌||◌, nat_lt, List, [], ◌∷◌, map, refl, sym, ◌∙◌, ap, arith}
+use Rattle.std.proofs.lemmas.Bool.{and_parts, and_from}
 use Rattle.lv_meaning.specs.Search.{some_below, some_list}
 use Rattle.lv_laws.specs.Possible.{are_below}
 
@@ -35,29 +36,18 @@ pub record ListFound {X : Type 0} (item : ℕ → X) (ns : List ℕ) (p : List X
   pub below : are_below ns numbers ≡ true
   pub passes : p (map item numbers) ≡ true
 
-pub both : (a b : Bool) → a ≡ true → b ≡ true → (a && b) ≡ true
-both a b e f = ap (λ (x : Bool). x && b) e ∙ f
-
-pub left_of : (a b : Bool) → (a && b) ≡ true → a ≡ true
-left_of true b e = refl
-left_of false b e = e
-
-pub right_of : (a b : Bool) → (a && b) ≡ true → b ≡ true
-right_of true b e = e
-right_of false b e = absurd (cc e)
-
 module _ {X : Type 0} (item : ℕ → X) where
   pub list_found : (ns : List ℕ) (p : List X → Bool) → some_list item ns p ≡ true → ListFound item ns p
   list_found [] p h = record { numbers = []; below = refl; passes = h }
   list_found (n ∷ ns) p h =
       let first : Found n (λ v. some_list item ns (λ xs. p (item v ∷ xs))) = below_found n (λ v. some_list item ns (λ xs. p (item v ∷ xs))) h in
       let rest : ListFound item ns (λ xs. p (item first.number ∷ xs)) = list_found ns (λ xs. p (item first.number ∷ xs)) first.passes in
-      record { numbers = first.number ∷ rest.numbers; below = both (nat_lt first.number n) (are_below ns rest.numbers) first.below rest.below; passes = rest.passes }
+      record { numbers = first.number ∷ rest.numbers; below = and_from (nat_lt first.number n) (are_below ns rest.numbers) first.below rest.below; passes = rest.passes }
 
   pub found_list : (ns : List ℕ) (p : List X → Bool) (vs : List ℕ) → are_below ns vs ≡ true → p (map item vs) ≡ true → some_list item ns p ≡ true
   found_list [] p [] below h = h
   found_list [] p (v ∷ vs) below h = absurd (cc below)
   found_list (n ∷ ns) p [] below h = absurd (cc below)
   found_list (n ∷ ns) p (v ∷ vs) below h =
-      found_below n (λ x. some_list item ns (λ xs. p (item x ∷ xs))) v (left_of (nat_lt v n) (are_below ns vs) below)
-      (found_list ns (λ xs. p (item v ∷ xs)) vs (right_of (nat_lt v n) (are_below ns vs) below) h)
+      found_below n (λ x. some_list item ns (λ xs. p (item x ∷ xs))) v ((and_parts (nat_lt v n) (are_below ns vs) below).0)
+      (found_list ns (λ xs. p (item v ∷ xs)) vs ((and_parts (nat_lt v n) (are_below ns vs) below).1) h)

@@ -1,7 +1,7 @@
 -- Where the moves of a mode stand among moves whose sources rise.
 use Rattle.std.proofs.Common.{◌≡◌, ◌+◌, ◌≤◌, ◌<◌, ℕ, Bool, true, false, ◌&&◌, ◌||◌, List, [], ◌∷◌, slice_get, Option, Some, None, refl, subst, ap, ◌∙◌, arith, nat_lt, nat_le, nat_eq, zero, suc, count_by, length, cond, ◌⊎◌, inl, inr}
 use Rattle.std.proofs.lemmas.List.Sums.{sum_by-cons}
-use Rattle.std.proofs.lemmas.Bool.{cases_lt, cases_order}
+use Rattle.std.proofs.lemmas.Bool.{cases_lt, cases_order, and_parts}
 use Rattle.std.specs.Option.{option_map_or}
 use Rattle.std.specs.List.{list_all}
 use Rattle.lv_model.specs.declared.plant.Plant.{Plant}
@@ -11,7 +11,7 @@ use Rattle.lv_model.specs.declared.plant.Move.{Move}
 use Rattle.lv_model.specs.Ranges.{type_ranges}
 use Rattle.lv_model.specs.Moves.{first_move, move_count, moves_of}
 use Rattle.lv_model.specs.WellFormed.{kind_place, moves_rise, stays_once, names_fit, counts_fit, formulas_fit, moves_fit, move_fits, is_well_formed}
-use Rattle.lv_model.proofs.Reading.{both, type_of_place, types_pass}
+use Rattle.lv_model.proofs.Reading.{type_of_place, types_pass}
 
 counted : (p : Move → Bool) (b : Bool) (x : Move) (xs : List Move) → p x ≡ b → count_by p (x ∷ xs) ≡ cond b 1 0 + count_by p xs
 counted p b x xs e = sum_by-cons (λ y. cond (p y) 1 0) x xs ∙ ap (λ c. cond c 1 0 + count_by p xs) e
@@ -19,7 +19,7 @@ counted p b x xs e = sum_by-cons (λ y. cond (p y) 1 0) x xs ∙ ap (λ c. cond 
 -- the first of moves that rise from a mode is not before it, and the others rise from its own
 risen : (low place : ℕ) (x : Move) (xs : List Move) → moves_rise low place (x ∷ xs) ≡ true → (low ≤ x.source.0) × (moves_rise x.source.0 (kind_place x.kind) xs ≡ true)
 risen low place x xs h =
-    let two = both (nat_lt low x.source.0 || (nat_eq low x.source.0 && nat_le place (kind_place x.kind))) (moves_rise x.source.0 (kind_place x.kind) xs) h in
+    let two = and_parts (nat_lt low x.source.0 || (nat_eq low x.source.0 && nat_le place (kind_place x.kind))) (moves_rise x.source.0 (kind_place x.kind) xs) h in
     let first : (nat_lt low x.source.0 || (nat_eq low x.source.0 && nat_le place (kind_place x.kind))) ≡ true = two.0 in
     (grind arith, two.1)
 
@@ -138,8 +138,8 @@ rise_of_type plant h kind None here = refl
 rise_of_type plant h kind (Some t) here =
     let fit = type_of_place plant.domains plant.types kind t (types_pass plant h) here in
     let ranges = type_ranges plant.domains kind t in
-    let moves = (both (formulas_fit ranges t) (moves_fit ranges t) (both (names_fit (length plant.domains) t && counts_fit t) _ fit).1).1 in
-    (both (moves_rise 0 0 t.moves) (stays_once 0 t.modes t.moves) (both (list_all (move_fits ranges (length t.modes)) t.moves) _ moves).1).0
+    let moves = (and_parts (formulas_fit ranges t) (moves_fit ranges t) (and_parts (names_fit (length plant.domains) t && counts_fit t) _ fit).1).1 in
+    (and_parts (moves_rise 0 0 t.moves) (stays_once 0 t.modes t.moves) (and_parts (list_all (move_fits ranges (length t.modes)) t.moves) _ moves).1).0
 
 rise_of_part : (plant : Plant) → is_well_formed plant ≡ true → (o : Option Part) → moves_rise 0 0 (option_map_or (λ (p : Part). option_map_or (λ (t : ComponentType). t.moves) (slice_get plant.types p.kind) []) o []) ≡ true
 rise_of_part plant h None = refl

@@ -1,5 +1,6 @@
 -- How many sizes and moves a well-formed plant has, and how large they are.
 use Rattle.std.proofs.Common.{◌≡◌, ◌+◌, ◌≤◌, ℕ, true, ◌&&◌, List, [], ◌∷◌, length, map, slice_get, Option, Some, None, refl, ◌∙◌, arith, All, nat_le, nat_lt, nat_eq, not, is_some}
+use Rattle.std.proofs.lemmas.Bool.{and_parts}
 use Rattle.std.specs.Option.{option_map_or}
 use Rattle.std.specs.List.{list_all, flat_map}
 use Rattle.std.proofs.lemmas.List.{length-map}
@@ -18,7 +19,7 @@ use Rattle.lv_model.specs.declared.plant.Part.{Part}
 use Rattle.lv_model.specs.Ranges.{variable_range, type_ranges, part_ranges, plant_ranges}
 use Rattle.lv_model.specs.Lists.{sizes, variable_count, part_moves, IsFew}
 use Rattle.lv_model.specs.WellFormed.{name_fits, is_within, domain_fits, names_fit, counts_fit, formulas_fit, moves_fit, type_fits, types_fit, guard_fits, kind_fits, move_fits, is_well_formed, MoveIsCheap, TypeIsSmall}
-use Rattle.lv_model.proofs.Reading.{both, All-of_test, All-at, type_of_place, length-plant_ranges, domains_pass, types_pass}
+use Rattle.lv_model.proofs.Reading.{All-of_test, All-at, type_of_place, length-plant_ranges, domains_pass, types_pass}
 
 -- there is one size for each variable
 pub length-sizes : (plant : Plant) → length (sizes plant) ≡ variable_count plant
@@ -34,27 +35,27 @@ few_sizes_of (r ∷ rs) h =
 
 module _ (domains : List Domain) (kind : ℕ) (t : ComponentType) (fits : type_fits domains kind t ≡ true) where
   counts : (is_within 1 (length t.modes) MODES ≡ true) × (nat_le (length t.moves) MOVES ≡ true)
-  counts = both (is_within 1 (length t.modes) MODES) (nat_le (length t.moves) MOVES) (both (names_fit (length domains) t) (counts_fit t) (both (names_fit (length domains) t && counts_fit t) _ fits).0).1
+  counts = and_parts (is_within 1 (length t.modes) MODES) (nat_le (length t.moves) MOVES) (and_parts (names_fit (length domains) t) (counts_fit t) (and_parts (names_fit (length domains) t && counts_fit t) _ fits).0).1
 
   few_modes : length t.modes ≤ MODES
-  few_modes = leb-true (length t.modes) MODES (both (nat_le 1 (length t.modes)) (nat_le (length t.modes) MODES) counts.0).1
+  few_modes = leb-true (length t.modes) MODES (and_parts (nat_le 1 (length t.modes)) (nat_le (length t.modes) MODES) counts.0).1
 
   few_moves : length t.moves ≤ MOVES
   few_moves = leb-true (length t.moves) MOVES counts.1
 
   moves_pass : list_all (move_fits (type_ranges domains kind t) (length t.modes)) t.moves ≡ true
   moves_pass =
-      (both (list_all (move_fits (type_ranges domains kind t) (length t.modes)) t.moves) _
-      (both (formulas_fit (type_ranges domains kind t) t) (moves_fit (type_ranges domains kind t) t) (both (names_fit (length domains) t && counts_fit t) _ fits).1).1).0
+      (and_parts (list_all (move_fits (type_ranges domains kind t) (length t.modes)) t.moves) _
+      (and_parts (formulas_fit (type_ranges domains kind t) t) (moves_fit (type_ranges domains kind t) t) (and_parts (names_fit (length domains) t && counts_fit t) _ fits).1).1).0
 
 cheap_by_kind : (kind : MoveKind) (m : Move) → kind_fits kind m ≡ true → m.cost.0 ≤ FAULT_COST
-cheap_by_kind Step m fits = let e : m.cost.0 ≡ 0 = eqb-true m.cost.0 0 (both (is_some m.guard) (nat_eq m.cost.0 0) fits).1 in omega arith
-cheap_by_kind Stay m fits = let e : m.cost.0 ≡ 0 = eqb-true m.cost.0 0 (both (nat_eq m.target.0 m.source.0) (nat_eq m.cost.0 0) (both (not (is_some m.guard)) (nat_eq m.target.0 m.source.0 && nat_eq m.cost.0 0) fits).1).1 in omega arith
-cheap_by_kind Fault m fits = leb-true m.cost.0 FAULT_COST (both (nat_le LEAST_FAULT_COST m.cost.0) (nat_le m.cost.0 FAULT_COST) fits).1
+cheap_by_kind Step m fits = let e : m.cost.0 ≡ 0 = eqb-true m.cost.0 0 (and_parts (is_some m.guard) (nat_eq m.cost.0 0) fits).1 in omega arith
+cheap_by_kind Stay m fits = let e : m.cost.0 ≡ 0 = eqb-true m.cost.0 0 (and_parts (nat_eq m.target.0 m.source.0) (nat_eq m.cost.0 0) (and_parts (not (is_some m.guard)) (nat_eq m.target.0 m.source.0 && nat_eq m.cost.0 0) fits).1).1 in omega arith
+cheap_by_kind Fault m fits = leb-true m.cost.0 FAULT_COST (and_parts (nat_le LEAST_FAULT_COST m.cost.0) (nat_le m.cost.0 FAULT_COST) fits).1
 
 cheap_move : (ranges : List Range) (modes : ℕ) (m : Move) → move_fits ranges modes m ≡ true → MoveIsCheap m
 cheap_move ranges modes m fits =
-    record { cost = cheap_by_kind m.kind m (both (kind_fits m.kind m) (guard_fits ranges m) (both (nat_lt m.source.0 modes && nat_lt m.target.0 modes) _ fits).1).0 }
+    record { cost = cheap_by_kind m.kind m (and_parts (kind_fits m.kind m) (guard_fits ranges m) (and_parts (nat_lt m.source.0 modes && nat_lt m.target.0 modes) _ fits).1).0 }
 
 small_type : (domains : List Domain) (kind : ℕ) (t : ComponentType) → type_fits domains kind t ≡ true → TypeIsSmall t
 small_type domains kind t fits =
@@ -66,7 +67,7 @@ small_type domains kind t fits =
 small_types_from : (domains : List Domain) (k : ℕ) (ts : List ComponentType) → types_fit domains k ts ≡ true → All TypeIsSmall ts
 small_types_from domains k [] h = λ j d below. absurd (omega arith)
 small_types_from domains k (t ∷ ts) h =
-    let two = both (type_fits domains k t) (types_fit domains (k + 1) ts) h in
+    let two = and_parts (type_fits domains k t) (types_fit domains (k + 1) ts) h in
     All-cons TypeIsSmall t ts (small_type domains k t two.0) (small_types_from domains (k + 1) ts two.1)
 
 module _ (plant : Plant) (h : is_well_formed plant ≡ true) where
@@ -81,8 +82,8 @@ module _ (plant : Plant) (h : is_well_formed plant ≡ true) where
   few_values : (o : Option Domain) (d : ℕ) → slice_get plant.domains d ≡ o → option_map_or (λ (x : Domain). length x.values) o 0 ≤ 64
   few_values None d is = omega arith
   few_values (Some x) d is =
-      let fits = both (name_fits x.name) _ (domain_passes d x is) in
-      let values : length x.values ≤ VALUES = leb-true (length x.values) VALUES (both (nat_le 1 (length x.values)) _ (both (is_within 1 (length x.values) VALUES) _ fits.1).0).1 in
+      let fits = and_parts (name_fits x.name) _ (domain_passes d x is) in
+      let values : length x.values ≤ VALUES = leb-true (length x.values) VALUES (and_parts (nat_le 1 (length x.values)) _ (and_parts (is_within 1 (length x.values) VALUES) _ fits.1).0).1 in
       omega arith
 
   few_of_variables : (vs : List Variable) → All HasFew (map (variable_range plant.domains) vs)

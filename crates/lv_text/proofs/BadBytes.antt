@@ -1,5 +1,6 @@
 -- The byte told as bad is not allowed where it stands.
 use Rattle.std.proofs.Common.{◌≡◌, ℕ, zero, suc, ◌+◌, ◌-◌, ◌<◌, Bool, true, false, not, cond, ◌||◌, ◌&&◌, nat_lt, nat_eq, List, [], ◌∷◌, length, drop, get_or, refl, sym, ap, subst, ◌∙◌, arith, codes, length-drop}
+use Rattle.std.proofs.lemmas.Bool.{and_parts, and_from}
 use Rattle.std.proofs.lemmas.Bool.Decides.{nat_tests}
 use Rattle.std.proofs.lemmas.List.{drop-drop, get_or-drop}
 use Rattle.std.proofs.lemmas.List.Sums.{prefix_len_passes}
@@ -13,7 +14,7 @@ use Rattle.lv_text.specs.Pieces.{piece_of, number_piece, symbol_piece}
 use Rattle.lv_text.specs.Kinds.{BeginsWith}
 use Rattle.lv_text.specs.Tokens.{Lexed, lexed, bad_byte, long_line, prepended, piece_tokens, tokens_from}
 use Rattle.lv_text.specs.Laws.{is_not_allowed, begins_something, symbol_texts, BadByteIsNotAllowed}
-use Rattle.lv_text.proofs.Choices.{if_holds, both, left_of, right_of}
+use Rattle.lv_text.proofs.Choices.{if_holds}
 use Rattle.lv_text.proofs.PieceFacts.{piece_fits, prefix_len-first}
 use Rattle.lv_text.proofs.TokenFacts.{further}
 use borrow.Author.Tests.{ltb-true}
@@ -31,7 +32,7 @@ positive n h = grind (arith, nat_tests)
 -- a letter behind a digit is not allowed
 letter_not_allowed : (xs : List ℕ) (n : ℕ) → is_letter (get_or xs n 0) ≡ true → 0 < n → is_digit (get_or xs (n - 1) 0) ≡ true → is_not_allowed xs n ≡ true
 letter_not_allowed xs n letter some digit =
-    ap (λ c. cond c (nat_lt 0 n && is_digit (get_or xs (n - 1) 0)) (not (begins_something (drop n xs)))) letter ∙ both _ _ (positive n some) digit
+    ap (λ c. cond c (nat_lt 0 n && is_digit (get_or xs (n - 1) 0)) (not (begins_something (drop n xs)))) letter ∙ and_from _ _ (positive n some) digit
 
 number_faults : (b : ℕ) (more : List ℕ) → is_digit b ≡ true → FaultStands (b ∷ more) (number_piece (b ∷ more))
 number_faults b more is =
@@ -40,7 +41,7 @@ number_faults b more is =
     let some : 0 < n = prefix_len-first is_digit b more is in
     let less : n - 1 < n = omega arith in
     if_holds (FaultStands xs) (nat_lt n (length xs) && is_letter (get_or xs n 0)) (Fault n) (Lexeme Number n)
-    (λ h. letter_not_allowed xs n (right_of _ _ h) some (prefix_len_passes is_digit xs (n - 1) 0 less)) (λ _. tt)
+    (λ h. letter_not_allowed xs n ((and_parts _ _ h).1) some (prefix_len_passes is_digit xs (n - 1) 0 less)) (λ _. tt)
 
 nor : (c r : Bool) → c ≡ false → r ≡ false → (c || r) ≡ false
 nor true r e f = e
@@ -95,10 +96,10 @@ not_allowed_further line xs place n is h = by (is_letter (get_or xs n 0)) refl
     by true e =
         let digit : (nat_lt 0 n && is_digit (get_or xs (n - 1) 0)) ≡ true =
         sym (ap (λ c. cond c (nat_lt 0 n && is_digit (get_or xs (n - 1) 0)) (not (begins_something (drop n xs)))) e) ∙ h in
-        let some : 0 < n = ltb-true 0 n (left_of (nat_lt 0 n) (is_digit (get_or xs (n - 1) 0)) digit) in
+        let some : 0 < n = ltb-true 0 n ((and_parts (nat_lt 0 n) (is_digit (get_or xs (n - 1) 0)) digit).0) in
         let before : place + (n - 1) ≡ (place + n) - 1 = omega arith in
         letter_not_allowed line (place + n) (ap is_letter (sym (same n)) ∙ e) (omega arith)
-        (ap (λ k. is_digit (get_or line k 0)) (sym before) ∙ ap is_digit (sym (same (n - 1))) ∙ right_of (nat_lt 0 n) (is_digit (get_or xs (n - 1) 0)) digit)
+        (ap (λ k. is_digit (get_or line k 0)) (sym before) ∙ ap is_digit (sym (same (n - 1))) ∙ (and_parts (nat_lt 0 n) (is_digit (get_or xs (n - 1) 0)) digit).1)
     by false e =
         let nothing : not (begins_something (drop n xs)) ≡ true =
         sym (ap (λ c. cond c (nat_lt 0 n && is_digit (get_or xs (n - 1) 0)) (not (begins_something (drop n xs)))) e) ∙ h in

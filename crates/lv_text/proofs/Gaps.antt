@@ -1,5 +1,6 @@
 -- What the tokens of a line leave of it are blanks and a comment.
 use Rattle.std.proofs.Common.{◌≡◌, ℕ, zero, suc, ◌+◌, ◌-◌, Bool, true, false, ◌&&◌, ◌||◌, nat_eq, List, [], ◌∷◌, ◌++◌, length, take, drop, refl, sym, ap, subst, ◌∙◌, arith, length-append, append_assoc, codes}
+use Rattle.std.proofs.lemmas.Bool.{and_parts, and_from}
 use Rattle.std.proofs.lemmas.List.Folds.{list_all-append}
 use Rattle.std.proofs.Math.Seq.{take-append_seam}
 use Rattle.std.specs.List.{list_all, prefix_len, starts_with}
@@ -12,7 +13,7 @@ use Rattle.lv_text.specs.Pieces.{piece_of, number_piece, symbol_piece}
 use Rattle.lv_text.specs.Kinds.{BeginsWith}
 use Rattle.lv_text.specs.Tokens.{Lexed, lexed, bad_byte, long_line, prepended, piece_tokens, tokens_from}
 use Rattle.lv_text.specs.Laws.{blank_to_comment, leave_blanks, TokensLeaveBlanks}
-use Rattle.lv_text.proofs.Choices.{if_holds, both, left_of, right_of}
+use Rattle.lv_text.proofs.Choices.{if_holds}
 use Rattle.lv_text.proofs.PieceFacts.{piece_fits}
 use Rattle.lv_text.proofs.TokenFacts.{further}
 
@@ -53,8 +54,8 @@ stands_at b more =
 blanks_before : (gap rest : List ℕ) → list_all is_blank gap ≡ true → blank_to_comment rest ≡ true → blank_to_comment (gap ++ rest) ≡ true
 blanks_before [] rest h k = k
 blanks_before (b ∷ gap) rest h k =
-    let later : blank_to_comment (gap ++ rest) ≡ true = blanks_before gap rest (right_of (is_blank b) (list_all is_blank gap) h) k in
-    by (is_comment_mark b) (is_blank b) (left_of (is_blank b) (list_all is_blank gap) h) later
+    let later : blank_to_comment (gap ++ rest) ≡ true = blanks_before gap rest ((and_parts (is_blank b) (list_all is_blank gap) h).1) k in
+    by (is_comment_mark b) (is_blank b) ((and_parts (is_blank b) (list_all is_blank gap) h).0) later
   where
     by : (m n : Bool) → n ≡ true → blank_to_comment (gap ++ rest) ≡ true → (m || (n && blank_to_comment (gap ++ rest))) ≡ true
     by true n h k = refl
@@ -65,7 +66,7 @@ comment_mark_first : (b : ℕ) (more : List ℕ) → is_comment_mark b ≡ true 
 comment_mark_first b more h = ap (λ c. c || (is_blank b && blank_to_comment more)) h
 
 one_more_blank : (gap : List ℕ) (b : ℕ) → list_all is_blank gap ≡ true → is_blank b ≡ true → list_all is_blank (gap ++ b ∷ []) ≡ true
-one_more_blank gap b h is = list_all-append is_blank gap (b ∷ []) ∙ both _ _ h (both _ _ is refl)
+one_more_blank gap b h is = list_all-append is_blank gap (b ∷ []) ∙ and_from _ _ h (and_from _ _ is refl)
 
 -- the gap before a token is a part of the line
 gap_is_slice : (line gap rest : List ℕ) (low place : ℕ) → drop low line ≡ gap ++ rest → low + length gap ≡ place → take (place - low) (drop low line) ≡ gap
@@ -103,7 +104,7 @@ piece_leaves line more gap b place low blank is long rest behind later (Lexeme k
         ap (list_all is_blank) (gap_is_slice line gap (b ∷ more) low place is long) ∙ blank in
         let others : leave_blanks line (place + n) us ≡ true =
         later (n - 1) (place + n) [] refl (sym (rest (n - 1) ∙ ap (λ k. drop k line) same_place)) none_left us same in
-        subst (λ us. leave_blanks line low us ≡ true) parts (both _ _ first others)
+        subst (λ us. leave_blanks line low us ≡ true) parts (and_from _ _ first others)
     by (bad_byte k) same whole = absurd (cc)
     by long_line same whole = absurd (cc)
 piece_leaves line more gap b place low blank is long rest behind later (Fault n) h at ts e = absurd (cc)

@@ -1,5 +1,6 @@
 -- A piece lies within the rest of the line, and a token has a text of its kind.
 use Rattle.std.proofs.Common.{◌≡◌, ℕ, zero, suc, ◌+◌, ◌<◌, ◌≤◌, Bool, true, false, ◌&&◌, ◌||◌, cond, List, [], ◌∷◌, length, take, get_or, refl, sym, ap, subst, ◌∙◌, arith, nat_lt, nat_eq, codes}
+use Rattle.std.proofs.lemmas.Bool.{and_parts, and_from}
 use Rattle.std.proofs.lemmas.List.{length-take}
 use Rattle.std.proofs.lemmas.List.Sums.{prefix_len-le-length}
 use Rattle.std.specs.List.{prefix_len, list_all, starts_with}
@@ -11,7 +12,7 @@ use Rattle.lv_text.specs.declared.lexer.Piece.TheVariants.{End, Blank, Lexeme, F
 use Rattle.lv_text.specs.Bytes.{is_letter, is_digit, is_word_byte, is_blank, is_comment_mark}
 use Rattle.lv_text.specs.Pieces.{piece_of, number_piece, symbol_piece}
 use Rattle.lv_text.specs.Kinds.{BeginsWith, has_kind}
-use Rattle.lv_text.proofs.Choices.{if_holds, both, left_of}
+use Rattle.lv_text.proofs.Choices.{if_holds}
 use borrow.Author.Tests.{ltb-true}
 
 -- the front that passes a test does
@@ -22,7 +23,7 @@ list_all-prefix p (x ∷ xs) = by (list_all-prefix p xs) (p x) refl
     by : list_all p (take (prefix_len p xs) xs) ≡ true → (c : Bool) → p x ≡ c → list_all p (take (cond c (1 + prefix_len p xs) 0) (x ∷ xs)) ≡ true
     by later true is =
         let e : suc (prefix_len p xs) ≡ 1 + prefix_len p xs = omega arith in
-        subst (λ n. list_all p (take n (x ∷ xs)) ≡ true) e (both (p x) _ is later)
+        subst (λ n. list_all p (take n (x ∷ xs)) ≡ true) e (and_from (p x) _ is later)
     by later false is = refl
 
 -- a front that is not empty begins as the list does
@@ -45,11 +46,11 @@ number_fits b more is =
     let xs : List ℕ = b ∷ more in
     let n : ℕ = prefix_len is_digit xs in
     if_holds (BeginsWith xs) (nat_lt n (length xs) && is_letter (get_or xs n 0)) (Fault n) (Lexeme Number n)
-    (λ h. ltb-true n (length xs) (left_of _ _ h))
+    (λ h. ltb-true n (length xs) ((and_parts _ _ h).0))
     (λ _. (
       prefix_len-first is_digit b more is,
       prefix_len-le-length is_digit xs,
-      both _ _ (subst (λ c. is_digit c ≡ true) (sym (first-take n b more (prefix_len-first is_digit b more is))) is) (list_all-prefix is_digit xs),
+      and_from _ _ (subst (λ c. is_digit c ≡ true) (sym (first-take n b more (prefix_len-first is_digit b more is))) is) (list_all-prefix is_digit xs),
     ))
 
 word_fits : (b : ℕ) (more : List ℕ) → is_letter b ≡ true → BeginsWith (b ∷ more) (Lexeme Word (prefix_len is_word_byte (b ∷ more)))
@@ -60,7 +61,7 @@ word_fits b more is =
     let some : 0 < n = prefix_len-first is_word_byte b more word in (
       some,
       prefix_len-le-length is_word_byte xs,
-      both _ _ (subst (λ c. is_letter c ≡ true) (sym (first-take n b more some)) is) (list_all-prefix is_word_byte xs),
+      and_from _ _ (subst (λ c. is_letter c ≡ true) (sym (first-take n b more some)) is) (list_all-prefix is_word_byte xs),
     )
 
 -- a symbol that stands there is a piece

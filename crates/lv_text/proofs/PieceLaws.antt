@@ -1,5 +1,6 @@
 -- A byte that stands in no token doesn't change the piece before it.
 use Rattle.std.proofs.Common.{◌≡◌, ℕ, suc, ◌+◌, Bool, true, false, cond, ◌&&◌, ◌||◌, nat_lt, nat_eq, List, [], ◌∷◌, ◌++◌, length, take, get_or, refl, sym, ap, ap₂, subst, ◌∙◌, arith, codes}
+use Rattle.std.proofs.lemmas.Bool.{and_parts}
 use Rattle.std.proofs.lemmas.Bool.Decides.{nat_tests}
 use Rattle.std.specs.List.{prefix_len, list_all, starts_with}
 use Rattle.std.specs.Cmp.Lexicographic.{pointwise}
@@ -8,7 +9,6 @@ use Rattle.lv_text.specs.declared.lexer.Piece.{Piece}
 use Rattle.lv_text.specs.declared.lexer.Piece.TheVariants.{End, Blank, Lexeme, Fault}
 use Rattle.lv_text.specs.Bytes.{is_letter, is_digit, is_word_byte, is_blank, is_comment_mark, is_symbol_byte}
 use Rattle.lv_text.specs.Pieces.{piece_of, number_piece, symbol_piece}
-use Rattle.lv_text.proofs.Choices.{left_of, right_of}
 
 -- a byte that stands in no token
 pub record StandsApart (b : ℕ) : Type 0 where
@@ -75,8 +75,8 @@ starts_with-append : (needle xs : List ℕ) (b : ℕ) (rest : List ℕ) → is_s
     → starts_with nat_eq (xs ++ b ∷ rest) needle ≡ starts_with nat_eq xs needle
 starts_with-append [] [] b rest apart all = refl
 starts_with-append [] (x ∷ xs) b rest apart all = refl
-starts_with-append (n ∷ ns) [] b rest apart all = ap (λ c. c && pointwise nat_eq ns (take (length ns) rest)) (other_byte n b (left_of _ _ all) apart)
-starts_with-append (n ∷ ns) (x ∷ xs) b rest apart all = ap (λ c. nat_eq n x && c) (starts_with-append ns xs b rest apart (right_of _ _ all))
+starts_with-append (n ∷ ns) [] b rest apart all = ap (λ c. c && pointwise nat_eq ns (take (length ns) rest)) (other_byte n b ((and_parts _ _ all).0) apart)
+starts_with-append (n ∷ ns) (x ∷ xs) b rest apart all = ap (λ c. nat_eq n x && c) (starts_with-append ns xs b rest apart ((and_parts _ _ all).1))
 
 symbol_piece-append : (xs : List ℕ) (b : ℕ) (rest : List ℕ) → is_symbol_byte b ≡ false → symbol_piece (xs ++ b ∷ rest) ≡ symbol_piece xs
 symbol_piece-append xs b rest apart =

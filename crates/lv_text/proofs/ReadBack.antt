@@ -1,5 +1,6 @@
 -- Lexemes that are printed are read again.
 use Rattle.std.proofs.Common.{◌≡◌, ℕ, ◌+◌, ◌-◌, Bool, true, false, cond, not, ◌&&◌, ◌||◌, nat_eq, nat_lt, List, [], ◌∷◌, ◌++◌, length, take, map, All, codes, refl, sym, ap, ap₂, subst, ◌∙◌, arith}
+use Rattle.std.proofs.lemmas.Bool.{and_parts, and_from}
 use Rattle.std.proofs.lemmas.Bool.Decides.{nat_tests}
 use Rattle.std.proofs.lemmas.List.Elements.{All-head, All-tail, All-from_recursion}
 use Rattle.std.proofs.lemmas.List.{append-nil}
@@ -15,7 +16,6 @@ use Rattle.lv_text.specs.Kinds.{IsTokenOf, has_kind}
 use Rattle.lv_text.specs.Lexemes.{Lexeme, lexeme_of, lexemes_of, Reading, reads, has_bad_byte, is_too_long, reading_by, is_word, is_number}
 use Rattle.lv_text.specs.Tokens.{Lexed, lexed, bad_byte, long_line, prepended, all_tokens}
 use Rattle.lv_text.specs.Laws.{IsLexeme, LexemesHaveKinds, PrintedIsReadAgain, is_word_or_number, gap_between, printed, moved, moved_token, followed, token_at, ends_token}
-use Rattle.lv_text.proofs.Choices.{left_of}
 use Rattle.lv_text.proofs.SliceLaws.{text_moves}
 use Rattle.lv_text.proofs.TextLaws.{text_law}
 use Rattle.lv_text.proofs.TokenFacts.{all_tokens_each}
@@ -96,9 +96,9 @@ digit_behind_equals b h = grind (arith, nat_tests)
 -- no text begins with `>`
 all_behind_equals : (kind : TokenKind) (text rest : List ℕ) → has_kind kind text ≡ true → ends_token Equals (text ++ rest) ≡ true
 all_behind_equals Word [] rest h = absurd (cc)
-all_behind_equals Word (b ∷ more) rest h = letter_behind_equals b (left_of (is_letter b) (list_all is_word_byte (b ∷ more)) h)
+all_behind_equals Word (b ∷ more) rest h = letter_behind_equals b ((and_parts (is_letter b) (list_all is_word_byte (b ∷ more)) h).0)
 all_behind_equals Number [] rest h = absurd (cc)
-all_behind_equals Number (b ∷ more) rest h = digit_behind_equals b (left_of (is_digit b) (list_all is_digit (b ∷ more)) h)
+all_behind_equals Number (b ∷ more) rest h = digit_behind_equals b ((and_parts (is_digit b) (list_all is_digit (b ∷ more)) h).0)
 all_behind_equals Iff text rest h = subst (λ t. ends_token Equals (t ++ rest) ≡ true) (same_text (codes "<=>") text (sym h)) refl
 all_behind_equals Implies text rest h = subst (λ t. ends_token Equals (t ++ rest) ≡ true) (same_text (codes "=>") text (sym h)) refl
 all_behind_equals Arrow text rest h = subst (λ t. ends_token Equals (t ++ rest) ≡ true) (same_text (codes "->") text (sym h)) refl
@@ -110,7 +110,7 @@ all_behind_equals Open text rest h = subst (λ t. ends_token Equals (t ++ rest) 
 all_behind_equals Close text rest h = subst (λ t. ends_token Equals (t ++ rest) ≡ true) (same_text (codes ")") text (sym h)) refl
 all_behind_equals Dot text rest h = subst (λ t. ends_token Equals (t ++ rest) ≡ true) (same_text (codes ".") text (sym h)) refl
 
--- a token ends before the next one, if they aren't both words or numbers
+-- a token ends before the next one, if they aren't and_from words or numbers
 ends_before : (kind next : TokenKind) (text rest : List ℕ) → ((is_word kind || is_number kind) && (is_word next || is_number next)) ≡ false → has_kind next text ≡ true
     → ends_token kind (text ++ rest) ≡ true
 ends_before Word next text rest apart h = symbol_behind_word next text rest apart h
@@ -193,7 +193,7 @@ reading-next l m more h k is = by (is_word_or_number l && is_word_or_number m) r
     front = front_text m more
 
     by : (c : Bool) → (is_word_or_number l && is_word_or_number m) ≡ c → reading (l.text ++ (cond c (32 ∷ []) [] ++ printed (m ∷ more))) ≡ reads (l ∷ m ∷ more)
-    by true both =
+    by true and_from =
         reading-text l (32 ∷ printed (m ∷ more)) (m ∷ more) h (ends_before_blank l.kind (printed (m ∷ more))) (reading-blank 32 (printed (m ∷ more)) (m ∷ more) refl is)
     by false apart =
         reading-text l (printed (m ∷ more)) (m ∷ more) h

@@ -1,5 +1,6 @@
 -- The text of a token reads as that token, and a printed number as itself.
 use Rattle.std.proofs.Common.{◌≡◌, ℕ, suc, ◌+◌, Bool, true, false, not, cond, ◌||◌, ◌&&◌, nat_lt, nat_eq, List, [], ◌∷◌, ◌++◌, length, get_or, refl, sym, ap, subst, ◌∙◌, arith, codes, length-append}
+use Rattle.std.proofs.lemmas.Bool.{and_parts}
 use Rattle.std.proofs.lemmas.Bool.Decides.{nat_tests}
 use Rattle.std.proofs.Math.Seq.{drop-append_seam, get_or-append_seam}
 use Rattle.std.specs.List.{list_all, prefix_len}
@@ -13,7 +14,6 @@ use Rattle.lv_text.specs.Pieces.{piece_of, number_piece, symbol_piece}
 use Rattle.lv_text.specs.Kinds.{has_kind}
 use Rattle.lv_text.specs.Tokens.{prepended, tokens_from, tokens_at, tokens_behind}
 use Rattle.lv_text.specs.Laws.{ends_token, token_at, TextIsToken}
-use Rattle.lv_text.proofs.Choices.{left_of, right_of}
 use Rattle.lv_text.proofs.TokenSteps.{tokens_at-step}
 use Rattle.lv_text.proofs.TokenMoves.{tokens_from-place}
 
@@ -34,8 +34,8 @@ prefix_len-whole : (p : ℕ → Bool) (xs rest : List ℕ) → list_all p xs ≡
 prefix_len-whole p [] rest all h = prefix_len-none p rest h
 prefix_len-whole p (x ∷ xs) rest all h =
     let one : 1 + length xs ≡ suc (length xs) = omega arith in
-    ap (λ c. cond c (1 + prefix_len p (xs ++ rest)) 0) (left_of (p x) (list_all p xs) all)
-    ∙ ap (λ n. 1 + n) (prefix_len-whole p xs rest (right_of (p x) (list_all p xs) all) h) ∙ one
+    ap (λ c. cond c (1 + prefix_len p (xs ++ rest)) 0) ((and_parts (p x) (list_all p xs) all).0)
+    ∙ ap (λ n. 1 + n) (prefix_len-whole p xs rest ((and_parts (p x) (list_all p xs) all).1) h) ∙ one
 
 letter_first : (b : ℕ) → is_letter b ≡ true → (is_comment_mark b ≡ false) × (is_blank b ≡ false)
 letter_first b h = (grind (arith, nat_tests), grind (arith, nat_tests))
@@ -69,11 +69,11 @@ fourth false false false false p q r s t g h i j = absurd (cc)
 word_piece : (text rest : List ℕ) → has_kind Word text ≡ true → ends_token Word rest ≡ true → piece_of (text ++ rest) ≡ Lexeme Word (length text)
 word_piece [] rest h ends = absurd (cc)
 word_piece (x ∷ more) rest h ends =
-    let letter : is_letter x ≡ true = left_of _ _ h in
+    let letter : is_letter x ≡ true = (and_parts _ _ h).0 in
     let first = letter_first x letter in
     third (is_comment_mark x) (is_blank x) (is_letter x) End Blank (Lexeme Word (prefix_len is_word_byte (x ∷ (more ++ rest))))
     (cond (is_digit x) (number_piece (x ∷ (more ++ rest))) (symbol_piece (x ∷ (more ++ rest)))) first.0 first.1 letter
-    ∙ ap (Lexeme Word) (prefix_len-whole is_word_byte (x ∷ more) rest (right_of _ _ h) (fails rest ends))
+    ∙ ap (Lexeme Word) (prefix_len-whole is_word_byte (x ∷ more) rest ((and_parts _ _ h).1) (fails rest ends))
   where
     fails : (r : List ℕ) → ends_token Word r ≡ true → fails_first is_word_byte r ≡ true
     fails [] e = refl
@@ -107,11 +107,11 @@ number_stands text rest all ends =
 number_read : (text rest : List ℕ) → has_kind Number text ≡ true → ends_token Number rest ≡ true → piece_of (text ++ rest) ≡ Lexeme Number (length text)
 number_read [] rest h ends = absurd (cc)
 number_read (x ∷ more) rest h ends =
-    let digit : is_digit x ≡ true = left_of _ _ h in
+    let digit : is_digit x ≡ true = (and_parts _ _ h).0 in
     let first = digit_first x digit in
     fourth (is_comment_mark x) (is_blank x) (is_letter x) (is_digit x) End Blank (Lexeme Word (prefix_len is_word_byte (x ∷ (more ++ rest))))
     (number_piece (x ∷ (more ++ rest))) (symbol_piece (x ∷ (more ++ rest))) first.0 first.1 first.2 digit
-    ∙ number_stands (x ∷ more) rest (right_of _ _ h) ends
+    ∙ number_stands (x ∷ more) rest ((and_parts _ _ h).1) ends
 
 -- a symbol whose text is known
 symbol_read : (kind : TokenKind) (needle text rest : List ℕ) → pointwise nat_eq needle text ≡ true → piece_of (needle ++ rest) ≡ Lexeme kind (length needle)

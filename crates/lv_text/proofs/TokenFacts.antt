@@ -1,5 +1,6 @@
 -- Each token that a line reads as is a part of it with a text of its kind, and they follow one on the other.
 use Rattle.std.proofs.Common.{◌≡◌, ℕ, zero, suc, ◌+◌, ◌-◌, ◌≤◌, true, List, [], ◌∷◌, length, take, drop, refl, sym, ap, subst, ◌∙◌, arith, nat_eq, nat_le, codes, length-drop}
+use Rattle.std.proofs.lemmas.Bool.{and_parts, and_from}
 use Rattle.std.proofs.lemmas.Bool.Decides.{nat_tests}
 use Rattle.std.specs.List.{All, AllByRecursion, list_all}
 use Rattle.std.proofs.lemmas.List.Elements.{All-from_recursion}
@@ -13,7 +14,7 @@ use Rattle.lv_text.specs.Bytes.{is_digit, is_word_byte}
 use Rattle.lv_text.specs.Pieces.{piece_of}
 use Rattle.lv_text.specs.Kinds.{BeginsWith, IsTokenOf, has_kind, is_ascii_byte, follow_on}
 use Rattle.lv_text.specs.Tokens.{Lexed, lexed, bad_byte, long_line, prepended, piece_tokens, tokens_from, all_tokens}
-use Rattle.lv_text.proofs.Choices.{both, right_of, list_all-weaker}
+use Rattle.lv_text.proofs.Choices.{list_all-weaker}
 use Rattle.lv_text.proofs.PieceFacts.{piece_fits}
 
 word_byte_is_ascii : (b : ℕ) → is_word_byte b ≡ true → is_ascii_byte b ≡ true
@@ -27,8 +28,8 @@ symbol_is_ascii : (needle text : List ℕ) → list_all is_ascii_byte needle ≡
 symbol_is_ascii needle text ascii h = subst (λ t. list_all is_ascii_byte t ≡ true) (same_text needle text (sym h)) ascii
 
 kind_is_ascii : (kind : TokenKind) (text : List ℕ) → has_kind kind text ≡ true → list_all is_ascii_byte text ≡ true
-kind_is_ascii Word text h = list_all-weaker is_word_byte is_ascii_byte word_byte_is_ascii text (right_of _ _ h)
-kind_is_ascii Number text h = list_all-weaker is_digit is_ascii_byte digit_is_ascii text (right_of _ _ h)
+kind_is_ascii Word text h = list_all-weaker is_word_byte is_ascii_byte word_byte_is_ascii text ((and_parts _ _ h).1)
+kind_is_ascii Number text h = list_all-weaker is_digit is_ascii_byte digit_is_ascii text ((and_parts _ _ h).1)
 kind_is_ascii Iff text h = symbol_is_ascii (codes "<=>") text refl h
 kind_is_ascii Implies text h = symbol_is_ascii (codes "=>") text refl h
 kind_is_ascii Arrow text h = symbol_is_ascii (codes "->") text refl h
@@ -116,7 +117,7 @@ they_follow line place [] h = refl
 they_follow line place (t ∷ ts) h =
     let le : place ≤ t.start = h.0 in
     let test : nat_le place t.start ≡ true = grind (arith, nat_tests) in
-    both _ _ test (they_follow line t.end ts h.2)
+    and_from _ _ test (they_follow line t.end ts h.2)
 
 -- each token that a line reads as is a token of it
 pub all_tokens_each : (line : List ℕ) (ts : List Token) → all_tokens line ≡ lexed ts → All (IsTokenOf line) ts

@@ -1,5 +1,6 @@
 -- A comment behind a line changes nothing, and a blank only parts what stands round it.
 use Rattle.std.proofs.Common.{◌≡◌, ℕ, zero, suc, ◌+◌, ◌-◌, ◌<◌, ◌≤◌, Bool, true, false, cond, ◌||◌, nat_lt, nat_eq, List, [], ◌∷◌, ◌++◌, length, refl, sym, ap, ◌∙◌, arith, length-append, codes}
+use Rattle.std.proofs.lemmas.Bool.{and_parts}
 use Rattle.std.proofs.lemmas.Bool.Decides.{nat_tests}
 use Rattle.std.specs.List.{list_any, list_all, prefix_len, starts_with}
 use Rattle.lv_base.specs.declared.limits.TheConstants.{LINE_BYTES}
@@ -12,7 +13,7 @@ use Rattle.lv_text.specs.Pieces.{piece_of, number_piece, symbol_piece}
 use Rattle.lv_text.specs.Kinds.{BeginsWith}
 use Rattle.lv_text.specs.Tokens.{Lexed, lexed, bad_byte, long_line, prepended, piece_tokens, tokens_from, all_tokens, line_tokens, joined}
 use Rattle.lv_text.specs.Laws.{moved, followed, CommentChangesNothing, BlankParts, BlankLineIsEmpty}
-use Rattle.lv_text.proofs.Choices.{if_holds, left_of, right_of}
+use Rattle.lv_text.proofs.Choices.{if_holds}
 use Rattle.lv_text.proofs.PieceFacts.{piece_fits}
 use Rattle.lv_text.proofs.PieceLaws.{piece_of-append, comment_mark_apart, blank_apart, piece_of-blank}
 use Rattle.lv_text.proofs.TokenMoves.{tokens_from-place}
@@ -122,8 +123,8 @@ blank_law front back b is none = tokens_from-blank b is back front 0 0 (length f
 tokens_from-blanks : (line : List ℕ) (place : ℕ) → list_all is_blank line ≡ true → tokens_from place 0 line ≡ lexed []
 tokens_from-blanks [] place h = refl
 tokens_from-blanks (b ∷ more) place h =
-    ap (λ p. piece_tokens place p (λ passed. tokens_from (place + 1) passed more)) (piece_of-blank more b (left_of (is_blank b) (list_all is_blank more) h))
-    ∙ tokens_from-blanks more (place + 1) (right_of (is_blank b) (list_all is_blank more) h)
+    ap (λ p. piece_tokens place p (λ passed. tokens_from (place + 1) passed more)) (piece_of-blank more b ((and_parts (is_blank b) (list_all is_blank more) h).0))
+    ∙ tokens_from-blanks more (place + 1) ((and_parts (is_blank b) (list_all is_blank more) h).1)
 
 pub blank_line_law : BlankLineIsEmpty
 blank_line_law line h = tokens_from-blanks line 0 h
