@@ -1,0 +1,2 @@
+pub mod PhraseTree
+pub mod PhraseCode
