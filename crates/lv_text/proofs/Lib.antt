@@ -11,3 +11,4 @@ pub mod TokenLaws
 pub mod TextLaws
 pub mod SliceLaws
 pub mod BadBytes
+pub mod LexemeFacts

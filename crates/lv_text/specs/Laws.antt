@@ -2,6 +2,7 @@
 use Rattle.std.specs.Prelude.{ℕ, ◌+◌, ◌<◌, ◌≤◌, ◌≡◌, ◌^◌, List, [], ◌∷◌, ◌++◌, Bool, true, false, not, length, map, nat_eq, decimal, ◌-◌, ◌||◌, ◌&&◌, nat_lt, slice_index, drop, if◌then◌else◌, codes}
 use Rattle.std.specs.List.{list_all, list_any, starts_with}
 use Rattle.std.specs.Str.Lines.{strip_carriage_return}
+use Rattle.lv_base.specs.declared.limits.TheConstants.{LINE_BYTES}
 use Rattle.lv_text.specs.declared.lexer.TokenKind.{TokenKind}
 use Rattle.lv_text.specs.declared.lexer.TokenKind.TheVariants.{Word, Number, Equals}
 use Rattle.lv_text.specs.declared.lexer.Token.{Token}
@@ -41,7 +42,7 @@ ends_token kind (b ∷ rest) = true
 
 -- a comment behind a line changes nothing, if the line is not too long by it
 abbrev pub CommentChangesNothing : Type 0
-CommentChangesNothing = (line comment : List ℕ) → length (line ++ 35 ∷ comment) ≤ 4096 → line_tokens (line ++ 35 ∷ comment) ≡ line_tokens line
+CommentChangesNothing = (line comment : List ℕ) → length (line ++ 35 ∷ comment) ≤ LINE_BYTES → line_tokens (line ++ 35 ∷ comment) ≡ line_tokens line
 
 -- a blank that is in no comment only parts what stands before it from what stands behind it
 abbrev pub BlankParts : Type 0

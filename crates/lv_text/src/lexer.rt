@@ -11,11 +11,9 @@ ghost use Rattle.lv_text.specs.Pieces.{number_piece, symbol_piece, piece_of};
 ghost use Rattle.lv_text.specs.Tokens.{line_tokens, all_tokens, lexed, Tells, tokens_at, tokens_behind};
 ghost use Rattle.lv_text.specs.Kinds.{IsTokenOf, follow_on, BeginsWith};
 
+use lv_base::limits::LINE_BYTES;
 use std::alloc::{AllocFailed, Global};
 use thiserror::Error;
-
-/// The most bytes that a line may have, its comment included and its end not.
-pub const LONGEST_LINE: usize = 4096;
 
 /// What a token is.
 #[derive(Clone, Copy, Debug, PartialEq, Eq, Hash)]
@@ -57,8 +55,8 @@ pub struct Token {
 /// Why a line has no tokens to give.
 #[derive(Clone, Copy, Debug, PartialEq, Eq, Error)]
 pub enum TextFault {
-    /// The line is longer than `LONGEST_LINE`, whatever it holds.
-    #[error("the line is longer than {LONGEST_LINE} bytes")]
+    /// The line is longer than `LINE_BYTES`, its comment included, whatever it holds.
+    #[error("the line is longer than {LINE_BYTES} bytes")]
     LongLine,
     /// The place in the line of the first byte that is not allowed, counted from 0.
     #[error("the byte at {0} is not allowed")]
@@ -215,7 +213,7 @@ pub fn tokens(alloc: Global, line: &[u8]) -> Result<Vec<Token>, TextFault>
     ensures each { IfOk result (λ found. All (IsTokenOf line.now) found.items) }
     ensures in_order { IfOk result (λ found. IsTrue (follow_on 0 found.items)) }
 {
-    if line.len() > LONGEST_LINE {
+    if line.len() > LINE_BYTES {
         return Err(TextFault::LongLine);
     }
     all_tokens(alloc, line)
