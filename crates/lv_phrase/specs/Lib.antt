@@ -1,2 +1,9 @@
 pub mod PhraseTree
 pub mod PhraseCode
+pub mod Connectives
+pub mod Cursors
+pub mod Grammar
+pub mod Laws
+pub mod Reading
+pub mod Nesting
+pub mod ReadPhrase

@@ -5,10 +5,19 @@
 //! - `phrase`: a formula with names as written.
 #![tactic(auto)]
 
+mod atom;
+mod connective;
+mod cursor;
+pub mod fault;
+pub mod laws;
+mod parser;
 pub mod path;
 pub mod phrase;
+pub mod reader;
 pub mod scope;
 
+pub use fault::PhraseFault;
 pub use path::Path;
 pub use phrase::{Phrase, PhraseNode};
+pub use reader::read_phrase;
 pub use scope::Scope;

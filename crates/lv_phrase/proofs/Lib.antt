@@ -1,0 +1,7 @@
+pub mod GrammarLemmas
+pub mod CursorLemmas
+pub mod ParserLemmas
+pub mod ConnectiveLemmas
+pub mod AtomLemmas
+pub mod TreeLemmas
+pub mod NestingLemmas
