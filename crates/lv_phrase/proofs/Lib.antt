@@ -5,3 +5,4 @@ pub mod ConnectiveLemmas
 pub mod AtomLemmas
 pub mod TreeLemmas
 pub mod NestingLemmas
+pub mod ReadLemmas

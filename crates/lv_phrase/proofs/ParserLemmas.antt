@@ -20,7 +20,7 @@ pub record Joining (c : Connective) (ts rest : List Lexeme) (fs : List PhraseTre
   pub left : (gs : List PhraseTree) (end : List Lexeme) → IsChain c ts gs end → binding end < level c → (hs : List PhraseTree) × IsChain c rest hs end
 
 pub joining_none : (c : Connective) (ts : List Lexeme) → Joining c ts ts []
-joining_none c ts = record { completes = λ gs end d. d; left = λ gs end d less. (gs, d); }
+joining_none c ts = record { completes = λ gs end d. d; left = λ gs end d less. (gs, d) }
 
 pub joining_more : (c : Connective) (ts now next : List Lexeme) (sign : Lexeme) (fs : List PhraseTree) (f : PhraseTree) → Joining c ts now fs
     → Reads (IsOperand c) (level c + 1) now f (sign ∷ next) → sign.kind ≡ sign_of c → Joining c ts next (fs ++ f ∷ [])
@@ -48,55 +48,55 @@ joined_found c ts now rest fs f so_far operand other = record {
 
 pub joined_none : (c : Connective) (ts now : List Lexeme) (fs : List PhraseTree) → Joining c ts now fs
     → HasNone (IsOperand c) (level c + 1) now → HasNone (IsJoined c) (level c) ts
-joined_none c ts now fs so_far none = record { refuted = λ tree rest r. whole tree rest r.text r.ends; }
+joined_none c ts now fs so_far none = record { refuted = λ tree rest r. whole tree rest r.text r.ends }
   where
     by : (end : List Lexeme) (hs : List PhraseTree) → IsChain c now hs end → binding end < level c → ⊥
-    by end hs (alone {f = f} q) less = none.refuted f end (record { text = q; ends = omega arith; })
+    by end hs (alone {f = f} q) less = none.refuted f end (record { text = q; ends = omega arith })
     by end hs (followed {us = us} {f = f} v q e more) less =
-        let b = sign_binds c v us e in none.refuted f (v ∷ us) (record { text = q; ends = omega arith; })
+        let b = sign_binds c v us e in none.refuted f (v ∷ us) (record { text = q; ends = omega arith })
 
     whole : (tree : PhraseTree) (rest : List Lexeme) → IsJoined c ts tree rest → binding rest < level c → ⊥
     whole tree rest (joining gs d) less = let found = so_far.left gs rest d less in by rest found.0 found.1 less
 
 -- an operand of a connective is what its level says
 pub operand_of_equivalence : (ts : List Lexeme) (found : Option PhraseTree) (rest : List Lexeme) → Finds (IsJoined Implication) 2 ts found rest → Finds (IsOperand Equivalence) 2 ts found rest
-operand_of_equivalence ts (Some f) rest r = record { text = implication r.text; ends = r.ends; }
-operand_of_equivalence ts None rest none = record { refuted = by; }
+operand_of_equivalence ts (Some f) rest r = record { text = implication r.text; ends = r.ends }
+operand_of_equivalence ts None rest none = record { refuted = by }
   where
     by : (f : PhraseTree) (end : List Lexeme) → Reads (IsOperand Equivalence) 2 ts f end → ⊥
-    by f end r = elim r.text [ | implication p ↦ none.refuted f end (record { text = p; ends = r.ends; }) ]
+    by f end r = elim r.text [ implication p ↦ none.refuted f end (record { text = p; ends = r.ends }) ]
 
 pub operand_of_implication : (ts : List Lexeme) (found : Option PhraseTree) (rest : List Lexeme) → Finds (IsJoined Disjunction) 3 ts found rest → Finds (IsOperand Implication) 3 ts found rest
-operand_of_implication ts (Some f) rest r = record { text = disjunction r.text; ends = r.ends; }
-operand_of_implication ts None rest none = record { refuted = λ f end r. by f end r.text r.ends; }
+operand_of_implication ts (Some f) rest r = record { text = disjunction r.text; ends = r.ends }
+operand_of_implication ts None rest none = record { refuted = λ f end r. by f end r.text r.ends }
   where
     by : (f : PhraseTree) (end : List Lexeme) → IsOperand Implication ts f end → binding end < 3 → ⊥
-    by f end (disjunction p) less = none.refuted f end (record { text = p; ends = less; })
+    by f end (disjunction p) less = none.refuted f end (record { text = p; ends = less })
 
 pub operand_of_disjunction : (ts : List Lexeme) (found : Option PhraseTree) (rest : List Lexeme) → Finds (IsJoined Conjunction) 4 ts found rest → Finds (IsOperand Disjunction) 4 ts found rest
-operand_of_disjunction ts (Some f) rest r = record { text = conjunction r.text; ends = r.ends; }
-operand_of_disjunction ts None rest none = record { refuted = λ f end r. by f end r.text r.ends; }
+operand_of_disjunction ts (Some f) rest r = record { text = conjunction r.text; ends = r.ends }
+operand_of_disjunction ts None rest none = record { refuted = λ f end r. by f end r.text r.ends }
   where
     by : (f : PhraseTree) (end : List Lexeme) → IsOperand Disjunction ts f end → binding end < 4 → ⊥
-    by f end (conjunction p) less = none.refuted f end (record { text = p; ends = less; })
+    by f end (conjunction p) less = none.refuted f end (record { text = p; ends = less })
 
 pub operand_of_conjunction : (ts : List Lexeme) (found : Option PhraseTree) (rest : List Lexeme) → Finds IsUnary 5 ts found rest → Finds (IsOperand Conjunction) 5 ts found rest
-operand_of_conjunction ts (Some f) rest r = record { text = unary r.text; ends = r.ends; }
-operand_of_conjunction ts None rest none = record { refuted = λ f end r. by f end r.text r.ends; }
+operand_of_conjunction ts (Some f) rest r = record { text = unary r.text; ends = r.ends }
+operand_of_conjunction ts None rest none = record { refuted = λ f end r. by f end r.text r.ends }
   where
     by : (f : PhraseTree) (end : List Lexeme) → IsOperand Conjunction ts f end → binding end < 5 → ⊥
-    by f end (unary p) less = none.refuted f end (record { text = p; ends = less; })
+    by f end (unary p) less = none.refuted f end (record { text = p; ends = less })
 
 -- behind `!`
 pub negation_found : (ts us rest : List Lexeme) (f : PhraseTree) → Takes Not ts true us → Reads IsUnary 5 us f rest → Reads IsUnary 5 ts (negation f) rest
 negation_found ts us rest f t r =
-    record { text = subst (λ xs. IsUnary xs (negation f) rest) (sym t.1) (negated t.0 t.2 r.text); ends = r.ends; }
+    record { text = subst (λ xs. IsUnary xs (negation f) rest) (sym t.1) (negated t.0 t.2 r.text); ends = r.ends }
 
 pub negation_none : (ts us : List Lexeme) → Takes Not ts true us → HasNone IsUnary 5 us → HasNone IsUnary 5 ts
-negation_none ts us t none = record { refuted = λ f end r. by f end (subst (λ xs. IsUnary xs f end) t.1 r.text); }
+negation_none ts us t none = record { refuted = λ f end r. by f end (subst (λ xs. IsUnary xs f end) t.1 r.text) }
   where
     by : (f : PhraseTree) (end : List Lexeme) → IsUnary (t.0 ∷ us) f end → ⊥
-    by f end (negated {f = g} s e p) = none.refuted g end (record { text = p; ends = below_five end; })
+    by f end (negated {f = g} s e p) = none.refuted g end (record { text = p; ends = below_five end })
     by f end (enclosed o c eo ec p) = let k = t.2 in absurd (cc)
     by f end (atomic p) = let k = t.2 in let a = atom_kind p in absurd (cc)
 
@@ -104,18 +104,18 @@ negation_none ts us t none = record { refuted = λ f end r. by f end (subst (λ 
 pub enclosed_found : (ts us mid rest : List Lexeme) (f : PhraseTree) → Takes Open ts true us → Reads (IsJoined Equivalence) 1 us f mid → Takes Close mid true rest → Reads IsUnary 5 ts f rest
 enclosed_found ts us mid rest f t r u =
     let inside : IsJoined Equivalence us f (u.0 ∷ rest) = subst (λ xs. IsJoined Equivalence us f xs) u.1 r.text in
-    record { text = subst (λ xs. IsUnary xs f rest) (sym t.1) (enclosed t.0 u.0 t.2 u.2 inside); ends = below_five rest; }
+    record { text = subst (λ xs. IsUnary xs f rest) (sym t.1) (enclosed t.0 u.0 t.2 u.2 inside); ends = below_five rest }
 
 pub enclosed_none : (ts us : List Lexeme) → Takes Open ts true us → HasNone (IsJoined Equivalence) 1 us → HasNone IsUnary 5 ts
-enclosed_none ts us t none = record { refuted = λ f end r. by f end (subst (λ xs. IsUnary xs f end) t.1 r.text); }
+enclosed_none ts us t none = record { refuted = λ f end r. by f end (subst (λ xs. IsUnary xs f end) t.1 r.text) }
   where
     by : (f : PhraseTree) (end : List Lexeme) → IsUnary (t.0 ∷ us) f end → ⊥
     by f end (negated s e p) = let k = t.2 in absurd (cc)
-    by f end (enclosed o c eo ec p) = let b = kind_binds Close c end ec in none.refuted f (c ∷ end) (record { text = p; ends = omega arith; })
+    by f end (enclosed o c eo ec p) = let b = kind_binds Close c end ec in none.refuted f (c ∷ end) (record { text = p; ends = omega arith })
     by f end (atomic p) = let k = t.2 in let a = atom_kind p in absurd (cc)
 
 pub enclosed_open : (ts us mid rest : List Lexeme) (f : PhraseTree) → Takes Open ts true us → Reads (IsJoined Equivalence) 1 us f mid → Takes Close mid false rest → HasNone IsUnary 5 ts
-enclosed_open ts us mid rest f t r u = record { refuted = λ g end s. by g end (subst (λ xs. IsUnary xs g end) t.1 s.text); }
+enclosed_open ts us mid rest f t r u = record { refuted = λ g end s. by g end (subst (λ xs. IsUnary xs g end) t.1 s.text) }
   where
     by : (g : PhraseTree) (end : List Lexeme) → IsUnary (t.0 ∷ us) g end → ⊥
     by g end (negated s e p) = let k = t.2 in absurd (cc)
@@ -128,13 +128,13 @@ enclosed_open ts us mid rest f t r u = record { refuted = λ g end s. by g end (
 -- neither of both
 pub unary_atom : (ts mid now : List Lexeme) (found : Option PhraseTree) (rest : List Lexeme) → Takes Not ts false mid → Takes Open mid false now
     → Finds IsAtom 5 now found rest → Finds IsUnary 5 ts found rest
-unary_atom ts mid now (Some f) rest t u r = record { text = subst (λ xs. IsUnary xs f rest) (u.0 ∙ t.0) (atomic r.text); ends = r.ends; }
-unary_atom ts mid now None rest t u none = record { refuted = λ f end r. by ts f end (sym (u.0 ∙ t.0)) r.text; }
+unary_atom ts mid now (Some f) rest t u r = record { text = subst (λ xs. IsUnary xs f rest) (u.0 ∙ t.0) (atomic r.text); ends = r.ends }
+unary_atom ts mid now None rest t u none = record { refuted = λ f end r. by ts f end (sym (u.0 ∙ t.0)) r.text }
   where
     by : (xs : List Lexeme) (f : PhraseTree) (end : List Lexeme) → xs ≡ now → IsUnary xs f end → ⊥
     by xs f end is (negated s e p) = t.1 (ap first_kind (sym (u.0 ∙ t.0) ∙ sym is) ∙ ap Some e)
     by xs f end is (enclosed o c eo ec p) = u.1 (ap first_kind (sym u.0 ∙ sym is) ∙ ap Some eo)
-    by xs f end is (atomic p) = none.refuted f end (record { text = subst (λ ys. IsAtom ys f end) is p; ends = below_five end; })
+    by xs f end is (atomic p) = none.refuted f end (record { text = subst (λ ys. IsAtom ys f end) is p; ends = below_five end })
 
 -- a sign stands behind the operand
 pub joining_step : (c : Connective) (ts now rest end : List Lexeme) (sign : TokenKind) (fs gs : List PhraseTree) (f : PhraseTree) → Joining c ts now fs

@@ -20,10 +20,13 @@ nests Implies = true
 nests Iff = true
 nests kind = false
 
+abbrev pub one_if : Bool → ℕ
+one_if test = if test then 1 else 0
+
 -- how many tokens are of such a kind
 abbrev pub how_many : (TokenKind → Bool) → List Lexeme → ℕ
 how_many test [] = 0
-how_many test (t ∷ ts) = (if test t.kind then 1 else 0) + how_many test ts
+how_many test (t ∷ ts) = one_if (test t.kind) + how_many test ts
 
 -- some front of the tokens passes the test, all of them and none of them included
 abbrev pub some_front : (List Lexeme → Bool) → List Lexeme → Bool

@@ -58,10 +58,7 @@ impl Connective {
 }
 
 /// The last two belong together, and these with the one before, and so on.
-fn nest_equivalences(
-    alloc: Global,
-    mut operands: Vec<PhraseNode>,
-) -> Result<PhraseNode, AllocError>
+fn nest_equivalences(alloc: Global, mut operands: Vec<PhraseNode>) -> Result<PhraseNode, AllocError>
     requires { 0 < length operands.items }
     ensures { IfOk result (λ node. tree_of node ≡ joined Equivalence (map tree_of operands.items)) }
 {
@@ -73,10 +70,7 @@ fn nest_equivalences(
 }
 
 /// The last two belong together, and these with the one before, and so on.
-fn nest_implications(
-    alloc: Global,
-    mut operands: Vec<PhraseNode>,
-) -> Result<PhraseNode, AllocError>
+fn nest_implications(alloc: Global, mut operands: Vec<PhraseNode>) -> Result<PhraseNode, AllocError>
     requires { 0 < length operands.items }
     ensures { IfOk result (λ node. tree_of node ≡ joined Implication (map tree_of operands.items)) }
 {

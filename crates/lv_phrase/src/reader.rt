@@ -1,8 +1,9 @@
 //! Reading a formula from the tokens of a line. How deep it nests is judged before it is read, over the whole line.
 #![tactic(auto)]
 
-ghost use Rattle.std.specs.Prelude.{◌≡◌, IfOk, IfErr};
-ghost use Rattle.lv_phrase.specs.Nesting.{nests, is_too_open, nests_too_often, is_too_deep};
+ghost use Rattle.std.specs.Prelude.{◌≡◌, false, IfOk, IfErr};
+ghost use Rattle.std.specs.Option.{option_map_or};
+ghost use Rattle.lv_phrase.specs.Nesting.{one_if, opens, closes, nests, is_too_open, nests_too_often, is_too_deep};
 ghost use Rattle.lv_phrase.specs.ReadPhrase.{IsReadAs, Explains};
 
 use crate::connective::Connective;
@@ -15,11 +16,7 @@ use lv_text::{TokenKind, TokenLine};
 use std::alloc::Global;
 
 /// Reads the formula that the tokens of a line are, from this place to the end.
-pub fn read_phrase(
-    alloc: Global,
-    line: &TokenLine<'_>,
-    from: usize,
-) -> Result<Phrase, PhraseFault>
+pub fn read_phrase(alloc: Global, line: &TokenLine<'_>, from: usize) -> Result<Phrase, PhraseFault>
     ensures ok { IfOk result (λ phrase. IsReadAs line.now from phrase) }
 
     // That the line nests too deep is told before anything else.
@@ -52,11 +49,9 @@ fn is_too_open(line: &TokenLine<'_>) -> bool
     let mut opened: usize = 0;
     let mut closed: usize = 0;
     'tokens: for place in 0..line.len() {
-        match line.kind(place) {
-            Some(TokenKind::Open) => opened += 1,
-            Some(TokenKind::Close) => closed += 1,
-            _ => {}
-        }
+        let kind = line.kind(place);
+        opened += one_if(opens(kind));
+        closed += one_if(closes(kind));
         if opened.saturating_sub(closed) > limits::OPEN_PARENTHESES as usize {
             return true;
         }
@@ -70,9 +65,34 @@ fn nests_too_often(line: &TokenLine<'_>) -> bool
 {
     let mut count: usize = 0;
     'tokens: for place in 0..line.len() {
-        if let Some(TokenKind::Not | TokenKind::Implies | TokenKind::Iff) = line.kind(place) {
-            count += 1;
-        }
+        count += one_if(nests(line.kind(place)));
     }
     count > limits::NESTING_OPERATORS as usize
+}
+
+fn opens(kind: Option<TokenKind>) -> bool
+    ensures { result ≡ option_map_or opens kind false }
+{
+    matches!(kind, Some(TokenKind::Open))
+}
+
+fn closes(kind: Option<TokenKind>) -> bool
+    ensures { result ≡ option_map_or closes kind false }
+{
+    matches!(kind, Some(TokenKind::Close))
+}
+
+fn nests(kind: Option<TokenKind>) -> bool
+    ensures { result ≡ option_map_or nests kind false }
+{
+    matches!(
+        kind,
+        Some(TokenKind::Not | TokenKind::Implies | TokenKind::Iff)
+    )
+}
+
+fn one_if(test: bool) -> usize
+    ensures { result ≡ one_if test }
+{
+    if test { 1 } else { 0 }
 }

@@ -32,7 +32,7 @@ joined-operands-preserved t c =
     let items = ap (map tree_of) c.in_ok-push.ensures.items ∙ map-append tree_of c.operands.operands.items (c.in-Some.next ∷ []) in
     record {
       reading = joining_step c.args.connective c.args.cursor.now c.operands.cursor c.operand.new.cursor c.takes.new.self c.sign.result (map tree_of c.operands.operands.items) _ (tree_of c.in-Some.next)
-      c.operands.invariant.reading read c.if-not-takes.ensures.told c.sign.ensures items;
+          c.operands.invariant.reading read c.if-not-takes.ensures.told c.sign.ensures items;
       left = omega arith;
     }
 
