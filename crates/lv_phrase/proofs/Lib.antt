@@ -6,3 +6,6 @@ pub mod AtomLemmas
 pub mod TreeLemmas
 pub mod NestingLemmas
 pub mod ReadLemmas
+pub mod SpacingLemmas
+pub mod PrinterLemmas
+pub mod ResolverLemmas

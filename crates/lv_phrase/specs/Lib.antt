@@ -7,3 +7,7 @@ pub mod Laws
 pub mod Reading
 pub mod Nesting
 pub mod ReadPhrase
+pub mod Spacing
+pub mod Canonical
+pub mod Resolving
+pub mod ResolveFaults

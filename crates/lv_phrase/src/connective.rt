@@ -3,7 +3,7 @@
 
 ghost use Rattle.std.specs.Prelude.{◌≡◌, ◌<◌, length, map, IfOk};
 ghost use Rattle.lv_phrase.specs.PhraseTree.{tree_of};
-ghost use Rattle.lv_phrase.specs.Connectives.{sign_of, joined};
+ghost use Rattle.lv_phrase.specs.Connectives.{sign_of, level, joined};
 ghost use Rattle.lv_phrase.specs.declared.connective.Connective.TheVariants.{Equivalence, Implication};
 
 use crate::phrase::PhraseNode;
@@ -33,6 +33,18 @@ impl Connective {
             Connective::Implication => TokenKind::Implies,
             Connective::Disjunction => TokenKind::Or,
             Connective::Conjunction => TokenKind::And,
+        }
+    }
+
+    /// How tightly it binds: 1 for the loosest, 4 for the tightest.
+    pub fn level(self) -> u32
+        ensures { result ≡ level self }
+    {
+        match self {
+            Connective::Equivalence => 1,
+            Connective::Implication => 2,
+            Connective::Disjunction => 3,
+            Connective::Conjunction => 4,
         }
     }
 

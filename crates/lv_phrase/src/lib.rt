@@ -13,11 +13,17 @@ pub mod laws;
 mod parser;
 pub mod path;
 pub mod phrase;
+mod printer;
 pub mod reader;
+pub mod resolver;
 pub mod scope;
+pub mod writer;
 
 pub use fault::PhraseFault;
 pub use path::Path;
 pub use phrase::{Phrase, PhraseNode};
+pub use printer::{print_phrase, write_phrase};
 pub use reader::read_phrase;
+pub use resolver::{ResolveFault, resolve};
 pub use scope::Scope;
+pub use writer::LineWriter;
