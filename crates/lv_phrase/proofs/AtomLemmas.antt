@@ -1,16 +1,16 @@
 -- The steps of reading truths, equations and paths, over plain lists of tokens.
-use Rattle.std.proofs.Common.{◌≡◌, ◌≢◌, ℕ, ◌+◌, ◌<◌, Bool, true, false, ◌||◌, List, [], ◌∷◌, Option, Some, None, refl, sym, ap, ap₂, subst, ◌∙◌, arith, codes}
+use Rattle.std.proofs.Common.{◌≡◌, ◌≢◌, ℕ, Bool, true, false, ◌||◌, List, [], ◌∷◌, Option, Some, None, refl, sym, ap, ap₂, subst, ◌∙◌, codes}
 use Rattle.lv_base.specs.Names.{is_named}
 use Rattle.lv_text.specs.declared.lexer.TokenKind.TheVariants.{Word, Equals, Dot}
 use Rattle.lv_text.specs.Lexemes.{Lexeme}
 use Rattle.lv_phrase.specs.declared.path.Path.{Path}
 use Rattle.lv_phrase.specs.declared.path.Path.TheVariants.{Own, OfPart}
 use Rattle.lv_phrase.specs.PhraseTree.{PhraseTree, always, never, equals}
-use Rattle.lv_phrase.specs.Connectives.{first_kind, binding}
+use Rattle.lv_phrase.specs.Connectives.{first_kind}
 use Rattle.lv_phrase.specs.Cursors.{Takes, TakesWord, TakesName}
 use Rattle.lv_phrase.specs.Grammar.{IsPath, own_word, word_of_part, IsEquation, sides, begins_with_truth, IsAtom, truth, falsity, equation}
 use Rattle.lv_phrase.specs.Reading.{Reads, HasNone, Finds}
-use Rattle.lv_phrase.proofs.GrammarLemmas.{below_five, cons_head, cons_tail, path_one, path_kind, equation_kind}
+use Rattle.lv_phrase.proofs.GrammarLemmas.{below_five, cons_tail, path_one, equation_kind}
 
 -- paths
 pub path_none : (ts rest : List Lexeme) → TakesWord ts None rest → HasNone IsPath 5 ts

@@ -1,9 +1,8 @@
 -- The token at a place of a line stands first in what is left from there on.
-use Rattle.std.proofs.Common.{◌≡◌, ◌≢◌, ℕ, zero, suc, ◌+◌, ◌<◌, List, [], ◌∷◌, drop, length, Option, Some, None, slice_get, option_map, refl, sym, ap, ◌∙◌, arith, if◌then◌else◌, cond, Bool, true, false}
-use Rattle.std.specs.Option.{option_and_then}
+use Rattle.std.proofs.Common.{◌≡◌, ◌≢◌, ℕ, zero, suc, ◌+◌, ◌<◌, List, [], ◌∷◌, drop, length, Some, None, refl, sym, ap, ◌∙◌, arith, cond, true, false}
 use Rattle.lv_base.specs.Names.{is_named}
 use Rattle.lv_text.specs.declared.lexer.TokenKind.{TokenKind}
-use Rattle.lv_text.specs.declared.lexer.TokenKind.TheVariants.{Word, Number, Iff, Implies, Arrow, Equals, Not, And, Or, Open, Close, Dot}
+use Rattle.lv_text.specs.declared.lexer.TokenKind.TheVariants.{Word}
 use Rattle.lv_text.specs.Lexemes.{Lexeme, kind_at, word_at, word_of, is_word}
 use Rattle.lv_phrase.specs.Connectives.{first_kind}
 

@@ -1,16 +1,15 @@
 -- A text at the head of a list of tokens has one tree and one end, if what stands behind it doesn't go on with it.
-use Rattle.std.proofs.Common.{◌≡◌, ◌≢◌, ℕ, ◌+◌, ◌<◌, Bool, true, false, ◌||◌, List, [], ◌∷◌, Some, None, refl, sym, ap, ap₂, subst, ◌∙◌, ◌⊎◌, inl, inr, arith, codes}
+use Rattle.std.proofs.Common.{◌≡◌, ◌≢◌, ℕ, ◌+◌, ◌<◌, true, List, [], ◌∷◌, Some, refl, sym, ap, ap₂, subst, ◌∙◌, ◌⊎◌, inl, inr, arith, codes}
 use Rattle.lv_base.specs.Names.{is_named}
 use Rattle.lv_text.specs.declared.lexer.TokenKind.{TokenKind}
-use Rattle.lv_text.specs.declared.lexer.TokenKind.TheVariants.{Word, Number, Iff, Implies, Arrow, Equals, Not, And, Or, Open, Close, Dot}
+use Rattle.lv_text.specs.declared.lexer.TokenKind.TheVariants.{Word, Iff, Implies, And, Or, Close}
 use Rattle.lv_text.specs.Lexemes.{Lexeme}
 use Rattle.lv_phrase.specs.declared.path.Path.{Path}
-use Rattle.lv_phrase.specs.declared.path.Path.TheVariants.{Own, OfPart}
 use Rattle.lv_phrase.specs.declared.connective.Connective.{Connective}
 use Rattle.lv_phrase.specs.declared.connective.Connective.TheVariants.{Equivalence, Implication, Disjunction, Conjunction}
-use Rattle.lv_phrase.specs.PhraseTree.{PhraseTree, always, never, equals, negation}
-use Rattle.lv_phrase.specs.Connectives.{sign_of, level, joined, first_kind, tightness, binding_of, binding}
-use Rattle.lv_phrase.specs.Grammar.{IsPath, own_word, word_of_part, IsEquation, sides, begins_with_truth, IsAtom, truth, falsity, equation, IsUnary, negated, enclosed, atomic, IsOperand, implication, disjunction, conjunction, unary, IsChain, alone, followed, IsJoined, joining, IsFormula}
+use Rattle.lv_phrase.specs.PhraseTree.{PhraseTree, equals, negation}
+use Rattle.lv_phrase.specs.Connectives.{sign_of, level, joined, first_kind, tightness, binding}
+use Rattle.lv_phrase.specs.Grammar.{IsPath, own_word, word_of_part, IsEquation, sides, IsAtom, truth, falsity, equation, IsUnary, negated, enclosed, atomic, IsOperand, implication, disjunction, conjunction, unary, IsChain, alone, followed, IsJoined, joining, IsFormula}
 
 -- a connective's sign binds as tightly as its level says
 pub sign_level : (c : Connective) → tightness (sign_of c) ≡ level c

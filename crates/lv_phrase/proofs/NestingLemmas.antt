@@ -1,11 +1,11 @@
 -- Counting parentheses and operators token by token.
-use Rattle.std.proofs.Common.{◌≡◌, ℕ, ◌+◌, ◌-◌, ◌<◌, ◌≤◌, Bool, true, false, ◌||◌, nat_lt, List, [], ◌∷◌, drop, length, zero, suc, Option, Some, None, refl, sym, ap, ap₂, ◌∙◌, arith, if◌then◌else◌, cond}
+use Rattle.std.proofs.Common.{◌≡◌, ℕ, ◌+◌, ◌-◌, ◌<◌, ◌≤◌, Bool, true, false, ◌||◌, nat_lt, List, [], ◌∷◌, drop, length, zero, suc, Option, Some, None, refl, sym, ap, ap₂, ◌∙◌, arith}
 use Rattle.std.proofs.lemmas.Bool.Decides.{nat_tests}
 use Rattle.std.specs.Option.{option_map_or}
 use Rattle.lv_base.specs.declared.limits.TheConstants.{OPEN_PARENTHESES}
 use Rattle.lv_text.specs.declared.lexer.TokenKind.{TokenKind}
 use Rattle.lv_text.specs.Lexemes.{Lexeme, kind_at}
-use Rattle.lv_phrase.specs.Nesting.{one_if, opens, closes, nests, how_many, some_front, open_by, is_too_open}
+use Rattle.lv_phrase.specs.Nesting.{one_if, opens, closes, how_many, some_front, open_by, is_too_open}
 use Rattle.lv_phrase.proofs.CursorLemmas.{token_at}
 
 is_there : (ts : List Lexeme) (place : ℕ) → place < length ts → kind_at ts place ≡ None → ⊥

@@ -1,18 +1,16 @@
 -- The steps of reading, over plain lists of tokens.
-use Rattle.std.proofs.Common.{◌≡◌, ◌≢◌, ℕ, ◌+◌, ◌<◌, Bool, true, false, ◌||◌, List, [], ◌∷◌, ◌++◌, Option, Some, None, refl, sym, ap, subst, ◌∙◌, arith, append_assoc, codes}
-use Rattle.lv_base.specs.Names.{is_named}
+use Rattle.std.proofs.Common.{◌≡◌, ◌≢◌, ◌+◌, ◌<◌, true, false, List, [], ◌∷◌, ◌++◌, Option, Some, None, sym, ap, subst, ◌∙◌, arith, append_assoc}
 use Rattle.lv_text.specs.declared.lexer.TokenKind.{TokenKind}
-use Rattle.lv_text.specs.declared.lexer.TokenKind.TheVariants.{Word, Equals, Not, Open, Close, Dot}
+use Rattle.lv_text.specs.declared.lexer.TokenKind.TheVariants.{Not, Open, Close}
 use Rattle.lv_text.specs.Lexemes.{Lexeme}
-use Rattle.lv_phrase.specs.declared.path.Path.{Path}
 use Rattle.lv_phrase.specs.declared.connective.Connective.{Connective}
 use Rattle.lv_phrase.specs.declared.connective.Connective.TheVariants.{Equivalence, Implication, Disjunction, Conjunction}
-use Rattle.lv_phrase.specs.PhraseTree.{PhraseTree, always, never, equals, negation}
+use Rattle.lv_phrase.specs.PhraseTree.{PhraseTree, negation}
 use Rattle.lv_phrase.specs.Connectives.{sign_of, level, joined, first_kind, binding}
-use Rattle.lv_phrase.specs.Cursors.{Takes, TakesWord, TakesName}
-use Rattle.lv_phrase.specs.Grammar.{IsPath, own_word, word_of_part, IsEquation, sides, begins_with_truth, IsAtom, truth, falsity, equation, IsUnary, negated, enclosed, atomic, IsOperand, implication, disjunction, conjunction, unary, IsChain, alone, followed, IsJoined, joining}
+use Rattle.lv_phrase.specs.Cursors.{Takes}
+use Rattle.lv_phrase.specs.Grammar.{IsAtom, IsUnary, negated, enclosed, atomic, IsOperand, implication, disjunction, conjunction, unary, IsChain, alone, followed, IsJoined, joining}
 use Rattle.lv_phrase.specs.Reading.{Reads, HasNone, Finds}
-use Rattle.lv_phrase.proofs.GrammarLemmas.{below_five, not_sign, sign_binds, kind_binds, cons_head, cons_tail, path_one, path_kind, equation_kind, atom_kind, operand_one, joined_one}
+use Rattle.lv_phrase.proofs.GrammarLemmas.{below_five, not_sign, sign_binds, kind_binds, cons_tail, atom_kind, operand_one, joined_one}
 
 -- the operands read so far, with a sign behind the last
 pub record Joining (c : Connective) (ts rest : List Lexeme) (fs : List PhraseTree) : Type 0 where

@@ -1,12 +1,12 @@
 -- Printing operand by operand.
-use Rattle.std.proofs.Common.{◌≡◌, ℕ, ◌+◌, ◌<◌, ◌≤◌, Bool, true, false, not, nat_lt, List, [], ◌∷◌, ◌++◌, map, refl, sym, ap, ap₂, ◌∙◌, arith, append_assoc, append-nil, if◌then◌else◌, cond}
+use Rattle.std.proofs.Common.{◌≡◌, ℕ, ◌+◌, ◌<◌, ◌≤◌, Bool, true, false, nat_lt, List, [], ◌∷◌, ◌++◌, refl, sym, ap, ap₂, ◌∙◌, arith, append_assoc, append-nil}
 use Rattle.std.proofs.lemmas.Bool.Decides.{nat_tests}
 use Rattle.lv_text.specs.declared.lexer.TokenKind.TheVariants.{Iff, Implies, Open, Close}
 use Rattle.lv_text.specs.Lexemes.{Lexeme}
 use Rattle.lv_phrase.specs.declared.connective.Connective.{Connective}
-use Rattle.lv_phrase.specs.PhraseTree.{PhraseTree, PhraseTrees, none, more, implies, iff}
-use Rattle.lv_phrase.specs.Connectives.{sign_of, level}
-use Rattle.lv_phrase.specs.Spacing.{symbol, spaced, ends_in_word, written}
+use Rattle.lv_phrase.specs.PhraseTree.{PhraseTree, PhraseTrees, more, implies, iff}
+use Rattle.lv_phrase.specs.Connectives.{level}
+use Rattle.lv_phrase.specs.Spacing.{symbol, written}
 use Rattle.lv_phrase.specs.Canonical.{level_of, enclosed, tokens_of, operand_tokens, further_tokens, sign_before}
 use Rattle.lv_phrase.proofs.SpacingLemmas.{written_more}
 

@@ -1,9 +1,8 @@
 -- What is read before the tokens end is no reading of all of them.
-use Rattle.std.proofs.Common.{◌≡◌, ℕ, ◌<◌, false, List, [], ◌∷◌, drop, length, nat_eq, refl, sym, ap, subst, ◌∙◌, arith}
+use Rattle.std.proofs.Common.{◌≡◌, ℕ, false, List, drop, length, nat_eq, sym, ap, subst, arith}
 use Rattle.lv_text.specs.Lexemes.{Lexeme}
 use Rattle.lv_phrase.specs.declared.connective.Connective.TheVariants.{Equivalence}
 use Rattle.lv_phrase.specs.PhraseTree.{PhraseTree}
-use Rattle.lv_phrase.specs.Connectives.{binding}
 use Rattle.lv_phrase.specs.Grammar.{IsJoined, IsFormula}
 use Rattle.lv_phrase.specs.Reading.{Reads}
 use Rattle.lv_phrase.specs.Nesting.{is_too_deep}

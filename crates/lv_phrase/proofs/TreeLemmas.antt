@@ -2,7 +2,7 @@
 use Rattle.std.proofs.Common.{◌≡◌, map, rules, Box, Vec, Global}
 use Rattle.lv_phrase.specs.declared.path.Path.{Path}
 use Rattle.lv_phrase.specs.declared.phrase.PhraseNode.{PhraseNode, True, False, Equals, Not, And, Or, Implies, Iff, the_lemmas}
-use Rattle.lv_phrase.specs.PhraseTree.{PhraseTree, tree_of, trees_of, always, never, equals, negation, all, any, implies, iff}
+use Rattle.lv_phrase.specs.PhraseTree.{tree_of, trees_of, always, never, equals, negation, all, any, implies, iff}
 
 pub tree_of-True : tree_of True ≡ always
 tree_of-True = search (rules, the_lemmas)

@@ -1,11 +1,11 @@
 -- The signs of connectives, how tightly they bind, and what operands with a connective between them make.
-use Rattle.std.specs.Prelude.{ℕ, ◌+◌, List, [], ◌∷◌, Option, Some, None}
+use Rattle.std.specs.Prelude.{ℕ, List, [], ◌∷◌, Option, Some, None}
 use Rattle.lv_text.specs.declared.lexer.TokenKind.{TokenKind}
 use Rattle.lv_text.specs.declared.lexer.TokenKind.TheVariants.{Iff, Implies, And, Or}
 use Rattle.lv_text.specs.Lexemes.{Lexeme}
 use Rattle.lv_phrase.specs.declared.connective.Connective.{Connective}
 use Rattle.lv_phrase.specs.declared.connective.Connective.TheVariants.{Equivalence, Implication, Disjunction, Conjunction}
-use Rattle.lv_phrase.specs.PhraseTree.{PhraseTree, PhraseTrees, always, all, any, implies, iff, trees_of}
+use Rattle.lv_phrase.specs.PhraseTree.{PhraseTree, always, all, any, implies, iff, trees_of}
 
 -- the token that stands between the operands
 abbrev pub sign_of : Connective → TokenKind

@@ -1,5 +1,5 @@
 -- What it is to go past the first token, if it is of a kind.
-use Rattle.std.specs.Prelude.{◌≡◌, ◌≢◌, ℕ, Bool, true, false, List, [], ◌∷◌, Option, Some, None}
+use Rattle.std.specs.Prelude.{◌≡◌, ◌≢◌, ℕ, Bool, true, false, List, ◌∷◌, Option, Some, None}
 use Rattle.lv_base.specs.Names.{is_named}
 use Rattle.lv_text.specs.declared.lexer.TokenKind.{TokenKind}
 use Rattle.lv_text.specs.declared.lexer.TokenKind.TheVariants.{Word}

@@ -7,7 +7,7 @@
 --     conjunction := unary ("&" unary)*
 --     unary       := "!" unary | "(" formula ")" | "true" | "false" | path "=" path
 --     path        := Word | Word "." Word
-use Rattle.std.specs.Prelude.{ℕ, ◌≡◌, ◌≢◌, Some, Bool, true, false, ◌||◌, List, [], ◌∷◌, codes}
+use Rattle.std.specs.Prelude.{◌≡◌, ◌≢◌, Some, Bool, true, false, ◌||◌, List, [], ◌∷◌, codes}
 use Rattle.lv_base.specs.Names.{is_named}
 use Rattle.lv_text.specs.declared.lexer.TokenKind.TheVariants.{Word, Equals, Not, Open, Close, Dot}
 use Rattle.lv_text.specs.Lexemes.{Lexeme}

@@ -1,8 +1,15 @@
 //! The language of formulas: a formula as it is written, with the names of its variables and values.
 //!
-//! - `path`: the name of a variable as it is written.
-//! - `scope`: what names stand for.
-//! - `phrase`: a formula with names as written.
+//! | part | items |
+//! |---|---|
+//! | names | `Path`, `Scope` |
+//! | a formula with names as written | `Phrase`, `PhraseNode` |
+//! | reading it, exactly by the grammar | `read_phrase`, `PhraseFault` |
+//! | its canonical text | `print_phrase`, `write_phrase`, `LineWriter` |
+//! | what its names stand for | `resolve`, `ResolveFault` |
+//! | what holds of every text | `laws` |
+//!
+//! The grammar stands in `specs/Grammar.antt`.
 #![tactic(auto)]
 
 mod atom;

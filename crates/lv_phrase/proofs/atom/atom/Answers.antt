@@ -2,8 +2,6 @@
 use Rattle.std.proofs.Common.{option_map}
 use Rattle.std.proofs.lemmas.Result.{IfOk-weaker}
 use Rattle.lv_phrase.specs.PhraseTree.{tree_of}
-use Rattle.lv_phrase.specs.Reading.{Finds}
-use Rattle.lv_phrase.specs.Grammar.{IsAtom}
 use Rattle.lv_phrase.proofs.TreeLemmas.{tree_of-True, tree_of-False}
 use Rattle.lv_phrase.proofs.AtomLemmas.{truth_found, falsity_found, atom_equation}
 use Rattle.lv_phrase.proofs.atom.atom.Goals as goal

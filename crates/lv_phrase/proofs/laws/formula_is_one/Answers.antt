@@ -1,9 +1,5 @@
 -- by the law of the grammar
 use Rattle.lv_phrase.proofs.GrammarLemmas.{formula_one}
-use Rattle.lv_phrase.proofs.ParserLemmas.{unary_atom}
-use Rattle.lv_phrase.proofs.SpacingLemmas.{written_more}
-use Rattle.lv_phrase.proofs.AtomLemmas.{atom_equation}
-use Rattle.lv_phrase.proofs.ConnectiveLemmas.{implications_last}
 use Rattle.lv_phrase.proofs.laws.formula_is_one.Goals as goal
 
 pub returns : goal.returns

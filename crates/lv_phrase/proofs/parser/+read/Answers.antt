@@ -1,5 +1,5 @@
 -- each step of reading is one over plain lists of tokens
-use Rattle.std.proofs.Common.{arith, subst, ◌≡◌, ◌+◌, ◌++◌, [], ◌∷◌, map, option_map, ap, ◌∙◌}
+use Rattle.std.proofs.Common.{arith, subst, ◌≡◌, ◌+◌, [], ◌∷◌, map, option_map, ap, ◌∙◌}
 use Rattle.std.proofs.lemmas.List.{map-append}
 use Rattle.std.proofs.lemmas.Result.{IfOk-weaker}
 use Rattle.lv_phrase.specs.declared.phrase.PhraseNode.{Not}
@@ -7,7 +7,7 @@ use Rattle.lv_phrase.specs.declared.connective.Connective.TheVariants.{Equivalen
 use Rattle.lv_phrase.specs.PhraseTree.{tree_of, negation}
 use Rattle.lv_phrase.specs.Connectives.{level}
 use Rattle.lv_phrase.specs.Grammar.{IsUnary, IsOperand, IsJoined}
-use Rattle.lv_phrase.specs.Reading.{Reads, HasNone, Finds}
+use Rattle.lv_phrase.specs.Reading.{Reads, HasNone}
 use Rattle.lv_phrase.proofs.TreeLemmas.{tree_of-Not}
 use Rattle.lv_phrase.proofs.ParserLemmas.{joined_none, joining_step, joined_step, operand_of_equivalence, operand_of_implication, operand_of_disjunction, operand_of_conjunction, negation_found, negation_none, enclosed_found, enclosed_none, enclosed_open, unary_atom}
 use Rattle.lv_phrase.proofs.parser.+read.Goals as goal

@@ -1,5 +1,5 @@
 -- each function is called with fewer tokens, or for what binds more tightly
-use Rattle.std.proofs.Common.{◌≡◌, ◌+◌, ◌-◌, ◌*◌, ◌≤◌, length, map}
+use Rattle.std.proofs.Common.{◌+◌, ◌-◌, ◌*◌, ◌≤◌, length, map}
 use Rattle.lv_phrase.specs.PhraseTree.{tree_of}
 use Rattle.lv_phrase.specs.Connectives.{level}
 use Rattle.lv_phrase.proofs.ParserLemmas.{Joining}

@@ -1,8 +1,8 @@
 -- tokens written one after the other
-use Rattle.std.proofs.Common.{◌≡◌, ◌+◌, ◌<◌, ◌∷◌, map, drop, length, sym, ap, ◌∙◌, arith}
+use Rattle.std.proofs.Common.{◌+◌, ◌<◌, ◌∷◌, map, drop, length, sym, ap, ◌∙◌, arith}
 use Rattle.std.proofs.lemmas.Result.{on_ok_weaker}
 use Rattle.std.proofs.lemmas.List.{drop_more}
-use Rattle.lv_phrase.specs.PhraseTree.{tree_of, trees_of, more, implies, iff}
+use Rattle.lv_phrase.specs.PhraseTree.{tree_of, trees_of}
 use Rattle.lv_phrase.specs.Canonical.{level_of, tokens_of}
 use Rattle.lv_phrase.proofs.TreeLemmas.{tree_of-Implies, tree_of-Iff}
 use Rattle.lv_phrase.proofs.PrinterLemmas.{in_parentheses, operand_step, implies_written, iff_written}

@@ -1,7 +1,6 @@
 -- each token is counted by its kind
-use Rattle.std.proofs.Common.{◌≡◌, ◌+◌, ◌-◌, ◌<◌, ◌≤◌, true, false, nat_lt, length, drop, sym, ap, ◌∙◌, arith}
+use Rattle.std.proofs.Common.{◌+◌, ◌-◌, ◌<◌, ◌≤◌, false, length, drop, sym, ap, ◌∙◌, arith}
 use Rattle.std.specs.Option.{option_map_or}
-use Rattle.lv_base.specs.declared.limits.TheConstants.{OPEN_PARENTHESES}
 use Rattle.lv_phrase.specs.Nesting.{one_if, opens, closes}
 use Rattle.lv_phrase.proofs.NestingLemmas.{open_step, open_found, one_if_small, too_many, few_enough}
 use Rattle.lv_phrase.proofs.reader.is_too_open.Goals as goal

@@ -1,7 +1,7 @@
 -- each token is counted by its kind
-use Rattle.std.proofs.Common.{◌≡◌, ◌+◌, ◌<◌, ◌≤◌, false, length, drop, ap, ◌∙◌, arith}
+use Rattle.std.proofs.Common.{◌<◌, ◌≤◌, false, length, ap, ◌∙◌, arith}
 use Rattle.std.specs.Option.{option_map_or}
-use Rattle.lv_phrase.specs.Nesting.{one_if, nests, how_many}
+use Rattle.lv_phrase.specs.Nesting.{one_if, nests}
 use Rattle.lv_phrase.proofs.NestingLemmas.{how_many_step, one_if_small}
 use Rattle.lv_phrase.proofs.reader.nests_too_often.Goals as goal
 

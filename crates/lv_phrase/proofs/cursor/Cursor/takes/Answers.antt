@@ -1,5 +1,5 @@
 -- the token at the place stands first in what is left
-use Rattle.std.proofs.Common.{◌≡◌, Some, ◌∙◌, sym, ap, arith}
+use Rattle.std.proofs.Common.{◌≡◌, Some, sym, arith}
 use Rattle.lv_phrase.specs.Connectives.{first_kind}
 use Rattle.lv_phrase.proofs.CursorLemmas.{taken}
 use Rattle.lv_phrase.proofs.cursor.Cursor.takes.Goals as goal

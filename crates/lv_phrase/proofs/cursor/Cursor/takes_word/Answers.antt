@@ -1,5 +1,5 @@
 -- the word at the place stands first in what is left
-use Rattle.std.proofs.Common.{refl, ◌≡◌, true, false, Some, None, sym, ◌∙◌, arith}
+use Rattle.std.proofs.Common.{refl, ◌≡◌, true, false, Some, None, sym, arith}
 use Rattle.lv_base.specs.Names.{is_named}
 use Rattle.lv_text.specs.Lexemes.{word_at}
 use Rattle.lv_phrase.proofs.CursorLemmas.{taken_word, other_word, no_word, same_word}

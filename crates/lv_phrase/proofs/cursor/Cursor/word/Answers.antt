@@ -1,6 +1,5 @@
 -- the token at the place stands first in what is left
-use Rattle.std.proofs.Common.{refl, ◌≡◌, ◌≢◌, Some, None, ◌∙◌, sym, ap, subst, arith}
-use Rattle.std.specs.Option.{option_copied}
+use Rattle.std.proofs.Common.{refl, ◌≡◌, ◌≢◌, Some, None, sym, subst, arith}
 use Rattle.lv_text.specs.Lexemes.{word_at}
 use Rattle.lv_text.specs.declared.lexer.TokenKind.TheVariants.{Word}
 use Rattle.lv_phrase.specs.Connectives.{first_kind}
