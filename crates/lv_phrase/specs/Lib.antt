@@ -1,0 +1,13 @@
+pub mod PhraseTree
+pub mod PhraseCode
+pub mod Connectives
+pub mod Cursors
+pub mod Grammar
+pub mod Laws
+pub mod Reading
+pub mod Nesting
+pub mod ReadPhrase
+pub mod Spacing
+pub mod Canonical
+pub mod Resolving
+pub mod ResolveFaults
