@@ -1,5 +1,6 @@
 -- What the plain program does not try could not be part of a step that meets the facts: so it finds one exactly where there is one.
 use Rattle.std.proofs.Common.{◌≡◌, ℕ, zero, suc, Bool, true, false, ◌&&◌, ◌||◌, not, List, [], ◌∷◌, slice_get, slice_index_or, Option, Some, None, refl, sym, ◌∙◌, ap, subst, nat_eq, nat_lt, eq-eqb, length, ap₂, Result, Ok, Err, IfOk}
+use Rattle.std.proofs.lemmas.Bool.{and_parts}
 use Rattle.std.proofs.lemmas.Option.{get_or_from_slice_get}
 use Rattle.std.specs.List.{list_all}
 use Rattle.std.specs.Option.{option_map_or, option_and_then}
@@ -15,7 +16,6 @@ use Rattle.lv_model.specs.declared.plant.Move.{Move}
 use Rattle.lv_model.specs.declared.plant.Part.{Part}
 use Rattle.lv_model.specs.Lists.{sizes, move_counts}
 use Rattle.lv_model.specs.Meaning.{type_takes, part_takes, part_steps, parts_step, is_feasible, goes}
-use Rattle.lv_model.proofs.Reading.{both}
 use Rattle.lv_meaning.specs.declared.facts.Facts.{Facts}
 use Rattle.lv_meaning.specs.declared.facts.Observation.{Observation}
 use Rattle.lv_meaning.specs.Facts.{agrees, meets, observes, now_facts}
@@ -42,7 +42,7 @@ accepted b false h e = sym (h refl) ∙ e
 all-from : {X : Type 0} (p q : X → Bool) (xs : List X) → ((x : X) → p x ≡ true → q x ≡ true) → list_all p xs ≡ true → list_all q xs ≡ true
 all-from p q [] h all = refl
 all-from p q (x ∷ xs) h all =
-    let parts = both (p x) (list_all p xs) all in
+    let parts = and_parts (p x) (list_all p xs) all in
     rw (h x parts.0, all-from p q xs h parts.1) refl
 
 -- where a place has this number and the number at y is z, then y is another place or z is this number
@@ -69,7 +69,7 @@ extends_only moves pairs i m is extended =
     (λ p h.
     only_this (λ (k : ℕ). (slice_index_or moves k (record { 0 = 0 })).0) i p.slot p.choice m.0
     (ap (λ (w : MoveId). w.0) (get_or_from_slice_get moves i m (record { 0 = 0 }) is))
-    (both (nat_lt p.slot (length moves)) _ h).1)
+    (and_parts (nat_lt p.slot (length moves)) _ h).1)
     extended
 
 -- where all parts step, the part of each place does
@@ -79,9 +79,9 @@ step_at types a b [] ns i p h is = absurd (cc)
 step_at types a b (q ∷ ps) [] i p h is = absurd (cc)
 step_at types a b (q ∷ ps) (n ∷ ns) zero p h is =
     let e : q ≡ p = cc in
-    subst (λ (r : Part). part_steps types a b r n.0 ≡ true) e (both (part_steps types a b q n.0) (parts_step types a b ps ns) h).0
+    subst (λ (r : Part). part_steps types a b r n.0 ≡ true) e (and_parts (part_steps types a b q n.0) (parts_step types a b ps ns) h).0
 step_at types a b (q ∷ ps) (n ∷ ns) (suc i) p h is =
-    step_at types a b ps ns i p (both (part_steps types a b q n.0) (parts_step types a b ps ns) h).1 is
+    step_at types a b ps ns i p (and_parts (part_steps types a b q n.0) (parts_step types a b ps ns) h).1 is
 
 -- where the part takes the move, it is in the move's source
 takes_source : (a : List ValId) (base : ℕ) (moves : List Move) (n : ℕ) (m : Move) → slice_get moves n ≡ Some m → type_takes a base moves n ≡ true → nat_eq (number_of a base) m.source.0 ≡ true
@@ -89,19 +89,19 @@ takes_source a base moves n m is h =
     let at_move : (nat_eq (number_of a base) m.source.0 && goes m.kind a base moves n m) ≡ true =
     subst (λ (o : Option Move). option_map_or (λ (x : Move). nat_eq (number_of a base) x.source.0 && goes x.kind a base moves n x) o false ≡ true) is h
     in
-    (both (nat_eq (number_of a base) m.source.0) _ at_move).0
+    (and_parts (nat_eq (number_of a base) m.source.0) _ at_move).0
 
 module _ (plant : Plant) (a b : List ValId) where
   -- a part that steps by a move goes from its source to its target
   source_is : (p : Part) (t : ComponentType) (n : ℕ) (m : Move) → slice_get plant.types p.kind ≡ Some t → slice_get t.moves n ≡ Some m → part_steps plant.types a b p n ≡ true
       → nat_eq (number_of a p.first.0) m.source.0 ≡ true
   source_is p t n m kind is h =
-      let taken : option_map_or (λ (x : ComponentType). type_takes a p.first.0 x.moves n) (slice_get plant.types p.kind) false ≡ true = (both (part_takes plant.types a p n) _ h).0 in
+      let taken : option_map_or (λ (x : ComponentType). type_takes a p.first.0 x.moves n) (slice_get plant.types p.kind) false ≡ true = (and_parts (part_takes plant.types a p n) _ h).0 in
       takes_source a p.first.0 t.moves n m is (subst (λ (o : Option ComponentType). option_map_or (λ (x : ComponentType). type_takes a p.first.0 x.moves n) o false ≡ true) kind taken)
 
   target_is : (p : Part) (t : ComponentType) (n : ℕ) (m : Move) → slice_get plant.types p.kind ≡ Some t → slice_get t.moves n ≡ Some m → part_steps plant.types a b p n ≡ true
       → nat_eq (number_of b p.first.0) m.target.0 ≡ true
-  target_is p t n m kind is h = rw (kind, is) at (both (part_takes plant.types a p n) _ h).1
+  target_is p t n m kind is h = rw (kind, is) at (and_parts (part_takes plant.types a p n) _ h).1
 
   -- a fact of each part that steps by a move, and of that move, is one of each pair that the full choice gives
   of_step : (f : Part → Move → Bool)
@@ -124,7 +124,7 @@ module _ (plant : Plant) (a b : List ValId) where
       of_part None is = refl
       of_part (Some p) is =
           let step : part_steps plant.types a b p (slice_index_or moves pair.slot (record { 0 = 0 })).0 ≡ true = step_at plant.types a b plant.parts moves pair.slot p steps is in
-          let same : (slice_index_or moves pair.slot (record { 0 = 0 })).0 ≡ pair.choice = eqb-true _ _ (both (nat_lt pair.slot (length moves)) _ given).1 in
+          let same : (slice_index_or moves pair.slot (record { 0 = 0 })).0 ≡ pair.choice = eqb-true _ _ (and_parts (nat_lt pair.slot (length moves)) _ given).1 in
           of_type p (subst (λ k. part_steps plant.types a b p k ≡ true) same step) (slice_get plant.types p.kind) refl
 
   sources_only : (pairs : List Pair) (moves : List MoveId) (x v : ℕ) → number_of a x ≡ v → extends moves pairs ≡ true → parts_step plant.types a b plant.parts moves ≡ true
@@ -152,20 +152,20 @@ in_order e f g p m n = same_tests _ _ there back
   where
     there : (e && ((f && (g && p)) && (m && n))) ≡ true → ((f && m) && ((g && n) && (e && p))) ≡ true
     there h =
-        let one = both e ((f && (g && p)) && (m && n)) h in
-        let two = both (f && (g && p)) (m && n) one.1 in
-        let three = both f (g && p) two.0 in
-        let four = both g p three.1 in
-        let five = both m n two.1 in
+        let one = and_parts e ((f && (g && p)) && (m && n)) h in
+        let two = and_parts (f && (g && p)) (m && n) one.1 in
+        let three = and_parts f (g && p) two.0 in
+        let four = and_parts g p three.1 in
+        let five = and_parts m n two.1 in
         rw (one.0, three.0, four.0, four.1, five.0, five.1) refl
 
     back : ((f && m) && ((g && n) && (e && p))) ≡ true → (e && ((f && (g && p)) && (m && n))) ≡ true
     back h =
-        let one = both (f && m) ((g && n) && (e && p)) h in
-        let two = both f m one.0 in
-        let three = both (g && n) (e && p) one.1 in
-        let four = both g n three.0 in
-        let five = both e p three.1 in
+        let one = and_parts (f && m) ((g && n) && (e && p)) h in
+        let two = and_parts f m one.0 in
+        let three = and_parts (g && n) (e && p) one.1 in
+        let four = and_parts g n three.0 in
+        let five = and_parts e p three.1 in
         rw (two.0, two.1, four.0, four.1, five.0, five.1) refl
 
 module _ (plant : Plant) (now next : List Observation) (pairs : List Pair) (counts sizes : List ℕ) where
@@ -175,14 +175,14 @@ module _ (plant : Plant) (now next : List Observation) (pairs : List Pair) (coun
       from_start (λ (m : MoveId). m.0) (pairs_allow pairs) (moves_fit plant pairs a b)
       (λ moves i m is not_allowed.
       refused (moves_fit plant pairs a b moves) (pairs_allow pairs i m.0)
-      (λ fits. extends_only moves pairs i m is (both (extends moves pairs) (parts_step plant.types a b plant.parts moves) fits).0)
+      (λ fits. extends_only moves pairs i m is (and_parts (extends moves pairs) (parts_step plant.types a b plant.parts moves) fits).0)
       not_allowed)
 
   no_moves_from : (a b : List ValId) (x : ℕ) (v : ValId) → slice_get a x ≡ Some v → list_all (of_pair plant (source_allows x v.0)) pairs ≡ false → (moves : List MoveId) → moves_fit plant pairs a b moves ≡ false
   no_moves_from a b x v is other moves =
       refused (moves_fit plant pairs a b moves) (list_all (of_pair plant (source_allows x v.0)) pairs)
       (λ fits.
-      let parts = both (extends moves pairs) (parts_step plant.types a b plant.parts moves) fits in
+      let parts = and_parts (extends moves pairs) (parts_step plant.types a b plant.parts moves) fits in
       sources_only plant a b pairs moves x v.0 (number_at a x v is) parts.0 parts.1)
       other
 
@@ -190,7 +190,7 @@ module _ (plant : Plant) (now next : List Observation) (pairs : List Pair) (coun
   no_moves_to a b x v is other moves =
       refused (moves_fit plant pairs a b moves) (list_all (of_pair plant (target_allows x v.0)) pairs)
       (λ fits.
-      let parts = both (extends moves pairs) (parts_step plant.types a b plant.parts moves) fits in
+      let parts = and_parts (extends moves pairs) (parts_step plant.types a b plant.parts moves) fits in
       targets_only plant a b pairs moves x v.0 (number_at b x v is) parts.0 parts.1)
       other
 
@@ -210,7 +210,7 @@ module _ (plant : Plant) (now next : List Observation) (pairs : List Pair) (coun
   next_refused : (a b : List ValId) (x : ℕ) (v : ValId) → slice_get b x ≡ Some v → next_allows plant next pairs x v.0 ≡ false → next_plain a b ≡ false
   next_refused a b x v is not_allowed =
       refused_by_either (is_feasible plant b && meets b next) (some_list move_number counts (moves_fit plant pairs a b)) (observes next x v.0) (list_all (of_pair plant (target_allows x v.0)) pairs)
-      (λ first. observed_only b next x v.0 (number_at b x v is) (both (is_feasible plant b) (meets b next) first).1)
+      (λ first. observed_only b next x v.0 (number_at b x v is) (and_parts (is_feasible plant b) (meets b next) first).1)
       (λ found.
       accepted (some_list move_number counts (moves_fit plant pairs a b)) (list_all (of_pair plant (target_allows x v.0)) pairs)
       (λ other. list-none move_number counts (moves_fit plant pairs a b) (no_moves_to a b x v is other)) found)
@@ -226,7 +226,7 @@ module _ (plant : Plant) (now next : List Observation) (pairs : List Pair) (coun
   now_refused : (a : List ValId) (x : ℕ) (v : ValId) → slice_get a x ≡ Some v → now_allows plant now pairs x v.0 ≡ false → now_plain a ≡ false
   now_refused a x v is not_allowed =
       refused_by_either (is_feasible plant a && meets a now) (some_list value sizes (next_plain a)) (observes now x v.0) (list_all (of_pair plant (source_allows x v.0)) pairs)
-      (λ first. observed_only a now x v.0 (number_at a x v is) (both (is_feasible plant a) (meets a now) first).1)
+      (λ first. observed_only a now x v.0 (number_at a x v is) (and_parts (is_feasible plant a) (meets a now) first).1)
       (λ found.
       accepted (some_list value sizes (next_plain a)) (list_all (of_pair plant (source_allows x v.0)) pairs)
       (λ other.

@@ -1,6 +1,6 @@
 -- The tree of each kind of formula.
 use Rattle.std.proofs.Common.{◌≡◌, map, rules, Box, Vec, Global}
-use Rattle.lv_phrase.specs.declared.path.Path.{Path}
+use Rattle.lv_formula.specs.declared.path.Path.{Path}
 use Rattle.lv_phrase.specs.declared.phrase.PhraseNode.{PhraseNode, True, False, Equals, Not, And, Or, Implies, Iff, the_lemmas}
 use Rattle.lv_phrase.specs.PhraseTree.{tree_of, trees_of, always, never, equals, negation, all, any, implies, iff}
 

@@ -1,6 +1,6 @@
 -- A formula with names as written, as clauses see it.
 use Rattle.std.specs.Prelude.{List, [], ◌∷◌}
-use Rattle.lv_phrase.specs.declared.path.Path.{Path}
+use Rattle.lv_formula.specs.declared.path.Path.{Path}
 use Rattle.lv_phrase.specs.declared.phrase.PhraseNode.{PhraseNode}
 use Rattle.lv_phrase.specs.declared.phrase.PhraseNode.TheOpen.{PhraseNode-F, True, False, Equals, Not, And, Or, Implies, Iff}
 use Rattle.lv_phrase.specs.declared.phrase.PhraseNode.TheFolds.{fold-PhraseNode}

@@ -7,9 +7,9 @@ ghost use Rattle.lv_phrase.specs.Grammar.{IsPath, IsEquation, IsAtom};
 ghost use Rattle.lv_phrase.specs.Reading.{Finds};
 
 use crate::cursor::Cursor;
-use crate::path::Path;
 use crate::phrase::PhraseNode;
 use lv_base::Seq;
+use lv_formula::Path;
 use lv_text::TokenKind;
 use std::alloc::{AllocError, Global};
 

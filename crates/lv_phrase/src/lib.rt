@@ -18,7 +18,6 @@ mod cursor;
 pub mod fault;
 pub mod laws;
 mod parser;
-pub mod path;
 pub mod phrase;
 mod printer;
 pub mod reader;
@@ -27,7 +26,7 @@ pub mod scope;
 pub mod writer;
 
 pub use fault::PhraseFault;
-pub use path::Path;
+pub use lv_formula::Path;
 pub use phrase::{Phrase, PhraseNode};
 pub use printer::{print_phrase, write_phrase};
 pub use reader::read_phrase;

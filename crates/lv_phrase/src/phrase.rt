@@ -7,7 +7,7 @@
 ghost use Rattle.std.specs.Prelude.{◌≡◌};
 ghost use Rattle.lv_phrase.specs.PhraseTree.{tree_of};
 
-use crate::path::Path;
+use lv_formula::Path;
 use std::marker::Model;
 
 /// A formula with names as written. `And` and `Or` have their operands in written order.

@@ -8,11 +8,10 @@ ghost use Rattle.lv_formula.specs.Tree.{tree_of as formula_of};
 ghost use Rattle.lv_phrase.specs.Resolving.{names_of, equation_of, value_named, resolved, resolved_all, tree_result, trees_result};
 ghost use Rattle.lv_phrase.specs.ResolveFaults.{Tells};
 
-use crate::path::Path;
 use crate::phrase::{Phrase, PhraseNode};
 use crate::scope::Scope;
 use lv_base::{ValId, VarId};
-use lv_formula::Formula;
+use lv_formula::{Formula, Path};
 use std::alloc::{AllocError, Global};
 use thiserror::Error;
 
