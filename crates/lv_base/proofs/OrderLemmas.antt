@@ -1,7 +1,14 @@
--- The order of lists of numbers is total, and how it looks at the first place of what is left.
-use Rattle.std.proofs.Common.{◌≡◌, ℕ, ◌<◌, ◌≤◌, true, false, nat_lt, List, [], ◌∷◌, length, get_or, drop, refl, arith, drop-cons, length-drop}
-use Rattle.std.proofs.Math.ListN.{drop_of_length-le}
+-- The order of lists of numbers is total, and it is the order of sorted collections.
+use Rattle.std.proofs.Common.{◌≡◌, ℕ, true, false, List, [], ◌∷◌, refl, sym, arith}
+use Rattle.std.specs.declared.cmp.Ordering.{Ordering}
+use Rattle.std.specs.declared.cmp.Ordering.TheVariants.{Less, Greater}
+use Rattle.std.specs.Cmp.Lexicographic.{slice_cmp}
+use Rattle.std.specs.Ordering.{nat_cmp, is_lt, is_gt}
+use Rattle.std.proofs.lemmas.Cmp.{same_from_slice_cmp}
+use Rattle.std.proofs.lemmas.Bool.Decides.{nat_tests}
+use Rattle.lv_base.specs.declared.rank.Rank.{Rank}
 use Rattle.lv_base.specs.Order.{comes_before}
+use Rattle.lv_base.specs.Rank.{rank_key, rank_cmp, ranks_before}
 
 pub irreflexive : (xs : List ℕ) → comes_before xs xs ≡ false
 irreflexive [] = refl
@@ -21,22 +28,14 @@ connected [] (y ∷ ys) p q = (cc)
 connected (x ∷ xs) [] p q = (cc)
 connected (x ∷ xs) (y ∷ ys) p q = grind (arith, connected xs ys)
 
--- where the second list has ended and the first hasn't
-pub comes_before-drop_ended : (xs ys : List ℕ) (i : ℕ) → i < length xs → length ys ≤ i → comes_before (drop i xs) (drop i ys) ≡ false
-comes_before-drop_ended xs ys i within past = rw (drop-cons xs i 0 within, drop_of_length-le ys past) refl
+pub less_is_before : (xs ys : List ℕ) (o : Ordering) → o ≡ slice_cmp nat_cmp xs ys → is_lt o ≡ comes_before xs ys
+less_is_before = same_from_slice_cmp nat_cmp is_lt comes_before refl (λ _ _. refl) (λ _ _. refl) (λ x y xs ys o h. grind (arith, nat_tests))
 
--- where the first list has the larger number
-pub comes_before-drop_above : (xs ys : List ℕ) (i : ℕ) → i < length xs → i < length ys → get_or ys i 0 < get_or xs i 0 → comes_before (drop i xs) (drop i ys) ≡ false
-comes_before-drop_above xs ys i p q above = rw (drop-cons xs i 0 p, drop-cons ys i 0 q) (grind arith)
+pub greater_is_after : (xs ys : List ℕ) (o : Ordering) → o ≡ slice_cmp nat_cmp xs ys → is_gt o ≡ comes_before ys xs
+greater_is_after = same_from_slice_cmp nat_cmp is_gt (λ xs ys. comes_before ys xs) refl (λ _ _. refl) (λ _ _. refl) (λ x y xs ys o h. grind (arith, nat_tests))
 
--- the empty list comes before each that isn't empty
-comes_before-nil : (ys : List ℕ) → comes_before [] ys ≡ nat_lt 0 (length ys)
-comes_before-nil [] = refl
-comes_before-nil (y ∷ ys) = grind arith
+pub before_by_cmp : (a b : Rank) → rank_cmp a b ≡ Less → ranks_before a b ≡ true
+before_by_cmp a b e = sym (less_is_before (rank_key a) (rank_key b) Less (sym e))
 
--- where the first list has ended
-pub comes_before-drop_end : (xs ys : List ℕ) (i : ℕ) → i ≡ length xs → comes_before (drop i xs) (drop i ys) ≡ nat_lt (length xs) (length ys)
-comes_before-drop_end xs ys i e =
-    let past : length xs ≤ i = omega arith in
-    let left : drop i xs ≡ [] = drop_of_length-le xs past in
-    rw (left, comes_before-nil (drop i ys), length-drop i ys, e) (grind arith)
+pub after_by_cmp : (a b : Rank) → rank_cmp a b ≡ Greater → ranks_before b a ≡ true
+after_by_cmp a b e = sym (greater_is_after (rank_key a) (rank_key b) Greater (sym e))

@@ -18,3 +18,12 @@ slots_rise_from low (p ∷ ps) = nat_lt low (p.slot + 1) && slots_rise_from (p.s
 -- each slot is above the one before
 abbrev pub slots_rise : List Pair → Bool
 slots_rise pairs = slots_rise_from 0 pairs
+
+-- the choices, the first of which is that of this slot, as pairs
+abbrev pub pairs_from : ℕ → List ℕ → List Pair
+pairs_from slot [] = []
+pairs_from slot (c ∷ cs) = record { slot = slot; choice = c } ∷ pairs_from (slot + 1) cs
+
+-- all choices as pairs
+abbrev pub pairs_of : List ℕ → List Pair
+pairs_of choices = pairs_from 0 choices

@@ -1,3 +1,4 @@
 pub mod Order
 pub mod Rank
 pub mod Choices
+pub mod Names

@@ -4,23 +4,23 @@
 //!
 //! | part | items |
 //! |---|---|
+//! | names | `Name`, `has_name`, `find_name`, `Class` |
 //! | numbers with names | `VarId`, `ValId`, `PartId`, `MoveId`, `BoolId`, `ClauseId`, `Lit`, `Cost` |
 //! | lists | `Seq` |
-//! | a search's values | `Pair`, `Conflict`, `Candidate`, `contains` |
+//! | a search's values | `Pair`, `Conflict`, `Candidate`, `contains`, `pairs_of` |
 //! | their order | `Rank` |
 //! | limits | `limits` |
 #![tactic(auto)]
 
 pub mod ids;
 pub mod limits;
+pub mod names;
 pub mod rank;
 pub mod search;
 pub mod seq;
 
 pub use ids::{BoolId, ClauseId, Cost, Lit, MoveId, PartId, ValId, VarId};
+pub use names::{Class, Name, find_name, has_name};
 pub use rank::Rank;
-pub use search::{Candidate, Conflict, Pair, contains};
+pub use search::{Candidate, Conflict, Pair, contains, pairs_of};
 pub use seq::Seq;
-
-#[cfg(test)]
-mod tests;

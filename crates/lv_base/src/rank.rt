@@ -2,17 +2,17 @@
 //! by slot. It is total: of two ranks that aren't equal exactly one comes before the other.
 #![tactic(auto)]
 
-ghost use Rattle.std.specs.Prelude.{◌≡◌, ◌==◌};
+ghost use Rattle.std.specs.Prelude.{◌≡◌, ◌==◌, IfOk};
 ghost use Rattle.std.proofs.Common.{rules};
 ghost use Rattle.std.specs.Cmp.{partial_order_from_own_ties};
 ghost use Rattle.std.specs.Cmp.Rules.{comparing};
 ghost use Rattle.std.specs.Cmp.Lexicographic.{slice_cmp, pointwise};
 ghost use Rattle.std.specs.Ordering.{nat_cmp, on, as_partial_cmp};
-ghost use Rattle.lv_base.specs.Order.{comes_before};
-ghost use Rattle.lv_base.specs.Rank.{rank_key, ranks_before, RankIsTotalOrder};
+ghost use Rattle.lv_base.specs.Rank.{rank_key, rank_cmp, ranks_before, RankIsTotalOrder};
 
 use super::ids::Cost;
 use super::seq::Seq;
+use std::alloc::{AllocError, Global};
 use std::cmp::Ordering;
 
 /// What a candidate is ranked by. Lists of choices are of one length wherever ranks of one search are compared; of two
@@ -29,33 +29,24 @@ impl Rank {
     pub fn before(&self, other: &Rank) -> bool
         ensures { result ≡ ranks_before self.now other.now }
     {
-        if self.cost.0 != other.cost.0 {
-            return self.cost.0 < other.cost.0;
-        }
-        if self.source != other.source {
-            return self.source < other.source;
-        }
-        choices_before(self.choices.as_slice(), other.choices.as_slice())
+        self.cmp(other).is_lt()
     }
-}
 
-/// Whether a list of choices comes strictly before another: at the first slot where they differ the smaller choice.
-pub fn choices_before(left: &[u32], right: &[u32]) -> bool
-    ensures { result ≡ comes_before left.now right.now }
-{
-    for (i, choice) in left.iter().enumerate() {
-        if i >= right.len() || *choice > right[i] {
-            return false;
-        }
-        if *choice < right[i] {
-            return true;
-        }
+    /// The same rank in memory of its own.
+    pub fn copied(&self, alloc: Global) -> Result<Rank, AllocError>
+        ensures { IfOk result (λ copy. copy ≡ self.now) }
+    {
+        Ok(Rank {
+            cost: self.cost,
+            source: self.source,
+            choices: Seq::from_slice(alloc, self.choices.as_slice())?,
+        })
     }
-    left.len() < right.len()
 }
 
 /// The law of ranks: no rank comes before itself, what comes before what comes before a third comes before the third,
-/// and two ranks of which neither comes before the other are equal.
+/// and two ranks of which neither comes before the other are equal. The order in which sorted sets of ranks keep them is
+/// this one.
 pub fn rank_is_total_order()
     ensures { RankIsTotalOrder }
 {}
@@ -77,7 +68,7 @@ impl Eq for Rank {
 }
 
 impl Ord for Rank {
-    ghost cmp = { on rank_key (slice_cmp nat_cmp) };
+    ghost cmp = { rank_cmp };
 
     ghost total = { Prim.search (comparing, rules) };
 
@@ -95,7 +86,7 @@ impl Ord for Rank {
 }
 
 impl PartialOrd for Rank {
-    ghost partial_cmp = { as_partial_cmp (on rank_key (slice_cmp nat_cmp)) };
+    ghost partial_cmp = { as_partial_cmp rank_cmp };
 
     ghost laws = { partial_order_from_own_ties (Prim.search (comparing, rules)) (Prim.search (comparing, rules)) };
 

@@ -3,8 +3,8 @@
 //! recovery a slot is a control and a choice is a value.
 #![tactic(auto)]
 
-ghost use Rattle.std.specs.Prelude.{◌≡◌, IfOk, IsTrue};
-ghost use Rattle.lv_base.specs.Choices.{contains_all, picks, slots_rise};
+ghost use Rattle.std.specs.Prelude.{◌≡◌, ◌<◌, ◌^◌, IfOk, IsTrue, length};
+ghost use Rattle.lv_base.specs.Choices.{contains_all, picks, slots_rise, pairs_of};
 
 use super::seq::Seq;
 use std::alloc::{AllocError, Global};
@@ -85,4 +85,19 @@ pub fn has_pair(choices: &[u32], pair: Pair) -> bool
     ensures { result ≡ picks choices.now pair }
 {
     (pair.slot as usize) < choices.len() && choices[pair.slot as usize] == pair.choice
+}
+
+/// All choices as pairs, in the order of their slots.
+pub fn pairs_of(alloc: Global, choices: &[u32]) -> Result<Vec<Pair>, AllocError>
+    requires { length choices.now < 2 ^ 32 }
+    ensures { IfOk result (λ out. out.items ≡ pairs_of choices.now) }
+{
+    let mut out = Vec::new(alloc);
+    for (slot, choice) in choices.iter().enumerate() {
+        out.push(Pair {
+            slot: slot as u32,
+            choice: *choice,
+        })?;
+    }
+    Ok(out)
 }

@@ -4,7 +4,8 @@ use Rattle.std.specs.List.{list_any}
 use Rattle.std.specs.Option.{option_and_then}
 use Rattle.lv_model.specs.declared.plant.Plant.{Plant}
 use Rattle.lv_model.specs.declared.plant.ComponentType.{ComponentType}
-use Rattle.lv_model.specs.Names.{is_named, domain_named, type_named, part_named}
+use Rattle.lv_base.specs.Names.{is_named}
+use Rattle.lv_model.specs.Names.{domain_named, type_named, part_named}
 use Rattle.lv_model.specs.WellFormed.{is_well_formed}
 use Rattle.lv_reader.specs.declared.statement.Statement.{Statement}
 use Rattle.lv_reader.specs.declared.statement.Statement.TheVariants.{ModelLine, DomainLine, TypeLine, PartLine, LawLine}

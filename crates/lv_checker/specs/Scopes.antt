@@ -7,7 +7,8 @@ use Rattle.lv_model.specs.declared.plant.Domain.{Domain}
 use Rattle.lv_model.specs.declared.plant.ComponentType.{ComponentType}
 use Rattle.lv_model.specs.declared.plant.Variable.{Variable}
 use Rattle.lv_model.specs.declared.plant.Part.{Part}
-use Rattle.lv_model.specs.Names.{is_named, domain_named, type_named, variable_named, mode_has_name, part_named}
+use Rattle.lv_base.specs.Names.{is_named}
+use Rattle.lv_model.specs.Names.{domain_named, type_named, variable_named, mode_has_name, part_named}
 use Rattle.lv_reader.specs.declared.statement.Path.{Path}
 use Rattle.lv_reader.specs.declared.statement.Path.TheVariants.{Own, OfPart}
 use Rattle.lv_reader.specs.declared.statement.Equation.{Equation}

@@ -4,12 +4,13 @@ use Rattle.std.specs.List.{filter}
 use Rattle.std.specs.Option.{option_and_then}
 use Rattle.lv_model.specs.declared.plant.Domain.{Domain}
 use Rattle.lv_model.specs.declared.plant.ComponentType.{ComponentType}
-use Rattle.lv_model.specs.declared.plant.Class.{Class}
+use Rattle.lv_base.specs.declared.names.Class.{Class}
 use Rattle.lv_model.specs.declared.plant.Mode.{Mode}
 use Rattle.lv_model.specs.declared.plant.Move.{Move}
 use Rattle.lv_model.specs.declared.plant.MoveKind.{MoveKind}
 use Rattle.lv_model.specs.declared.plant.MoveKind.TheVariants.{Step, Stay, Fault}
-use Rattle.lv_model.specs.Names.{is_named, variable_named}
+use Rattle.lv_base.specs.Names.{is_named}
+use Rattle.lv_model.specs.Names.{variable_named}
 use Rattle.lv_reader.specs.declared.statement.Equation.{Equation}
 use Rattle.lv_reader.specs.declared.statement.Statement.{Statement}
 use Rattle.lv_reader.specs.declared.statement.Statement.TheVariants.{VariableLine, ModeLine, InLine, StepLine, FaultLine}

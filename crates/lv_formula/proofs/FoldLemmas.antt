@@ -1,11 +1,13 @@
--- A formula's truth by the fold is that of its tree, and so is what it reads.
+-- A formula's truth by the fold is that of its tree, and so is what it reads and whether it fits.
 use Rattle.std.proofs.Common.{◌≡◌, ℕ, Bool, not, ◌&&◌, ◌||◌, List, [], ◌∷◌, map, refl, ap, ap₂, subst}
 use Rattle.lv_base.specs.declared.ids.ValId.{ValId}
 use Rattle.lv_formula.specs.declared.Formula.{Formula, roll-Formula}
 use Rattle.lv_formula.specs.declared.Formula.TheOpen.{Formula-F, True, False, Is, Same, Not, And, Or, Implies, Iff}
 use Rattle.lv_formula.specs.declared.Formula.TheFolds.{map-Formula, ind-Formula, fold-roll-Formula}
 use Rattle.lv_formula.specs.Tree.{Tree, tree_step, tree_of, trees_of, truth_of, all_true, some_true, reads_below, each_reads_below, both_or_neither}
-use Rattle.lv_formula.specs.Fold.{every, some, truth_step, is_true_in, reads_step, reads_in}
+use Rattle.lv_formula.specs.declared.range.Range.{Range}
+use Rattle.lv_formula.specs.Fits.{fits, each_fits}
+use Rattle.lv_formula.specs.Fold.{every, some, truth_step, is_true_in, reads_step, reads_in, fits_step, fits_in}
 
 module _ (values : List ValId) (base : ℕ) (E : Type 0) (v : E → Formula) (same_truth : (e : E) → truth_of values base (tree_of (v e)) ≡ is_true_in values base (v e)) where
   all_as_every : (es : List E) → all_true values base (trees_of (map tree_of (map v es))) ≡ every (map (is_true_in values base) (map v es))
@@ -56,3 +58,26 @@ reads_below-tree_of bound base =
     (λ x y is.
     subst (λ z. reads_below bound base (tree_of (roll-Formula z)) ≡ reads_in bound base (roll-Formula z)) is
     (rw (fold-roll-Formula Tree tree_step, fold-roll-Formula Bool (reads_step bound base)) (reads_layer bound base _ (λ e. e.0) (λ e. e.1) y)))
+
+module _ (ranges : List Range) (E : Type 0) (v : E → Formula) (same_fits : (e : E) → fits ranges (tree_of (v e)) ≡ fits_in ranges (v e)) where
+  fits_as_every : (es : List E) → each_fits ranges (trees_of (map tree_of (map v es))) ≡ every (map (fits_in ranges) (map v es))
+  fits_as_every [] = refl
+  fits_as_every (e ∷ es) = ap₂ (λ (p q : Bool). p && q) (same_fits e) (fits_as_every es)
+
+  fits_layer : (y : Formula-F E) → fits ranges (tree_step (map-Formula Formula Tree tree_of (map-Formula E Formula v y))) ≡ fits_step ranges (map-Formula Formula Bool (fits_in ranges) (map-Formula E Formula v y))
+  fits_layer True = refl
+  fits_layer False = refl
+  fits_layer (Is x w) = refl
+  fits_layer (Same x w) = refl
+  fits_layer (Not f) = same_fits f.value
+  fits_layer (And fs) = fits_as_every fs.items
+  fits_layer (Or fs) = fits_as_every fs.items
+  fits_layer (Implies f g) = ap₂ (λ (p q : Bool). p && q) (same_fits f.value) (same_fits g.value)
+  fits_layer (Iff f g) = ap₂ (λ (p q : Bool). p && q) (same_fits f.value) (same_fits g.value)
+
+pub fits-tree_of : (ranges : List Range) (f : Formula) → fits ranges (tree_of f) ≡ fits_in ranges f
+fits-tree_of ranges =
+    ind-Formula (λ f. fits ranges (tree_of f) ≡ fits_in ranges f)
+    (λ x y is.
+    subst (λ z. fits ranges (tree_of (roll-Formula z)) ≡ fits_in ranges (roll-Formula z)) is
+    (rw (fold-roll-Formula Tree tree_step, fold-roll-Formula Bool (fits_step ranges)) (fits_layer ranges _ (λ e. e.0) (λ e. e.1) y)))

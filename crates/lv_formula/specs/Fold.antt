@@ -5,7 +5,9 @@ use Rattle.lv_base.specs.declared.ids.ValId.{ValId}
 use Rattle.lv_formula.specs.declared.Formula.{Formula}
 use Rattle.lv_formula.specs.declared.Formula.TheOpen.{Formula-F, True, False, Is, Same, Not, And, Or, Implies, Iff}
 use Rattle.lv_formula.specs.declared.Formula.TheFolds.{fold-Formula}
+use Rattle.lv_formula.specs.declared.range.Range.{Range}
 use Rattle.lv_formula.specs.Tree.{number_of, both_or_neither}
+use Rattle.lv_formula.specs.Fits.{has_value, are_alike}
 
 abbrev pub every : List Bool → Bool
 every [] = true
@@ -43,3 +45,18 @@ reads_step bound base (Iff f g) = f.value && g.value
 -- each variable, counted from base, is below the bound
 abbrev pub reads_in : ℕ → ℕ → Formula → Bool
 reads_in bound base = fold-Formula Bool (reads_step bound base)
+
+abbrev pub fits_step : List Range → Formula-F Bool → Bool
+fits_step ranges True = true
+fits_step ranges False = true
+fits_step ranges (Is x v) = has_value ranges x.0 v.0
+fits_step ranges (Same x y) = are_alike ranges x.0 y.0
+fits_step ranges (Not f) = f.value
+fits_step ranges (And fs) = every fs.items
+fits_step ranges (Or fs) = every fs.items
+fits_step ranges (Implies f g) = f.value && g.value
+fits_step ranges (Iff f g) = f.value && g.value
+
+-- each equation keeps to what its variables range over
+abbrev pub fits_in : List Range → Formula → Bool
+fits_in ranges = fold-Formula Bool (fits_step ranges)

@@ -1,3 +1,5 @@
 pub mod Tree
 pub mod TreeCode
+pub mod Fits
 pub mod Fold
+pub mod Laws

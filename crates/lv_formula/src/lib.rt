@@ -5,11 +5,19 @@
 //! a value that clauses do compare whole, and is seen there as its tree.
 #![tactic(auto)]
 
-ghost use Rattle.std.specs.Prelude.{◌≡◌, ◌+◌, ◌<◌, IsTrue, length, nat_lt};
+ghost use Rattle.std.specs.Prelude.{◌≡◌, ◌+◌, ◌<◌, IsTrue, length};
 ghost use Rattle.lv_formula.specs.Tree.{tree_of, truth_of, reads_below, value_of};
-ghost use Rattle.lv_formula.specs.Fold.{is_true_in, reads_in};
+ghost use Rattle.lv_formula.specs.Fits.{fits};
+ghost use Rattle.lv_formula.specs.Fold.{is_true_in, reads_in, fits_in};
+
+pub mod laws;
+pub mod path;
+pub mod range;
 
 use lv_base::{ValId, VarId};
+pub use path::Path;
+pub use range::{Range, Sort};
+use range::{are_alike, has_value};
 use std::marker::Model;
 
 /// A formula. `Is` compares a variable with a value of its domain, `Same` two variables of one domain. `And` and `Or`
@@ -37,27 +45,26 @@ impl Formula {
         self.holds_from(values, base)
     }
 
-    /// Whether each variable that the formula names, counted from `base`, is below `bound`. Takes no memory.
-    pub fn reads_below(&self, bound: usize, base: u32) -> bool
-        ensures { result ≡ reads_below bound base (tree_of self.now) }
+    /// Whether each equation of the formula keeps to what its variables range over. Takes no memory.
+    pub fn fits(&self, ranges: &[Range]) -> bool
+        ensures { result ≡ fits ranges.now (tree_of self.now) }
     {
-        self.reads_from(bound, base)
+        self.fits_from(ranges)
     }
 
     /// The same, in the terms of a fold over the formula.
-    fn reads_from(&self, bound: usize, base: u32) -> bool
-        ensures { result ≡ reads_in bound base self.now }
+    fn fits_from(&self, ranges: &[Range]) -> bool
+        ensures { result ≡ fits_in ranges.now self.now }
     {
         match self {
             Formula::True => true,
             Formula::False => true,
-            Formula::Is(var, _) => is_below(*var, bound, base),
-            Formula::Same(left, right) => is_below(*left, bound, base)
-                && is_below(*right, bound, base),
-            Formula::Not(f) => f.reads_from(bound, base),
+            Formula::Is(var, val) => has_value(ranges, *var, *val),
+            Formula::Same(left, right) => are_alike(ranges, *left, *right),
+            Formula::Not(f) => f.fits_from(ranges),
             Formula::And(fs) => {
                 'all: for f in fs {
-                    if !f.reads_from(bound, base) {
+                    if !f.fits_from(ranges) {
                         return false;
                     }
                 }
@@ -65,14 +72,14 @@ impl Formula {
             }
             Formula::Or(fs) => {
                 'any: for f in fs {
-                    if !f.reads_from(bound, base) {
+                    if !f.fits_from(ranges) {
                         return false;
                     }
                 }
                 true
             }
-            Formula::Implies(f, g) => f.reads_from(bound, base) && g.reads_from(bound, base),
-            Formula::Iff(f, g) => f.reads_from(bound, base) && g.reads_from(bound, base),
+            Formula::Implies(f, g) => f.fits_from(ranges) && g.fits_from(ranges),
+            Formula::Iff(f, g) => f.fits_from(ranges) && g.fits_from(ranges),
         }
     }
 
@@ -111,13 +118,6 @@ impl Formula {
     }
 }
 
-/// Whether a variable that is counted from `base` is below `bound`.
-fn is_below(var: VarId, bound: usize, base: u32) -> bool
-    ensures { result ≡ nat_lt (base + var.0) bound }
-{
-    base as usize + (var.0 as usize) < bound
-}
-
 /// The value of a variable that is counted from `base`.
 fn value_at(values: &[ValId], base: u32, var: VarId) -> ValId
     requires { base + var.0 < length values.now }
@@ -150,11 +150,11 @@ impl Condition {
         Condition { formula }
     }
 
-    /// Whether each variable that it names, counted from `base`, is below `bound`. Takes no memory.
-    pub fn reads_below(&self, bound: usize, base: u32) -> bool
-        ensures { result ≡ reads_below bound base self.now }
+    /// Whether each of its equations keeps to what its variables range over. Takes no memory.
+    pub fn fits(&self, ranges: &[Range]) -> bool
+        ensures { result ≡ fits ranges.now self.now }
     {
-        self.formula.reads_below(bound, base)
+        self.formula.fits(ranges)
     }
 
     /// The formula's truth, as `Formula::holds` tells it. Takes no memory.
@@ -165,6 +165,3 @@ impl Condition {
         self.formula.holds(values, base)
     }
 }
-
-#[cfg(test)]
-mod tests;

@@ -5,9 +5,10 @@ use Rattle.lv_base.specs.declared.rank.Rank.{Rank}
 use Rattle.lv_base.specs.Rank.{ranks_before}
 use Rattle.lv_model.specs.declared.plant.Plant.{Plant}
 use Rattle.lv_meaning.specs.declared.facts.Facts.{Facts}
-use Rattle.lv_meaning.specs.declared.candidates.State.{State}
-use Rattle.lv_meaning.specs.Candidates.{candidates, can_be, first_possible}
-use Rattle.lv_laws.specs.Candidates.{rise, IsAnswer}
+use Rattle.lv_model.specs.declared.state.TrackedState.{TrackedState}
+use Rattle.lv_meaning.specs.Candidates.{candidates, is_possible_rank, first_possible}
+use Rattle.lv_walk.specs.Ranked.{rises}
+use Rattle.lv_laws.specs.Candidates.{IsAnswer}
 use Rattle.lv_laws.proofs.SomeList.{both, left_of, right_of}
 use Rattle.lv_laws.proofs.Rising.{candidates_rise_law}
 use Rattle.lv_laws.proofs.Among.{Among, among, contained, all_among}
@@ -72,49 +73,49 @@ module _ {X : Type 0} where
       by true e rest = both (p y) (list_all p (filter p ys)) e rest
       by false e rest = rest
 
-pub rise_filtered : (p : Rank → Bool) (rs : List Rank) → rise rs ≡ true → rise (filter p rs) ≡ true
+pub rise_filtered : (p : Rank → Bool) (rs : List Rank) → rises rs ≡ true → rises (filter p rs) ≡ true
 rise_filtered p [] h = refl
-rise_filtered p (r ∷ rs) h = by (p r) (rise_filtered p rs (right_of (list_all (ranks_before r) rs) (rise rs) h))
+rise_filtered p (r ∷ rs) h = by (p r) (rise_filtered p rs (right_of (list_all (ranks_before r) rs) (rises rs) h))
   where
-    by : (b : Bool) → rise (filter p rs) ≡ true → rise (cond b (r ∷ filter p rs) (filter p rs)) ≡ true
+    by : (b : Bool) → rises (filter p rs) ≡ true → rises (cond b (r ∷ filter p rs) (filter p rs)) ≡ true
     by true rest =
-        both (list_all (ranks_before r) (filter p rs)) (rise (filter p rs))
-        (all_filtered (ranks_before r) p rs (left_of (list_all (ranks_before r) rs) (rise rs) h)) rest
+        both (list_all (ranks_before r) (filter p rs)) (rises (filter p rs))
+        (all_filtered (ranks_before r) p rs (left_of (list_all (ranks_before r) rs) (rises rs) h)) rest
     by false rest = rest
 
-rise_taken : (k : ℕ) (rs : List Rank) → rise rs ≡ true → rise (take k rs) ≡ true
+rise_taken : (k : ℕ) (rs : List Rank) → rises rs ≡ true → rises (take k rs) ≡ true
 rise_taken zero rs h = refl
 rise_taken (suc k) [] h = refl
 rise_taken (suc k) (r ∷ rs) h =
-    both (list_all (ranks_before r) (take k rs)) (rise (take k rs))
-    (all_taken (ranks_before r) k rs (left_of (list_all (ranks_before r) rs) (rise rs) h))
-    (rise_taken k rs (right_of (list_all (ranks_before r) rs) (rise rs) h))
+    both (list_all (ranks_before r) (take k rs)) (rises (take k rs))
+    (all_taken (ranks_before r) k rs (left_of (list_all (ranks_before r) rs) (rises rs) h))
+    (rise_taken k rs (right_of (list_all (ranks_before r) rs) (rises rs) h))
 
 -- of ranks in order one that is not among the first ranks after all of these
-rest_after : (k : ℕ) (rs : List Rank) (r other : Rank) → rise rs ≡ true → Among r (take k rs) → Among other rs → (Among other (take k rs) → ⊥) → ranks_before r other ≡ true
+rest_after : (k : ℕ) (rs : List Rank) (r other : Rank) → rises rs ≡ true → Among r (take k rs) → Among other rs → (Among other (take k rs) → ⊥) → ranks_before r other ≡ true
 rest_after zero rs r other h taken there left = absurd taken
 rest_after (suc k) [] r other h taken there left = absurd taken
 rest_after (suc k) (x ∷ xs) r other h taken (inl e) left = absurd (left (inl e))
 rest_after (suc k) (x ∷ xs) r other h (inl e) (inr a) left =
-    ap (λ (y : Rank). ranks_before y other) e ∙ all_among (ranks_before x) xs other (left_of (list_all (ranks_before x) xs) (rise xs) h) a
+    ap (λ (y : Rank). ranks_before y other) e ∙ all_among (ranks_before x) xs other (left_of (list_all (ranks_before x) xs) (rises xs) h) a
 rest_after (suc k) (x ∷ xs) r other h (inr t) (inr a) left =
-    rest_after k xs r other (right_of (list_all (ranks_before x) xs) (rise xs) h) t a (λ b. left (inr b))
+    rest_after k xs r other (right_of (list_all (ranks_before x) xs) (rises xs) h) t a (λ b. left (inr b))
 
-pub answer_law : (k : ℕ) (plant : Plant) (facts : Facts) (tracked : List State) → IsAnswer k plant facts tracked (first_possible k plant facts tracked)
+pub answer_law : (k : ℕ) (plant : Plant) (facts : Facts) (tracked : List TrackedState) → IsAnswer k plant facts tracked (first_possible k plant facts tracked)
 answer_law k plant facts tracked =
     let all : List Rank = candidates plant tracked in
-    let possible : List Rank = filter (can_be plant facts) all in
-    let rising : rise possible ≡ true = rise_filtered (can_be plant facts) all (candidates_rise_law plant tracked) in
+    let possible : List Rank = filter (is_possible_rank plant facts) all in
+    let rising : rises possible ≡ true = rise_filtered (is_possible_rank plant facts) all (candidates_rise_law plant tracked) in
     record {
       few = few_taken k possible;
       rising = rise_taken k possible rising;
-      candidates = λ r h. is_candidate plant tracked r (contained all r (among_filtered (can_be plant facts) all r (among_taken k possible r (among (take k possible) r h))));
-      possible = λ r h. all_among (can_be plant facts) possible r (all_pass (can_be plant facts) all) (among_taken k possible r (among (take k possible) r h));
+      candidates = λ r h. is_candidate plant tracked r (contained all r (among_filtered (is_possible_rank plant facts) all r (among_taken k possible r (among (take k possible) r h))));
+      possible = λ r h. all_among (is_possible_rank plant facts) possible r (all_pass (is_possible_rank plant facts) all) (among_taken k possible r (among (take k possible) r h));
       others_after =
           λ r other h is can left.
-          rest_after k possible r other rising (among (take k possible) r h) (among_passing (can_be plant facts) all other (among all other (is_listed plant tracked other is)) can)
+          rest_after k possible r other rising (among (take k possible) r h) (among_passing (is_possible_rank plant facts) all other (among all other (is_listed plant tracked other is)) can)
           (λ a. left (contained (take k possible) other a));
       none_left_out =
           λ few r is can.
-          contained (take k possible) r (all_are_taken k possible r few (among_passing (can_be plant facts) all r (among all r (is_listed plant tracked r is)) can));
+          contained (take k possible) r (all_are_taken k possible r few (among_passing (is_possible_rank plant facts) all r (among all r (is_listed plant tracked r is)) can));
     }

@@ -5,3 +5,4 @@ pub mod Among
 pub mod Listing
 pub mod Answering
 pub mod OneAnswer
+pub mod Reasons

@@ -13,11 +13,12 @@ use Rattle.lv_model.specs.declared.plant.Plant.{Plant}
 use Rattle.lv_model.specs.declared.plant.ComponentType.{ComponentType}
 use Rattle.lv_model.specs.declared.plant.Part.{Part}
 use Rattle.lv_model.specs.declared.plant.Move.{Move}
-use Rattle.lv_meaning.specs.declared.candidates.State.{State}
-use Rattle.lv_meaning.specs.Candidates.{numbers_from, type_moves, move_cost, ranks_from, ranks_of, put_in_order, candidates}
+use Rattle.lv_model.specs.declared.state.TrackedState.{TrackedState}
+use Rattle.lv_walk.specs.Ranked.{put_in_order}
+use Rattle.lv_meaning.specs.Candidates.{numbers_from, type_moves, move_cost, ranks_from, ranks_of, candidates}
 use Rattle.lv_laws.specs.Candidates.{goes_from, are_moves, moves_cost, IsCandidate}
 use Rattle.lv_laws.proofs.SomeList.{both, left_of, right_of}
-use Rattle.lv_laws.proofs.Rising.{rank_cmp}
+use Rattle.lv_base.specs.Rank.{rank_cmp}
 use Rattle.lv_laws.proofs.Among.{Among, among, contained, among_left, among_right, among_either, FromNumber, from_number, among_flat}
 
 -- ranks with equal parts are equal
@@ -162,53 +163,53 @@ module _ (types : List ComponentType) (place : ℕ) where
       (omega arith) source (are ∙ sym (append_assoc choices (c ∷ []) cs)))
 
 -- a rank comes from one of these states, the first of which has this place
-pub record FromState (plant : Plant) (place : ℕ) (ss : List State) (r : Rank) : Type 0 where
+pub record FromState (plant : Plant) (place : ℕ) (ss : List TrackedState) (r : Rank) : Type 0 where
   pub index : ℕ
-  pub state : State
+  pub state : TrackedState
   pub at : slice_get ss index ≡ Some state
   pub source_is : r.source ≡ place + index
-  pub moves : are_moves plant.types plant.parts state.modes r.choices ≡ true
+  pub moves : are_moves plant.types plant.parts state.state.modes r.choices ≡ true
   pub cost_is : r.cost.0 ≡ state.cost.0 + moves_cost plant.types plant.parts r.choices
 
-from_state : (plant : Plant) (place : ℕ) (ss : List State) (r : Rank) → Among r (ranks_of plant place ss) → FromState plant place ss r
+from_state : (plant : Plant) (place : ℕ) (ss : List TrackedState) (r : Rank) → Among r (ranks_of plant place ss) → FromState plant place ss r
 from_state plant place [] r h = absurd h
 from_state plant place (s ∷ ss) r h =
-    ⊎_elim here (λ b. behind (from_state plant (place + 1) ss r b)) (among_either (ranks_from plant.types place plant.parts s.modes s.cost.0 []) (ranks_of plant (place + 1) ss) r h)
+    ⊎_elim here (λ b. behind (from_state plant (place + 1) ss r b)) (among_either (ranks_from plant.types place plant.parts s.state.modes s.cost.0 []) (ranks_of plant (place + 1) ss) r h)
   where
-    here : Among r (ranks_from plant.types place plant.parts s.modes s.cost.0 []) → FromState plant place (s ∷ ss) r
+    here : Among r (ranks_from plant.types place plant.parts s.state.modes s.cost.0 []) → FromState plant place (s ∷ ss) r
     here a =
-        let g : GoesOn plant.types place plant.parts s.modes s.cost.0 [] r = goes_on plant.types place plant.parts s.modes s.cost.0 [] r a in
+        let g : GoesOn plant.types place plant.parts s.state.modes s.cost.0 [] r = goes_on plant.types place plant.parts s.state.modes s.cost.0 [] r a in
         let are : g.more ≡ r.choices = sym g.choices_are in
         record {
           index = 0;
           state = s;
           at = refl;
           source_is = g.source_is ∙ omega arith;
-          moves = subst (λ cs. are_moves plant.types plant.parts s.modes cs ≡ true) are g.moves;
+          moves = subst (λ cs. are_moves plant.types plant.parts s.state.modes cs ≡ true) are g.moves;
           cost_is = subst (λ cs. r.cost.0 ≡ s.cost.0 + moves_cost plant.types plant.parts cs) are g.cost_is;
         }
 
     behind : FromState plant (place + 1) ss r → FromState plant place (s ∷ ss) r
     behind f = let e = f.source_is in record { index = suc f.index; state = f.state; at = f.at; source_is = omega arith; moves = f.moves; cost_is = f.cost_is }
 
-of_state : (plant : Plant) (place : ℕ) (ss : List State) (r : Rank) (index : ℕ) (state : State) → slice_get ss index ≡ Some state → r.source ≡ place + index
-    → are_moves plant.types plant.parts state.modes r.choices ≡ true → r.cost.0 ≡ state.cost.0 + moves_cost plant.types plant.parts r.choices → Among r (ranks_of plant place ss)
+of_state : (plant : Plant) (place : ℕ) (ss : List TrackedState) (r : Rank) (index : ℕ) (state : TrackedState) → slice_get ss index ≡ Some state → r.source ≡ place + index
+    → are_moves plant.types plant.parts state.state.modes r.choices ≡ true → r.cost.0 ≡ state.cost.0 + moves_cost plant.types plant.parts r.choices → Among r (ranks_of plant place ss)
 of_state plant place [] r index state at source moves cost = absurd (cc at)
 of_state plant place (s ∷ ss) r zero state at source moves cost =
     let same : state ≡ s = cc at in
-    among_left (ranks_from plant.types place plant.parts s.modes s.cost.0 []) (ranks_of plant (place + 1) ss) r
-    (leads_there plant.types place plant.parts s.modes s.cost.0 [] r.choices r (subst (λ (x : State). are_moves plant.types plant.parts x.modes r.choices ≡ true) same moves)
-    (subst (λ (x : State). r.cost.0 ≡ x.cost.0 + moves_cost plant.types plant.parts r.choices) same cost) (source ∙ omega arith) refl)
+    among_left (ranks_from plant.types place plant.parts s.state.modes s.cost.0 []) (ranks_of plant (place + 1) ss) r
+    (leads_there plant.types place plant.parts s.state.modes s.cost.0 [] r.choices r (subst (λ (x : TrackedState). are_moves plant.types plant.parts x.state.modes r.choices ≡ true) same moves)
+    (subst (λ (x : TrackedState). r.cost.0 ≡ x.cost.0 + moves_cost plant.types plant.parts r.choices) same cost) (source ∙ omega arith) refl)
 of_state plant place (s ∷ ss) r (suc index) state at source moves cost =
-    among_right (ranks_from plant.types place plant.parts s.modes s.cost.0 []) (ranks_of plant (place + 1) ss) r
+    among_right (ranks_from plant.types place plant.parts s.state.modes s.cost.0 []) (ranks_of plant (place + 1) ss) r
     (of_state plant (place + 1) ss r index state at (omega arith) moves cost)
 
-pub is_listed : (plant : Plant) (tracked : List State) (r : Rank) → IsCandidate plant tracked r → Contains (candidates plant tracked) r
+pub is_listed : (plant : Plant) (tracked : List TrackedState) (r : Rank) → IsCandidate plant tracked r → Contains (candidates plant tracked) r
 is_listed plant tracked r h =
     contained (candidates plant tracked) r
     (put_has (ranks_of plant 0 tracked) [] r (of_state plant 0 tracked r r.source h.state h.source (omega arith) h.moves h.cost))
 
-pub is_candidate : (plant : Plant) (tracked : List State) (r : Rank) → Contains (candidates plant tracked) r → IsCandidate plant tracked r
+pub is_candidate : (plant : Plant) (tracked : List TrackedState) (r : Rank) → Contains (candidates plant tracked) r → IsCandidate plant tracked r
 is_candidate plant tracked r h =
     let f : FromState plant 0 tracked r = from_state plant 0 tracked r (⊎_elim (λ none. absurd none) (λ a. a) (put_adds (ranks_of plant 0 tracked) [] r (among (candidates plant tracked) r h))) in
     let e = f.source_is in

@@ -41,13 +41,14 @@ all_of_part f part whole inside h =
     let place = inside (get_or part k d) (Contains-get_or part k d below) in
     subst (λ x. f x ≡ true) place.2 (AllPass-from_list_all f whole h place.0 (get_or part k d) place.1))
 
-pub part_possible : (plant : Plant) (facts : Facts) (part whole : List Pair) → ((p : Pair) → Contains part p → Contains whole p)
-    → is_possible plant facts whole ≡ true → is_possible plant facts part ≡ true
-part_possible plant facts part whole inside h =
-    let w : Witness plant facts whole = witnessed plant facts whole h in
+-- where every full choice that has the former pairs has the latter, the latter are possible where the former are
+pub possible_less : (plant : Plant) (facts : Facts) (more less : List Pair) → ((moves : List MoveId) → extends moves more ≡ true → extends moves less ≡ true)
+    → is_possible plant facts more ≡ true → is_possible plant facts less ≡ true
+possible_less plant facts more less weaker h =
+    let w : Witness plant facts more = witnessed plant facts more h in
     let moves : List MoveId = map move_number w.moves in
     let steps : Bool = is_step plant (map value w.before) (map value w.after) moves && meets_facts plant facts (map value w.before) (map value w.after) in
-    possible plant facts part
+    possible plant facts less
     (record {
       before = w.before;
       after = w.after;
@@ -55,10 +56,12 @@ part_possible plant facts part whole inside h =
       before_below = w.before_below;
       after_below = w.after_below;
       moves_below = w.moves_below;
-      step =
-          both (extends moves part) steps (all_of_part (gives moves) part whole inside (left_of (extends moves whole) steps w.step))
-          (right_of (extends moves whole) steps w.step);
+      step = both (extends moves less) steps (weaker moves (left_of (extends moves more) steps w.step)) (right_of (extends moves more) steps w.step);
     })
+
+pub part_possible : (plant : Plant) (facts : Facts) (part whole : List Pair) → ((p : Pair) → Contains part p → Contains whole p)
+    → is_possible plant facts whole ≡ true → is_possible plant facts part ≡ true
+part_possible plant facts part whole inside = possible_less plant facts whole part (λ moves. all_of_part (gives moves) part whole inside)
 
 still_there : (before after : List Pair) (left_out p : Pair) → Contains (before ++ after) p → Contains (before ++ left_out ∷ after) p
 still_there before after left_out p h =

@@ -3,21 +3,21 @@ use Rattle.std.specs.Prelude.{◌≡◌, ℕ, List, [], ◌∷◌, Some, None, c
 use Rattle.lv_base.specs.declared.rank.Rank.{Rank}
 use Rattle.lv_formula.specs.Tree.{is}
 use Rattle.lv_model.specs.declared.plant.Plant.{Plant}
-use Rattle.lv_model.specs.declared.plant.Class.TheVariants.{Control, Observable}
+use Rattle.lv_base.specs.declared.names.Class.TheVariants.{Control, Observable}
 use Rattle.lv_model.specs.declared.plant.ComponentType.{ComponentType}
-use Rattle.lv_model.specs.declared.plant.Mode.{Mode}
+use Rattle.lv_model.specs.declared.plant.ModeFormula.{ModeFormula}
 use Rattle.lv_model.specs.declared.plant.Move.{Move}
 use Rattle.lv_model.specs.declared.plant.MoveKind.TheVariants.{Step, Stay, Fault}
 use Rattle.lv_meaning.specs.declared.facts.Facts.{Facts}
-use Rattle.lv_meaning.specs.declared.candidates.State.{State}
+use Rattle.lv_model.specs.declared.state.TrackedState.{TrackedState}
 use Rattle.lv_meaning.specs.Candidates.{candidates, first_possible}
 
 -- closed and stuck let nothing flow, open does
-abbrev pub modes : List Mode
-modes =
-    record { name = codes "closed"; formulas = is 2 0 ∷ [] }
-    ∷ record { name = codes "open"; formulas = is 2 1 ∷ [] }
-    ∷ record { name = codes "stuck"; formulas = is 2 0 ∷ [] }
+abbrev pub formulas : List ModeFormula
+formulas =
+    record { mode = record { 0 = 0 }; condition = is 2 0 }
+    ∷ record { mode = record { 0 = 1 }; condition = is 2 1 }
+    ∷ record { mode = record { 0 = 2 }; condition = is 2 0 }
     ∷ []
 
 -- from closed: a step to open at the command to open, a stay, a fault of cost 5; from open a stay and a fault; from stuck a stay
@@ -37,8 +37,9 @@ valve =
     record {
       name = codes "Valve";
       variables = record { name = codes "command"; class = Control; domain = 0 } ∷ record { name = codes "flow"; class = Observable; domain = 1 } ∷ [];
-      modes = modes;
+      modes = codes "closed" ∷ codes "open" ∷ codes "stuck" ∷ [];
       laws = [];
+      formulas = formulas;
       moves = moves;
     }
 
@@ -53,11 +54,12 @@ plant =
       types = valve ∷ [];
       parts = record { name = codes "v"; kind = 0; start = record { 0 = 0 }; first = record { 0 = 0 } } ∷ [];
       laws = [];
+      prices = [];
     }
 
 -- closed at no cost
-abbrev pub tracked : List State
-tracked = record { modes = record { 0 = 0 } ∷ []; cost = record { 0 = 0 } } ∷ []
+abbrev pub tracked : List TrackedState
+tracked = record { state = record { modes = record { 0 = 0 } ∷ [] }; cost = record { 0 = 0 } } ∷ []
 
 -- this command, and this flow after the step
 abbrev pub facts : ℕ → ℕ → Facts

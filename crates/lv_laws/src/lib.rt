@@ -6,6 +6,7 @@
 
 ghost use Rattle.lv_laws.specs.Possible.{PossibleReads, PossibleParts};
 ghost use Rattle.lv_laws.specs.Candidates.{CandidatesRise, CandidatesAreAll, AnswerIsFirst, AnswerIsOne};
+ghost use Rattle.lv_laws.specs.Diagnosis.{ReasonIsMinimal, DiagnosisWalkIsExact};
 ghost use Rattle.lv_laws.specs.Example.{ValveExample};
 
 /// A partial choice is possible exactly where there are a value for each variable before the step, one for each
@@ -40,6 +41,18 @@ pub fn answer_is_first()
 /// No other list is such an answer: what `answer_is_first` says determines it.
 pub fn answer_is_one()
     ensures { AnswerIsOne }
+{}
+
+/// The reason of an impossible candidate isn't possible, is a part of that candidate and of no possible one, and none of
+/// its choices can be left out.
+pub fn reason_is_minimal()
+    ensures { ReasonIsMinimal }
+{}
+
+/// A settled walk of a diagnosis lists the first `k` candidates that are possible, or all if fewer are; with a trial for
+/// each candidate it is settled.
+pub fn diagnosis_walk_is_exact()
+    ensures { DiagnosisWalkIsExact }
 {}
 
 /// A worked example: a closed valve may open at the command to, stay closed without it, or get stuck; a look at its flow

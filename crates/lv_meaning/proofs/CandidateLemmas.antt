@@ -11,9 +11,10 @@ use Rattle.std.proofs.lemmas.List.{length-append}
 use Rattle.lv_base.specs.declared.rank.Rank.{Rank}
 use Rattle.lv_model.specs.declared.plant.Move.{Move}
 use Rattle.lv_model.specs.declared.plant.Plant.{Plant}
-use Rattle.lv_meaning.specs.declared.candidates.State.{State}
+use Rattle.lv_model.specs.declared.state.TrackedState.{TrackedState}
 use borrow.Author.Tests.{eqb-true}
-use Rattle.lv_meaning.specs.Candidates.{numbers_from, move_cost, put_in_order, ranks_from, ranks_of}
+use Rattle.lv_walk.specs.Ranked.{put_in_order}
+use Rattle.lv_meaning.specs.Candidates.{numbers_from, move_cost, ranks_from, ranks_of}
 
 pub put_in_order-append : (xs ys sorted : List Rank) → put_in_order sorted (xs ++ ys) ≡ put_in_order (put_in_order sorted xs) ys
 put_in_order-append [] ys sorted = refl
@@ -58,14 +59,14 @@ not_equal a b ne = by (nat_eq a b) refl
     by false e = e
 
 -- the candidates of the state at a place are put in
-pub state_added : (plant : Plant) (tracked : List State) (place : ℕ) (s : State) (found found' whole : List Rank) → place < length tracked → s ≡ get_or tracked place s
-    → found' ≡ put_in_order found (ranks_from plant.types place plant.parts s.modes s.cost.0 [])
+pub state_added : (plant : Plant) (tracked : List TrackedState) (place : ℕ) (s : TrackedState) (found found' whole : List Rank) → place < length tracked → s ≡ get_or tracked place s
+    → found' ≡ put_in_order found (ranks_from plant.types place plant.parts s.state.modes s.cost.0 [])
     → put_in_order found (ranks_of plant place (drop place tracked)) ≡ whole
     → put_in_order found' (ranks_of plant (place + 1) (drop (place + 1) tracked)) ≡ whole
 state_added plant tracked place s found found' whole within is put is_whole =
-    let front : drop place tracked ≡ s ∷ drop (place + 1) tracked = drop-cons tracked place s within ∙ ap (λ (x : State). x ∷ drop (suc place) tracked) (sym is) ∙ ap (λ k. s ∷ drop k tracked) (sym (add-one place)) in
+    let front : drop place tracked ≡ s ∷ drop (place + 1) tracked = drop-cons tracked place s within ∙ ap (λ (x : TrackedState). x ∷ drop (suc place) tracked) (sym is) ∙ ap (λ k. s ∷ drop k tracked) (sym (add-one place)) in
     ap (λ f. put_in_order f (ranks_of plant (place + 1) (drop (place + 1) tracked))) put
-    ∙ sym (put_in_order-append (ranks_from plant.types place plant.parts s.modes s.cost.0 []) (ranks_of plant (place + 1) (drop (place + 1) tracked)) found)
+    ∙ sym (put_in_order-append (ranks_from plant.types place plant.parts s.state.modes s.cost.0 []) (ranks_of plant (place + 1) (drop (place + 1) tracked)) found)
     ∙ ap (λ ss. put_in_order found (ranks_of plant place ss)) (sym front)
     ∙ is_whole
 

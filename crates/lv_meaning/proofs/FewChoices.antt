@@ -11,11 +11,13 @@ use Rattle.std.proofs.lemmas.List.Elements.{All-cons, All-tail, All-append}
 use Rattle.lv_base.specs.declared.ids.ValId.{ValId}
 use Rattle.lv_base.specs.declared.rank.Rank.{Rank}
 use Rattle.lv_base.specs.Rank.{rank_key}
+use Rattle.lv_base.specs.declared.limits.TheConstants.{PARTS}
 use Rattle.lv_model.specs.declared.plant.Plant.{Plant}
 use Rattle.lv_model.specs.declared.plant.ComponentType.{ComponentType}
 use Rattle.lv_model.specs.declared.plant.Part.{Part}
-use Rattle.lv_meaning.specs.declared.candidates.State.{State}
-use Rattle.lv_meaning.specs.Candidates.{numbers_from, type_moves, move_cost, put_in_order, ranks_from, ranks_of, candidates, HasFewChoices}
+use Rattle.lv_model.specs.declared.state.TrackedState.{TrackedState}
+use Rattle.lv_walk.specs.Ranked.{put_in_order}
+use Rattle.lv_meaning.specs.Candidates.{numbers_from, type_moves, move_cost, ranks_from, ranks_of, candidates, HasFewChoices}
 
 few_inserted : (r : Rank) (rs : List Rank) → HasFewChoices r → All HasFewChoices rs → All HasFewChoices (insert_key (on rank_key (slice_cmp nat_cmp)) rs r)
 few_inserted r [] one all = All-cons HasFewChoices r [] one all
@@ -44,12 +46,12 @@ few_from types place (p ∷ ps) (v ∷ vs) cost choices fits =
     (λ n. few_from types place ps vs (cost + move_cost (type_moves types p) n) (choices ++ (n ∷ [])) (rw length-append (omega arith)))
     (numbers_from 0 v.0 (type_moves types p))
 
-few_of : (plant : Plant) (place : ℕ) (ss : List State) → length plant.parts ≤ 256 → All HasFewChoices (ranks_of plant place ss)
+few_of : (plant : Plant) (place : ℕ) (ss : List TrackedState) → length plant.parts ≤ PARTS → All HasFewChoices (ranks_of plant place ss)
 few_of plant place [] small = λ k d below. absurd (omega arith)
 few_of plant place (s ∷ ss) small =
-    All-append HasFewChoices (ranks_from plant.types place plant.parts s.modes s.cost.0 []) (ranks_of plant (place + 1) ss)
-    (few_from plant.types place plant.parts s.modes s.cost.0 [] (omega arith)) (few_of plant (place + 1) ss small)
+    All-append HasFewChoices (ranks_from plant.types place plant.parts s.state.modes s.cost.0 []) (ranks_of plant (place + 1) ss)
+    (few_from plant.types place plant.parts s.state.modes s.cost.0 [] (omega arith)) (few_of plant (place + 1) ss small)
 
 -- the candidates of a plant have one choice for each of its parts, which are few
-pub few-candidates : (plant : Plant) (tracked : List State) → length plant.parts ≤ 256 → All HasFewChoices (candidates plant tracked)
+pub few-candidates : (plant : Plant) (tracked : List TrackedState) → length plant.parts ≤ PARTS → All HasFewChoices (candidates plant tracked)
 few-candidates plant tracked small = few_put (ranks_of plant 0 tracked) [] (few_of plant 0 tracked small) (λ k d below. absurd (omega arith))

@@ -2,7 +2,8 @@
 use Rattle.std.proofs.Common.{◌≡◌, ℕ, zero, suc, Bool, true, false, ◌&&◌, ◌||◌, not, List, [], ◌∷◌, slice_get, slice_index_or, Option, Some, None, refl, sym, ◌∙◌, ap, subst, nat_eq, nat_lt, eq-eqb, length, ap₂, Result, Ok, Err, IfOk}
 use Rattle.std.proofs.lemmas.Option.{get_or_from_slice_get}
 use Rattle.std.specs.List.{list_all}
-use Rattle.std.specs.Option.{option_map_or}
+use Rattle.std.specs.Option.{option_map_or, option_and_then}
+use Rattle.lv_model.specs.Moves.{move_at}
 use borrow.Author.Tests.{eqb-true}
 use Rattle.lv_base.specs.declared.ids.ValId.{ValId}
 use Rattle.lv_base.specs.declared.ids.MoveId.{MoveId}
@@ -114,12 +115,12 @@ module _ (plant : Plant) (a b : List ValId) where
       of_move p t kind step (Some m) is = each p t pair.choice m kind is step
 
       of_type : (p : Part) → part_steps plant.types a b p pair.choice ≡ true → (o : Option ComponentType) → slice_get plant.types p.kind ≡ o
-          → option_map_or (λ (t : ComponentType). option_map_or (f p) (slice_get t.moves pair.choice) true) o true ≡ true
+          → option_map_or (f p) (option_and_then (λ (t : ComponentType). slice_get t.moves pair.choice) o) true ≡ true
       of_type p step None is = refl
       of_type p step (Some t) is = of_move p t is step (slice_get t.moves pair.choice) refl
 
       of_part : (o : Option Part) → slice_get plant.parts pair.slot ≡ o
-          → option_map_or (λ (p : Part). option_map_or (λ (t : ComponentType). option_map_or (f p) (slice_get t.moves pair.choice) true) (slice_get plant.types p.kind) true) o true ≡ true
+          → option_map_or (λ (p : Part). option_map_or (f p) (move_at plant.types p pair.choice) true) o true ≡ true
       of_part None is = refl
       of_part (Some p) is =
           let step : part_steps plant.types a b p (slice_index_or moves pair.slot (record { 0 = 0 })).0 ≡ true = step_at plant.types a b plant.parts moves pair.slot p steps is in

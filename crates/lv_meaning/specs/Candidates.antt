@@ -2,19 +2,19 @@
 use Rattle.std.specs.Prelude.{ℕ, ◌+◌, ◌≤◌, Bool, nat_eq, List, [], ◌∷◌, ◌++◌, length, take, filter, slice_get, if◌then◌else◌, ◌≡◌, ◌<◌, ◌^◌}
 use Rattle.std.specs.List.{flat_map}
 use Rattle.std.specs.Option.{option_map_or}
-use Rattle.std.specs.BTreeSet.{insert_key}
-use Rattle.std.specs.Cmp.Lexicographic.{slice_cmp}
-use Rattle.std.specs.Ordering.{nat_cmp, on}
 use Rattle.lv_base.specs.declared.ids.ValId.{ValId}
 use Rattle.lv_base.specs.declared.rank.Rank.{Rank}
-use Rattle.lv_base.specs.declared.search.Pair.{Pair}
-use Rattle.lv_base.specs.Rank.{rank_key}
+use Rattle.lv_base.specs.declared.search.Candidate.{Candidate}
+use Rattle.lv_base.specs.declared.limits.TheConstants.{TRACKED_COST}
+use Rattle.lv_base.specs.Choices.{pairs_of}
 use Rattle.lv_model.specs.declared.plant.Plant.{Plant}
 use Rattle.lv_model.specs.declared.plant.ComponentType.{ComponentType}
 use Rattle.lv_model.specs.declared.plant.Move.{Move}
 use Rattle.lv_model.specs.declared.plant.Part.{Part}
+use Rattle.lv_model.specs.declared.state.TrackedState.{TrackedState}
+use Rattle.lv_walk.specs.Ranked.{ranked}
+use Rattle.lv_walk.specs.Walk.{candidate_of}
 use Rattle.lv_meaning.specs.declared.facts.Facts.{Facts}
-use Rattle.lv_meaning.specs.declared.candidates.State.{State}
 use Rattle.lv_meaning.specs.Possible.{is_possible}
 
 -- the numbers of the moves from the mode, where the first has this number
@@ -38,36 +38,29 @@ ranks_from types place (p ∷ ps) (v ∷ vs) cost choices =
     flat_map (λ n. ranks_from types place ps vs (cost + move_cost (type_moves types p) n) (choices ++ (n ∷ []))) (numbers_from 0 v.0 (type_moves types p))
 
 -- all candidates of the tracked states, the first of which has this place
-abbrev pub ranks_of : Plant → ℕ → List State → List Rank
+abbrev pub ranks_of : Plant → ℕ → List TrackedState → List Rank
 ranks_of plant place [] = []
-ranks_of plant place (s ∷ ss) = ranks_from plant.types place plant.parts s.modes s.cost.0 [] ++ ranks_of plant (place + 1) ss
-
--- ranks put in among ranks that are in order
-abbrev pub put_in_order : List Rank → List Rank → List Rank
-put_in_order sorted [] = sorted
-put_in_order sorted (r ∷ rs) = put_in_order (insert_key (on rank_key (slice_cmp nat_cmp)) sorted r) rs
+ranks_of plant place (s ∷ ss) = ranks_from plant.types place plant.parts s.state.modes s.cost.0 [] ++ ranks_of plant (place + 1) ss
 
 -- the candidates of the tracked states by cost, then place, then choices
-abbrev pub candidates : Plant → List State → List Rank
-candidates plant tracked = put_in_order [] (ranks_of plant 0 tracked)
+abbrev pub candidates : Plant → List TrackedState → List Rank
+candidates plant tracked = ranked (ranks_of plant 0 tracked)
 
--- the choices, the first of which is that of this part, as pairs
-abbrev pub pairs_from : ℕ → List ℕ → List Pair
-pairs_from slot [] = []
-pairs_from slot (c ∷ cs) = record { slot = slot; choice = c } ∷ pairs_from (slot + 1) cs
+-- all choices of the candidate are possible together
+abbrev pub is_possible_candidate : Plant → Facts → Candidate → Bool
+is_possible_candidate plant facts c = is_possible plant facts (pairs_of c.choices)
 
--- all choices of the candidate are possible
-abbrev pub can_be : Plant → Facts → Rank → Bool
-can_be plant facts r = is_possible plant facts (pairs_from 0 r.choices)
+abbrev pub is_possible_rank : Plant → Facts → Rank → Bool
+is_possible_rank plant facts r = is_possible_candidate plant facts (candidate_of r)
 
 -- the first k candidates that are possible, or all if fewer are
-abbrev pub first_possible : ℕ → Plant → Facts → List State → List Rank
-first_possible k plant facts tracked = take k (filter (can_be plant facts) (candidates plant tracked))
+abbrev pub first_possible : ℕ → Plant → Facts → List TrackedState → List Rank
+first_possible k plant facts tracked = take k (filter (is_possible_rank plant facts) (candidates plant tracked))
 
 -- a tracked state with a mode for each part and a cost that leaves room for all faults
-pub record IsState (parts : ℕ) (s : State) : Type 0 where
-  pub modes : length s.modes ≡ parts
-  pub cost : s.cost.0 ≤ 1000000000000000
+pub record IsTracked (parts : ℕ) (s : TrackedState) : Type 0 where
+  pub modes : length s.state.modes ≡ parts
+  pub cost : s.cost.0 ≤ TRACKED_COST
 
 pub record HasFewChoices (r : Rank) : Type 0 where
   pub few : length r.choices < 2 ^ 32

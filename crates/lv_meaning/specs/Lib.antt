@@ -3,3 +3,4 @@ pub mod Facts
 pub mod Possible
 pub mod Pruned
 pub mod Candidates
+pub mod Diagnosis

@@ -7,10 +7,10 @@ use Rattle.lv_base.specs.declared.ids.ValId.{ValId}
 use Rattle.lv_base.specs.declared.ids.MoveId.{MoveId}
 use Rattle.lv_base.specs.declared.search.Pair.{Pair}
 use Rattle.lv_model.specs.declared.plant.Plant.{Plant}
-use Rattle.lv_model.specs.declared.plant.ComponentType.{ComponentType}
 use Rattle.lv_model.specs.declared.plant.Move.{Move}
 use Rattle.lv_model.specs.declared.plant.Part.{Part}
 use Rattle.lv_model.specs.Lists.{sizes}
+use Rattle.lv_model.specs.Moves.{move_at}
 use Rattle.lv_model.specs.Meaning.{is_feasible, parts_step}
 use Rattle.lv_meaning.specs.declared.facts.Observation.{Observation}
 use Rattle.lv_meaning.specs.Facts.{meets, observes}
@@ -27,9 +27,7 @@ pairs_allow pairs part n = list_all (pair_allows part n) pairs
 -- what a fact about the pair's part and its move is, true where there is no such move
 abbrev pub of_pair : Plant → (Part → Move → Bool) → Pair → Bool
 of_pair plant f pair =
-    option_map_or
-    (λ (p : Part). option_map_or (λ (t : ComponentType). option_map_or (f p) (slice_get t.moves pair.choice) true) (slice_get plant.types p.kind) true)
-    (slice_get plant.parts pair.slot) true
+    option_map_or (λ (p : Part). option_map_or (f p) (move_at plant.types p pair.choice) true) (slice_get plant.parts pair.slot) true
 
 abbrev pub source_allows : ℕ → ℕ → Part → Move → Bool
 source_allows x v p m = not (nat_eq p.first.0 x) || nat_eq m.source.0 v

@@ -5,13 +5,17 @@
 //! |---|---|
 //! | `search` | is there some list of numbers that passes a test? |
 //! | `possible` | do some assignments and moves agree with the facts and with a partial choice? |
+//! | `candidates` | which candidates do the tracked states have, in the order of their ranks, and which are the first possible? |
+//! | `reason` | which of a candidate's choices already aren't possible together? |
+//! | `walk` | which candidates does a diagnosis list, which reasons does it keep, within so many trials? |
 #![tactic(auto)]
 
 pub mod candidates;
 pub mod facts;
 pub mod possible;
+pub mod reason;
 pub mod search;
+pub mod walk;
 
-pub use candidates::State;
 pub use facts::{Facts, Observation};
 pub use search::{Numbered, Test};

@@ -13,7 +13,7 @@ ghost use Rattle.lv_meaning.specs.Pruned.{pair_allows, pairs_allow, of_pair, sou
 use crate::facts::{Facts, Observation, meets_all, none_contradicts};
 use crate::search::{Test, some_passes};
 use lv_base::{MoveId, Pair, PartId, ValId, VarId};
-use lv_model::lookup::{move_of, part_of, type_of};
+use lv_model::lookup::{move_of_part, part_of};
 use lv_model::{Model, Plant};
 use std::alloc::{AllocError, Global};
 
@@ -45,11 +45,8 @@ fn source_agrees(plant: &Plant, pair: Pair, var: usize, val: u32) -> bool
     ensures { result ≡ of_pair plant.now (source_allows var val) pair }
 {
     match part_of(plant.parts.as_slice(), PartId(pair.slot)) {
-        Some(p) => match type_of(plant.types.as_slice(), p) {
-            Some(t) => match move_of(t.moves.as_slice(), MoveId(pair.choice)) {
-                Some(m) => p.first.0 as usize != var || m.source.0 == val,
-                None => true,
-            },
+        Some(p) => match move_of_part(plant.types.as_slice(), p, MoveId(pair.choice)) {
+            Some(m) => p.first.0 as usize != var || m.source.0 == val,
             None => true,
         },
         None => true,
@@ -61,11 +58,8 @@ fn target_agrees(plant: &Plant, pair: Pair, var: usize, val: u32) -> bool
     ensures { result ≡ of_pair plant.now (target_allows var val) pair }
 {
     match part_of(plant.parts.as_slice(), PartId(pair.slot)) {
-        Some(p) => match type_of(plant.types.as_slice(), p) {
-            Some(t) => match move_of(t.moves.as_slice(), MoveId(pair.choice)) {
-                Some(m) => p.first.0 as usize != var || m.target.0 == val,
-                None => true,
-            },
+        Some(p) => match move_of_part(plant.types.as_slice(), p, MoveId(pair.choice)) {
+            Some(m) => p.first.0 as usize != var || m.target.0 == val,
             None => true,
         },
         None => true,

@@ -1,3 +1,4 @@
 pub mod Reading
 pub mod Sizes
 pub mod Controls
+pub mod MoveLemmas

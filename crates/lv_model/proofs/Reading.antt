@@ -1,16 +1,25 @@
 -- What each formula of a well-formed plant reads.
-use Rattle.std.proofs.Common.{◌≡◌, ◌+◌, ◌≤◌, ℕ, ◌<◌, Bool, true, false, ◌&&◌, List, [], ◌∷◌, slice_get, Option, Some, None, refl, subst, arith, All, nat_lt, nat_le, nat_eq, sum_by, zero, suc}
+use Rattle.std.proofs.Common.{◌≡◌, ◌+◌, ◌≤◌, ℕ, ◌<◌, Bool, true, false, ◌&&◌, List, [], ◌∷◌, slice_get, Option, Some, None, refl, subst, arith, All, nat_lt, nat_le, nat_eq, sum_by, zero, suc, length, get_or, sym, ◌∙◌, ap₂}
 use Rattle.std.proofs.lemmas.List.Elements.{All-cons, All-tail}
 use Rattle.std.proofs.lemmas.List.Sums.{sum_by-cons}
-use borrow.Author.Tests.{ltb-true, leb-true, eqb-true}
+use borrow.Author.Tests.{leb-true, eqb-true}
 use Rattle.std.specs.Option.{option_map_or}
-use Rattle.std.specs.List.{list_all}
+use Rattle.std.specs.List.{list_all, flat_map}
+use Rattle.std.proofs.lemmas.List.{length-append, length-map}
+use Rattle.lv_base.specs.declared.limits.TheConstants.{PARTS, VARIABLES}
+use Rattle.lv_formula.specs.declared.range.Range.{Range}
 use Rattle.lv_formula.specs.Tree.{Tree, reads_below}
+use Rattle.lv_formula.specs.Fits.{fits}
+use Rattle.lv_formula.proofs.FitLemmas.{fits_reads}
 use Rattle.lv_model.specs.declared.plant.Plant.{Plant}
 use Rattle.lv_model.specs.declared.plant.ComponentType.{ComponentType}
 use Rattle.lv_model.specs.declared.plant.Part.{Part}
+use Rattle.lv_model.specs.declared.plant.Domain.{Domain}
+use Rattle.lv_model.specs.declared.plant.ModeFormula.{ModeFormula}
+use Rattle.lv_model.specs.declared.plant.Move.{Move}
+use Rattle.lv_model.specs.Ranges.{type_ranges, part_ranges, plant_ranges}
 use Rattle.lv_model.specs.Lists.{variable_count, part_width}
-use Rattle.lv_model.specs.WellFormed.{firsts_follow, lists_fit, variables_fit, mode_reads, move_reads, type_reads, part_reads, is_well_formed, Reads, ModeReads, GuardReads, TypeReads, PartReads, PartEnds}
+use Rattle.lv_model.specs.WellFormed.{is_within, name_fits, domain_fits, names_fit, counts_fit, formulas_fit, moves_fit, mode_formula_fits, kind_fits, guard_fits, move_fits, type_fits, types_fit, part_fits, parts_fit, firsts_follow, variables_fit, laws_fit, prices_fit, lists_fit, is_well_formed, Reads, FormulaReads, GuardReads, TypeReads, PartReads, PartEnds}
 
 pub both : (p q : Bool) → (p && q) ≡ true → (p ≡ true) × (q ≡ true)
 both true q h = (refl, h)
@@ -28,40 +37,69 @@ All-at P [] n x all is = absurd (cc)
 All-at P (y ∷ ys) zero x all is = let e : y ≡ x = cc is in subst P e (all 0 y (omega arith))
 All-at P (y ∷ ys) (suc n) x all is = All-at P ys n x (All-tail P y ys all) is
 
-pub TypeReads-of_test : (bound base : ℕ) (t : ComponentType) → type_reads bound base t ≡ true → TypeReads bound base t
-TypeReads-of_test bound base t h =
-    let one = both (nat_lt base bound) _ h in
-    let two = both (list_all (reads_below bound base) t.laws) _ one.1 in
-    let three = both (list_all (mode_reads bound base) t.modes) _ two.1 in
+-- the test of a type at its place
+pub type_at : (domains : List Domain) (k : ℕ) (ts : List ComponentType) (n : ℕ) (t : ComponentType) → types_fit domains k ts ≡ true → slice_get ts n ≡ Some t → type_fits domains (k + n) t ≡ true
+type_at domains k [] n t h is = absurd (cc)
+type_at domains k (u ∷ ts) zero t h is =
+    let same : u ≡ t = cc is in
+    let here : k ≡ k + 0 = omega arith in
+    subst (λ x. type_fits domains (k + 0) x ≡ true) same (subst (λ j. type_fits domains j u ≡ true) here (both (type_fits domains k u) (types_fit domains (k + 1) ts) h).0)
+type_at domains k (u ∷ ts) (suc n) t h is =
+    let next : k + 1 + n ≡ k + suc n = omega arith in
+    subst (λ j. type_fits domains j t ≡ true) next (type_at domains (k + 1) ts n t (both (type_fits domains k u) (types_fit domains (k + 1) ts) h).1 is)
+
+pub type_of_place : (domains : List Domain) (ts : List ComponentType) (n : ℕ) (t : ComponentType) → types_fit domains 0 ts ≡ true → slice_get ts n ≡ Some t → type_fits domains n t ≡ true
+type_of_place domains ts n t h is = let e : 0 + n ≡ n = omega arith in subst (λ j. type_fits domains j t ≡ true) e (type_at domains 0 ts n t h is)
+
+module _ (ranges : List Range) (bound base : ℕ) (ends : base + length ranges ≤ bound) where
+  guard_of_test : (o : Option Tree) → option_map_or (fits ranges) o true ≡ true → option_map_or (reads_below bound base) o true ≡ true
+  guard_of_test None h = refl
+  guard_of_test (Some f) h = fits_reads ranges bound base ends f h
+
+  pub laws_read : (fs : List Tree) → list_all (fits ranges) fs ≡ true → All (Reads bound base) fs
+  laws_read fs h = All-of_test (fits ranges) (Reads bound base) fs (λ f e. record { below = fits_reads ranges bound base ends f e }) h
+
+  formulas_read : (modes : ℕ) (fs : List ModeFormula) → list_all (mode_formula_fits ranges modes) fs ≡ true → All (FormulaReads bound base) fs
+  formulas_read modes fs h =
+      All-of_test (mode_formula_fits ranges modes) (FormulaReads bound base) fs
+      (λ f e. record { condition = fits_reads ranges bound base ends f.condition (both (nat_lt f.mode.0 modes) (fits ranges f.condition) e).1 }) h
+
+  guards_read : (modes : ℕ) (ms : List Move) → list_all (move_fits ranges modes) ms ≡ true → All (GuardReads bound base) ms
+  guards_read modes ms h =
+      All-of_test (move_fits ranges modes) (GuardReads bound base) ms
+      (λ m e. record { guard = guard_of_test m.guard (both (kind_fits m.kind m) (guard_fits ranges m) (both (nat_lt m.source.0 modes && nat_lt m.target.0 modes) _ e).1).1 }) h
+
+pub TypeReads-of_test : (domains : List Domain) (kind bound base : ℕ) (t : ComponentType) → base + length (type_ranges domains kind t) ≤ bound → type_fits domains kind t ≡ true → TypeReads bound base t
+TypeReads-of_test domains kind bound base t ends h =
+    let ranges : List Range = type_ranges domains kind t in
+    let own = both (formulas_fit ranges t) (moves_fit ranges t) (both (names_fit (length domains) t && counts_fit t) _ h).1 in
+    let formulas = both (list_all (fits ranges) t.laws) (list_all (mode_formula_fits ranges (length t.modes)) t.formulas) own.0 in
     record {
-      first = ltb-true base bound one.0;
-      laws = reads t.laws two.0;
-      modes =
-          λ n m is.
-          All-at (ModeReads bound base) t.modes n m
-          (All-of_test (mode_reads bound base) (ModeReads bound base) t.modes (λ x all. record { formulas = reads x.formulas all }) three.0) is;
-      guards =
-          All-of_test (move_reads bound base) (GuardReads bound base) t.moves
-          (λ x opens. record { guard = opens })
-          three.1;
+      first = omega arith;
+      laws = laws_read ranges bound base ends t.laws formulas.0;
+      formulas = formulas_read ranges bound base ends (length t.modes) t.formulas formulas.1;
+      guards = guards_read ranges bound base ends (length t.modes) t.moves (both (list_all (move_fits ranges (length t.modes)) t.moves) _ own.1).0;
     }
+
+width_of_ranges : (domains : List Domain) (types : List ComponentType) (p : Part) (t : ComponentType) → slice_get types p.kind ≡ Some t → length (type_ranges domains p.kind t) ≡ part_width types p
+width_of_ranges domains types p t is = rw (is, length-map) (omega arith)
+
+-- a part of a well-formed plant reads its own variables alone
+pub PartReads-of_test : (domains : List Domain) (types : List ComponentType) (bound : ℕ) (p : Part) → types_fit domains 0 types ≡ true → part_fits types p ≡ true → PartEnds bound types p → PartReads bound types p
+PartReads-of_test domains types bound p fit has ends = record { first = first (slice_get types p.kind) refl; kind = reads }
   where
-    reads : (fs : List Tree) → list_all (reads_below bound base) fs ≡ true → All (Reads bound base) fs
-    reads fs all = All-of_test (reads_below bound base) (Reads bound base) fs (λ f below. record { below = below }) all
+    reads : (t : ComponentType) → slice_get types p.kind ≡ Some t → TypeReads bound p.first.0 t
+    reads t is =
+        let width : length (type_ranges domains p.kind t) ≡ part_width types p = width_of_ranges domains types p t is in
+        let last : p.first.0 + part_width types p ≤ bound = ends.last in
+        TypeReads-of_test domains p.kind bound p.first.0 t (omega arith) (type_of_place domains types p.kind t fit is)
 
-reads_first : (bound : ℕ) (types : List ComponentType) (p : Part) (o : Option ComponentType) → option_map_or (type_reads bound p.first.0) o false ≡ true → p.first.0 < bound
-reads_first bound types p None h = absurd (cc)
-reads_first bound types p (Some t) h = (TypeReads-of_test bound p.first.0 t h).first
-
-pub PartReads-of_test : (bound : ℕ) (types : List ComponentType) (p : Part) → part_reads bound types p ≡ true → PartReads bound types p
-PartReads-of_test bound types p h =
-    record {
-      first = reads_first bound types p (slice_get types p.kind) h;
-      kind = λ t is. TypeReads-of_test bound p.first.0 t (subst (λ o. option_map_or (type_reads bound p.first.0) o false ≡ true) is h);
-    }
+    first : (o : Option ComponentType) → slice_get types p.kind ≡ o → p.first.0 < bound
+    first None is = let e : option_map_or (λ (t : ComponentType). nat_lt p.start.0 (length t.modes)) (slice_get types p.kind) false ≡ true = (both (name_fits p.name) _ has).1 in absurd (cc)
+    first (Some t) is = (reads t is).first
 
 -- parts that follow one another end where all of them do or before
-ends-of_follow : (types : List ComponentType) (next : ℕ) (ps : List Part) → firsts_follow types next ps ≡ true → All (PartEnds (next + sum_by (part_width types) ps) types) ps
+pub ends-of_follow : (types : List ComponentType) (next : ℕ) (ps : List Part) → firsts_follow types next ps ≡ true → All (PartEnds (next + sum_by (part_width types) ps) types) ps
 ends-of_follow types next [] h = λ k d below. absurd (omega arith)
 ends-of_follow types next (p ∷ ps) h =
     let parts = both (nat_eq p.first.0 next) (firsts_follow types (next + part_width types p) ps) h in
@@ -71,28 +109,67 @@ ends-of_follow types next (p ∷ ps) h =
     (record { last = omega arith })
     (λ k d below. record { last = let rest = (ends-of_follow types (next + part_width types p) ps parts.1 k d below).last in omega arith })
 
+-- parts that follow one another and have few variables end within the limit
+pub ends_within : (types : List ComponentType) (ps : List Part) (bound : ℕ) → (firsts_follow types 0 ps && nat_le (sum_by (part_width types) ps) bound) ≡ true → All (PartEnds bound types) ps
+ends_within types ps bound h =
+    let two = both (firsts_follow types 0 ps) (nat_le (sum_by (part_width types) ps) bound) h in
+    let few : sum_by (part_width types) ps ≤ bound = leb-true (sum_by (part_width types) ps) bound two.1 in
+    λ k d below. record { last = let one = (ends-of_follow types 0 ps two.0 k d below).last in omega arith }
+
+ranges_of_type : (domains : List Domain) (kind : ℕ) (o : Option ComponentType) → length (option_map_or (type_ranges domains kind) o []) ≡ option_map_or (λ (t : ComponentType). length t.variables + 1) o 0
+ranges_of_type domains kind None = refl
+ranges_of_type domains kind (Some t) = rw length-map (omega arith)
+
+ranges_of_parts : (domains : List Domain) (types : List ComponentType) (ps : List Part) → length (flat_map (part_ranges domains types) ps) ≡ sum_by (part_width types) ps
+ranges_of_parts domains types [] = refl
+ranges_of_parts domains types (p ∷ ps) =
+    length-append (part_ranges domains types p) (flat_map (part_ranges domains types) ps)
+    ∙ ap₂ (λ (x y : ℕ). x + y) (ranges_of_type domains p.kind (slice_get types p.kind)) (ranges_of_parts domains types ps)
+    ∙ sym (sum_by-cons (part_width types) p ps)
+
+-- there is one range for each variable
+pub length-plant_ranges : (plant : Plant) → length (plant_ranges plant) ≡ variable_count plant
+length-plant_ranges plant = ranges_of_parts plant.domains plant.types plant.parts
+
 module _ (plant : Plant) (h : is_well_formed plant ≡ true) where
-  fit : ((firsts_follow plant.types 0 plant.parts && nat_le (variable_count plant) 4096) ≡ true) × ((list_all (part_reads (variable_count plant) plant.types) plant.parts && list_all (reads_below (variable_count plant) 0) plant.laws) ≡ true)
-  fit = both _ _ (both (lists_fit plant) (variables_fit plant) h).1
+  lists : ((name_fits plant.name && list_all domain_fits plant.domains) ≡ true) × ((types_fit plant.domains 0 plant.types && parts_fit plant) ≡ true)
+  lists = both (name_fits plant.name && list_all domain_fits plant.domains) (types_fit plant.domains 0 plant.types && parts_fit plant) (both (lists_fit plant) _ h).0
 
-  -- what the parts of a well-formed plant read
-  pub parts-of_well_formed : All (PartReads (variable_count plant) plant.types) plant.parts
-  parts-of_well_formed =
-      All-of_test (part_reads (variable_count plant) plant.types) (PartReads (variable_count plant) plant.types) plant.parts (PartReads-of_test (variable_count plant) plant.types)
-      (both (list_all (part_reads (variable_count plant) plant.types) plant.parts) (list_all (reads_below (variable_count plant) 0) plant.laws) fit.1).0
+  pub domains_pass : list_all domain_fits plant.domains ≡ true
+  domains_pass = (both (name_fits plant.name) (list_all domain_fits plant.domains) lists.0).1
 
-  -- what its laws read
-  pub laws-of_well_formed : All (Reads (variable_count plant) 0) plant.laws
-  laws-of_well_formed =
-      All-of_test (reads_below (variable_count plant) 0) (Reads (variable_count plant) 0) plant.laws (λ f below. record { below = below })
-      (both (list_all (part_reads (variable_count plant) plant.types) plant.parts) (list_all (reads_below (variable_count plant) 0) plant.laws) fit.1).1
+  pub types_pass : types_fit plant.domains 0 plant.types ≡ true
+  types_pass = (both (types_fit plant.domains 0 plant.types) (parts_fit plant) lists.1).0
+
+  parts_pass : (is_within 1 (length plant.parts) PARTS ≡ true) × (list_all (part_fits plant.types) plant.parts ≡ true)
+  parts_pass = both (is_within 1 (length plant.parts) PARTS) (list_all (part_fits plant.types) plant.parts) (both (types_fit plant.domains 0 plant.types) (parts_fit plant) lists.1).1
+
+  rest : ((variables_fit plant) ≡ true) × ((laws_fit plant && prices_fit plant) ≡ true)
+  rest = both (variables_fit plant) (laws_fit plant && prices_fit plant) (both (lists_fit plant) _ h).1
+
+  -- and there are few parts
+  pub few-parts : length plant.parts ≤ PARTS
+  few-parts = leb-true (length plant.parts) PARTS (both (nat_le 1 (length plant.parts)) (nat_le (length plant.parts) PARTS) parts_pass.0).1
 
   -- it has no more variables than this
-  pub few_variables : variable_count plant ≤ 4096
-  few_variables = leb-true (variable_count plant) 4096 (both (firsts_follow plant.types 0 plant.parts) (nat_le (variable_count plant) 4096) fit.0).1
+  pub few_variables : variable_count plant ≤ VARIABLES
+  few_variables = leb-true (variable_count plant) VARIABLES (both (firsts_follow plant.types 0 plant.parts) (nat_le (variable_count plant) VARIABLES) rest.0).1
 
   -- and its parts end where they do
   pub ends-of_well_formed : All (PartEnds (variable_count plant) plant.types) plant.parts
   ends-of_well_formed =
-      let parts = both (firsts_follow plant.types 0 plant.parts) (nat_le (variable_count plant) 4096) fit.0 in
+      let parts = both (firsts_follow plant.types 0 plant.parts) (nat_le (variable_count plant) VARIABLES) rest.0 in
       λ k d below. record { last = let one = (ends-of_follow plant.types 0 plant.parts parts.0 k d below).last in omega arith }
+
+  -- what the parts of a well-formed plant read
+  pub parts-of_well_formed : All (PartReads (variable_count plant) plant.types) plant.parts
+  parts-of_well_formed = All-of_both plant.parts (All-of_test (part_fits plant.types) (λ p. part_fits plant.types p ≡ true) plant.parts (λ p e. e) parts_pass.1) ends-of_well_formed
+    where
+      All-of_both : (ps : List Part) → All (λ p. part_fits plant.types p ≡ true) ps → All (PartEnds (variable_count plant) plant.types) ps → All (PartReads (variable_count plant) plant.types) ps
+      All-of_both ps fit ends = λ k d below. PartReads-of_test plant.domains plant.types (variable_count plant) (get_or ps k d) types_pass (fit k d below) (ends k d below)
+
+  -- what its laws read
+  pub laws-of_well_formed : All (Reads (variable_count plant) 0) plant.laws
+  laws-of_well_formed =
+      let count : length (plant_ranges plant) ≡ variable_count plant = length-plant_ranges plant in
+      laws_read (plant_ranges plant) (variable_count plant) 0 (omega arith) plant.laws (both (laws_fit plant) (prices_fit plant) rest.1).0

@@ -1,5 +1,8 @@
+pub mod Ranges
 pub mod Lists
+pub mod Moves
+pub mod Names
+pub mod Prices
 pub mod WellFormed
 pub mod Meaning
-pub mod Names
-pub mod Moves
+pub mod Laws

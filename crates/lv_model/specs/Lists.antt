@@ -1,30 +1,20 @@
 -- What the lists of a plant say of its variables.
-use Rattle.std.specs.Prelude.{ℕ, ◌+◌, List, [], ◌∷◌, length, map, sum_by, slice_get, Bool, true, false, if◌then◌else◌, ◌≤◌, ◌<◌}
+use Rattle.std.specs.Prelude.{ℕ, ◌+◌, List, [], ◌∷◌, length, map, sum_by, slice_get, Bool, true, false, nat_eq, if◌then◌else◌, ◌≤◌, ◌<◌}
 use Rattle.std.specs.List.{flat_map}
 use Rattle.std.specs.Option.{option_map_or}
 use Rattle.lv_model.specs.declared.plant.Plant.{Plant}
-use Rattle.lv_model.specs.declared.plant.Domain.{Domain}
 use Rattle.lv_model.specs.declared.plant.ComponentType.{ComponentType}
 use Rattle.lv_model.specs.declared.plant.Part.{Part}
 use Rattle.lv_model.specs.declared.plant.Variable.{Variable}
-use Rattle.lv_model.specs.declared.plant.Class.{Class}
-use Rattle.lv_model.specs.declared.plant.Class.TheVariants.{Control, Dependent, Observable}
+use Rattle.lv_base.specs.declared.names.Class.{Class}
+use Rattle.lv_base.specs.declared.names.Class.TheVariants.{Control, Dependent, Observable}
 use Rattle.lv_base.specs.declared.ids.VarId.{VarId}
-
--- how many values the domain of this place has
-abbrev pub domain_size : List Domain → ℕ → ℕ
-domain_size domains d = option_map_or (λ (x : Domain). length x.values) (slice_get domains d) 0
-
--- of an instance of the type: how many values each of its variables has, the mode first
-abbrev pub type_sizes : List Domain → ComponentType → List ℕ
-type_sizes domains t = length t.modes ∷ map (λ v. domain_size domains v.domain) t.variables
-
-abbrev pub part_sizes : List Domain → List ComponentType → Part → List ℕ
-part_sizes domains types p = option_map_or (type_sizes domains) (slice_get types p.kind) []
+use Rattle.lv_formula.specs.declared.range.Range.{Range}
+use Rattle.lv_model.specs.Ranges.{plant_ranges}
 
 -- how many values each variable of the plant has, part by part
 abbrev pub sizes : Plant → List ℕ
-sizes plant = flat_map (part_sizes plant.domains plant.types) plant.parts
+sizes plant = map (λ (r : Range). r.size) (plant_ranges plant)
 
 -- how many variables an instance of the type has
 abbrev pub type_width : ComponentType → ℕ
@@ -65,6 +55,9 @@ move_counts plant = map (part_moves plant.types) plant.parts
 -- the number of a variable, of which there are so many
 pub record IsVariable (count : ℕ) (v : VarId) : Type 0 where
   pub below : v.0 < count
+
+abbrev pub is_variable : ℕ → VarId → Bool
+is_variable x v = nat_eq v.0 x
 
 -- a number that the limits of a model allow for values, modes and moves
 pub record IsFew (n : ℕ) : Type 0 where

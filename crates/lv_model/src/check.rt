@@ -1,17 +1,26 @@
-//! Whether the numbers in a plant's lists are in range and its limits kept, found by going through the lists once.
+//! Whether a plant is well formed, found by going through its lists once.
 #![tactic(auto)]
 
-ghost use Rattle.std.specs.Prelude.{◌≡◌, ◌+◌, ◌<◌, ◌≤◌, ◌&&◌, IsTrue, true, false, length, nat_lt, nat_le, sum_by, MatchOption, IfSome, OnSome, slice_get};
-ghost use Rattle.std.specs.List.{list_all};
-ghost use Rattle.std.specs.Option.{option_map_or, option_copied};
-ghost use Rattle.lv_formula.specs.Tree.{reads_below};
-ghost use Rattle.lv_model.specs.Lists.{part_width, variable_count};
-ghost use Rattle.lv_model.specs.WellFormed.{is_within, name_fits, domain_fits, variable_fits, cost_fits, move_fits, sources_rise, type_fits, mode_named, mode_reads, move_reads, type_reads, part_reads, part_fits, firsts_follow, lists_fit, variables_fit, is_well_formed};
+ghost use Rattle.std.specs.Prelude.{◌≡◌, ◌+◌, ◌<◌, ◌≤◌, ◌&&◌, IfOk, All, true, false, length, nat_lt, nat_le, nat_eq, sum_by, count_by, drop, MatchOption, slice_get};
+ghost use Rattle.std.specs.List.{list_all, list_any};
+ghost use Rattle.std.specs.Option.{option_map_or};
+ghost use Rattle.lv_base.specs.declared.limits.TheConstants.{VARIABLES};
+ghost use Rattle.lv_formula.specs.Fits.{fits};
+ghost use Rattle.lv_model.specs.Lists.{part_width, variable_count, is_variable};
+ghost use Rattle.lv_model.specs.Prices.{is_price_of};
+ghost use Rattle.lv_model.specs.WellFormed.{is_within, name_fits, domain_fits, variable_fits, mode_formula_fits, kind_fits, guard_fits, move_fits, kind_place, moves_rise, is_stay, is_stay_of, stays_once, names_fit, counts_fit, formulas_fit, moves_fit, type_fits, types_fit, part_fits, firsts_follow, parts_fit, variables_fit, price_fits, are_priced_once, laws_fit, prices_fit, lists_fit, is_well_formed, PartEnds};
 
 use crate::lookup::type_of;
-use crate::plant::{ComponentType, Domain, Mode, Move, MoveKind, Name, Part, Plant, Variable};
-use lv_base::{VarId, limits};
-use lv_formula::Condition;
+use crate::plant::{
+    ComponentType, Domain, ModeFormula, Move, MoveKind, Part, Plant, Price, Variable,
+};
+use crate::prices::is_price_of;
+use crate::ranges::{plant_ranges, type_ranges};
+use crate::variables::all_controls;
+use lv_base::{Name, VarId, limits};
+use lv_formula::range::has_value;
+use lv_formula::{Condition, Range};
+use std::alloc::{AllocError, Global};
 
 /// Whether a number is in a range, both ends counted.
 fn is_between(low: usize, n: usize, high: usize) -> bool
@@ -52,121 +61,167 @@ fn variables_are_in_range(domains: usize, variables: &[Variable]) -> bool
     variables.iter().all(|v| name_is_in_range(&v.name) && (v.domain as usize) < domains)
 }
 
-fn modes_are_in_range(modes: &[Mode]) -> bool
-    ensures { result ≡ list_all mode_named modes.now }
+/// Whether each equation of the conditions keeps to what its variables range over.
+fn conditions_fit(ranges: &[Range], conditions: &[Condition]) -> bool
+    ensures { result ≡ list_all (fits ranges.now) conditions.now }
 {
-    modes.iter().all(|m| name_is_in_range(&m.name))
+    conditions.iter().all(|c| c.fits(ranges))
 }
 
-fn cost_is_in_range(kind: MoveKind, cost: u64) -> bool
-    ensures { result ≡ cost_fits kind cost }
+fn mode_formulas_fit(ranges: &[Range], modes: usize, formulas: &[ModeFormula]) -> bool
+    ensures { result ≡ list_all (mode_formula_fits ranges.now modes) formulas.now }
 {
-    match kind {
-        MoveKind::Step => cost == 0,
-        MoveKind::Stay => cost == 0,
-        MoveKind::Fault => limits::LEAST_FAULT_COST <= cost && cost <= limits::FAULT_COST,
+    formulas.iter().all(|f| (f.mode.0 as usize) < modes && f.condition.fits(ranges))
+}
+
+/// Whether the move has what moves of its kind have.
+fn kind_is_kept(m: &Move) -> bool
+    ensures { result ≡ kind_fits m.now.kind m.now }
+{
+    match m.kind {
+        MoveKind::Step => m.guard.is_some() && m.cost.0 == 0,
+        MoveKind::Stay => m.guard.is_none() && m.target.0 == m.source.0 && m.cost.0 == 0,
+        MoveKind::Fault => limits::LEAST_FAULT_COST <= m.cost.0 && m.cost.0 <= limits::FAULT_COST,
     }
 }
 
-fn move_is_in_range(modes: usize, m: &Move) -> bool
-    ensures { result ≡ move_fits modes m.now }
-{
-    (m.source.0 as usize) < modes
-        && (m.target.0 as usize) < modes
-        && cost_is_in_range(m.kind, m.cost.0)
-}
-
-fn moves_are_in_range(modes: usize, moves: &[Move]) -> bool
-    ensures { result ≡ list_all (move_fits modes) moves.now }
-{
-    moves.iter().all(|m| move_is_in_range(modes, m))
-}
-
-/// Whether the moves go from the first mode up.
-fn sources_go_up(moves: &[Move]) -> bool
-    ensures { result ≡ sources_rise 0 moves.now }
-{
-    let mut low = 0;
-    for m in moves {
-        if m.source.0 < low {
-            return false;
-        }
-        low = m.source.0;
-    }
-    true
-}
-
-fn type_is_in_range(domains: usize, t: &ComponentType) -> bool
-    ensures { result ≡ type_fits domains t.now }
-{
-    let modes = t.modes.len();
-    name_is_in_range(&t.name)
-        && variables_are_in_range(domains, t.variables.as_slice())
-        && is_between(1, modes, limits::MODES as usize)
-        && modes_are_in_range(t.modes.as_slice())
-        && t.moves.len() <= limits::MOVES as usize
-        && moves_are_in_range(modes, t.moves.as_slice())
-        && sources_go_up(t.moves.as_slice())
-}
-
-fn types_are_in_range(domains: usize, types: &[ComponentType]) -> bool
-    ensures { result ≡ list_all (type_fits domains) types.now }
-{
-    types.iter().all(|t| type_is_in_range(domains, t))
-}
-
-/// Whether the conditions read variables below the bound alone, their own being counted from `base`.
-fn conditions_read(conditions: &[Condition], bound: usize, base: VarId) -> bool
-    ensures { result ≡ list_all (reads_below bound base.0) conditions.now }
-{
-    conditions.iter().all(|c| c.reads_below(bound, base.0))
-}
-
-fn modes_read(modes: &[Mode], bound: usize, base: VarId) -> bool
-    ensures { result ≡ list_all (mode_reads bound base.0) modes.now }
-{
-    modes
-        .iter()
-        .all(|m| conditions_read(m.formulas.as_slice(), bound, base))
-}
-
-fn guard_reads(m: &Move, bound: usize, base: VarId) -> bool
-    ensures { result ≡ move_reads bound base.0 m.now }
+fn guard_is_kept(ranges: &[Range], m: &Move) -> bool
+    ensures { result ≡ guard_fits ranges.now m.now }
 {
     match &m.guard {
-        Some(guard) => guard.reads_below(bound, base.0),
+        Some(guard) => guard.fits(ranges),
         None => true,
     }
 }
 
-fn guards_read(moves: &[Move], bound: usize, base: VarId) -> bool
-    ensures { result ≡ list_all (move_reads bound base.0) moves.now }
+fn move_is_in_range(ranges: &[Range], modes: usize, m: &Move) -> bool
+    ensures { result ≡ move_fits ranges.now modes m.now }
 {
-    moves.iter().all(|m| guard_reads(m, bound, base))
+    ((m.source.0 as usize) < modes && (m.target.0 as usize) < modes)
+        && (kind_is_kept(m) && guard_is_kept(ranges, m))
 }
 
-fn type_is_read(t: &ComponentType, bound: usize, base: VarId) -> bool
-    ensures { result ≡ type_reads bound base.0 t.now }
+fn moves_are_in_range(ranges: &[Range], modes: usize, moves: &[Move]) -> bool
+    ensures { result ≡ list_all (move_fits ranges.now modes) moves.now }
 {
-    (base.0 as usize) < bound
-        && conditions_read(t.laws.as_slice(), bound, base)
-        && modes_read(t.modes.as_slice(), bound, base)
-        && guards_read(t.moves.as_slice(), bound, base)
+    moves.iter().all(|m| move_is_in_range(ranges, modes, m))
 }
 
-fn part_is_read(types: &[ComponentType], part: &Part, bound: usize) -> bool
-    ensures { result ≡ part_reads bound types.now part.now }
+fn place_of_kind(kind: MoveKind) -> u32
+    ensures { result ≡ kind_place kind }
 {
-    match type_of(types, part) {
-        Some(t) => type_is_read(t, bound, part.first),
-        None => false,
+    match kind {
+        MoveKind::Step => 0,
+        MoveKind::Stay => 1,
+        MoveKind::Fault => 2,
     }
 }
 
-fn parts_are_read(types: &[ComponentType], parts: &[Part], bound: usize) -> bool
-    ensures { result ≡ list_all (part_reads bound types.now) parts.now }
+/// Whether the moves stand mode by mode, and of each mode in the order of their kinds.
+fn moves_go_up(moves: &[Move]) -> bool
+    ensures { result ≡ moves_rise 0 0 moves.now }
 {
-    parts.iter().all(|part| part_is_read(types, part, bound))
+    let mut mode = 0;
+    let mut place = 0;
+    for m in moves {
+        let own = place_of_kind(m.kind);
+        if m.source.0 < mode || (m.source.0 == mode && own < place) {
+            return false;
+        }
+        mode = m.source.0;
+        place = own;
+    }
+    true
+}
+
+fn is_stay_of(m: &Move, mode: usize) -> bool
+    ensures { result ≡ is_stay_of mode m.now }
+{
+    match m.kind {
+        MoveKind::Stay => m.source.0 as usize == mode,
+        MoveKind::Step => false,
+        MoveKind::Fault => false,
+    }
+}
+
+/// How many stays the mode has.
+fn stays_of(moves: &[Move], mode: usize) -> usize
+    ensures { result ≡ count_by (is_stay_of mode) moves.now }
+{
+    moves.iter().filter(|m| is_stay_of(m, mode)).count()
+}
+
+/// Whether each of the modes has one stay.
+fn have_one_stay(modes: &[Name], moves: &[Move]) -> bool
+    ensures { result ≡ stays_once 0 modes.now moves.now }
+{
+    for (mode, _) in modes.iter().enumerate() {
+        if stays_of(moves, mode) != 1 {
+            return false;
+        }
+    }
+    true
+}
+
+fn type_is_named(domains: usize, t: &ComponentType) -> bool
+    ensures { result ≡ names_fit domains t.now }
+{
+    name_is_in_range(&t.name)
+        && (variables_are_in_range(domains, t.variables.as_slice())
+            && names_are_in_range(t.modes.as_slice()))
+}
+
+fn type_is_small(t: &ComponentType) -> bool
+    ensures { result ≡ counts_fit t.now }
+{
+    is_between(1, t.modes.len(), limits::MODES as usize) && t.moves.len() <= limits::MOVES as usize
+}
+
+fn formulas_are_kept(ranges: &[Range], t: &ComponentType) -> bool
+    ensures { result ≡ formulas_fit ranges.now t.now }
+{
+    conditions_fit(ranges, t.laws.as_slice())
+        && mode_formulas_fit(ranges, t.modes.len(), t.formulas.as_slice())
+}
+
+fn moves_are_kept(ranges: &[Range], t: &ComponentType) -> bool
+    ensures { result ≡ moves_fit ranges.now t.now }
+{
+    let moves = t.moves.as_slice();
+    let modes = t.modes.len();
+    moves_are_in_range(ranges, modes, moves)
+        && (moves_go_up(moves) && have_one_stay(t.modes.as_slice(), moves))
+}
+
+/// Whether the type at this place is in range.
+fn type_is_in_range(
+    alloc: Global,
+    domains: &[Domain],
+    kind: usize,
+    t: &ComponentType,
+) -> Result<bool, AllocError>
+    ensures { IfOk result (λ r. r ≡ type_fits domains.now kind t.now) }
+{
+    let ranges = type_ranges(alloc, domains, kind, t)?;
+    Ok(
+        (type_is_named(domains.len(), t) && type_is_small(t))
+            && (formulas_are_kept(ranges.as_slice(), t) && moves_are_kept(ranges.as_slice(), t)),
+    )
+}
+
+fn types_are_in_range(
+    alloc: Global,
+    domains: &[Domain],
+    types: &[ComponentType],
+) -> Result<bool, AllocError>
+    ensures { IfOk result (λ r. r ≡ types_fit domains.now 0 types.now) }
+{
+    for (kind, t) in types.iter().enumerate() {
+        if !type_is_in_range(alloc, domains, kind, t)? {
+            return Ok(false);
+        }
+    }
+    Ok(true)
 }
 
 fn starts_in_a_mode(types: &[ComponentType], part: &Part) -> bool
@@ -184,15 +239,23 @@ fn part_is_in_range(types: &[ComponentType], part: &Part) -> bool
     name_is_in_range(&part.name) && starts_in_a_mode(types, part)
 }
 
-fn parts_are_in_range(types: &[ComponentType], parts: &[Part]) -> bool
+fn all_parts_are_in_range(types: &[ComponentType], parts: &[Part]) -> bool
     ensures { result ≡ list_all (part_fits types.now) parts.now }
 {
     parts.iter().all(|part| part_is_in_range(types, part))
 }
 
+fn parts_are_in_range(plant: &Plant) -> bool
+    ensures { result ≡ parts_fit plant.now }
+{
+    let parts = plant.parts.as_slice();
+    is_between(1, parts.len(), limits::PARTS as usize)
+        && all_parts_are_in_range(plant.types.as_slice(), parts)
+}
+
 /// How many variables the part has, if they are at most the limit of a whole model.
 fn width_of(types: &[ComponentType], part: &Part) -> Option<usize>
-    ensures { MatchOption result (4096 < part_width types.now part.now) (λ n. (n ≡ part_width types.now part.now) × (n ≤ 4096)) }
+    ensures { MatchOption result (VARIABLES < part_width types.now part.now) (λ n. (n ≡ part_width types.now part.now) × (n ≤ VARIABLES)) }
 {
     match type_of(types, part) {
         Some(t) => {
@@ -207,56 +270,119 @@ fn width_of(types: &[ComponentType], part: &Part) -> Option<usize>
     }
 }
 
-/// How many variables all parts have, if each part's begin where those before it end and they are at most the limit.
-fn variables_of(types: &[ComponentType], parts: &[Part]) -> Option<usize>
-    ensures { MatchOption result ((firsts_follow types.now 0 parts.now && nat_le (sum_by (part_width types.now) parts.now) 4096) ≡ false) (λ n. (firsts_follow types.now 0 parts.now ≡ true) × (n ≡ sum_by (part_width types.now) parts.now) × (n ≤ 4096)) }
+/// Whether each part's variables begin where those before it end, and all are at most the limit.
+fn variables_follow(types: &[ComponentType], parts: &[Part]) -> bool
+    ensures { result ≡ (firsts_follow types.now 0 parts.now && nat_le (sum_by (part_width types.now) parts.now) VARIABLES) }
 {
     let mut next = 0;
     for part in parts {
         if part.first.0 as usize != next {
-            return None;
+            return false;
         }
         let width = match width_of(types, part) {
             Some(width) => width,
-            None => return None,
+            None => return false,
         };
         if next + width > limits::VARIABLES as usize {
-            return None;
+            return false;
         }
         next += width;
     }
-    Some(next)
+    true
 }
 
-fn lists_are_in_range(plant: &Plant) -> bool
-    ensures { result ≡ lists_fit plant.now }
+fn is_one_of(controls: &[VarId], control: VarId) -> bool
+    ensures { result ≡ list_any (is_variable control.0) controls.now }
 {
-    let types = plant.types.as_slice();
-    let parts = plant.parts.as_slice();
-    name_is_in_range(&plant.name)
-        && domains_are_in_range(plant.domains.as_slice())
-        && types_are_in_range(plant.domains.len(), types)
-        && is_between(1, parts.len(), limits::PARTS as usize)
-        && parts_are_in_range(types, parts)
+    controls.iter().any(|c| c.0 == control.0)
 }
 
-fn variables_are_read(plant: &Plant) -> bool
+fn price_is_in_range(ranges: &[Range], controls: &[VarId], p: &Price) -> bool
+    ensures { result ≡ price_fits ranges.now controls.now p.now }
+{
+    is_one_of(controls, p.control)
+        && (has_value(ranges, p.control, p.value) && (0 < p.value.0 && p.cost.0 <= limits::PRICE))
+}
+
+fn prices_are_in_range(ranges: &[Range], controls: &[VarId], prices: &[Price]) -> bool
+    ensures { result ≡ list_all (price_fits ranges.now controls.now) prices.now }
+{
+    prices
+        .iter()
+        .all(|p| price_is_in_range(ranges, controls, p))
+}
+
+fn is_priced(prices: &[Price], p: &Price) -> bool
+    ensures { result ≡ list_any (is_price_of p.now.control.0 p.now.value.0) prices.now }
+{
+    prices.iter().any(|q| is_price_of(q, p.control, p.value))
+}
+
+/// Whether no value of a control is priced twice.
+fn are_priced_once(prices: &[Price]) -> bool
+    ensures { result ≡ are_priced_once prices.now }
+{
+    let mut rest = prices;
+    while let Some((p, more)) = rest.split_first() {
+        if is_priced(more, p) {
+            return false;
+        }
+        rest = more;
+    }
+    true
+}
+
+fn lists_are_in_range(alloc: Global, plant: &Plant) -> Result<bool, AllocError>
+    ensures { IfOk result (λ r. r ≡ lists_fit plant.now) }
+{
+    let domains = plant.domains.as_slice();
+    if !name_is_in_range(&plant.name) || !domains_are_in_range(domains) {
+        return Ok(false);
+    }
+    if !types_are_in_range(alloc, domains, plant.types.as_slice())? {
+        return Ok(false);
+    }
+    Ok(parts_are_in_range(plant))
+}
+
+fn variables_are_kept(plant: &Plant) -> bool
     ensures { result ≡ variables_fit plant.now }
 {
-    let types = plant.types.as_slice();
-    let parts = plant.parts.as_slice();
-    match variables_of(types, parts) {
-        Some(bound) => {
-            parts_are_read(types, parts, bound)
-                && conditions_read(plant.laws.as_slice(), bound, VarId(0))
-        }
-        None => false,
-    }
+    variables_follow(plant.types.as_slice(), plant.parts.as_slice())
+}
+
+fn prices_are_kept(ranges: &[Range], controls: &[VarId], prices: &[Price]) -> bool
+    ensures { result ≡ (list_all (price_fits ranges.now controls.now) prices.now && are_priced_once prices.now) }
+{
+    prices_are_in_range(ranges, controls, prices) && are_priced_once(prices)
+}
+
+/// Whether laws and prices are in range, of a plant whose variables are numbered part by part.
+fn laws_and_prices_are_kept(alloc: Global, plant: &Plant) -> Result<bool, AllocError>
+    requires { All (PartEnds VARIABLES plant.now.types) plant.now.parts }
+    ensures { IfOk result (λ r. r ≡ (laws_fit plant.now && prices_fit plant.now)) }
+{
+    let ranges = plant_ranges(alloc, plant)?;
+    let controls = all_controls(alloc, plant)?;
+    Ok(
+        conditions_fit(ranges.as_slice(), plant.laws.as_slice())
+            && prices_are_kept(
+                ranges.as_slice(),
+                controls.as_slice(),
+                plant.prices.as_slice(),
+            ),
+    )
 }
 
 /// Whether the plant is well formed.
-pub fn is_in_range(plant: &Plant) -> bool
-    ensures { result ≡ is_well_formed plant.now }
+pub fn is_in_range(alloc: Global, plant: &Plant) -> Result<bool, AllocError>
+    ensures { IfOk result (λ r. r ≡ is_well_formed plant.now) }
 {
-    lists_are_in_range(plant) && variables_are_read(plant)
+    if !lists_are_in_range(alloc, plant)? {
+        return Ok(false);
+    }
+    if !variables_are_kept(plant) {
+        return Ok(false);
+    }
+    laws_and_prices_are_kept(alloc, plant)
 }

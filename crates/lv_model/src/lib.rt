@@ -2,19 +2,28 @@
 //!
 //! | part | items |
 //! |---|---|
-//! | the lists | `Plant`, `Domain`, `ComponentType`, `Variable`, `Mode`, `Move`, `Part` |
+//! | the lists | `Plant`, `Domain`, `ComponentType`, `Variable`, `ModeFormula`, `Move`, `Part`, `Price` |
+//! | states | `State`, `TrackedState` |
 //! | the model | `Model`: a plant that is well formed |
-//! | its meaning | `Model::is_feasible`, `takes`, `is_step`, `moves_from` |
+//! | its meaning | `Model::is_feasible`, `takes`, `is_step`, `is_nominal`, `moves_from`, `price` |
+//! | its lists of numbers | `Model::sizes`, `controls`, `move_counts` |
 //! | its names | `names`: the first item of a list with a name |
+//! | its laws | `laws` |
 #![tactic(auto)]
 
 mod check;
+pub mod laws;
 pub mod lookup;
 pub mod meaning;
 pub mod model;
 pub mod names;
 pub mod plant;
+mod prices;
+mod ranges;
+pub mod state;
 pub mod variables;
 
+pub use lv_base::{Class, Name};
 pub use model::Model;
-pub use plant::{Class, ComponentType, Domain, Mode, Move, MoveKind, Name, Part, Plant, Variable};
+pub use state::{State, TrackedState};
+pub use plant::{ComponentType, Domain, ModeFormula, Move, MoveKind, Part, Plant, Price, Variable};

@@ -3,6 +3,7 @@
 
 ghost use Rattle.std.specs.Prelude.{◌≡◌, ◌<◌, OnSome, length, slice_get};
 ghost use Rattle.std.specs.Option.{option_copied};
+ghost use Rattle.lv_model.specs.Moves.{move_at};
 
 use crate::plant::{ComponentType, Move, Part};
 use lv_base::{MoveId, PartId};
@@ -20,6 +21,16 @@ pub fn move_of(moves: &[Move], mv: MoveId) -> Option<&Move>
     ensures within { OnSome result (mv.0 < length moves.now) }
 {
     moves.get(mv.0 as usize)
+}
+
+/// The move of this number of the part's type, if there is one.
+pub fn move_of_part<'a>(types: &'a [ComponentType], part: &Part, mv: MoveId) -> Option<&'a Move>
+    ensures { option_copied result ≡ move_at types.now part.now mv.0 }
+{
+    match type_of(types, part) {
+        Some(t) => move_of(t.moves.as_slice(), mv),
+        None => None,
+    }
 }
 
 /// The part of this number, if there is one.

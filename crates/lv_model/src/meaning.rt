@@ -2,19 +2,20 @@
 //! which moves a part takes, what a step of the system is. All of it takes no memory.
 #![tactic(auto)]
 
-ghost use Rattle.std.specs.Prelude.{◌≡◌, ◌+◌, ◌<◌, IsTrue, true, false, length, slice_get, Some, None, OnSome, take, All, ◌≤◌};
+ghost use Rattle.std.specs.Prelude.{◌≡◌, ◌+◌, ◌<◌, ◌&&◌, IsTrue, true, false, length, slice_get, Some, None, OnSome, take, All, ◌≤◌};
 ghost use Rattle.std.specs.List.{list_all, list_any};
 ghost use Rattle.std.specs.Option.{option_map, option_copied};
 ghost use Rattle.lv_formula.specs.Tree.{truth_of, reads_below, number_of};
 ghost use Rattle.lv_base.specs.declared.ids.ValId.{ValId};
+ghost use Rattle.lv_base.specs.declared.limits.TheConstants.{MOVES};
 ghost use Rattle.lv_model.specs.Lists.{variable_count};
-ghost use Rattle.lv_model.specs.WellFormed.{Reads, TypeReads, GuardReads, PartReads, is_well_formed};
+ghost use Rattle.lv_model.specs.WellFormed.{Reads, FormulaReads, TypeReads, GuardReads, PartReads, is_well_formed};
 ghost use Rattle.lv_model.specs.Moves.{first_move, move_count, moves_of};
-ghost use Rattle.lv_model.specs.Meaning.{mode_holds, part_is_feasible, is_feasible, is_open, is_open_step, goes, type_takes, part_takes, takes, target_of, part_steps, parts_step, is_step};
+ghost use Rattle.lv_model.specs.Meaning.{mode_formula_holds, part_is_feasible, is_feasible, is_open, is_open_step, goes, type_takes, part_takes, takes, target_of, part_steps, parts_step, is_step, is_no_fault, part_is_nominal, parts_are_nominal, is_nominal};
 
-use crate::lookup::{move_of, part_of, type_of};
+use crate::lookup::{move_of, move_of_part, part_of, type_of};
 use crate::model::Model;
-use crate::plant::{ComponentType, Mode, Move, MoveKind, Part, Plant};
+use crate::plant::{ComponentType, ModeFormula, Move, MoveKind, Part, Plant};
 use lv_base::{MoveId, PartId, ValId, VarId};
 use lv_formula::Condition;
 
@@ -26,23 +27,30 @@ fn all_hold(conditions: &[Condition], a: &[ValId], base: VarId) -> bool
     conditions.iter().all(|c| c.holds(a, base.0))
 }
 
-/// The mode that an instance of the type is in, if its value names one.
-fn mode_of<'a>(modes: &'a [Mode], a: &[ValId], base: VarId) -> Option<&'a Mode>
-    requires { base.0 < length a.now }
-    ensures { option_copied result ≡ slice_get modes.now (number_of a.now base.0) }
+/// Whether the formula is true, or an instance of the type is in another mode.
+fn mode_formula_holds(f: &ModeFormula, a: &[ValId], base: VarId) -> bool
+    requires first { base.0 < length a.now }
+    requires reads { FormulaReads (length a.now) base.0 f.now }
+    ensures { result ≡ mode_formula_holds a.now base.0 f.now }
 {
-    modes.get(a[base.0 as usize].0 as usize)
+    f.mode.0 != a[base.0 as usize].0 || f.condition.holds(a, base.0)
 }
 
 /// Whether the formulas of the mode that an instance of the type is in are true.
-fn mode_is_kept(t: &ComponentType, a: &[ValId], base: VarId) -> bool
-    requires { TypeReads (length a.now) base.0 t.now }
-    ensures { result ≡ mode_holds a.now base.0 t.now }
+fn mode_is_kept(formulas: &[ModeFormula], a: &[ValId], base: VarId) -> bool
+    requires first { base.0 < length a.now }
+    requires reads { All (FormulaReads (length a.now) base.0) formulas.now }
+    ensures { result ≡ list_all (mode_formula_holds a.now base.0) formulas.now }
 {
-    match mode_of(t.modes.as_slice(), a, base) {
-        Some(mode) => all_hold(mode.formulas.as_slice(), a, base),
-        None => false,
-    }
+    formulas.iter().all(|f| mode_formula_holds(f, a, base))
+}
+
+/// Whether the laws of the type and the formulas of its present mode are true of an instance.
+fn type_is_kept(t: &ComponentType, a: &[ValId], base: VarId) -> bool
+    requires { TypeReads (length a.now) base.0 t.now }
+    ensures { result ≡ (list_all (truth_of a.now base.0) t.now.laws && list_all (mode_formula_holds a.now base.0) t.now.formulas) }
+{
+    all_hold(t.laws.as_slice(), a, base) && mode_is_kept(t.formulas.as_slice(), a, base)
 }
 
 /// Whether the part's laws and the formulas of its present mode are true.
@@ -51,7 +59,7 @@ fn part_is_kept(types: &[ComponentType], a: &[ValId], part: &Part) -> bool
     ensures { result ≡ part_is_feasible types.now a.now part.now }
 {
     match type_of(types, part) {
-        Some(t) => all_hold(t.laws.as_slice(), a, part.first) && mode_is_kept(t, a, part.first),
+        Some(t) => type_is_kept(t, a, part.first),
         None => false,
     }
 }
@@ -134,14 +142,11 @@ fn part_takes_move(types: &[ComponentType], part: &Part, mv: MoveId, a: &[ValId]
 }
 
 /// The target of the part's move of this number, if there is one.
-fn target_mode(types: &[ComponentType], part: &Part, mv: MoveId) -> Option<ValId>
+pub fn target_mode(types: &[ComponentType], part: &Part, mv: MoveId) -> Option<ValId>
     ensures { option_map (λ (v : ValId). v.0) result ≡ target_of types.now part.now mv.0 }
 {
-    match type_of(types, part) {
-        Some(t) => match move_of(t.moves.as_slice(), mv) {
-            Some(m) => Some(m.target),
-            None => None,
-        },
+    match move_of_part(types, part, mv) {
+        Some(m) => Some(m.target),
         None => None,
     }
 }
@@ -186,7 +191,7 @@ fn parts_go(
 fn part_moves_of(plant: &Plant, part: PartId) -> &[Move]
     requires { IsTrue (is_well_formed plant.now) }
     ensures moves { result.now ≡ moves_of plant.now part.0 }
-    ensures few { length result.now ≤ 64 }
+    ensures few { length result.now ≤ MOVES }
 {
     match part_of(plant.parts.as_slice(), part) {
         Some(p) => match type_of(plant.types.as_slice(), p) {
@@ -199,7 +204,7 @@ fn part_moves_of(plant: &Plant, part: PartId) -> &[Move]
 
 /// How many moves are from modes before this one.
 fn moves_before(moves: &[Move], mode: ValId) -> u32
-    requires { length moves.now ≤ 64 }
+    requires { length moves.now ≤ MOVES }
     ensures { result ≡ first_move moves.now mode.0 }
 {
     moves.iter().filter(|m| m.source.0 < mode.0).count() as u32
@@ -207,10 +212,42 @@ fn moves_before(moves: &[Move], mode: ValId) -> u32
 
 /// How many moves are from this mode.
 fn moves_with(moves: &[Move], mode: ValId) -> u32
-    requires { length moves.now ≤ 64 }
+    requires { length moves.now ≤ MOVES }
     ensures { result ≡ move_count moves.now mode.0 }
 {
     moves.iter().filter(|m| m.source.0 == mode.0).count() as u32
+}
+
+fn is_step_or_stay(kind: MoveKind) -> bool
+    ensures { result ≡ is_no_fault kind }
+{
+    match kind {
+        MoveKind::Step | MoveKind::Stay => true,
+        MoveKind::Fault => false,
+    }
+}
+
+/// Whether the part's type has the move, and it is no fault.
+fn has_no_fault(types: &[ComponentType], part: &Part, mv: MoveId) -> bool
+    ensures { result ≡ part_is_nominal types.now part.now mv.0 }
+{
+    match move_of_part(types, part, mv) {
+        Some(m) => is_step_or_stay(m.kind),
+        None => false,
+    }
+}
+
+/// Whether no part's move is a fault.
+fn have_no_fault(types: &[ComponentType], parts: &[Part], moves: &[MoveId]) -> bool
+    requires { length moves.now ≡ length parts.now }
+    ensures { result ≡ parts_are_nominal types.now parts.now moves.now }
+{
+    for (i, part) in parts.iter().enumerate() {
+        if !has_no_fault(types, part, moves[i]) {
+            return false;
+        }
+    }
+    true
 }
 
 impl Model {
@@ -271,5 +308,14 @@ impl Model {
         let plant = self.plant();
         let moves = part_moves_of(plant, part);
         (MoveId(moves_before(moves, mode)), moves_with(moves, mode))
+    }
+
+    /// Whether the full choice gives each part a move of its type, and none of them is a fault. Takes no memory.
+    pub fn is_nominal(&self, moves: &[MoveId]) -> bool
+        requires { length moves.now ≡ length self.now.parts }
+        ensures { result ≡ is_nominal self.now moves.now }
+    {
+        let plant = self.plant();
+        have_no_fault(plant.types.as_slice(), plant.parts.as_slice(), moves)
     }
 }

@@ -1,12 +1,14 @@
 //! The model: a plant that is well formed, which its type keeps.
 #![tactic(auto)]
 
-ghost use Rattle.std.specs.Prelude.{◌≡◌, IfOk, IfErr, IsTrue, All, is_ok, length, ◌≤◌};
+ghost use Rattle.std.specs.Prelude.{◌≡◌, IfOk, IfSome, IsTrue, All, is_some, length, ◌≤◌};
+ghost use Rattle.lv_base.specs.declared.limits.TheConstants.{PARTS, VARIABLES};
 ghost use Rattle.lv_model.specs.WellFormed.{is_well_formed, Reads, PartReads, PartEnds, TypeIsSmall};
 ghost use Rattle.lv_model.specs.Lists.{variable_count};
 
 use crate::check::is_in_range;
 use crate::plant::Plant;
+use std::alloc::{AllocError, Global};
 use std::marker;
 
 /// A plant that is well formed, seen by clauses as the plant.
@@ -32,16 +34,15 @@ impl marker::Model for Model {
 }
 
 impl Model {
-    /// The model of a plant, where the plant is well formed; else the plant again. Takes no memory.
-    pub fn new(plant: Plant) -> Result<Model, Plant>
-        ensures made { IfOk result (λ m. m ≡ plant) }
-        ensures refused { IfErr result (λ p. p ≡ plant) }
-        ensures tested { is_ok result ≡ is_well_formed plant }
+    /// The model of a plant, `None` exactly where the plant isn't well formed.
+    pub fn new(alloc: Global, plant: Plant) -> Result<Option<Model>, AllocError>
+        ensures made { IfOk result (λ made. IfSome made (λ m. m ≡ plant)) }
+        ensures tested { IfOk result (λ made. is_some made ≡ is_well_formed plant) }
     {
-        if is_in_range(&plant) {
-            Ok(Model { plant })
+        if is_in_range(alloc, &plant)? {
+            Ok(Some(Model { plant }))
         } else {
-            Err(plant)
+            Ok(None)
         }
     }
 
@@ -51,9 +52,9 @@ impl Model {
         ensures well_formed { IsTrue (is_well_formed result.now) }
         ensures parts { All (PartReads (variable_count result.now) result.now.types) result.now.parts }
         ensures types { All TypeIsSmall result.now.types }
-        ensures count { length result.now.parts ≤ 256 }
+        ensures count { length result.now.parts ≤ PARTS }
         ensures ends { All (PartEnds (variable_count result.now) result.now.types) result.now.parts }
-        ensures few { variable_count result.now ≤ 4096 }
+        ensures few { variable_count result.now ≤ VARIABLES }
         ensures laws { All (Reads (variable_count result.now) 0) result.now.laws }
     {
         &self.plant

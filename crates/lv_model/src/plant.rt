@@ -1,25 +1,14 @@
 //! The plain lists of a plant, in written order.
 #![tactic(auto)]
 
-use lv_base::{Cost, Seq, ValId, VarId};
+use lv_base::{Class, Cost, Name, Seq, ValId, VarId};
 use lv_formula::Condition;
-
-/// A name: the bytes of a word of letters, digits and `_`.
-pub type Name = Seq<u8>;
 
 /// A finite domain: its values in written order.
 #[derive(Debug, Drop)]
 pub struct Domain {
     pub name: Name,
     pub values: Seq<Name>,
-}
-
-/// What a variable of a type is for: a control is commanded, an observable is observed, the others follow from them.
-#[derive(Clone, Copy, Debug, PartialEq, Eq)]
-pub enum Class {
-    Control,
-    Dependent,
-    Observable,
 }
 
 /// A variable of a type, over the domain of this place in the plant's list.
@@ -30,13 +19,14 @@ pub struct Variable {
     pub domain: u32,
 }
 
-/// A mode of a type, with the formulas that hold in it.
+/// What holds of a part while it is in the mode.
 #[derive(Debug, Drop)]
-pub struct Mode {
-    pub name: Name,
-    pub formulas: Seq<Condition>,
+pub struct ModeFormula {
+    pub mode: ValId,
+    pub condition: Condition,
 }
 
+/// What a move is: a step is taken where its guard is true, a stay where no step is, a fault where it happens.
 #[derive(Clone, Copy, Debug, PartialEq, Eq)]
 pub enum MoveKind {
     Step,
@@ -56,14 +46,16 @@ pub struct Move {
     pub line: u32,
 }
 
-/// A component type. In its formulas variable 0 is the mode, and variable `v + 1` is `variables[v]`. Its moves are those
-/// of its modes in written order: of each mode its steps, its stay, its faults.
+/// A component type. In its formulas variable 0 is the mode, and variable `v + 1` is `variables[v]`. Mode formulas stand
+/// as they are written, whatever their modes. The moves are those of the modes in written order: of each mode its steps,
+/// its stay, its faults.
 #[derive(Debug, Drop)]
 pub struct ComponentType {
     pub name: Name,
     pub variables: Seq<Variable>,
-    pub modes: Seq<Mode>,
+    pub modes: Seq<Name>,
     pub laws: Seq<Condition>,
+    pub formulas: Seq<ModeFormula>,
     pub moves: Seq<Move>,
 }
 
@@ -76,6 +68,14 @@ pub struct Part {
     pub first: VarId,
 }
 
+/// What it costs to command a control to a value that isn't its resting one.
+#[derive(Clone, Copy, Debug)]
+pub struct Price {
+    pub control: VarId,
+    pub value: ValId,
+    pub cost: Cost,
+}
+
 /// All lists of a plant. `laws` are those of the system; their variables are counted over all parts.
 #[derive(Debug, Drop)]
 pub struct Plant {
@@ -84,4 +84,5 @@ pub struct Plant {
     pub types: Seq<ComponentType>,
     pub parts: Seq<Part>,
     pub laws: Seq<Condition>,
+    pub prices: Seq<Price>,
 }

@@ -3,56 +3,15 @@
 
 ghost use Rattle.std.specs.Prelude.{◌≡◌, ◌+◌, ◌<◌, ◌≤◌, ◌++◌, ◌^◌, IfOk, OnErr, IsTrue, All, length, map, option_map, slice_get, count_by, nat_lt, nat_eq};
 ghost use Rattle.std.specs.Option.{option_map_or, option_copied};
-ghost use Rattle.lv_model.specs.Lists.{domain_size, type_sizes, part_sizes, sizes, part_width, is_control, controls_from, part_controls, controls, part_moves, move_counts, variable_count, IsVariable, IsFew};
-ghost use Rattle.lv_model.specs.declared.plant.Variable.{Variable};
+ghost use Rattle.lv_model.specs.Lists.{sizes, part_width, is_control, controls_from, part_controls, controls, part_moves, move_counts, variable_count, IsVariable, IsFew};
 ghost use Rattle.lv_model.specs.WellFormed.{PartEnds};
-ghost use Rattle.lv_model.specs.Moves.{first_move, move_count};
 
 use crate::lookup::type_of;
 use crate::model::Model;
-use crate::plant::{Class, ComponentType, Domain, Part, Plant, Variable};
-use lv_base::{MoveId, ValId, VarId};
+use crate::plant::{ComponentType, Part, Plant, Variable};
+use crate::ranges::plant_ranges;
+use lv_base::{Class, VarId};
 use std::alloc::{AllocError, Global};
-
-/// How many values the domain of this place has; none where there is no such domain.
-fn size_of_domain(domains: &[Domain], domain: u32) -> usize
-    ensures { result ≡ domain_size domains.now domain }
-{
-    match domains.get(domain as usize) {
-        Some(d) => d.values.len(),
-        None => 0,
-    }
-}
-
-/// Adds how many values each of these variables has.
-fn push_domain_sizes(
-    out: &mut Vec<usize>,
-    domains: &[Domain],
-    variables: &[Variable],
-) -> Result<(), AllocError>
-    ensures { IfOk result (λ _. out.new.items ≡ out.old.items ++ map (λ (v : Variable). domain_size domains.now v.domain) variables.now) }
-{
-    for v in variables {
-        out.push(size_of_domain(domains, v.domain))?;
-    }
-    Ok(())
-}
-
-/// Adds how many values each variable of the part has, its mode first.
-fn push_part_sizes(
-    out: &mut Vec<usize>,
-    domains: &[Domain],
-    types: &[ComponentType],
-    part: &Part,
-) -> Result<(), AllocError>
-    ensures { IfOk result (λ _. out.new.items ≡ out.old.items ++ part_sizes domains.now types.now part.now) }
-{
-    if let Some(t) = type_of(types, part) {
-        out.push(t.modes.len())?;
-        push_domain_sizes(out, domains, t.variables.as_slice())?;
-    }
-    Ok(())
-}
 
 fn is_commanded(class: Class) -> bool
     ensures { result ≡ is_control class }
@@ -106,20 +65,12 @@ fn count_of_moves(types: &[ComponentType], part: &Part) -> usize
 fn all_sizes(alloc: Global, plant: &Plant) -> Result<Vec<usize>, AllocError>
     ensures { IfOk result (λ out. out.items ≡ sizes plant.now) }
 {
-    let mut out = Vec::new(alloc);
-    for part in plant.parts.as_slice() {
-        push_part_sizes(
-            &mut out,
-            plant.domains.as_slice(),
-            plant.types.as_slice(),
-            part,
-        )?;
-    }
-    Ok(out)
+    let ranges = plant_ranges(alloc, plant)?;
+    ranges.iter().map(|range| range.size).collect(alloc)
 }
 
 /// The control variables in written order, part by part.
-fn all_controls(alloc: Global, plant: &Plant) -> Result<Vec<VarId>, AllocError>
+pub fn all_controls(alloc: Global, plant: &Plant) -> Result<Vec<VarId>, AllocError>
     requires { All (PartEnds 4096 plant.now.types) plant.now.parts }
     ensures { IfOk result (λ out. out.items ≡ controls plant.now) }
 {

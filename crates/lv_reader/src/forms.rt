@@ -1,265 +1,195 @@
 //! The forms of statements: the statement that the tokens of a line are, by the word that it begins with.
 #![tactic(auto)]
 
-ghost use Rattle.std.specs.Prelude.{◌≡◌, IfOk, All, map, drop, option_map};
-ghost use Rattle.lv_text.specs.declared.lexer.Token.{Token};
-ghost use Rattle.lv_text.specs.Kinds.{IsTokenOf, token_text};
-ghost use Rattle.lv_reader.specs.Equations.{kinds_of, texts_of, is_word};
-ghost use Rattle.lv_reader.specs.Statements.{model_line, type_line, mode_line, end_line, are_words, domain_line, variable_line, part_line, law_line, in_line, step_line, fault_cost_at, fault_line, statement_in_type, statement_of};
+ghost use Rattle.std.specs.Prelude.{◌≡◌, IfOk, Some, None};
+ghost use Rattle.lv_reader.specs.declared.fault.LineFault.TheVariants.{Refused};
+ghost use Rattle.lv_reader.specs.Statements.{model_line, type_line, mode_line, end_line, domain_line, variable_line, part_line, law_line, in_line, step_line, fault_cost_at, fault_line, statement_in_type, statement_of};
 
+use crate::fault::LineFault;
 use crate::statement::Statement;
-use crate::words::{equation_from, free_name_at, is_arrow_at, name_at, names_of, number_at, says};
-use lv_base::limits;
-use lv_model::Class;
-use lv_text::{Token, TokenKind};
-use std::alloc::{AllocError, Global};
+use crate::words::{equation_from, free_name_at, is_arrow_at, name_at, names_from};
+use lv_base::Class;
+use lv_base::limits::{FAULT_COST, LEAST_FAULT_COST};
+use lv_text::TokenLine;
+use std::alloc::Global;
 
-fn model_line(alloc: Global, line: &[u8], tokens: &[Token]) -> Result<Option<Statement>, AllocError>
-    requires { All (IsTokenOf line.now) tokens.now }
-    ensures { IfOk result (λ read. read ≡ model_line (texts_of line.now tokens.now) (kinds_of tokens.now)) }
+fn model_line(alloc: Global, line: &TokenLine) -> Result<Statement, LineFault>
+    ensures ok { IfOk result (λ read. model_line line.now ≡ Some read) }
+    ensures refused { result ≡ Err Refused → model_line line.now ≡ None }
 {
-    if tokens.len() != 2 {
-        return Ok(None);
+    if line.len() != 2 {
+        return Err(LineFault::Refused);
     }
-    match name_at(alloc, line, tokens, 1)? {
-        Some(name) => Ok(Some(Statement::ModelLine(name))),
-        None => Ok(None),
-    }
+    let name = name_at(alloc, line, 1)?;
+    Ok(Statement::ModelLine(name))
 }
 
-fn type_line(alloc: Global, line: &[u8], tokens: &[Token]) -> Result<Option<Statement>, AllocError>
-    requires { All (IsTokenOf line.now) tokens.now }
-    ensures { IfOk result (λ read. read ≡ type_line (texts_of line.now tokens.now) (kinds_of tokens.now)) }
+fn type_line(alloc: Global, line: &TokenLine) -> Result<Statement, LineFault>
+    ensures ok { IfOk result (λ read. type_line line.now ≡ Some read) }
+    ensures refused { result ≡ Err Refused → type_line line.now ≡ None }
 {
-    if tokens.len() != 2 {
-        return Ok(None);
+    if line.len() != 2 {
+        return Err(LineFault::Refused);
     }
-    match name_at(alloc, line, tokens, 1)? {
-        Some(name) => Ok(Some(Statement::TypeLine(name))),
-        None => Ok(None),
-    }
+    let name = name_at(alloc, line, 1)?;
+    Ok(Statement::TypeLine(name))
 }
 
-fn mode_line(alloc: Global, line: &[u8], tokens: &[Token]) -> Result<Option<Statement>, AllocError>
-    requires { All (IsTokenOf line.now) tokens.now }
-    ensures { IfOk result (λ read. read ≡ mode_line (texts_of line.now tokens.now) (kinds_of tokens.now)) }
+fn mode_line(alloc: Global, line: &TokenLine) -> Result<Statement, LineFault>
+    ensures ok { IfOk result (λ read. mode_line line.now ≡ Some read) }
+    ensures refused { result ≡ Err Refused → mode_line line.now ≡ None }
 {
-    if tokens.len() != 2 {
-        return Ok(None);
+    if line.len() != 2 {
+        return Err(LineFault::Refused);
     }
-    match name_at(alloc, line, tokens, 1)? {
-        Some(name) => Ok(Some(Statement::ModeLine(name))),
-        None => Ok(None),
-    }
+    let name = name_at(alloc, line, 1)?;
+    Ok(Statement::ModeLine(name))
 }
 
-fn end_line(tokens: &[Token]) -> Option<Statement>
-    ensures { result ≡ end_line (kinds_of tokens.now) }
+fn end_line(line: &TokenLine) -> Result<Statement, LineFault>
+    ensures ok { IfOk result (λ read. end_line line.now ≡ Some read) }
+    ensures refused { result ≡ Err Refused → end_line line.now ≡ None }
 {
-    if tokens.len() == 1 {
-        Some(Statement::EndLine)
-    } else {
-        None
+    if line.len() != 1 {
+        return Err(LineFault::Refused);
     }
+    Ok(Statement::EndLine)
 }
 
-fn are_words(tokens: &[Token]) -> bool
-    ensures { result ≡ are_words (kinds_of tokens.now) }
+fn domain_line(alloc: Global, line: &TokenLine) -> Result<Statement, LineFault>
+    ensures ok { IfOk result (λ read. domain_line line.now ≡ Some read) }
+    ensures refused { result ≡ Err Refused → domain_line line.now ≡ None }
 {
-    for token in tokens {
-        if !matches!(token.kind, TokenKind::Word) {
-            return false;
-        }
+    if line.len() < 3 {
+        return Err(LineFault::Refused);
     }
-    true
+    let name = name_at(alloc, line, 1)?;
+    let values = names_from(alloc, line, 2)?;
+    Ok(Statement::DomainLine(name, values))
 }
 
-fn domain_line(
-    alloc: Global,
-    line: &[u8],
-    tokens: &[Token],
-) -> Result<Option<Statement>, AllocError>
-    requires { All (IsTokenOf line.now) tokens.now }
-    ensures { IfOk result (λ read. read ≡ domain_line (texts_of line.now tokens.now) (kinds_of tokens.now)) }
+fn variable_line(alloc: Global, class: Class, line: &TokenLine) -> Result<Statement, LineFault>
+    ensures ok { IfOk result (λ read. variable_line class line.now ≡ Some read) }
+    ensures refused { result ≡ Err Refused → variable_line class line.now ≡ None }
 {
-    if tokens.len() < 3 {
-        return Ok(None);
+    if line.len() != 3 {
+        return Err(LineFault::Refused);
     }
-    let (_, values) = tokens.split_at(2);
-    if !are_words(values) {
-        return Ok(None);
-    }
-    let Some(name) = name_at(alloc, line, tokens, 1)? else {
-        return Ok(None);
-    };
-    let values = names_of(alloc, line, values)?;
-    Ok(Some(Statement::DomainLine(name, values)))
+    let name = free_name_at(alloc, line, 1)?;
+    let domain = name_at(alloc, line, 2)?;
+    Ok(Statement::VariableLine(class, name, domain))
 }
 
-fn variable_line(
-    alloc: Global,
-    class: Class,
-    line: &[u8],
-    tokens: &[Token],
-) -> Result<Option<Statement>, AllocError>
-    requires { All (IsTokenOf line.now) tokens.now }
-    ensures { IfOk result (λ read. read ≡ variable_line class (texts_of line.now tokens.now) (kinds_of tokens.now)) }
+fn part_line(alloc: Global, line: &TokenLine) -> Result<Statement, LineFault>
+    ensures ok { IfOk result (λ read. part_line line.now ≡ Some read) }
+    ensures refused { result ≡ Err Refused → part_line line.now ≡ None }
 {
-    if tokens.len() != 3 {
-        return Ok(None);
+    if line.len() != 4 {
+        return Err(LineFault::Refused);
     }
-    let Some(name) = free_name_at(alloc, line, tokens, 1)? else {
-        return Ok(None);
-    };
-    match name_at(alloc, line, tokens, 2)? {
-        Some(domain) => Ok(Some(Statement::VariableLine(class, name, domain))),
-        None => Ok(None),
-    }
+    let name = free_name_at(alloc, line, 1)?;
+    let kind = name_at(alloc, line, 2)?;
+    let start = name_at(alloc, line, 3)?;
+    Ok(Statement::PartLine(name, kind, start))
 }
 
-fn part_line(alloc: Global, line: &[u8], tokens: &[Token]) -> Result<Option<Statement>, AllocError>
-    requires { All (IsTokenOf line.now) tokens.now }
-    ensures { IfOk result (λ read. read ≡ part_line (texts_of line.now tokens.now) (kinds_of tokens.now)) }
+fn law_line(alloc: Global, line: &TokenLine) -> Result<Statement, LineFault>
+    ensures ok { IfOk result (λ read. law_line line.now ≡ Some read) }
+    ensures refused { result ≡ Err Refused → law_line line.now ≡ None }
 {
-    if tokens.len() != 4 {
-        return Ok(None);
-    }
-    let Some(name) = free_name_at(alloc, line, tokens, 1)? else {
-        return Ok(None);
-    };
-    let Some(kind) = name_at(alloc, line, tokens, 2)? else {
-        return Ok(None);
-    };
-    match name_at(alloc, line, tokens, 3)? {
-        Some(start) => Ok(Some(Statement::PartLine(name, kind, start))),
-        None => Ok(None),
-    }
+    let equation = equation_from(alloc, line, 1)?;
+    Ok(Statement::LawLine(equation))
 }
 
-fn law_line(alloc: Global, line: &[u8], tokens: &[Token]) -> Result<Option<Statement>, AllocError>
-    requires { All (IsTokenOf line.now) tokens.now }
-    ensures { IfOk result (λ read. read ≡ law_line (texts_of line.now tokens.now) (kinds_of tokens.now)) }
+fn in_line(alloc: Global, line: &TokenLine) -> Result<Statement, LineFault>
+    ensures ok { IfOk result (λ read. in_line line.now ≡ Some read) }
+    ensures refused { result ≡ Err Refused → in_line line.now ≡ None }
 {
-    match equation_from(alloc, line, tokens, 1)? {
-        Some(equation) => Ok(Some(Statement::LawLine(equation))),
-        None => Ok(None),
-    }
+    let mode = name_at(alloc, line, 1)?;
+    let equation = equation_from(alloc, line, 2)?;
+    Ok(Statement::InLine(mode, equation))
 }
 
-fn in_line(alloc: Global, line: &[u8], tokens: &[Token]) -> Result<Option<Statement>, AllocError>
-    requires { All (IsTokenOf line.now) tokens.now }
-    ensures { IfOk result (λ read. read ≡ in_line (texts_of line.now tokens.now) (kinds_of tokens.now)) }
+fn step_line(alloc: Global, line: &TokenLine) -> Result<Statement, LineFault>
+    ensures ok { IfOk result (λ read. step_line line.now ≡ Some read) }
+    ensures refused { result ≡ Err Refused → step_line line.now ≡ None }
 {
-    let Some(mode) = name_at(alloc, line, tokens, 1)? else {
-        return Ok(None);
-    };
-    match equation_from(alloc, line, tokens, 2)? {
-        Some(equation) => Ok(Some(Statement::InLine(mode, equation))),
-        None => Ok(None),
+    if !is_arrow_at(line, 2) || !line.says(4, b"when") {
+        return Err(LineFault::Refused);
     }
-}
-
-fn step_line(alloc: Global, line: &[u8], tokens: &[Token]) -> Result<Option<Statement>, AllocError>
-    requires { All (IsTokenOf line.now) tokens.now }
-    ensures { IfOk result (λ read. read ≡ step_line (texts_of line.now tokens.now) (kinds_of tokens.now)) }
-{
-    if !is_arrow_at(tokens, 2) || !says(line, tokens, 4, b"when") {
-        return Ok(None);
-    }
-    let Some(source) = name_at(alloc, line, tokens, 1)? else {
-        return Ok(None);
-    };
-    let Some(target) = name_at(alloc, line, tokens, 3)? else {
-        return Ok(None);
-    };
-    match equation_from(alloc, line, tokens, 5)? {
-        Some(guard) => Ok(Some(Statement::StepLine(source, target, guard))),
-        None => Ok(None),
-    }
+    let source = name_at(alloc, line, 1)?;
+    let target = name_at(alloc, line, 3)?;
+    let guard = equation_from(alloc, line, 5)?;
+    Ok(Statement::StepLine(source, target, guard))
 }
 
 /// The number at this place, if a fault may cost it.
-fn fault_cost_at(line: &[u8], tokens: &[Token], place: usize) -> Option<u64>
-    requires { All (IsTokenOf line.now) tokens.now }
-    ensures { result ≡ fault_cost_at (texts_of line.now tokens.now) (kinds_of tokens.now) place }
+fn fault_cost_at(line: &TokenLine, place: usize) -> Result<u64, LineFault>
+    ensures ok { IfOk result (λ read. fault_cost_at line.now place ≡ Some read) }
+    ensures refused { result ≡ Err Refused → fault_cost_at line.now place ≡ None }
 {
-    let cost = number_at(line, tokens, place)?;
-    if limits::LEAST_FAULT_COST <= cost && cost <= limits::FAULT_COST {
-        Some(cost)
-    } else {
-        None
+    let cost = line.number(place).ok_or(LineFault::Refused)?;
+    if cost < u128::from(LEAST_FAULT_COST) || u128::from(FAULT_COST) < cost {
+        return Err(LineFault::Refused);
     }
+    Ok(cost as u64)
 }
 
-fn fault_line(alloc: Global, line: &[u8], tokens: &[Token]) -> Result<Option<Statement>, AllocError>
-    requires { All (IsTokenOf line.now) tokens.now }
-    ensures { IfOk result (λ read. read ≡ fault_line (texts_of line.now tokens.now) (kinds_of tokens.now)) }
+fn fault_line(alloc: Global, line: &TokenLine) -> Result<Statement, LineFault>
+    ensures ok { IfOk result (λ read. fault_line line.now ≡ Some read) }
+    ensures refused { result ≡ Err Refused → fault_line line.now ≡ None }
 {
-    if tokens.len() != 6 || !is_arrow_at(tokens, 2) || !says(line, tokens, 4, b"cost") {
-        return Ok(None);
+    if line.len() != 6 || !is_arrow_at(line, 2) || !line.says(4, b"cost") {
+        return Err(LineFault::Refused);
     }
-    let Some(source) = name_at(alloc, line, tokens, 1)? else {
-        return Ok(None);
-    };
-    let Some(target) = name_at(alloc, line, tokens, 3)? else {
-        return Ok(None);
-    };
-    match fault_cost_at(line, tokens, 5) {
-        Some(cost) => Ok(Some(Statement::FaultLine(source, target, cost))),
-        None => Ok(None),
-    }
+    let source = name_at(alloc, line, 1)?;
+    let target = name_at(alloc, line, 3)?;
+    let cost = fault_cost_at(line, 5)?;
+    Ok(Statement::FaultLine(source, target, cost))
 }
 
 /// A statement of a type.
-fn statement_in_type(
-    alloc: Global,
-    line: &[u8],
-    tokens: &[Token],
-) -> Result<Option<Statement>, AllocError>
-    requires { All (IsTokenOf line.now) tokens.now }
-    ensures { IfOk result (λ read. read ≡ statement_in_type (texts_of line.now tokens.now) (kinds_of tokens.now)) }
+fn statement_in_type(alloc: Global, line: &TokenLine) -> Result<Statement, LineFault>
+    ensures ok { IfOk result (λ read. statement_in_type line.now ≡ Some read) }
+    ensures refused { result ≡ Err Refused → statement_in_type line.now ≡ None }
 {
-    if says(line, tokens, 0, b"control") {
-        variable_line(alloc, Class::Control, line, tokens)
-    } else if says(line, tokens, 0, b"variable") {
-        variable_line(alloc, Class::Dependent, line, tokens)
-    } else if says(line, tokens, 0, b"observable") {
-        variable_line(alloc, Class::Observable, line, tokens)
-    } else if says(line, tokens, 0, b"mode") {
-        mode_line(alloc, line, tokens)
-    } else if says(line, tokens, 0, b"in") {
-        in_line(alloc, line, tokens)
-    } else if says(line, tokens, 0, b"step") {
-        step_line(alloc, line, tokens)
-    } else if says(line, tokens, 0, b"fault") {
-        fault_line(alloc, line, tokens)
-    } else if says(line, tokens, 0, b"end") {
-        Ok(end_line(tokens))
+    if line.says(0, b"control") {
+        variable_line(alloc, Class::Control, line)
+    } else if line.says(0, b"variable") {
+        variable_line(alloc, Class::Dependent, line)
+    } else if line.says(0, b"observable") {
+        variable_line(alloc, Class::Observable, line)
+    } else if line.says(0, b"mode") {
+        mode_line(alloc, line)
+    } else if line.says(0, b"in") {
+        in_line(alloc, line)
+    } else if line.says(0, b"step") {
+        step_line(alloc, line)
+    } else if line.says(0, b"fault") {
+        fault_line(alloc, line)
+    } else if line.says(0, b"end") {
+        end_line(line)
     } else {
-        Ok(None)
+        Err(LineFault::Refused)
     }
 }
 
-/// The statement that the tokens of a line are, or `None` where they have the form of none.
-pub fn statement_of(
-    alloc: Global,
-    line: &[u8],
-    tokens: &[Token],
-) -> Result<Option<Statement>, AllocError>
-    requires { All (IsTokenOf line.now) tokens.now }
-    ensures { IfOk result (λ read. read ≡ statement_of (texts_of line.now tokens.now) (kinds_of tokens.now)) }
+/// The statement that the tokens of a line are.
+pub fn statement_of(alloc: Global, line: &TokenLine) -> Result<Statement, LineFault>
+    ensures ok { IfOk result (λ read. statement_of line.now ≡ Some read) }
+    ensures refused { result ≡ Err Refused → statement_of line.now ≡ None }
 {
-    if says(line, tokens, 0, b"model") {
-        model_line(alloc, line, tokens)
-    } else if says(line, tokens, 0, b"domain") {
-        domain_line(alloc, line, tokens)
-    } else if says(line, tokens, 0, b"type") {
-        type_line(alloc, line, tokens)
-    } else if says(line, tokens, 0, b"part") {
-        part_line(alloc, line, tokens)
-    } else if says(line, tokens, 0, b"law") {
-        law_line(alloc, line, tokens)
+    if line.says(0, b"model") {
+        model_line(alloc, line)
+    } else if line.says(0, b"domain") {
+        domain_line(alloc, line)
+    } else if line.says(0, b"type") {
+        type_line(alloc, line)
+    } else if line.says(0, b"part") {
+        part_line(alloc, line)
+    } else if line.says(0, b"law") {
+        law_line(alloc, line)
     } else {
-        statement_in_type(alloc, line, tokens)
+        statement_in_type(alloc, line)
     }
 }

@@ -7,20 +7,20 @@
 //! | part | items |
 //! |---|---|
 //! | a text | `statements_of` |
-//! | one statement | `Statement`, `Equation`, `Path` |
-//! | the words of a line | `says`, `equation_from`, `is_text` |
+//! | one statement | `Statement`, `Equation` |
+//! | the end of a line | `equation_from` |
+//! | why not | `LineFault` |
 //!
 //! `forms` makes a statement of the tokens of a line, by the word that it begins with.
 #![tactic(auto)]
 
+pub mod fault;
 mod forms;
 pub mod reader;
 pub mod statement;
 mod words;
 
+pub use fault::LineFault;
 pub use reader::statements_of;
-pub use statement::{Equation, Path, Statement};
-pub use words::{equation_from, is_text, says};
-
-#[cfg(test)]
-mod tests;
+pub use statement::{Equation, Statement};
+pub use words::equation_from;

@@ -4,15 +4,8 @@
 ghost use Rattle.std.specs.Prelude.{◌≡◌};
 ghost use Rattle.lv_reader.specs.Forms.{is_end, is_model};
 
-use lv_base::Seq;
-use lv_model::{Class, Name};
-
-/// What stands on a side of an equation: a word alone, or a part and, behind a dot, one of its variables.
-#[derive(Debug, Drop)]
-pub enum Path {
-    Own(Name),
-    OfPart(Name, Name),
-}
+use lv_base::{Class, Name, Seq};
+use lv_formula::Path;
 
 /// Two sides that are to be equal.
 #[derive(Debug, Drop)]

@@ -1,84 +1,42 @@
 //! The words of a line, by the places of their tokens, and the equation that a line ends with.
 #![tactic(auto)]
 
-ghost use Rattle.std.specs.Prelude.{◌≡◌, ◌≤◌, IfOk, All, slice_get};
-ghost use Rattle.std.specs.Option.{option_copied};
-ghost use Rattle.lv_text.specs.Kinds.{IsTokenOf};
-ghost use Rattle.lv_model.specs.Names.{is_named};
-ghost use Rattle.lv_reader.specs.Equations.{kinds_of, texts_of, is_arrow, is_equals, is_dot, word_at, number_at, has_kind_at, says, is_truth, is_reserved, free_word_at, path_width, path_at, truth_at, has_sides, equation_from};
+ghost use Rattle.std.specs.Prelude.{◌≡◌, ◌≤◌, IfOk, Some, None, drop};
+ghost use Rattle.lv_base.specs.Names.{is_named};
+ghost use Rattle.lv_text.specs.Lexemes.{word_at};
+ghost use Rattle.lv_reader.specs.declared.fault.LineFault.TheVariants.{Refused};
+ghost use Rattle.lv_reader.specs.Equations.{is_arrow, is_equals, is_dot, has_kind_at, is_truth, is_reserved, free_word_at, words_of, path_width, path_at, truth_at, has_sides, equation_from};
 
-use crate::statement::{Equation, Path};
-use lv_base::Seq;
-use lv_model::Name;
-use lv_text::{Token, TokenKind, number};
-use std::alloc::{AllocError, Global};
+use crate::fault::LineFault;
+use crate::statement::Equation;
+use lv_base::{Name, Seq};
+use lv_formula::Path;
+use lv_text::{TokenKind, TokenLine};
+use std::alloc::Global;
 
-/// The kind of the token at this place, counted from 0.
-fn kind_at(tokens: &[Token], place: usize) -> Option<TokenKind>
-    ensures { result ≡ slice_get (kinds_of tokens.now) place }
+/// Whether the token at this place, counted from 0, is `->`.
+pub fn is_arrow_at(line: &TokenLine, place: usize) -> bool
+    ensures { result ≡ has_kind_at is_arrow line.now place }
 {
-    Some(tokens.get(place)?.kind)
+    matches!(line.kind(place), Some(TokenKind::Arrow))
 }
 
-/// Whether the token at this place is `->`.
-pub fn is_arrow_at(tokens: &[Token], place: usize) -> bool
-    ensures { result ≡ has_kind_at is_arrow (kinds_of tokens.now) place }
+fn is_equals_at(line: &TokenLine, place: usize) -> bool
+    ensures { result ≡ has_kind_at is_equals line.now place }
 {
-    matches!(kind_at(tokens, place), Some(TokenKind::Arrow))
+    matches!(line.kind(place), Some(TokenKind::Equals))
 }
 
-fn is_equals_at(tokens: &[Token], place: usize) -> bool
-    ensures { result ≡ has_kind_at is_equals (kinds_of tokens.now) place }
+fn is_dot_at(line: &TokenLine, place: usize) -> bool
+    ensures { result ≡ has_kind_at is_dot line.now place }
 {
-    matches!(kind_at(tokens, place), Some(TokenKind::Equals))
+    matches!(line.kind(place), Some(TokenKind::Dot))
 }
 
-fn is_dot_at(tokens: &[Token], place: usize) -> bool
-    ensures { result ≡ has_kind_at is_dot (kinds_of tokens.now) place }
-{
-    matches!(kind_at(tokens, place), Some(TokenKind::Dot))
-}
-
-/// The word at this place.
-pub fn word_at<'a>(line: &'a [u8], tokens: &[Token], place: usize) -> Option<&'a [u8]>
-    requires { All (IsTokenOf line.now) tokens.now }
-    ensures { option_copied result ≡ word_at (texts_of line.now tokens.now) (kinds_of tokens.now) place }
-{
-    let token = tokens.get(place)?;
-    match token.kind {
-        TokenKind::Word => Some(&line[token.start..token.end]),
-        _ => None,
-    }
-}
-
-/// The value of the number at this place, if it is below 2^64.
-pub fn number_at(line: &[u8], tokens: &[Token], place: usize) -> Option<u64>
-    requires { All (IsTokenOf line.now) tokens.now }
-    ensures { result ≡ number_at (texts_of line.now tokens.now) (kinds_of tokens.now) place }
-{
-    let token = tokens.get(place)?;
-    match token.kind {
-        TokenKind::Number => number(&line[token.start..token.end]),
-        _ => None,
-    }
-}
-
-/// Whether the word is this text.
-pub fn is_text(word: &[u8], text: &[u8]) -> bool
+fn is_text(word: &[u8], text: &[u8]) -> bool
     ensures { result ≡ is_named text.now word.now }
 {
     word == text
-}
-
-/// Whether the word at this place, counted from 0, is that one. A number or a sign is no word. Takes no memory.
-pub fn says(line: &[u8], tokens: &[Token], place: usize, text: &[u8]) -> bool
-    requires { All (IsTokenOf line.now) tokens.now }
-    ensures { result ≡ says text.now (texts_of line.now tokens.now) (kinds_of tokens.now) place }
-{
-    match word_at(line, tokens, place) {
-        Some(word) => is_text(word, text),
-        None => false,
-    }
 }
 
 fn is_truth(word: &[u8]) -> bool
@@ -94,129 +52,90 @@ fn is_reserved(word: &[u8]) -> bool
 }
 
 /// The word at this place, as a name.
-pub fn name_at(
-    alloc: Global,
-    line: &[u8],
-    tokens: &[Token],
-    place: usize,
-) -> Result<Option<Name>, AllocError>
-    requires { All (IsTokenOf line.now) tokens.now }
-    ensures { IfOk result (λ name. name ≡ word_at (texts_of line.now tokens.now) (kinds_of tokens.now) place) }
+pub fn name_at(alloc: Global, line: &TokenLine, place: usize) -> Result<Name, LineFault>
+    ensures ok { IfOk result (λ name. word_at line.now place ≡ Some name) }
+    ensures refused { result ≡ Err Refused → word_at line.now place ≡ None }
 {
-    match word_at(line, tokens, place) {
-        Some(word) => Ok(Some(Seq::from_slice(alloc, word)?)),
-        None => Ok(None),
-    }
+    let word = line.word(place).ok_or(LineFault::Refused)?;
+    Ok(Seq::from_slice(alloc, word)?)
 }
 
 /// The word at this place, as the name of a part or a variable, which `true`, `false` and `mode` can't be.
-pub fn free_name_at(
-    alloc: Global,
-    line: &[u8],
-    tokens: &[Token],
-    place: usize,
-) -> Result<Option<Name>, AllocError>
-    requires { All (IsTokenOf line.now) tokens.now }
-    ensures { IfOk result (λ name. name ≡ free_word_at (texts_of line.now tokens.now) (kinds_of tokens.now) place) }
+pub fn free_name_at(alloc: Global, line: &TokenLine, place: usize) -> Result<Name, LineFault>
+    ensures ok { IfOk result (λ name. free_word_at line.now place ≡ Some name) }
+    ensures refused { result ≡ Err Refused → free_word_at line.now place ≡ None }
 {
-    match word_at(line, tokens, place) {
-        Some(word) => {
-            if is_reserved(word) {
-                Ok(None)
-            } else {
-                Ok(Some(Seq::from_slice(alloc, word)?))
-            }
-        }
-        None => Ok(None),
+    let word = line.word(place).ok_or(LineFault::Refused)?;
+    if is_reserved(word) {
+        return Err(LineFault::Refused);
     }
+    Ok(Seq::from_slice(alloc, word)?)
 }
 
-/// The texts of these tokens.
-pub fn names_of(alloc: Global, line: &[u8], tokens: &[Token]) -> Result<Seq<Name>, AllocError>
-    requires { All (IsTokenOf line.now) tokens.now }
-    ensures { IfOk result (λ names. names ≡ texts_of line.now tokens.now) }
+/// The words from this place to the end, where nothing else stands there.
+pub fn names_from(alloc: Global, line: &TokenLine, place: usize) -> Result<Seq<Name>, LineFault>
+    ensures ok { IfOk result (λ names. words_of (drop place line.now) ≡ Some names) }
+    ensures refused { result ≡ Err Refused → words_of (drop place line.now) ≡ None }
 {
     let mut names = Vec::new(alloc);
-    for token in tokens {
-        names.push(Seq::from_slice(alloc, &line[token.start..token.end])?)?;
+    for at in place..line.len() {
+        names.push(name_at(alloc, line, at)?)?;
     }
     Ok(Seq::from_vec(names))
 }
 
 /// How many tokens the path at this place has.
-fn path_width(tokens: &[Token], place: usize) -> usize
+fn path_width(line: &TokenLine, place: usize) -> usize
     requires { place ≤ 16 }
-    ensures { result ≡ path_width (kinds_of tokens.now) place }
+    ensures { result ≡ path_width line.now place }
 {
-    if is_dot_at(tokens, place + 1) { 3 } else { 1 }
+    if is_dot_at(line, place + 1) { 3 } else { 1 }
 }
 
 /// The path at this place.
-fn path_at(
-    alloc: Global,
-    line: &[u8],
-    tokens: &[Token],
-    place: usize,
-) -> Result<Option<Path>, AllocError>
-    requires token { All (IsTokenOf line.now) tokens.now }
-    requires room { place ≤ 16 }
-    ensures { IfOk result (λ path. path ≡ path_at (texts_of line.now tokens.now) (kinds_of tokens.now) place) }
+fn path_at(alloc: Global, line: &TokenLine, place: usize) -> Result<Path, LineFault>
+    requires { place ≤ 16 }
+    ensures ok { IfOk result (λ path. path_at line.now place ≡ Some path) }
+    ensures refused { result ≡ Err Refused → path_at line.now place ≡ None }
 {
-    let Some(first) = name_at(alloc, line, tokens, place)? else {
-        return Ok(None);
-    };
-    if !is_dot_at(tokens, place + 1) {
-        return Ok(Some(Path::Own(first)));
+    let first = name_at(alloc, line, place)?;
+    if !is_dot_at(line, place + 1) {
+        return Ok(Path::Own(first));
     }
-    match name_at(alloc, line, tokens, place + 2)? {
-        Some(second) => Ok(Some(Path::OfPart(first, second))),
-        None => Ok(None),
-    }
+    let second = name_at(alloc, line, place + 2)?;
+    Ok(Path::OfPart(first, second))
 }
 
-fn is_truth_at(line: &[u8], tokens: &[Token], place: usize) -> bool
-    requires { All (IsTokenOf line.now) tokens.now }
-    ensures { result ≡ truth_at (texts_of line.now tokens.now) (kinds_of tokens.now) place }
+fn is_truth_at(line: &TokenLine, place: usize) -> bool
+    ensures { result ≡ truth_at line.now place }
 {
-    match word_at(line, tokens, place) {
+    match line.word(place) {
         Some(word) => is_truth(word),
         None => false,
     }
 }
 
 /// Whether two paths with `=` between them would just fill the tokens from this place on.
-fn has_sides(line: &[u8], tokens: &[Token], place: usize) -> bool
-    requires token { All (IsTokenOf line.now) tokens.now }
-    requires room { place ≤ 8 }
-    ensures { result ≡ has_sides (texts_of line.now tokens.now) (kinds_of tokens.now) place }
+fn has_sides(line: &TokenLine, place: usize) -> bool
+    requires { place ≤ 8 }
+    ensures { result ≡ has_sides line.now place }
 {
-    let middle = place + path_width(tokens, place);
-    !is_truth_at(line, tokens, place)
-        && is_equals_at(tokens, middle)
-        && tokens.len() == middle + 1 + path_width(tokens, middle + 1)
+    let middle = place + path_width(line, place);
+    !is_truth_at(line, place)
+        && is_equals_at(line, middle)
+        && line.len() == middle + 1 + path_width(line, middle + 1)
 }
 
-/// The equation that the tokens from this place to the end are, or `None` where they are none. What its names stand
-/// for is not asked.
-pub fn equation_from(
-    alloc: Global,
-    line: &[u8],
-    tokens: &[Token],
-    place: usize,
-) -> Result<Option<Equation>, AllocError>
-    requires token { All (IsTokenOf line.now) tokens.now }
-    requires room { place ≤ 8 }
-    ensures { IfOk result (λ equation. equation ≡ equation_from (texts_of line.now tokens.now) (kinds_of tokens.now) place) }
+/// The equation that the tokens from this place to the end are. What its names stand for is not asked.
+pub fn equation_from(alloc: Global, line: &TokenLine, place: usize) -> Result<Equation, LineFault>
+    requires { place ≤ 8 }
+    ensures ok { IfOk result (λ equation. equation_from line.now place ≡ Some equation) }
+    ensures refused { result ≡ Err Refused → equation_from line.now place ≡ None }
 {
-    if !has_sides(line, tokens, place) {
-        return Ok(None);
+    if !has_sides(line, place) {
+        return Err(LineFault::Refused);
     }
-    let Some(left) = path_at(alloc, line, tokens, place)? else {
-        return Ok(None);
-    };
-    let behind = place + path_width(tokens, place) + 1;
-    match path_at(alloc, line, tokens, behind)? {
-        Some(right) => Ok(Some(Equation { left, right })),
-        None => Ok(None),
-    }
+    let left = path_at(alloc, line, place)?;
+    let right = path_at(alloc, line, place + path_width(line, place) + 1)?;
+    Ok(Equation { left, right })
 }

@@ -11,3 +11,5 @@ pub mod TokenLaws
 pub mod TextLaws
 pub mod SliceLaws
 pub mod BadBytes
+pub mod LexemeFacts
+pub mod Gaps

@@ -15,21 +15,21 @@ grows (x ∷ xs) n =
     let later : with_digit n x ≤ fold with_digit (with_digit n x) xs = grows xs (with_digit n x) in
     omega arith
 
-fits : (n : ℕ) → n < 2 ^ 64 → in_range n ≡ Some n
-fits n h = let test : nat_lt n (2 ^ 64) ≡ true = grind (arith, nat_tests) in rw test refl
+fits : (n : ℕ) → n < 2 ^ 128 → in_range n ≡ Some n
+fits n h = let test : nat_lt n (2 ^ 128) ≡ true = grind (arith, nat_tests) in rw test refl
 
-fits_not : (n : ℕ) → 2 ^ 64 ≤ n → in_range n ≡ None
-fits_not n h = let test : nat_lt n (2 ^ 64) ≡ false = grind (arith, nat_tests) in rw test refl
+fits_not : (n : ℕ) → 2 ^ 128 ≤ n → in_range n ≡ None
+fits_not n h = let test : nat_lt n (2 ^ 128) ≡ false = grind (arith, nat_tests) in rw test refl
 
-wide : (n : ℕ) → in_range n ≡ None → 2 ^ 64 ≤ n
-wide n h = by (nat_lt n (2 ^ 64)) refl h
+wide : (n : ℕ) → in_range n ≡ None → 2 ^ 128 ≤ n
+wide n h = by (nat_lt n (2 ^ 128)) refl h
   where
-    by : (c : Bool) → nat_lt n (2 ^ 64) ≡ c → cond c (Some n) None ≡ None → 2 ^ 64 ≤ n
+    by : (c : Bool) → nat_lt n (2 ^ 128) ≡ c → cond c (Some n) None ≡ None → 2 ^ 128 ≤ n
     by true is e = absurd (cc)
     by false is e = grind (arith, nat_tests)
 
 -- the value at the end of the text
-pub number_at_end : (text : List ℕ) (i value : ℕ) → length text ≤ i → fold with_digit value (drop i text) ≡ number_value text → value < 2 ^ 64
+pub number_at_end : (text : List ℕ) (i value : ℕ) → length text ≤ i → fold with_digit value (drop i text) ≡ number_value text → value < 2 ^ 128
     → Some value ≡ number_in_range text
 number_at_end text i value past whole small =
     let e : value ≡ number_value text = subst (λ xs. fold with_digit value xs ≡ number_value text) (drop_all i text past) whole in
@@ -43,7 +43,7 @@ number_too_wide text i value inside whole none =
     subst (λ xs. fold with_digit value xs ≡ number_value text) (drop_more text i 0 inside) whole in
     let least : with_digit value (get_or text i 0) ≤ fold with_digit (with_digit value (get_or text i 0)) (drop (i + 1) text) =
     grows (drop (i + 1) text) (with_digit value (get_or text i 0)) in
-    let big : 2 ^ 64 ≤ with_digit value (get_or text i 0) = wide _ none in
+    let big : 2 ^ 128 ≤ with_digit value (get_or text i 0) = wide _ none in
     fits_not (number_value text) (omega arith)
 
 -- digits and their value, as what is printed speaks of them

@@ -2,6 +2,7 @@
 use Rattle.std.proofs.Common.{◌≡◌, ℕ, zero, suc, ◌+◌, ◌-◌, ◌<◌, ◌≤◌, Bool, true, false, cond, ◌||◌, nat_lt, nat_eq, List, [], ◌∷◌, ◌++◌, length, refl, sym, ap, ◌∙◌, arith, length-append, codes}
 use Rattle.std.proofs.lemmas.Bool.Decides.{nat_tests}
 use Rattle.std.specs.List.{list_any, list_all, prefix_len, starts_with}
+use Rattle.lv_base.specs.declared.limits.TheConstants.{LINE_BYTES}
 use Rattle.lv_text.specs.declared.lexer.Token.{Token}
 use Rattle.lv_text.specs.declared.lexer.TokenKind.TheVariants.{Word, Number, Iff, Implies, Arrow, Equals, Not, And, Or, Open, Close, Dot}
 use Rattle.lv_text.specs.declared.lexer.Piece.{Piece}
@@ -33,9 +34,9 @@ tokens_from-comment (x ∷ more) comment place zero le =
     ∙ piece_tokens-same (x ∷ more) place (piece_of (x ∷ more)) (piece_fits (x ∷ more)) (λ passed. tokens_from (place + 1) passed more) _
     (λ n less. tokens_from-comment more comment (place + 1) n (omega arith))
 
-short : (line : List ℕ) → length line ≤ 4096 → line_tokens line ≡ all_tokens line
+pub short : (line : List ℕ) → length line ≤ LINE_BYTES → line_tokens line ≡ all_tokens line
 short line le =
-    let test : nat_lt 4096 (length line) ≡ false = grind (arith, nat_tests) in
+    let test : nat_lt LINE_BYTES (length line) ≡ false = grind (arith, nat_tests) in
     ap (λ c. cond c long_line (all_tokens line)) test
 
 pub comment_law : CommentChangesNothing

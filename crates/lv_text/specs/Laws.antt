@@ -1,12 +1,14 @@
 -- What holds of tokens and lines whatever the text.
-use Rattle.std.specs.Prelude.{ℕ, ◌+◌, ◌<◌, ◌≤◌, ◌≡◌, ◌^◌, List, [], ◌∷◌, ◌++◌, Bool, true, false, not, length, map, nat_eq, decimal, ◌-◌, ◌||◌, ◌&&◌, nat_lt, slice_index, drop, if◌then◌else◌, codes}
+use Rattle.std.specs.Prelude.{ℕ, ◌+◌, ◌<◌, ◌≤◌, ◌≡◌, ◌^◌, List, [], ◌∷◌, ◌++◌, Bool, true, false, not, length, map, nat_eq, decimal, ◌-◌, ◌||◌, ◌&&◌, nat_lt, slice_index, slice_range, drop, if◌then◌else◌, codes}
 use Rattle.std.specs.List.{list_all, list_any, starts_with}
 use Rattle.std.specs.Str.Lines.{strip_carriage_return}
+use Rattle.lv_base.specs.declared.limits.TheConstants.{LINE_BYTES}
 use Rattle.lv_text.specs.declared.lexer.TokenKind.{TokenKind}
 use Rattle.lv_text.specs.declared.lexer.TokenKind.TheVariants.{Word, Number, Equals}
 use Rattle.lv_text.specs.declared.lexer.Token.{Token}
 use Rattle.lv_text.specs.Bytes.{is_blank, is_comment_mark, is_digit, is_letter, is_word_byte}
 use Rattle.lv_text.specs.Kinds.{has_kind, token_text}
+use Rattle.lv_text.specs.Lexemes.{line_reading}
 use Rattle.lv_text.specs.Lines.{is_line_feed, lines_of, first_ended_line}
 use Rattle.lv_text.specs.Numbers.{number_value}
 use Rattle.lv_text.specs.Tokens.{Lexed, lexed, bad_byte, long_line, prepended, joined, all_tokens, line_tokens}
@@ -41,7 +43,11 @@ ends_token kind (b ∷ rest) = true
 
 -- a comment behind a line changes nothing, if the line is not too long by it
 abbrev pub CommentChangesNothing : Type 0
-CommentChangesNothing = (line comment : List ℕ) → length (line ++ 35 ∷ comment) ≤ 4096 → line_tokens (line ++ 35 ∷ comment) ≡ line_tokens line
+CommentChangesNothing = (line comment : List ℕ) → length (line ++ 35 ∷ comment) ≤ LINE_BYTES → line_tokens (line ++ 35 ∷ comment) ≡ line_tokens line
+
+-- nor does it change what those above see of the line
+abbrev pub CommentKeepsReading : Type 0
+CommentKeepsReading = (line comment : List ℕ) → length (line ++ 35 ∷ comment) ≤ LINE_BYTES → line_reading (line ++ 35 ∷ comment) ≡ line_reading line
 
 -- a blank that is in no comment only parts what stands before it from what stands behind it
 abbrev pub BlankParts : Type 0
@@ -106,3 +112,17 @@ is_not_allowed line p =
 -- the byte told as bad stands in the line, and is not allowed there
 abbrev pub BadByteIsNotAllowed : Type 0
 BadByteIsNotAllowed = (line : List ℕ) (p : ℕ) → all_tokens line ≡ bad_byte p → (p < length line) × (is_not_allowed line p ≡ true)
+
+-- only blanks, up to a comment or the end
+abbrev pub blank_to_comment : List ℕ → Bool
+blank_to_comment [] = true
+blank_to_comment (b ∷ more) = is_comment_mark b || (is_blank b && blank_to_comment more)
+
+-- from a place on only blanks stand before a token and between it and the next; behind the last a comment may follow
+abbrev pub leave_blanks : List ℕ → ℕ → List Token → Bool
+leave_blanks line place [] = blank_to_comment (drop place line)
+leave_blanks line place (t ∷ ts) = list_all is_blank (slice_range line place t.start) && leave_blanks line t.end ts
+
+-- the tokens of a line leave nothing of it but blanks and a comment
+abbrev pub TokensLeaveBlanks : Type 0
+TokensLeaveBlanks = (line : List ℕ) (ts : List Token) → all_tokens line ≡ lexed ts → leave_blanks line 0 ts ≡ true

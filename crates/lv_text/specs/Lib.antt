@@ -4,4 +4,5 @@ pub mod Tokens
 pub mod Kinds
 pub mod Lines
 pub mod Numbers
+pub mod Lexemes
 pub mod Laws

@@ -10,10 +10,10 @@ with_digit n b = n * 10 + (b - 48)
 abbrev pub number_value : List ℕ → ℕ
 number_value text = fold with_digit 0 text
 
--- a number, where it is below 2 ^ 64
+-- a number, where it is below 2 ^ 128
 abbrev pub in_range : ℕ → Option ℕ
-in_range n = if nat_lt n (2 ^ 64) then Some n else None
+in_range n = if nat_lt n (2 ^ 128) then Some n else None
 
--- the value of a text of digits, where it is below 2 ^ 64
+-- the value of a text of digits, where it is below 2 ^ 128
 abbrev pub number_in_range : List ℕ → Option ℕ
 number_in_range text = in_range (number_value text)

@@ -1,5 +1,6 @@
 -- The tokens of a line.
 use Rattle.std.specs.Prelude.{ℕ, zero, suc, ◌+◌, ◌-◌, ◌≡◌, List, [], ◌∷◌, ◌++◌, length, drop, if◌then◌else◌, nat_lt}
+use Rattle.lv_base.specs.declared.limits.TheConstants.{LINE_BYTES}
 use Rattle.lv_text.specs.declared.lexer.Token.{Token}
 use Rattle.lv_text.specs.declared.lexer.Piece.{Piece}
 use Rattle.lv_text.specs.declared.lexer.Piece.TheVariants.{End, Blank, Lexeme, Fault}
@@ -36,9 +37,9 @@ tokens_from place zero (b ∷ more) = piece_tokens place (piece_of (b ∷ more))
 abbrev pub all_tokens : List ℕ → Lexed
 all_tokens line = tokens_from 0 0 line
 
--- the tokens of a line, which has at most 4,096 bytes
+-- the tokens of a line, which is not too long
 abbrev pub line_tokens : List ℕ → Lexed
-line_tokens line = if nat_lt 4096 (length line) then long_line else all_tokens line
+line_tokens line = if nat_lt LINE_BYTES (length line) then long_line else all_tokens line
 
 -- a fault tells what the line reads as; want of memory tells nothing
 abbrev pub Tells : TextFault → Lexed → Type 0

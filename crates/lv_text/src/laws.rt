@@ -5,18 +5,24 @@
 ghost use Rattle.std.specs.Prelude.{◌≡◌, [], ◌∷◌, ◌++◌, codes};
 ghost use Rattle.lv_text.specs.Tokens.{line_tokens, lexed, bad_byte};
 ghost use Rattle.lv_text.specs.Lines.{lines_of};
-ghost use Rattle.lv_text.specs.Laws.{BadByteIsNotAllowed, token_at, CommentChangesNothing, BlankParts, BlankLineIsEmpty, TextIsToken, LineFeedEndsLine, ReturnGoesWithLineFeed, EndOfTextEndsLine, LinesPartAtLineFeed, FirstLineStays, TextMovesWithToken, TextStaysBeforeMore, PrintedNumberIsItself};
+ghost use Rattle.lv_text.specs.Laws.{BadByteIsNotAllowed, token_at, CommentChangesNothing, CommentKeepsReading, TokensLeaveBlanks, BlankParts, BlankLineIsEmpty, TextIsToken, LineFeedEndsLine, ReturnGoesWithLineFeed, EndOfTextEndsLine, LinesPartAtLineFeed, FirstLineStays, TextMovesWithToken, TextStaysBeforeMore, PrintedNumberIsItself};
 
 use crate::lexer::TokenKind;
 
 /// A comment changes nothing.
 pub fn comment_changes_nothing()
-    ensures { CommentChangesNothing }
+    ensures tokens { CommentChangesNothing }
+    ensures reading { CommentKeepsReading }
 {}
 
 /// A space or a tab only parts what stands round it.
 pub fn blank_parts()
     ensures { BlankParts }
+{}
+
+/// Before the tokens of a line, between and behind them stand spaces, tabs and a comment alone.
+pub fn tokens_leave_blanks()
+    ensures { TokensLeaveBlanks }
 {}
 
 /// A line of spaces and tabs has no tokens.

@@ -4,18 +4,16 @@
 //! and a word takes all the letters, digits and `_` that follow. Between tokens stand spaces and tabs;
 //! `#` begins a comment, which may hold any bytes. Every other byte is a fault.
 
-ghost use Rattle.std.specs.Prelude.{◌≡◌, ℕ, ◌<◌, ◌≤◌, length, drop, All, IfOk, IfErr, IsTrue};
+ghost use Rattle.std.specs.Prelude.{◌≡◌, ℕ, ◌<◌, ◌≤◌, [], length, drop, All, IfOk, IfErr, OnOk, IsTrue};
 ghost use Rattle.std.specs.List.{prefix_len};
 ghost use Rattle.lv_text.specs.Bytes.{is_letter, is_digit, is_word_byte};
 ghost use Rattle.lv_text.specs.Pieces.{number_piece, symbol_piece, piece_of};
 ghost use Rattle.lv_text.specs.Tokens.{line_tokens, all_tokens, lexed, Tells, tokens_at, tokens_behind};
 ghost use Rattle.lv_text.specs.Kinds.{IsTokenOf, follow_on, BeginsWith};
 
+use lv_base::limits::LINE_BYTES;
 use std::alloc::{AllocFailed, Global};
 use thiserror::Error;
-
-/// The most bytes that a line may have, its comment included and its end not.
-pub const LONGEST_LINE: usize = 4096;
 
 /// What a token is.
 #[derive(Clone, Copy, Debug, PartialEq, Eq, Hash)]
@@ -57,8 +55,8 @@ pub struct Token {
 /// Why a line has no tokens to give.
 #[derive(Clone, Copy, Debug, PartialEq, Eq, Error)]
 pub enum TextFault {
-    /// The line is longer than `LONGEST_LINE`, whatever it holds.
-    #[error("the line is longer than {LONGEST_LINE} bytes")]
+    /// The line is longer than `LINE_BYTES`, its comment included, whatever it holds.
+    #[error("the line is longer than {LINE_BYTES} bytes")]
     LongLine,
     /// The place in the line of the first byte that is not allowed, counted from 0.
     #[error("the byte at {0} is not allowed")]
@@ -178,16 +176,16 @@ fn piece_at(line: &[u8], place: usize) -> Piece
     piece_of(&line[place..])
 }
 
-// The tokens of a line that is not too long.
-fn all_tokens(alloc: Global, line: &[u8]) -> Result<Vec<Token>, TextFault>
-    ensures ok { IfOk result (λ found. all_tokens line.now ≡ lexed found.items) }
+// Puts the tokens of a line that is not too long into an empty list.
+fn put_tokens(found: &mut Vec<Token>, line: &[u8]) -> Result<(), TextFault>
+    requires { found.old.items ≡ [] }
+    ensures ok { OnOk result (all_tokens line.now ≡ lexed found.new.items) }
     ensures fault { IfErr result (λ fault. Tells fault (all_tokens line.now)) }
 {
-    let mut found = Vec::new(alloc);
     let mut place = 0;
     while place < line.len() {
         match piece_at(line, place) {
-            Piece::End => return Ok(found),
+            Piece::End => return Ok(()),
             Piece::Blank => place += 1,
             Piece::Lexeme(kind, length) => {
                 let end = place + length;
@@ -201,7 +199,22 @@ fn all_tokens(alloc: Global, line: &[u8]) -> Result<Vec<Token>, TextFault>
             Piece::Fault(offset) => return Err(TextFault::BadByte(place + offset)),
         }
     }
-    Ok(found)
+    Ok(())
+}
+
+/// Puts the tokens of a line in place of those of another, whose room they take. After a fault some of them may stand
+/// there.
+pub fn put_line(found: &mut Vec<Token>, line: &[u8]) -> Result<(), TextFault>
+    ensures ok { OnOk result (line_tokens line.now ≡ lexed found.new.items) }
+    ensures fault { IfErr result (λ fault. Tells fault (line_tokens line.now)) }
+    ensures each { OnOk result (All (IsTokenOf line.now) found.new.items) }
+    ensures in_order { OnOk result (IsTrue (follow_on 0 found.new.items)) }
+{
+    if line.len() > LINE_BYTES {
+        return Err(TextFault::LongLine);
+    }
+    found.clear();
+    put_tokens(found, line)
 }
 
 /// The tokens of a line, in order, each a part of it. The line is given without its end; a carriage
@@ -215,8 +228,7 @@ pub fn tokens(alloc: Global, line: &[u8]) -> Result<Vec<Token>, TextFault>
     ensures each { IfOk result (λ found. All (IsTokenOf line.now) found.items) }
     ensures in_order { IfOk result (λ found. IsTrue (follow_on 0 found.items)) }
 {
-    if line.len() > LONGEST_LINE {
-        return Err(TextFault::LongLine);
-    }
-    all_tokens(alloc, line)
+    let mut found = Vec::new(alloc);
+    put_line(&mut found, line)?;
+    Ok(found)
 }

@@ -1,3 +1,4 @@
+pub mod RankedLemmas
 pub mod ReasonLemmas
 pub mod WalkLemmas
-pub mod PossibleLemmas
+pub mod TurnLemmas

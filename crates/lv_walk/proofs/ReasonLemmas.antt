@@ -1,12 +1,9 @@
 -- Leaving pairs out, over plain lists: one step of it, and what is left at the end.
-use Rattle.std.proofs.Common.{◌≡◌, ℕ, ◌+◌, ◌<◌, Bool, true, false, List, [], ◌∷◌, ◌++◌, length, drop, get_or, refl, sym, ◌∙◌, ap, add-one, drop-cons, cond, ◌&&◌, nat_eq, nat_lt, append_assoc, append-nil, arith, eq-eqb}
+use Rattle.std.proofs.Common.{◌≡◌, ℕ, ◌+◌, ◌<◌, ◌≤◌, Bool, true, false, List, [], ◌∷◌, ◌++◌, length, drop, get_or, refl, sym, ◌∙◌, ap, add-one, drop-cons, cond, ◌&&◌, nat_lt, append_assoc, append-nil, arith}
 use Rattle.std.specs.List.{list_all}
-use Rattle.std.proofs.Math.Seq.{get_or-append_seam}
-use Rattle.std.proofs.lemmas.Bool.{and_from, and_parts, lt-ltb}
-use Rattle.std.proofs.lemmas.List.{length-append}
+use Rattle.std.proofs.lemmas.Bool.{and_from, and_parts, lt-ltb, ltb-true}
 use Rattle.std.proofs.lemmas.List.Folds.{list_all-append}
-use Rattle.lv_base.specs.Choices.{picks, contains_all}
-use Rattle.lv_meaning.specs.Candidates.{pairs_from}
+use Rattle.lv_base.specs.Choices.{slots_rise, slots_rise_from}
 use Rattle.lv_walk.specs.Laws.{IsMonotone, each_is_needed}
 use Rattle.lv_base.specs.declared.search.Pair.{Pair}
 use Rattle.lv_walk.specs.Reason.{reduced}
@@ -26,6 +23,23 @@ module _ (possible : List Pair → Bool) (pairs kept : List Pair) (at : ℕ) (d 
   -- another is left out
   pub pair_left_out : possible (kept ++ drop (at + 1) pairs) ≡ false → reduced possible kept (drop at pairs) ≡ whole → reduced possible kept (drop (at + 1) pairs) ≡ whole
   pair_left_out e is = sym (step false e) ∙ is
+
+-- slots that rise from one number rise from a lower one
+rising_lower : (low high : ℕ) (ps : List Pair) → low ≤ high → slots_rise_from high ps ≡ true → slots_rise_from low ps ≡ true
+rising_lower low high [] below is = refl
+rising_lower low high (p ∷ ps) below is =
+    let parts = and_parts (nat_lt high (p.slot + 1)) (slots_rise_from (p.slot + 1) ps) is in
+    let above : high < p.slot + 1 = ltb-true high (p.slot + 1) parts.0 in
+    and_from (nat_lt low (p.slot + 1)) (slots_rise_from (p.slot + 1) ps) (lt-ltb low (p.slot + 1) (omega (arith, above, below))) parts.1
+
+rising_without : (low : ℕ) (before : List Pair) (p : Pair) (ps : List Pair) → slots_rise_from low (before ++ (p ∷ ps)) ≡ true → slots_rise_from low (before ++ ps) ≡ true
+rising_without low [] p ps is =
+    let parts = and_parts (nat_lt low (p.slot + 1)) (slots_rise_from (p.slot + 1) ps) is in
+    let above : low < p.slot + 1 = ltb-true low (p.slot + 1) parts.0 in
+    rising_lower low (p.slot + 1) ps (omega (arith, above)) parts.1
+rising_without low (q ∷ before) p ps is =
+    let parts = and_parts (nat_lt low (q.slot + 1)) (slots_rise_from (q.slot + 1) (before ++ (p ∷ ps))) is in
+    and_from (nat_lt low (q.slot + 1)) (slots_rise_from (q.slot + 1) (before ++ ps)) parts.0 (rising_without (q.slot + 1) before p ps parts.1)
 
 module _ (possible : List Pair → Bool) where
   -- what isn't possible stays so
@@ -49,6 +63,19 @@ module _ (possible : List Pair → Bool) where
     where
       by : (b : Bool) → list_all f (reduced possible (before ++ (p ∷ [])) ps) ≡ true → list_all f (reduced possible before ps) ≡ true
           → list_all f (cond b (reduced possible (before ++ (p ∷ [])) ps) (reduced possible before ps)) ≡ true
+      by true kept left_out = kept
+      by false kept left_out = left_out
+
+  -- where slots rise, they do without a pair
+  pub still_rising : (before ps : List Pair) → slots_rise (before ++ ps) ≡ true → slots_rise (reduced possible before ps) ≡ true
+  still_rising before [] is = sym (ap slots_rise (append-nil before)) ∙ is
+  still_rising before (p ∷ ps) is =
+      by (possible (before ++ ps))
+      (still_rising (before ++ (p ∷ [])) ps (ap slots_rise (append_assoc before (p ∷ []) ps) ∙ is))
+      (still_rising before ps (rising_without 0 before p ps is))
+    where
+      by : (b : Bool) → slots_rise (reduced possible (before ++ (p ∷ [])) ps) ≡ true → slots_rise (reduced possible before ps) ≡ true
+          → slots_rise (cond b (reduced possible (before ++ (p ∷ [])) ps) (reduced possible before ps)) ≡ true
       by true kept left_out = kept
       by false kept left_out = left_out
 
@@ -87,13 +114,3 @@ module _ (possible : List Pair → Bool) where
           → each_is_needed possible [] (cond b (reduced possible (before ++ (p ∷ [])) ps) (reduced possible before ps)) ≡ true
       by true e kept left_out = kept e
       by false e kept left_out = left_out
-
--- choices have their own pairs
-pub own_pairs : (front cs : List ℕ) → contains_all (front ++ cs) (pairs_from (length front) cs) ≡ true
-own_pairs front [] = refl
-own_pairs front (c ∷ cs) =
-    let longer : length (front ++ (c ∷ [])) ≡ length front + 1 = length-append front (c ∷ []) ∙ omega arith in
-    let within : length front < length (front ++ (c ∷ cs)) = rw length-append (omega arith) in
-    and_from (picks (front ++ (c ∷ cs)) (record { slot = length front; choice = c })) (contains_all (front ++ (c ∷ cs)) (pairs_from (length front + 1) cs))
-    (and_from (nat_lt (length front) (length (front ++ (c ∷ cs)))) (nat_eq (get_or (front ++ (c ∷ cs)) (length front) 0) c) (lt-ltb (length front) (length (front ++ (c ∷ cs))) within) (eq-eqb (get_or (front ++ (c ∷ cs)) (length front) 0) c (get_or-append_seam front c cs 0)))
-    (sym (λ i. contains_all (append_assoc front (c ∷ []) cs i) (pairs_from (longer i) cs)) ∙ own_pairs (front ++ (c ∷ [])) cs)

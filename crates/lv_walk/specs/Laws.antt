@@ -1,20 +1,29 @@
--- What reasons and walks promise.
-use Rattle.std.specs.Prelude.{◌≡◌, ◌≤◌, ℕ, Bool, true, false, List, [], ◌∷◌, ◌++◌, ◌&&◌, length, take, filter}
+-- What ranked lists, reasons and walks promise.
+use Rattle.std.specs.Prelude.{◌≡◌, ℕ, ◌+◌, ◌≤◌, Bool, true, false, List, [], ◌∷◌, ◌++◌, ◌&&◌, length, take, filter}
 use Rattle.std.specs.List.{list_all}
 use Rattle.lv_base.specs.declared.rank.Rank.{Rank}
 use Rattle.lv_base.specs.declared.search.Pair.{Pair}
-use Rattle.lv_base.specs.Choices.{contains_all}
-use Rattle.lv_model.specs.declared.plant.Plant.{Plant}
-use Rattle.lv_meaning.specs.declared.facts.Facts.{Facts}
-use Rattle.lv_meaning.specs.Possible.{is_possible}
-use Rattle.lv_meaning.specs.Candidates.{pairs_from, can_be}
-use Rattle.lv_walk.specs.Reason.{reduced, reason_of}
-use Rattle.lv_walk.specs.Walk.{walk, rank_reason, diagnosis_walk}
+use Rattle.lv_base.specs.declared.search.Candidate.{Candidate}
+use Rattle.lv_base.specs.Choices.{contains_all, slots_rise}
+use Rattle.lv_walk.specs.declared.outcome.Outcome.TheVariants.{Settled, Unsettled}
+use Rattle.lv_walk.specs.Ranked.{rises, is_among, ranked}
+use Rattle.lv_walk.specs.Walk.{candidate_of, walk}
+use Rattle.lv_walk.specs.Reason.{reduced}
 
--- the reason of an impossible candidate is not possible, and each of its pairs is one of the candidate's choices
-pub record ReasonIsImpossiblePart : Type 0 where
-  pub impossible : (plant : Plant) (facts : Facts) (choices : List ℕ) → is_possible plant facts (pairs_from 0 choices) ≡ false → is_possible plant facts (reason_of plant facts choices) ≡ false
-  pub part : (plant : Plant) (facts : Facts) (choices : List ℕ) → contains_all choices (reason_of plant facts choices) ≡ true
+-- ranks put in order rise, and are the same ranks
+pub record RankedIsInOrder : Type 0 where
+  pub rising : (rs : List Rank) → rises (ranked rs) ≡ true
+  pub same : (r : Rank) (rs : List Rank) → is_among r (ranked rs) ≡ is_among r rs
+
+-- rising lists in which the same ranks stand are one
+abbrev pub RankedListIsOne : Type 0
+RankedListIsOne = (rs ss : List Rank) → rises rs ≡ true → rises ss ≡ true → ((r : Rank) → is_among r rs ≡ is_among r ss) → rs ≡ ss
+
+-- what is left of impossible pairs is not possible; what each of them passes each that is left passes; its slots rise as theirs do
+pub record ReducedIsImpossiblePart : Type 0 where
+  pub impossible : (possible : List Pair → Bool) (pairs : List Pair) → possible pairs ≡ false → possible (reduced possible [] pairs) ≡ false
+  pub part : (possible : List Pair → Bool) (passes : Pair → Bool) (pairs : List Pair) → list_all passes pairs ≡ true → list_all passes (reduced possible [] pairs) ≡ true
+  pub rising : (possible : List Pair → Bool) (pairs : List Pair) → slots_rise pairs ≡ true → slots_rise (reduced possible [] pairs) ≡ true
 
 -- what is possible stays so where a pair is left out
 pub record IsMonotone (possible : List Pair → Bool) : Type 0 where
@@ -26,32 +35,34 @@ each_is_needed possible front [] = true
 each_is_needed possible front (p ∷ back) = possible (front ++ back) && each_is_needed possible (front ++ (p ∷ [])) back
 
 -- no pair can be left out of what is left
-pub record ReducedIsMinimal : Type 0 where
-  pub needed : (possible : List Pair → Bool) → IsMonotone possible → (pairs : List Pair) → each_is_needed possible [] (reduced possible [] pairs) ≡ true
+abbrev pub ReducedIsMinimal : Type 0
+ReducedIsMinimal = (possible : List Pair → Bool) → IsMonotone possible → (pairs : List Pair) → each_is_needed possible [] (reduced possible [] pairs) ≡ true
 
--- a walk lists at most k, and what it lists fits
+-- a walk lists at most k, what it lists fits, and its trials are within the budget, which is used up where it is unsettled
 pub record WalkListsFitting : Type 0 where
-  pub most : (fits : Rank → Bool) (reason : Rank → List Pair) (k budget : ℕ) (ranks : List Rank) → length (walk fits reason k budget ranks).listed ≤ k
-  pub fitting : (fits : Rank → Bool) (reason : Rank → List Pair) (k budget : ℕ) (ranks : List Rank) → list_all fits (walk fits reason k budget ranks).listed ≡ true
+  pub most : (fits : Candidate → Bool) (reason : Candidate → List Pair) (k budget : ℕ) (entries : List Rank) → length (walk fits reason k budget entries).listed ≤ k
+  pub fitting : (fits : Candidate → Bool) (reason : Candidate → List Pair) (k budget : ℕ) (entries : List Rank) → list_all (λ r. fits (candidate_of r)) (walk fits reason k budget entries).listed ≡ true
+  pub trials : (fits : Candidate → Bool) (reason : Candidate → List Pair) (k budget : ℕ) (entries : List Rank) → length (walk fits reason k budget entries).listed + length (walk fits reason k budget entries).kept ≤ budget
+  pub used_up : (fits : Candidate → Bool) (reason : Candidate → List Pair) (k budget : ℕ) (entries : List Rank)
+      → (walk fits reason k budget entries).outcome ≡ Unsettled → length (walk fits reason k budget entries).listed + length (walk fits reason k budget entries).kept ≡ budget
 
--- the reason of one that doesn't fit is in none that fits
-pub record IsSound (fits : Rank → Bool) (reason : Rank → List Pair) : Type 0 where
-  pub apart : (r s : Rank) → fits r ≡ false → fits s ≡ true → contains_all s.choices (reason r) ≡ false
+-- of the candidates that suit: the reason of one that doesn't fit is in none that fits
+pub record IsSound (suits fits : Candidate → Bool) (reason : Candidate → List Pair) : Type 0 where
+  pub apart : (c d : Candidate) → suits c ≡ true → suits d ≡ true → fits c ≡ false → fits d ≡ true → contains_all d.choices (reason c) ≡ false
 
--- with sound reasons a settled walk lists the first k that fit, or all if fewer do; with a trial for each candidate it is settled
+-- with sound reasons a settled walk along entries that suit lists the first k that fit, or all if fewer do; with a trial for each
+-- entry it is settled
 pub record SettledWalkIsExact : Type 0 where
-  pub exact : (fits : Rank → Bool) (reason : Rank → List Pair) → IsSound fits reason → (k budget : ℕ) (ranks : List Rank)
-      → (walk fits reason k budget ranks).settled ≡ true → (walk fits reason k budget ranks).listed ≡ take k (filter fits ranks)
-  pub ample : (fits : Rank → Bool) (reason : Rank → List Pair) (k budget : ℕ) (ranks : List Rank) → length ranks ≤ budget → (walk fits reason k budget ranks).settled ≡ true
+  pub exact : (suits fits : Candidate → Bool) (reason : Candidate → List Pair) → IsSound suits fits reason → (k budget : ℕ) (entries : List Rank)
+      → list_all (λ r. suits (candidate_of r)) entries ≡ true
+      → (walk fits reason k budget entries).outcome ≡ Settled → (walk fits reason k budget entries).listed ≡ take k (filter (λ r. fits (candidate_of r)) entries)
+  pub ample : (fits : Candidate → Bool) (reason : Candidate → List Pair) (k budget : ℕ) (entries : List Rank) → length entries ≤ budget → (walk fits reason k budget entries).outcome ≡ Settled
 
--- the test of a diagnosis is monotone, and so no choice can be left out of a reason: without it the others are possible
-pub record ReasonIsMinimal : Type 0 where
-  pub monotone : (plant : Plant) (facts : Facts) → IsMonotone (is_possible plant facts)
-  pub needed : (plant : Plant) (facts : Facts) (choices : List ℕ) → each_is_needed (is_possible plant facts) [] (reason_of plant facts choices) ≡ true
-
--- reasons are sound, and so a settled walk of a diagnosis lists the first k candidates that can be, or all if fewer can
-pub record DiagnosisWalkIsExact : Type 0 where
-  pub sound : (plant : Plant) (facts : Facts) → IsSound (can_be plant facts) (rank_reason plant facts)
-  pub exact : (plant : Plant) (facts : Facts) (k budget : ℕ) (ranks : List Rank)
-      → (diagnosis_walk plant facts k budget ranks).settled ≡ true → (diagnosis_walk plant facts k budget ranks).listed ≡ take k (filter (can_be plant facts) ranks)
-  pub ample : (plant : Plant) (facts : Facts) (k budget : ℕ) (ranks : List Rank) → length ranks ≤ budget → (diagnosis_walk plant facts k budget ranks).settled ≡ true
+-- with a larger budget a settled walk comes to the same, and another one to what it had listed and kept and more
+pub record WalkIsTakenUp : Type 0 where
+  pub settled : (fits : Candidate → Bool) (reason : Candidate → List Pair) (k budget more : ℕ) (entries : List Rank)
+      → (walk fits reason k budget entries).outcome ≡ Settled → walk fits reason k (budget + more) entries ≡ walk fits reason k budget entries
+  pub listed : (fits : Candidate → Bool) (reason : Candidate → List Pair) (k budget more : ℕ) (entries : List Rank)
+      → take (length (walk fits reason k budget entries).listed) (walk fits reason k (budget + more) entries).listed ≡ (walk fits reason k budget entries).listed
+  pub kept : (fits : Candidate → Bool) (reason : Candidate → List Pair) (k budget more : ℕ) (entries : List Rank)
+      → take (length (walk fits reason k budget entries).kept) (walk fits reason k (budget + more) entries).kept ≡ (walk fits reason k budget entries).kept

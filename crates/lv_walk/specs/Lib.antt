@@ -1,5 +1,4 @@
-pub mod Reason
+pub mod Ranked
 pub mod Walk
-pub mod Nominal
-pub mod Advance
+pub mod Reason
 pub mod Laws

@@ -1,19 +1,30 @@
-//! The laws of reasons and walks. The functions do nothing; their clauses are the laws.
+//! The laws of ranked lists, reasons and walks. The functions do nothing; their clauses are the laws, and a caller that
+//! needs one calls it.
 #![tactic(auto)]
 
-ghost use Rattle.lv_walk.specs.Laws.{ReasonIsImpossiblePart, ReducedIsMinimal, ReasonIsMinimal, WalkListsFitting, SettledWalkIsExact, DiagnosisWalkIsExact};
+ghost use Rattle.lv_walk.specs.Laws.{RankedIsInOrder, RankedListIsOne, ReducedIsImpossiblePart, ReducedIsMinimal, WalkListsFitting, SettledWalkIsExact, WalkIsTakenUp};
 
-/// The reason of an impossible candidate is not possible, and is a part of the candidate.
-pub fn reason_is_impossible_part()
-    ensures { ReasonIsImpossiblePart }
+/// Ranks put in order rise, and are the same ranks.
+pub fn ranked_is_in_order()
+    ensures { RankedIsInOrder }
 {}
 
-/// Where leaving a pair out makes nothing impossible, no pair can be left out of a reason: the others are possible.
+/// A list of rising ranks is determined by which ranks stand in it.
+pub fn ranked_list_is_one()
+    ensures { RankedListIsOne }
+{}
+
+/// What is left of impossible pairs is not possible, and is a part of them.
+pub fn reduced_is_impossible_part()
+    ensures { ReducedIsImpossiblePart }
+{}
+
+/// Where leaving a pair out makes nothing impossible, no pair can be left out of what is left: the others are possible.
 pub fn reduced_is_minimal()
     ensures { ReducedIsMinimal }
 {}
 
-/// A walk lists at most `k`, and what it lists fits.
+/// A walk lists at most `k`, what it lists fits, and its trials are within the budget.
 pub fn walk_lists_fitting()
     ensures { WalkListsFitting }
 {}
@@ -24,13 +35,8 @@ pub fn settled_walk_is_exact()
     ensures { SettledWalkIsExact }
 {}
 
-/// Fewer choices are possible where more are, and no choice can be left out of a reason.
-pub fn reason_is_minimal()
-    ensures { ReasonIsMinimal }
-{}
-
-/// No reason is in a candidate that can be, and so a settled walk of a diagnosis lists the first `k` candidates that can
-/// be, or all if fewer can.
-pub fn diagnosis_walk_is_exact()
-    ensures { DiagnosisWalkIsExact }
+/// A walk that is taken up with a larger budget goes on where it stopped: a settled one stays as it is, and what was
+/// listed and kept stays in front.
+pub fn walk_is_taken_up()
+    ensures { WalkIsTakenUp }
 {}

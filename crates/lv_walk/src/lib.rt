@@ -1,19 +1,16 @@
-//! The plain search of a diagnosis, as definitions with a slow program beside each: candidates are tried in the order of
-//! their ranks, and what an impossible one leaves behind, a reason, rules out later ones.
+//! The plain search for the first candidates that fit, as definitions: candidates are tried in the order of their ranks,
+//! and the conflict that a refused one leaves behind rules out later ones. A search that is cleverer is proved to come to
+//! the same.
 //!
-//! | file | what it answers |
+//! | definitions | what they say |
 //! |---|---|
-//! | `reason` | which of a candidate's choices already aren't possible together |
-//! | `walk` | which candidates are listed, which reasons are kept, and whether that settles the diagnosis |
-//! | `advance` | which states the listed candidates lead to |
-//! | `laws` | what reasons and walks promise |
-//! | `nominal` | whether a full choice has no fault |
+//! | `specs/Ranked` | ranks in order |
+//! | `specs/Walk` | which candidates are tried, listed and passed over, and how it ends |
+//! | `specs/Reason` | the reason of a candidate that doesn't fit, by leaving choices out |
+//! | `specs/Laws` | what these promise |
 #![tactic(auto)]
 
-pub mod advance;
 pub mod laws;
-pub mod nominal;
-pub mod reason;
-pub mod walk;
+pub mod outcome;
 
-pub use walk::Walked;
+pub use outcome::Outcome;

@@ -1,10 +1,11 @@
 -- the candidates have few choices each
 use Rattle.std.proofs.Common.{◌≤◌, length, subst}
+use Rattle.lv_base.specs.declared.limits.TheConstants.{PARTS}
 use Rattle.lv_model.specs.declared.plant.Plant.{Plant}
 use Rattle.lv_meaning.proofs.FewChoices.{few-candidates}
 use Rattle.lv_meaning.proofs.candidates.diagnose.Goals as goal
 
-pub first_that_can_be-requires-clause-few : goal.first_that_can_be-requires-clause-few
-first_that_can_be-requires-clause-few c =
-    let few : length c.args.model.now.parts ≤ 256 = subst (λ (p : Plant). length p.parts ≤ 256) c.plant-plant.ensures.plant c.plant-plant.ensures.count in
+pub first_possible-requires-clause-few : goal.first_possible-requires-clause-few
+first_possible-requires-clause-few c =
+    let few : length c.args.model.now.parts ≤ PARTS = subst (λ (p : Plant). length p.parts ≤ PARTS) c.plant-plant.ensures.plant c.plant-plant.ensures.count in
     rw (c.as_slice.ensures.value, c.in_ok-ranks.ensures) (few-candidates c.args.model.now c.args.tracked.now few)

@@ -1,5 +1,6 @@
 use Rattle.std.proofs.Common.{◌≡◌, drop}
-use Rattle.lv_meaning.specs.Candidates.{ranks_of, put_in_order, candidates}
+use Rattle.lv_walk.specs.Ranked.{put_in_order}
+use Rattle.lv_meaning.specs.Candidates.{ranks_of, candidates}
 use Rattle.lv_meaning.proofs.candidates.ordered_candidates.Given as goal
 
 -- what is found, with the candidates of the states that are left, is all candidates

@@ -4,4 +4,4 @@ use Rattle.lv_walk.proofs.ReasonLemmas.{all_needed}
 use Rattle.lv_walk.proofs.laws.reduced_is_minimal.Goals as goal
 
 pub returns : goal.returns
-returns c = record { needed = λ possible monotone pairs. all_needed possible monotone [] pairs refl }
+returns c = λ possible monotone pairs. all_needed possible monotone [] pairs refl

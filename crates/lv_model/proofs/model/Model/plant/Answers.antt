@@ -1,6 +1,6 @@
 -- the plant is well formed, so its parts and laws read their own variables alone
-use Rattle.lv_model.proofs.Reading.{parts-of_well_formed, laws-of_well_formed, ends-of_well_formed, few_variables}
-use Rattle.lv_model.proofs.Sizes.{small-types, few-parts}
+use Rattle.lv_model.proofs.Reading.{parts-of_well_formed, laws-of_well_formed, ends-of_well_formed, few_variables, few-parts}
+use Rattle.lv_model.proofs.Sizes.{small-types}
 use Rattle.lv_model.proofs.model.Model.plant.Goals as goal
 
 pub returns-clause-parts : goal.returns-clause-parts

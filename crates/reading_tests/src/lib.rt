@@ -1,0 +1,9 @@
+//! Tests of reading: lines, tokens and numbers, and the statements of a model's text.
+//!
+//! They call each public function once with ample memory, and take what is wanted from the rules of the languages.
+#![tactic(auto)]
+
+#[cfg(test)]
+mod statements;
+#[cfg(test)]
+mod tokens;
