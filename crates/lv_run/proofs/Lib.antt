@@ -1,4 +1,3 @@
 pub mod ExpectedLemmas
 pub mod OpenLemmas
-pub mod TellLemmas
 pub mod TopLemmas

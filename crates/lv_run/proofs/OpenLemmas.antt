@@ -4,11 +4,13 @@ use Rattle.std.proofs.lemmas.List.{append-nil, take_all}
 use Rattle.std.specs.Option.{option_map_or}
 use Rattle.std.specs.Prelude.{IsErrAnd}
 use Rattle.lv_io.specs.Outside.{Opened}
+use Rattle.lv_io.specs.declared.IoFault.{IoFault}
+use Rattle.lv_io.specs.declared.IoFault.TheVariants.{Failed, Memory}
 use Rattle.lv_run.specs.Inputs.{AddsOpens, model_open, session_open}
 use Rattle.lv_run.specs.Arguments.{RunWords, run_words}
 use Rattle.lv_run.specs.Expected.{opens_of}
 use Rattle.lv_run.specs.Opens.{HasOpened}
-use Rattle.lv_run.specs.Faults.{EndsModel, EndsSession, status_of, ended_status}
+use Rattle.lv_run.specs.Faults.{EndsModel, EndsSession, status_of, ended_status, fault_of_sink}
 use Rattle.lv_run.specs.declared.status.Status.{Status}
 use Rattle.lv_run.specs.declared.status.Status.TheVariants.{Done, WordsRefused, ModelRefused, ModelUnread, SessionUnread, OutputFailed, SessionTooLong, OutOfMemory}
 use Rattle.lv_run.specs.declared.fault.RunFault.{RunFault}
@@ -176,3 +178,11 @@ pub all_opened : (asks old new : List Opened) (status result : Status)
     → HasOpened asks old new status
     → HasOpened asks old new result
 all_opened asks old new status result kept opened = told_opened asks old new status result (kept_or_not status result kept) opened
+
+-- a fault of the output ends a run with one of two statuses
+pub sink_end : (result : Result (Unit {0}) RunFault) (fault : IoFault)
+    → IsErrAnd result (λ e. e ≡ fault_of_sink fault)
+    → (ended_status result ≡ OutputFailed) ⊎ (ended_status result ≡ OutOfMemory)
+sink_end (Ok x) fault is = absurd is
+sink_end (Err e) Failed is = inl (ap status_of is)
+sink_end (Err e) Memory is = inr (ap status_of is)

@@ -21,10 +21,7 @@ pub const OUT_OF_MEMORY: &str = "out of memory\n";
 pub enum RunFault {
     WordsRefused,
     /// The code of the refusal and the line of the model's text, counted from 1.
-    ModelRefused {
-        code: u32,
-        line: usize,
-    },
+    ModelRefused { code: u32, line: usize },
     ModelUnread,
     SessionUnread,
     OutputFailed,

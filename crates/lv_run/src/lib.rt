@@ -4,18 +4,18 @@
 //! - `inputs`: the model and the session, opened and read.
 //! - `fault`: what ends a run before it is done, and its line on standard error.
 //! - `status`: how a call ends, and its number.
-//! - `report`: a fault told on standard error.
+//! - `telling`: a fault told on standard error.
 //! - `top`: the whole of a call.
 #![tactic(auto)]
 
 mod arguments;
 pub mod fault;
 mod inputs;
-pub mod report;
 pub mod status;
+pub mod telling;
 pub mod top;
 
 pub use fault::RunFault;
-pub use report::report;
 pub use status::Status;
+pub use telling::report;
 pub use top::livingstone;

@@ -281,6 +281,14 @@ fn session_over_its_limit(rt: HostRuntime) -> Result<(), AllocError> {
         session: session.as_slice(),
         ..faultless(RUN, "")
     };
-    assert!(rt; ends_so(rt.alloc(), &call, Status::SessionTooLong, "", "session too long\n")?);
+    assert!(rt;
+        ends_so(
+            rt.alloc(),
+            &call,
+            Status::SessionTooLong,
+            "",
+            "session too long\n"
+        )?
+    );
     Ok(())
 }

@@ -75,7 +75,12 @@ fn a_whole_text(rt: HostRuntime) -> Result<(), AllocError> {
     let alloc = rt.alloc();
     let model = valve(alloc)?;
     let mut out = MemSink::new(alloc, 4096, Vec::new(alloc));
-    let written = write_transcript(alloc, &model, b"jump\r\n\n# x\ncommand v.cmd=none", &mut out);
+    let written = write_transcript(
+        alloc,
+        &model,
+        b"jump\r\n\n# x\ncommand v.cmd=none",
+        &mut out,
+    );
     assert!(rt; written.is_ok());
     assert!(rt; out.text() == b"error S01\nok\n".as_slice());
     Ok(())

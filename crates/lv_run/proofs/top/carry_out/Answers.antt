@@ -1,24 +1,24 @@
 -- The opens at each exit, and what was expected where a file was not read.
 use Rattle.std.proofs.Common.{ap, map, Err, Global}
 use Rattle.std.specs.Prelude.{string_bytes}
-use Rattle.lv_run.proofs.OpenLemmas.{opened_at_model, opened_at_session, opened_both, opened_at_output}
+use Rattle.lv_run.proofs.OpenLemmas.{opened_at_model, opened_at_session, opened_both, opened_at_output, sink_end}
 use Rattle.lv_run.proofs.ExpectedLemmas.{ended_at_model, refusal_at_model, ended_at_session, session_not_refused, not_refused}
 use Rattle.lv_run.proofs.top.carry_out.Goals as goal
 
 pub returns-in_err-model-clause-meets : goal.returns-in_err-model-clause-meets
 returns-in_err-model-clause-meets g c =
     ended_at_model _ (map (string_bytes {Z = Global}) c.args.words.now) _ c.in_err-model.field-0.0 _ _
-    c.in-Some.ensures c.in_err-model.ensures.ends c.in_err-model.ensures.refused c.from_residual-in_err-model.ensures.1
+    c.in-Some.ensures c.in_err-model.ensures.ends c.in_err-model.ensures.refused c.from_residual.ensures.1
 
 pub returns-in_err-model-clause-refusal : goal.returns-in_err-model-clause-refusal
 returns-in_err-model-clause-refusal g c =
     refusal_at_model (g.F.Shelf.file c.args.shelf.now) (map (string_bytes {Z = Global}) c.args.words.now) _ c.in_err-model.field-0.0 _ (g.O.Sink.text c.args.out.now)
-    c.in-Some.ensures c.in_err-model.ensures.ends c.in_err-model.ensures.refused c.from_residual-in_err-model.ensures.1
+    c.in-Some.ensures c.in_err-model.ensures.ends c.in_err-model.ensures.refused c.from_residual.ensures.1
 
 pub returns-in_err-model-clause-opens : goal.returns-in_err-model-clause-opens
 returns-in_err-model-clause-opens g c =
     opened_at_model (map (string_bytes {Z = Global}) c.args.words.now) _ _ _ c.in_err-model.field-0.0 _
-    c.in-Some.ensures c.in_err-model.ensures.ends c.from_residual-in_err-model.ensures.1 c.in_err-model.ensures.opens
+    c.in-Some.ensures c.in_err-model.ensures.ends c.from_residual.ensures.1 c.in_err-model.ensures.opens
     (λ other. c.in_err-model.ensures.opened (λ e. other (cc)))
 
 pub returns-in_err-session-clause-meets : goal.returns-in_err-session-clause-meets
@@ -42,3 +42,9 @@ pub returns-clause-opens : goal.returns-clause-opens
 returns-clause-opens g c =
     opened_both (map (string_bytes {Z = Global}) c.args.words.now) _ _ _ _ c.in-Some.ensures
     (c.in_ok-model.ensures.opened (λ e. cc)) (c.in_ok-session.ensures.opened (λ e. cc))
+
+pub returns-in_err-write_transcript-clause-opens : goal.returns-in_err-write_transcript-clause-opens
+returns-in_err-write_transcript-clause-opens g c =
+    opened_at_output (map (string_bytes {Z = Global}) c.args.words.now) _ _ _ _ _ c.in-Some.ensures
+    (c.in_ok-model.ensures.opened (λ e. cc)) (c.in_ok-session.ensures.opened (λ e. cc))
+    (sink_end _ c.in_err-write_transcript.field-0.0 c.from_residual-in_err-write_transcript.ensures.1)

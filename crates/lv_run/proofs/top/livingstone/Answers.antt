@@ -1,6 +1,7 @@
 -- What the whole call promises, from what carrying out and telling do.
 use Rattle.std.proofs.Common.{sym, ap, ◌∙◌, map, Global}
 use Rattle.std.specs.Prelude.{string_bytes}
+use Rattle.lv_run.specs.Expected.{opens_of}
 use Rattle.lv_run.specs.Faults.{ended_status}
 use Rattle.lv_run.proofs.TopLemmas.{all_met, all_due, refusal_told, transcript_written, output_cause}
 use Rattle.lv_run.proofs.OpenLemmas.{all_opened}
@@ -33,7 +34,7 @@ returns-clause-model_refused g c =
 
 pub returns-clause-opens : goal.returns-clause-opens
 returns-clause-opens g c =
-    all_opened _ _ _ (ended_status c.carry_out-ended.result) c.tell_end.result c.tell_end.ensures.status
+    all_opened (opens_of (map (string_bytes {Z = Global}) c.args.words.items)) (g.F.Shelf.opens c.args.shelf.now) (g.F.Shelf.opens c.carry_out-ended.new.shelf) (ended_status c.carry_out-ended.result) c.tell_end.result c.tell_end.ensures.status
     (rw c.as_slice.ensures.value at c.carry_out-ended.ensures.opens)
 
 pub returns-clause-told : goal.returns-clause-told

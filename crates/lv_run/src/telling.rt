@@ -59,13 +59,12 @@ pub fn report<E: Sink>(alloc: Global, fault: RunFault, err: &mut E) -> Status
     ensures as_before { result ≢ Status.OutputFailed → E.faults err.new ≡ E.faults err.old }
 {
     match fault {
-        RunFault::OutputFailed => return Status::OutputFailed,
-        RunFault::OutOfMemory => return tell_memory(err),
-        _ => {}
-    }
-    match tell(alloc, fault, err) {
-        Ok(()) => fault.status(),
-        Err(IoFault::Failed) => Status::OutputFailed,
-        Err(IoFault::Memory) => tell_memory(err),
+        RunFault::OutputFailed => Status::OutputFailed,
+        RunFault::OutOfMemory => tell_memory(err),
+        _ => match tell(alloc, fault, err) {
+            Ok(()) => fault.status(),
+            Err(IoFault::Failed) => Status::OutputFailed,
+            Err(IoFault::Memory) => tell_memory(err),
+        },
     }
 }
