@@ -49,6 +49,10 @@ echo 'no model' >"$work/bad.lv"
 run run bad.lv absent.ses </dev/null
 expect 'a model that is refused, whose session is not opened' 3 '' 'model 0 M00'
 
+head -c 67108865 /dev/zero | tr '\0' '\n' >"$work/long.ses"
+run run "$root/examples/valve.lv" "$work/long.ses" </dev/null
+expect 'a session of one byte more than its limit' 7 '' 'session too long'
+
 run run stdin stdin <"$root/examples/valve.lv"
 expect 'standard input twice' 5 '' 'cannot read session'
 
