@@ -5,9 +5,8 @@
 # The models of models.txt each begin with a line `== VERDICT: NAME`. Their lines may hold the escapes of printf's
 # %b; `\c` at the end of the last line leaves out its line feed. The models that are too large for a table are
 # made below.
+# shellcheck source-path=SCRIPTDIR source=common.sh
 . "$(dirname "$(readlink -f "${BASH_SOURCE[0]}")")/common.sh"
-
-build
 
 : >"$work/silence"
 echo 'model 0 M00' >"$work/refusal"

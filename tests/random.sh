@@ -2,9 +2,8 @@
 # Runs the built program over the pairs random/NN.lv and random/NN.ses and compares what it writes and how it
 # ends with random/NN.out, which an independent reference program, which is not part of this repository, wrote.
 # A model that is to be refused has a file random/NN.err too.
+# shellcheck source-path=SCRIPTDIR source=common.sh
 . "$(dirname "$(readlink -f "${BASH_SOURCE[0]}")")/common.sh"
-
-build
 
 for model in "$root"/tests/random/[0-9][0-9].lv; do
     pair="${model%.lv}"

@@ -13,7 +13,7 @@ use Rattle.lv_boxes.specs.Laws.{pairs_from, pairs_of, LosesOne}
 use Rattle.lv_boxes.proofs.PartsLemmas.{parts_are_split}
 
 -- there is one choice for each mask
-length-are_left : (slots : List (List Cost)) (masks choices : List ℕ) → are_left slots masks choices ≡ true → length choices ≡ length masks
+pub length-are_left : (slots : List (List Cost)) (masks choices : List ℕ) → are_left slots masks choices ≡ true → length choices ≡ length masks
 length-are_left [] [] [] h = refl
 length-are_left [] [] (choice ∷ choices) h = absurd (cc h)
 length-are_left [] (mask ∷ masks) [] h = absurd (cc h)

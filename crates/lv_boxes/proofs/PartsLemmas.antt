@@ -40,12 +40,12 @@ are_left-without (costs ∷ slots) (m ∷ ms) (c ∷ cs) (suc s) k within =
     let fits : s < length ms = omega arith in
     rw (are_left-without slots ms cs s k fits) (grind arith)
 
-is_member-with : (slots : List (List Cost)) (zone : ZoneValue) (p : Pair) (candidate : Candidate) → p.slot < length zone.masks
+pub is_member-with : (slots : List (List Cost)) (zone : ZoneValue) (p : Pair) (candidate : Candidate) → p.slot < length zone.masks
     → is_member slots (record zone { masks = masks_with zone.masks p }) candidate ≡ (is_member slots zone candidate && picks candidate.choices p)
 is_member-with slots zone p candidate within =
     rw (are_left-with slots zone.masks candidate.choices p.slot p.choice within) (grind arith)
 
-is_member-without : (slots : List (List Cost)) (zone : ZoneValue) (p : Pair) (candidate : Candidate) → p.slot < length zone.masks
+pub is_member-without : (slots : List (List Cost)) (zone : ZoneValue) (p : Pair) (candidate : Candidate) → p.slot < length zone.masks
     → is_member slots (record zone { masks = masks_without zone.masks p }) candidate ≡ (is_member slots zone candidate && not (picks candidate.choices p))
 is_member-without slots zone p candidate within =
     rw (are_left-without slots zone.masks candidate.choices p.slot p.choice within) (grind arith)

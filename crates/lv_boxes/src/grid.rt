@@ -56,7 +56,8 @@ impl Grid {
 
     /// How many slots there are.
     pub fn len(&self) -> usize
-        ensures { result ≡ length self.now }
+        ensures len { result ≡ length self.now }
+        ensures bound { length self.now ≤ 4096 }
     {
         self.slots.len()
     }

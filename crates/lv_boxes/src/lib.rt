@@ -23,6 +23,3 @@ pub use grid::Grid;
 pub use laws::{members_need_choices, split_by_member_loses_one};
 pub use parts::{choices_as_conflict, split};
 pub use zone::Zone;
-
-#[cfg(test)]
-mod tests;

@@ -21,7 +21,7 @@ use Rattle.lv_reader.specs.Texts.{statements_of}
 
 -- the plant before any statement
 abbrev pub bare : Plant
-bare = record { name = codes "model"; domains = []; types = []; parts = []; laws = [] }
+bare = record { name = codes "model"; domains = []; types = []; parts = []; laws = []; prices = [] }
 
 -- a draft in which no type has begun, or each has ended
 abbrev pub resting : Plant → ℕ → Draft

@@ -1,10 +1,9 @@
 -- What holds of the model of a text, whatever the text.
 use Rattle.std.specs.Prelude.{ℕ, ◌≤◌, ◌≡◌, List, [], ◌∷◌, ◌++◌, length, Some}
 use Rattle.lv_model.specs.declared.plant.Plant.{Plant}
-use Rattle.lv_text.specs.Tokens.{lexed, line_tokens}
-use Rattle.lv_text.specs.declared.lexer.Token.{Token}
+use Rattle.lv_base.specs.declared.limits.TheConstants.{LINE_BYTES, MODEL_BYTES}
+use Rattle.lv_text.specs.Lexemes.{reads, line_reading}
 use Rattle.lv_text.specs.Lines.{lines_of}
-use Rattle.lv_reader.specs.Equations.{kinds_of, texts_of}
 use Rattle.lv_checker.specs.Checking.{model_of}
 
 -- a text gives at most one model
@@ -13,7 +12,7 @@ OneModel = (text : List ℕ) (p q : Plant) → model_of text ≡ Some p → mode
 
 -- a text that is not too long for a model
 pub record IsModelLong (text : List ℕ) : Type 0 where
-  pub bytes : length text ≤ 4194304
+  pub bytes : length text ≤ MODEL_BYTES
 
 -- texts of the same lines, however these end, give the same model
 abbrev pub LinesGiveModel : Type 0
@@ -22,21 +21,14 @@ LinesGiveModel = (a b : List ℕ) → IsModelLong a → IsModelLong b → lines_
 -- a line without tokens, as one of blanks or a comment, changes nothing wherever it stands
 abbrev pub LineWithoutTokensChangesNothing : Type 0
 LineWithoutTokensChangesNothing = (a b : List ℕ) (front back : List (List ℕ)) (line : List ℕ) → IsModelLong a → IsModelLong b
-    → lines_of a ≡ front ++ line ∷ back → lines_of b ≡ front ++ back → line_tokens line ≡ lexed [] → model_of a ≡ model_of b
-
--- two lines read as tokens of the same kinds and texts, wherever these stand
-pub record ReadAlike (x y : List ℕ) (ts us : List Token) : Type 0 where
-  pub first : line_tokens x ≡ lexed ts
-  pub second : line_tokens y ≡ lexed us
-  pub kinds : kinds_of ts ≡ kinds_of us
-  pub texts : texts_of x ts ≡ texts_of y us
+    → lines_of a ≡ front ++ line ∷ back → lines_of b ≡ front ++ back → line_reading line ≡ reads [] → model_of a ≡ model_of b
 
 -- spaces between tokens and comments change nothing: a line may stand for one of the same tokens
 abbrev pub TokensGiveModel : Type 0
-TokensGiveModel = (a b : List ℕ) (front back : List (List ℕ)) (x y : List ℕ) (ts us : List Token) → IsModelLong a → IsModelLong b
-    → lines_of a ≡ front ++ x ∷ back → lines_of b ≡ front ++ y ∷ back → ReadAlike x y ts us → model_of a ≡ model_of b
+TokensGiveModel = (a b : List ℕ) (front back : List (List ℕ)) (x y : List ℕ) → IsModelLong a → IsModelLong b
+    → lines_of a ≡ front ++ x ∷ back → lines_of b ≡ front ++ y ∷ back → line_reading x ≡ line_reading y → model_of a ≡ model_of b
 
 -- a comment behind a line changes nothing, if the line is not too long by it
 abbrev pub CommentGivesSameModel : Type 0
 CommentGivesSameModel = (a b : List ℕ) (front back : List (List ℕ)) (line comment : List ℕ) → IsModelLong a → IsModelLong b
-    → lines_of a ≡ front ++ (line ++ 35 ∷ comment) ∷ back → lines_of b ≡ front ++ line ∷ back → length (line ++ 35 ∷ comment) ≤ 4096 → model_of a ≡ model_of b
+    → lines_of a ≡ front ++ (line ++ 35 ∷ comment) ∷ back → lines_of b ≡ front ++ line ∷ back → length (line ++ 35 ∷ comment) ≤ LINE_BYTES → model_of a ≡ model_of b

@@ -1,5 +1,5 @@
 -- What names stand for: places in lists, variables in scope, and what an equation compares.
-use Rattle.std.specs.Prelude.{ℕ, ◌+◌, List, Bool, false, position, slice_get, nat_eq, nat_lt, if◌then◌else◌, Option, Some, None, option_map, codes}
+use Rattle.std.specs.Prelude.{ℕ, ◌+◌, ◌^◌, List, position, slice_get, nat_lt, if◌then◌else◌, Option, Some, None, option_map, codes}
 use Rattle.std.specs.Option.{option_and_then}
 use Rattle.lv_formula.specs.Tree.{Tree, is, same}
 use Rattle.lv_model.specs.declared.plant.Plant.{Plant}
@@ -8,20 +8,21 @@ use Rattle.lv_model.specs.declared.plant.ComponentType.{ComponentType}
 use Rattle.lv_model.specs.declared.plant.Variable.{Variable}
 use Rattle.lv_model.specs.declared.plant.Part.{Part}
 use Rattle.lv_base.specs.Names.{is_named}
-use Rattle.lv_model.specs.Names.{domain_named, type_named, variable_named, mode_has_name, part_named}
-use Rattle.lv_reader.specs.declared.statement.Path.{Path}
-use Rattle.lv_reader.specs.declared.statement.Path.TheVariants.{Own, OfPart}
+use Rattle.lv_model.specs.Names.{domain_named, type_named, variable_named, part_named}
+use Rattle.lv_formula.specs.declared.path.Path.{Path}
+use Rattle.lv_formula.specs.declared.path.Path.TheVariants.{Own, OfPart}
 use Rattle.lv_reader.specs.declared.statement.Equation.{Equation}
 use Rattle.lv_checker.specs.declared.draft.TypeDraft.{TypeDraft}
 use Rattle.lv_checker.specs.declared.draft.Comparison.{Comparison}
 use Rattle.lv_checker.specs.declared.draft.Comparison.TheVariants.{WithValue, WithVariable}
-use Rattle.lv_checker.specs.declared.draft.Sort.{Sort}
-use Rattle.lv_checker.specs.declared.draft.Sort.TheVariants.{Modes, Values}
+use Rattle.lv_formula.specs.declared.range.Sort.{Sort}
+use Rattle.lv_formula.specs.declared.range.Sort.TheVariants.{Modes, Values}
+use Rattle.lv_formula.specs.Fits.{is_same_sort}
 use Rattle.lv_checker.specs.declared.draft.Found.{Found}
 
--- a place in a list; each list of a model within its limits is shorter than this
+-- a place in a list, or a number counted from one, as a number of 32 bits; the lists of a text within its limit are far shorter
 abbrev pub placed : ℕ → Option ℕ
-placed n = if nat_lt n 4096 then Some n else None
+placed n = if nat_lt n (2 ^ 32) then Some n else None
 
 abbrev pub domain_place : List Domain → List ℕ → Option ℕ
 domain_place domains word = option_and_then placed (position (domain_named word) domains)
@@ -38,18 +39,19 @@ name_place names word = option_and_then placed (position (is_named word) names)
 
 -- of a mode of a type that has ended
 abbrev pub mode_place : ComponentType → List ℕ → Option ℕ
-mode_place t word = option_and_then placed (position (mode_has_name word) t.modes)
+mode_place t word = option_and_then placed (position (is_named word) t.modes)
 
 -- the variable after the mode that stands at this place of a type's list
 abbrev pub numbered : List Variable → ℕ → Option Found
-numbered variables n = option_map (λ (v : Variable). record { number = n + 1; sort = Values v.domain }) (slice_get variables n)
+numbered variables n =
+    option_and_then (λ (v : Variable). option_map (λ k. record { number = k; sort = Values v.domain }) (placed (n + 1))) (slice_get variables n)
 
 -- the variable of a type that a word names; `kind` is the type's place
 abbrev pub variable_of : ℕ → List Variable → List ℕ → Option Found
 variable_of kind variables word =
     if is_named (codes "mode") word
     then Some (record { number = 0; sort = Modes kind })
-    else option_and_then (numbered variables) (option_and_then placed (position (variable_named word) variables))
+    else option_and_then (numbered variables) (position (variable_named word) variables)
 
 -- a variable of a type, as that of a part
 abbrev pub shifted : ℕ → Found → Option Found
@@ -83,13 +85,6 @@ value_in_type domains t (Values d) word = value_of_domain domains d word
 abbrev pub value_in_system : Plant → Sort → List ℕ → Option ℕ
 value_in_system plant (Modes kind) word = option_and_then (λ (t : ComponentType). mode_place t word) (slice_get plant.types kind)
 value_in_system plant (Values d) word = value_of_domain plant.domains d word
-
--- one domain, or the modes of one type
-abbrev pub is_same_sort : Sort → Sort → Bool
-is_same_sort (Modes a) (Modes b) = nat_eq a b
-is_same_sort (Values a) (Values b) = nat_eq a b
-is_same_sort (Modes a) (Values b) = false
-is_same_sort (Values a) (Modes b) = false
 
 -- a variable compared with a value, if the right side is one; else with a variable of its sort
 abbrev pub compared : Found → Option ℕ → Option Found → Option Comparison

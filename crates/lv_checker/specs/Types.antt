@@ -5,7 +5,8 @@ use Rattle.std.specs.Option.{option_and_then}
 use Rattle.lv_model.specs.declared.plant.Domain.{Domain}
 use Rattle.lv_model.specs.declared.plant.ComponentType.{ComponentType}
 use Rattle.lv_base.specs.declared.names.Class.{Class}
-use Rattle.lv_model.specs.declared.plant.Mode.{Mode}
+use Rattle.lv_base.specs.declared.limits.TheConstants.{MODES}
+use Rattle.lv_model.specs.declared.plant.ModeFormula.{ModeFormula}
 use Rattle.lv_model.specs.declared.plant.Move.{Move}
 use Rattle.lv_model.specs.declared.plant.MoveKind.{MoveKind}
 use Rattle.lv_model.specs.declared.plant.MoveKind.TheVariants.{Step, Stay, Fault}
@@ -15,7 +16,6 @@ use Rattle.lv_reader.specs.declared.statement.Equation.{Equation}
 use Rattle.lv_reader.specs.declared.statement.Statement.{Statement}
 use Rattle.lv_reader.specs.declared.statement.Statement.TheVariants.{VariableLine, ModeLine, InLine, StepLine, FaultLine}
 use Rattle.lv_checker.specs.declared.draft.TypeDraft.{TypeDraft}
-use Rattle.lv_checker.specs.declared.draft.ModeFormula.{ModeFormula}
 use Rattle.lv_checker.specs.declared.draft.MoveLine.{MoveLine}
 use Rattle.lv_checker.specs.Scopes.{placed, domain_place, name_place, type_comparison, tree_of_comparison}
 
@@ -36,14 +36,14 @@ with_mode t name = if is_some (position (is_named name) t.modes) then None else 
 -- what holds in a mode
 abbrev pub mode_formula : List Domain → TypeDraft → List ℕ → Equation → Option ModeFormula
 mode_formula domains t mode e =
-    option_and_then (λ m. option_map (λ c. record { mode = m; formula = c }) (type_comparison domains t e)) (name_place t.modes mode)
+    option_and_then (λ m. option_map (λ c. record { mode = record { 0 = m }; condition = tree_of_comparison c }) (type_comparison domains t e)) (name_place t.modes mode)
 
 abbrev pub with_formula : TypeDraft → ModeFormula → TypeDraft
 with_formula t f = record t { formulas = t.formulas ++ f ∷ [] }
 
 -- the number of the next step or fault line of the type, from 1
 abbrev pub next_line : TypeDraft → Option ℕ
-next_line t = option_map (λ n. n + 1) (placed (length t.lines))
+next_line t = placed (length t.lines + 1)
 
 abbrev pub step_move : List Domain → TypeDraft → List ℕ → List ℕ → Equation → Option MoveLine
 step_move domains t source target e =
@@ -68,16 +68,6 @@ type_added domains t (InLine mode e) = option_map (with_formula t) (mode_formula
 type_added domains t (StepLine source target e) = option_map (with_line t) (step_move domains t source target e)
 type_added domains t (FaultLine source target cost) = option_map (with_line t) (fault_move t source target cost)
 type_added domains t statement = None
-
--- a mode with the formulas that hold in it, as written
-abbrev pub mode_of : List ModeFormula → ℕ → List ℕ → Mode
-mode_of formulas i name =
-    record { name = name; formulas = map (λ (f : ModeFormula). tree_of_comparison f.formula) (filter (λ (f : ModeFormula). nat_eq f.mode i) formulas) }
-
--- the modes of these names, the first of which is mode i
-abbrev pub modes_from : List ModeFormula → ℕ → List (List ℕ) → List Mode
-modes_from formulas i [] = []
-modes_from formulas i (name ∷ names) = mode_of formulas i name ∷ modes_from formulas (i + 1) names
 
 abbrev pub is_same_kind : MoveKind → MoveKind → Bool
 is_same_kind Step Step = true
@@ -115,9 +105,9 @@ abbrev pub moves_from : List MoveLine → ℕ → List (List ℕ) → List Move
 moves_from lines i [] = []
 moves_from lines i (name ∷ names) = moves_of_mode lines i ++ moves_from lines (i + 1) names
 
--- a type that ends, which has at most 16 modes
+-- a type that ends, which has no more modes than its limit; its mode formulas stand as they are written
 unfoldable pub ended : TypeDraft → Option ComponentType
 ended t =
-    if nat_le (length t.modes) 16
-    then Some (record { name = t.name; variables = t.variables; modes = modes_from t.formulas 0 t.modes; laws = []; moves = moves_from t.lines 0 t.modes })
+    if nat_le (length t.modes) MODES
+    then Some (record { name = t.name; variables = t.variables; modes = t.modes; laws = []; formulas = t.formulas; moves = moves_from t.lines 0 t.modes })
     else None

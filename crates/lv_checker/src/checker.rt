@@ -11,10 +11,10 @@ ghost use Rattle.lv_checker.specs.Checking.{bare, resting, are_distinct, with_na
 use crate::draft::{Comparison, Draft, TypeDraft};
 use crate::scope::{condition_of, mode_place, system_comparison, type_place};
 use crate::types::{begun, ended, type_added};
-use lv_base::{Seq, ValId, VarId};
-use lv_model::names::{find_domain, find_part, find_type, find_value};
-use lv_model::{ComponentType, Domain, Model, Name, Part, Plant};
-use lv_reader::{Statement, statements_of};
+use lv_base::{Name, Seq, ValId, VarId, find_name};
+use lv_model::names::{find_domain, find_part, find_type};
+use lv_model::{ComponentType, Domain, Model, Part, Plant};
+use lv_reader::{LineFault, Statement, statements_of};
 use std::alloc::{AllocError, Global};
 use thiserror::Error;
 
@@ -55,6 +55,7 @@ fn bare(alloc: Global) -> Result<Plant, AllocError>
         types: Seq::new(alloc),
         parts: Seq::new(alloc),
         laws: Seq::new(alloc),
+        prices: Seq::new(alloc),
     })
 }
 
@@ -75,7 +76,7 @@ fn are_distinct(names: &[Name]) -> bool
 {
     let mut rest = names;
     while let Some((name, more)) = rest.split_first() {
-        if find_value(more, name.as_slice()).is_some() {
+        if find_name(more, name.as_slice()).is_some() {
             return false;
         }
         rest = more;
@@ -331,13 +332,13 @@ fn names_model_late(statements: &[Statement]) -> bool
 
 /// The model that a draft comes to where the text ends.
 #[tactic(auto, unfolding(crate::specs::Checking::finished))]
-fn finished(draft: Draft) -> Option<Model>
-    ensures { result ≡ finished draft }
+fn finished(alloc: Global, draft: Draft) -> Result<Option<Model>, AllocError>
+    ensures { IfOk result (λ read. read ≡ finished draft) }
 {
     if draft.current.is_some() {
-        return None;
+        return Ok(None);
     }
-    Model::new(draft.plant).ok()
+    Model::new(alloc, draft.plant)
 }
 
 /// The model of these statements.
@@ -353,7 +354,7 @@ fn model_of_statements(
     }
     let start = resting(bare(alloc)?, 0);
     match added_all(alloc, start, statements)? {
-        Some(draft) => Ok(finished(draft)),
+        Some(draft) => finished(alloc, draft),
         None => Ok(None),
     }
 }
@@ -362,9 +363,10 @@ fn model_of_statements(
 fn model_of_text(alloc: Global, bytes: &[u8]) -> Result<Option<Model>, AllocError>
     ensures { IfOk result (λ read. read ≡ model_of bytes.now) }
 {
-    match statements_of(alloc, bytes)? {
-        Some(statements) => model_of_statements(alloc, statements),
-        None => Ok(None),
+    match statements_of(alloc, bytes) {
+        Ok(statements) => model_of_statements(alloc, statements),
+        Err(LineFault::Refused) => Ok(None),
+        Err(LineFault::Memory) => Err(AllocError),
     }
 }
 

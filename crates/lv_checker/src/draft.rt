@@ -1,8 +1,9 @@
 //! A model as far as its statements go, and a type that has not ended yet.
 #![tactic(auto)]
 
-use lv_base::{Seq, VarId};
-use lv_model::{MoveKind, Name, Plant, Variable};
+use lv_base::{Name, Seq, VarId};
+use lv_formula::Sort;
+use lv_model::{ModeFormula, MoveKind, Plant, Variable};
 
 /// A model as far as its statements go.
 #[derive(Debug, Drop)]
@@ -35,13 +36,6 @@ pub enum Comparison {
     WithVariable(u32, u32),
 }
 
-/// What holds in the mode of this place.
-#[derive(Clone, Copy, Debug)]
-pub struct ModeFormula {
-    pub mode: u32,
-    pub formula: Comparison,
-}
-
 /// A step or a fault as written. `line` counts the steps and faults of the type from 1.
 #[derive(Clone, Copy, Debug)]
 pub struct MoveLine {
@@ -53,16 +47,7 @@ pub struct MoveLine {
     pub line: u32,
 }
 
-/// Where the values of a variable stand.
-#[derive(Clone, Copy, Debug)]
-pub enum Sort {
-    /// They are the modes of the type at this place; of a type that has not ended, the place is 0.
-    Modes(u32),
-    /// They are those of the domain at this place.
-    Values(u32),
-}
-
-/// A variable that a path names.
+/// A variable that a path names. The modes of a type that has not ended are those of place 0.
 #[derive(Clone, Copy, Debug)]
 pub struct Found {
     pub number: u32,

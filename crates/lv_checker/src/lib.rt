@@ -28,5 +28,3 @@ pub use laws::{
 };
 pub use scope::system_comparison;
 
-#[cfg(test)]
-mod tests;

@@ -1,29 +1,25 @@
 //! What names stand for: places in lists, variables in scope, and what an equation compares.
 #![tactic(auto)]
 
-ghost use Rattle.std.specs.Prelude.{◌≡◌, ◌<◌, IfSome, position, slice_get};
+ghost use Rattle.std.specs.Prelude.{◌≡◌, slice_get};
 ghost use Rattle.std.specs.Option.{option_and_then};
 ghost use Rattle.lv_formula.specs.Tree.{tree_of};
 ghost use Rattle.lv_model.specs.declared.plant.ComponentType.{ComponentType};
-ghost use Rattle.lv_model.specs.Names.{variable_named};
-ghost use Rattle.lv_checker.specs.Scopes.{placed, domain_place, type_place, part_place, name_place, mode_place, numbered, variable_of, shifted, variable_of_part, in_type, in_system, value_of_domain, value_in_type, value_in_system, is_same_sort, compared, alone, type_comparison, system_comparison, tree_of_comparison};
+ghost use Rattle.lv_checker.specs.Scopes.{placed, domain_place, type_place, part_place, name_place, mode_place, numbered, variable_of, shifted, variable_of_part, in_type, in_system, value_of_domain, value_in_type, value_in_system, compared, alone, type_comparison, system_comparison, tree_of_comparison};
 
-use crate::draft::{Comparison, Found, Sort, TypeDraft};
-use lv_base::{ValId, VarId};
-use lv_formula::{Condition, Formula};
-use lv_model::names::{find_domain, find_mode, find_part, find_type, find_value, find_variable};
-use lv_model::{ComponentType, Domain, Name, Part, Plant, Variable};
-use lv_reader::{Equation, Path, is_text};
+use crate::draft::{Comparison, Found, TypeDraft};
+use lv_base::{Name, ValId, VarId, find_name};
+use lv_formula::range::is_same_sort;
+use lv_formula::{Condition, Formula, Path, Sort};
+use lv_model::names::{find_domain, find_part, find_type, find_variable};
+use lv_model::{ComponentType, Domain, Part, Plant, Variable};
+use lv_reader::Equation;
 
-/// A place in a list, as a number of a model, whose lists are shorter than 4,096.
+/// A place in a list, or a number counted from one, as a number of 32 bits.
 pub fn placed(place: usize) -> Option<u32>
     ensures { result ≡ placed place }
 {
-    if place < 4096 {
-        Some(place as u32)
-    } else {
-        None
-    }
+    u32::try_from(place).ok()
 }
 
 pub fn domain_place(domains: &[Domain], word: &[u8]) -> Option<u32>
@@ -48,46 +44,38 @@ fn part_place(parts: &[Part], word: &[u8]) -> Option<u32>
 pub fn name_place(names: &[Name], word: &[u8]) -> Option<u32>
     ensures { result ≡ name_place names.now word.now }
 {
-    placed(find_value(names, word)?)
+    placed(find_name(names, word)?)
 }
 
 pub fn mode_place(of: &ComponentType, word: &[u8]) -> Option<u32>
     ensures { result ≡ mode_place of.now word.now }
 {
-    placed(find_mode(of.modes.as_slice(), word)?)
+    placed(find_name(of.modes.as_slice(), word)?)
 }
 
 /// The variable at this place of a type's list, which the mode stands before.
-fn numbered(variables: &[Variable], place: u32) -> Option<Found>
-    requires { place < 4096 }
+fn numbered(variables: &[Variable], place: usize) -> Option<Found>
     ensures { result ≡ numbered variables.now place }
 {
-    let variable = variables.get(place as usize)?;
+    let variable = variables.get(place)?;
+    let number = placed(place + 1)?;
     Some(Found {
-        number: place + 1,
-        sort: Sort::Values(variable.domain),
+        number,
+        sort: Sort::Values(variable.domain as usize),
     })
-}
-
-/// The place of the variable that a word names, the mode not counted.
-fn variable_place(variables: &[Variable], word: &[u8]) -> Option<u32>
-    ensures place { result ≡ option_and_then placed (position (variable_named word.now) variables.now) }
-    ensures below { IfSome result (λ n. n < 4096) }
-{
-    placed(find_variable(variables, word)?)
 }
 
 /// The variable that a word names in the type at place `kind`.
 fn variable_of(kind: u32, variables: &[Variable], word: &[u8]) -> Option<Found>
     ensures { result ≡ variable_of kind variables.now word.now }
 {
-    if is_text(word, b"mode") {
+    if word == b"mode".as_slice() {
         return Some(Found {
             number: 0,
-            sort: Sort::Modes(kind),
+            sort: Sort::Modes(kind as usize),
         });
     }
-    let place = variable_place(variables, word)?;
+    let place = find_variable(variables, word)?;
     numbered(variables, place)
 }
 
@@ -139,17 +127,17 @@ fn in_system(plant: &Plant, path: &Path) -> Option<Found>
     }
 }
 
-fn value_of_domain(domains: &[Domain], domain: u32, word: &[u8]) -> Option<u32>
+fn value_of_domain(domains: &[Domain], domain: usize, word: &[u8]) -> Option<u32>
     ensures { result ≡ value_of_domain domains.now domain word.now }
 {
-    let domain = domains.get(domain as usize)?;
+    let domain = domains.get(domain)?;
     name_place(domain.values.as_slice(), word)
 }
 
-fn mode_of_type(types: &[ComponentType], kind: u32, word: &[u8]) -> Option<u32>
+fn mode_of_type(types: &[ComponentType], kind: usize, word: &[u8]) -> Option<u32>
     ensures { result ≡ option_and_then (λ (t : ComponentType). mode_place t word.now) (slice_get types.now kind) }
 {
-    let of = types.get(kind as usize)?;
+    let of = types.get(kind)?;
     mode_place(of, word)
 }
 
@@ -170,17 +158,6 @@ fn value_in_system(plant: &Plant, sort: Sort, word: &[u8]) -> Option<u32>
     match sort {
         Sort::Modes(kind) => mode_of_type(plant.types.as_slice(), kind, word),
         Sort::Values(domain) => value_of_domain(plant.domains.as_slice(), domain, word),
-    }
-}
-
-fn is_same_sort(a: Sort, b: Sort) -> bool
-    ensures { result ≡ is_same_sort a b }
-{
-    match (a, b) {
-        (Sort::Modes(a), Sort::Modes(b)) => a == b,
-        (Sort::Values(a), Sort::Values(b)) => a == b,
-        (Sort::Modes(_), Sort::Values(_)) => false,
-        (Sort::Values(_), Sort::Modes(_)) => false,
     }
 }
 

@@ -1,18 +1,17 @@
 //! A type, statement by statement, and what it is when it ends.
 #![tactic(auto)]
 
-ghost use Rattle.std.specs.Prelude.{◌≡◌, ◌<◌, ◌≤◌, ◌^◌, ◌++◌, IfOk, length, map, option_map, nat_eq};
-ghost use Rattle.std.specs.List.{filter};
-ghost use Rattle.lv_checker.specs.declared.draft.ModeFormula.{ModeFormula};
+ghost use Rattle.std.specs.Prelude.{◌≡◌, ◌<◌, ◌≤◌, ◌^◌, ◌++◌, IfOk, length, option_map};
+ghost use Rattle.lv_base.specs.declared.limits.TheConstants.{MODES};
 ghost use Rattle.lv_checker.specs.Scopes.{tree_of_comparison};
-ghost use Rattle.lv_checker.specs.Types.{begun, with_variable, with_mode, mode_formula, with_formula, next_line, step_move, fault_move, with_line, type_added, mode_of, modes_from, is_same_kind, is_line_from, move_of, moves_of_kind, stay_in, moves_of_mode, moves_from, ended};
+ghost use Rattle.lv_checker.specs.Types.{begun, with_variable, with_mode, mode_formula, with_formula, next_line, step_move, fault_move, with_line, type_added, is_same_kind, is_line_from, move_of, moves_of_kind, stay_in, moves_of_mode, moves_from, ended};
 
-use crate::draft::{Comparison, ModeFormula, MoveLine, TypeDraft};
+use crate::draft::{Comparison, MoveLine, TypeDraft};
 use crate::scope::{condition_of, domain_place, name_place, placed, type_comparison};
-use lv_base::{Cost, Seq, ValId, limits};
+use lv_base::{Class, Cost, Name, Seq, ValId, find_name, limits};
 use lv_formula::Condition;
-use lv_model::names::{find_value, find_variable};
-use lv_model::{Class, ComponentType, Domain, Mode, Move, MoveKind, Name, Variable};
+use lv_model::names::find_variable;
+use lv_model::{ComponentType, Domain, ModeFormula, Move, MoveKind, Variable};
 use lv_reader::{Equation, Statement};
 use std::alloc::{AllocError, Global};
 
@@ -55,7 +54,7 @@ fn with_variable(
 fn with_mode(mut draft: TypeDraft, name: Name) -> Result<Option<TypeDraft>, AllocError>
     ensures { IfOk result (λ read. read ≡ with_mode draft name) }
 {
-    if find_value(draft.modes.as_slice(), name.as_slice()).is_some() {
+    if find_name(draft.modes.as_slice(), name.as_slice()).is_some() {
         return Ok(None);
     }
     draft.modes.push(name)?;
@@ -72,8 +71,11 @@ fn mode_formula(
     ensures { result ≡ mode_formula domains.now draft.now mode.now equation.now }
 {
     let mode = name_place(draft.modes.as_slice(), mode)?;
-    let formula = type_comparison(domains, draft, equation)?;
-    Some(ModeFormula { mode, formula })
+    let comparison = type_comparison(domains, draft, equation)?;
+    Some(ModeFormula {
+        mode: ValId(mode),
+        condition: condition_of(comparison),
+    })
 }
 
 fn with_formula(mut draft: TypeDraft, formula: ModeFormula) -> Result<TypeDraft, AllocError>
@@ -87,7 +89,7 @@ fn with_formula(mut draft: TypeDraft, formula: ModeFormula) -> Result<TypeDraft,
 fn next_line(draft: &TypeDraft) -> Option<u32>
     ensures { result ≡ next_line draft.now }
 {
-    Some(placed(draft.lines.len())? + 1)
+    placed(draft.lines.len() + 1)
 }
 
 fn step_move(
@@ -178,53 +180,6 @@ pub fn type_added(
     }
 }
 
-/// The formulas that hold in a mode, as written.
-fn formulas_of(
-    alloc: Global,
-    formulas: &[ModeFormula],
-    mode: u32,
-) -> Result<Seq<Condition>, AllocError>
-    ensures { IfOk result (λ found. found ≡ map (λ (f : ModeFormula). tree_of_comparison f.formula) (filter (λ (f : ModeFormula). nat_eq f.mode mode) formulas.now)) }
-{
-    let mut found = Vec::new(alloc);
-    for f in formulas {
-        if f.mode == mode {
-            found.push(condition_of(f.formula))?;
-        }
-    }
-    Ok(Seq::from_vec(found))
-}
-
-fn mode_of(
-    alloc: Global,
-    formulas: &[ModeFormula],
-    mode: u32,
-    name: &Name,
-) -> Result<Mode, AllocError>
-    ensures { IfOk result (λ found. found ≡ mode_of formulas.now mode name.now) }
-{
-    Ok(Mode {
-        name: Seq::from_slice(alloc, name.as_slice())?,
-        formulas: formulas_of(alloc, formulas, mode)?,
-    })
-}
-
-/// The modes of these names.
-fn modes_of(
-    alloc: Global,
-    formulas: &[ModeFormula],
-    names: &[Name],
-) -> Result<Seq<Mode>, AllocError>
-    requires { length names.now ≤ 16 }
-    ensures { IfOk result (λ found. found ≡ modes_from formulas.now 0 names.now) }
-{
-    let mut found = Vec::new(alloc);
-    for (i, name) in names.iter().enumerate() {
-        found.push(mode_of(alloc, formulas, i as u32, name)?)?;
-    }
-    Ok(Seq::from_vec(found))
-}
-
 fn is_same_kind(a: MoveKind, b: MoveKind) -> bool
     ensures { result ≡ is_same_kind a b }
 {
@@ -302,7 +257,7 @@ fn push_moves_of_mode(out: &mut Vec<Move>, lines: &[MoveLine], mode: u32) -> Res
 
 /// The moves from all modes, which these names are.
 fn moves_of(alloc: Global, lines: &[MoveLine], names: &[Name]) -> Result<Seq<Move>, AllocError>
-    requires { length names.now ≤ 16 }
+    requires { length names.now ≤ MODES }
     ensures { IfOk result (λ found. found ≡ moves_from lines.now 0 names.now) }
 {
     let mut found = Vec::new(alloc);
@@ -320,13 +275,13 @@ pub fn ended(alloc: Global, draft: TypeDraft) -> Result<Option<ComponentType>, A
     if draft.modes.len() > limits::MODES as usize {
         return Ok(None);
     }
-    let modes = modes_of(alloc, draft.formulas.as_slice(), draft.modes.as_slice())?;
     let moves = moves_of(alloc, draft.lines.as_slice(), draft.modes.as_slice())?;
     Ok(Some(ComponentType {
         name: draft.name,
         variables: draft.variables,
-        modes,
+        modes: draft.modes,
         laws: Seq::new(alloc),
+        formulas: draft.formulas,
         moves,
     }))
 }

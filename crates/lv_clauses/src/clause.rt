@@ -23,6 +23,16 @@ impl Model for Clause {
     ghost view = { λ c. c.lits.items };
 }
 
+impl Clone for Clause {
+    ghost is_clone = { λ c copy. copy ≡ c };
+
+    fn clone(&self) -> Result<Clause, AllocError> {
+        Ok(Clause {
+            lits: self.lits.clone()?,
+        })
+    }
+}
+
 impl Clause {
     /// The clause of copies of these literals.
     pub fn from_slice(alloc: Global, lits: &[Lit]) -> Result<Clause, AllocError>

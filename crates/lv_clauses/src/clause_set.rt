@@ -46,6 +46,17 @@ impl ClauseSet {
         })
     }
 
+    /// A set of copies of the same clauses, each with its number.
+    pub fn copy(&self) -> Result<ClauseSet, AllocError>
+        ensures { IfOk result (λ s. s ≡ self.now) }
+    {
+        Ok(ClauseSet {
+            alloc: self.alloc,
+            bools: self.bools,
+            clauses: self.clauses.clone()?,
+        })
+    }
+
     /// The number of booleans.
     pub fn bools(&self) -> u32
         ensures { result ≡ self.now.bools }

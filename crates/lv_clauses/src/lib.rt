@@ -21,6 +21,3 @@ pub use clause_set::ClauseSet;
 pub use laws::{closure_is_least, closure_is_sound};
 pub use literals::{clause_holds, is_clause, lit_holds, negation};
 pub use marks::{Finding, has, look};
-
-#[cfg(test)]
-mod tests;

@@ -7,7 +7,7 @@
 //! | `Store::new` | a store that keeps nothing |
 //! | `add` | keeps one more conflict, behind the others |
 //! | `contained_in` | which kept conflict a candidate contains first |
-//! | `get`, `len` | the kept conflicts |
+//! | `get`, `as_slice`, `len` | the kept conflicts |
 #![tactic(auto)]
 
 ghost use Rattle.std.specs.Prelude.{◌≡◌, ◌<◌, [], ◌∷◌, ◌++◌, length, position, slice_get, IfOk, OnOk, OnErr};
@@ -17,8 +17,6 @@ use lv_base::{Candidate, Conflict, Seq, contains};
 use std::alloc::{AllocError, Global};
 use std::marker::Model;
 
-#[cfg(test)]
-mod tests;
 
 /// Conflicts by number: 0 for the one that was added first. Contracts see the list of them, each as the list of its
 /// pairs.
@@ -69,6 +67,13 @@ impl Store {
         ensures { slice_get self.now number ≡ Some result.now }
     {
         &self.conflicts.as_slice()[number]
+    }
+
+    /// All kept conflicts, in the order in which they were added. Takes no memory.
+    pub fn as_slice(&self) -> &[Conflict]
+        ensures { result.now ≡ self.now }
+    {
+        self.conflicts.as_slice()
     }
 
     /// How many conflicts are kept.

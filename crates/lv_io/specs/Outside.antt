@@ -1,11 +1,12 @@
 -- Words of the contracts of shelves and sinks: what an open records, what a read gives, and what ties
 -- a fault to its count. What is not told is `None`, and then nothing is claimed of the bytes.
-use Rattle.std.specs.Prelude.{◌≡◌, ℕ, ◌-◌, ◌^◌, ◌<◌, ◌≤◌, ◌⊎◌, Bool, List, [], ◌∷◌, ◌++◌, length, take, Option, Result, Ok, Err, ◌&&◌, ◌==◌}
+use Rattle.std.specs.Prelude.{◌≡◌, ℕ, ◌<◌, ◌≤◌, ◌⊎◌, Bool, List, [], ◌∷◌, ◌++◌, length, take, Option, Result, Ok, Err, ◌&&◌, ◌==◌}
 use Rattle.std.specs.Io.KnownBytes.{prepend_known, append_known, IsAtEnd}
 use Rattle.lv_io.specs.declared.Role.{Role}
 use Rattle.lv_io.specs.declared.Slot.{Slot}
 use Rattle.lv_io.specs.declared.IoFault.{IoFault}
 use Rattle.lv_io.specs.declared.IoFault.TheVariants.{Failed, Memory}
+use Rattle.lv_io.specs.Limits.{last_count}
 
 -- one open that was made: the role that it was made for, and the bytes of the name
 pub record Opened : Type 0 where
@@ -18,10 +19,10 @@ recorded opens opened (Err Memory) = opens
 recorded opens opened (Err Failed) = opens ++ opened ∷ []
 recorded opens opened (Ok slot) = opens ++ opened ∷ []
 
--- a count of faults rose: it is more than before, or stands at the last value of 64 bits
+-- a count of faults rose: it is more than before, or stands at the last count
 pub record Rose (old new : ℕ) : Type 0 where
   pub falls_not : old ≤ new
-  pub rises : (old < new) ⊎ (new ≡ 2 ^ 64 - 1)
+  pub rises : (old < new) ⊎ (new ≡ last_count)
 
 -- a call answered `Failed` only where the count rose, and with every other answer left it
 abbrev pub HasCause : {T : Type 0} → ℕ → ℕ → Result T IoFault → Type 0

@@ -1,11 +1,15 @@
-//! The files of the system and its standard input as a shelf. Nothing is told of their bytes.
+//! The files of the system and its standard input as a shelf. Of their bytes only what each stream
+//! itself tells is claimed.
 
-ghost use Rattle.std.specs.Prelude.{◌≡◌, ◌≢◌, ◌<◌, ◌≤◌, ◌++◌, ◌∷◌, [], true, false, not, None, is_ok, length, vec_len, vec_capacity, codes, IfSome, IsErr};
+ghost use Rattle.std.specs.Prelude.{◌≡◌, ◌≢◌, ℕ, ◌<◌, ◌≤◌, ◌++◌, ◌∷◌, [], true, false, not, None, is_ok, length, vec_len, vec_capacity, slice_get, codes, IfOk, IfSome, IsErr, IsTrue};
 ghost use Rattle.std.specs.Io.{ReadsAtMost};
+ghost use Rattle.std.specs.Io.KnownBytes.{ReadConsumes};
 ghost use Rattle.lv_io.specs.declared.Role.{Role};
+ghost use Rattle.lv_io.specs.declared.Slot.{Slot};
+ghost use Rattle.lv_io.specs.Outside.{HasCause, Reads};
 ghost use Rattle.lv_io.specs.Counts.{count_of};
 ghost use Rattle.lv_io.specs.Slots.{is_slot};
-ghost use Rattle.lv_io.specs.Streams.{stream_role, stream_roles};
+ghost use Rattle.lv_io.specs.Streams.{stream_role, stream_roles, left_at};
 
 use crate::shelf_log::{Counts, Opens};
 use crate::{IoFault, Role, Shelf, Slot};
@@ -83,7 +87,21 @@ impl<R: Files + Input> Shelf for HostShelf<R> {
         }
     }
 
-    fn read(&mut self, slot: Slot, buf: &mut [u8]) -> Result<usize, IoFault> {
+    /// The bytes that the answer counts, and no others, were taken from the stream of the slot alone.
+    fn read(&mut self, slot: Slot, buf: &mut [u8]) -> Result<usize, IoFault>
+        requires { IsTrue (is_slot (stream_roles self.old.streams.items) slot) }
+        ensures bytes { IfOk result (Reads buf.new None None) }
+        ensures known { is_slot (stream_roles self.new.streams.items) ≡ is_slot (stream_roles self.old.streams.items) }
+        ensures opens { self.new.opens ≡ self.old.opens }
+        ensures cause { HasCause (count_of self.old.faults slot.role) (count_of self.new.faults slot.role) result }
+        ensures others { (r : Role) → r ≢ slot.role → count_of self.new.faults r ≡ count_of self.old.faults r }
+
+        // What the streams tell of their bytes, and that no memory is taken.
+        ensures taken { ReadConsumes (left_at R.File.remaining R.Reader.remaining self.old.streams.items slot.index)
+            (left_at R.File.remaining R.Reader.remaining self.new.streams.items slot.index) result buf.new }
+        ensures untouched { (i : ℕ) → i ≢ slot.index → slice_get self.new.streams.items i ≡ slice_get self.old.streams.items i }
+        ensures memory { result ≢ Err IoFault.Memory }
+    {
         match read_stream(&mut self.streams, slot.index, buf) {
             Ok(n) => Ok(n),
             Err(_) => {
@@ -137,6 +155,8 @@ fn read_stream<F: Read, I: Read>(
 ) -> io::Result<usize>
     requires { index < vec_len streams.old }
     ensures bound { ReadsAtMost result buf.new }
+    ensures taken { ReadConsumes (left_at F.remaining I.remaining streams.old.items index) (left_at F.remaining I.remaining streams.new.items index) result buf.new }
+    ensures untouched { (i : ℕ) → i ≢ index → slice_get streams.new.items i ≡ slice_get streams.old.items i }
     ensures roles { stream_roles streams.new.items ≡ stream_roles streams.old.items }
 {
     match &mut streams[index].stream {

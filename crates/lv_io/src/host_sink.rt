@@ -1,7 +1,8 @@
-//! A writer of the system as a sink. Nothing is told of its bytes.
+//! A writer of the system as a sink. Of its bytes only what the writer itself tells is claimed.
 
-ghost use Rattle.std.specs.Prelude.{◌≡◌, None, true};
-ghost use Rattle.lv_io.specs.Outside.{Rose};
+ghost use Rattle.std.specs.Prelude.{◌≡◌, ◌≢◌, ◌<◌, None, true, length, IfOk, OnOk, OnErr};
+ghost use Rattle.std.specs.Io.KnownBytes.{Keeps, WriteAppends};
+ghost use Rattle.lv_io.specs.Outside.{HasCause, Rose, Writes, flushed_after};
 ghost use Rattle.lv_io.specs.Counts.{one_more};
 
 use crate::{IoFault, Sink};
@@ -19,6 +20,7 @@ pub struct HostSink<W> {
 impl<W: Write> HostSink<W> {
     /// A sink that nothing was written to yet.
     pub fn new(writer: W) -> HostSink<W>
+        ensures writer { result.writer ≡ writer }
         ensures flushed { result.is_flushed ≡ true }
         ensures faults { result.faults ≡ 0 }
     {
@@ -27,6 +29,14 @@ impl<W: Write> HostSink<W> {
             is_flushed: true,
             faults: 0,
         }
+    }
+
+    /// Counts one more fault.
+    fn count_fault(&mut self)
+        ensures rose { Rose self.old.faults self.new.faults }
+        ensures new { self.new ≡ record self.old { faults = one_more self.old.faults } }
+    {
+        self.faults = self.faults.saturating_add(1);
     }
 }
 
@@ -37,30 +47,60 @@ impl<W: Write> Sink for HostSink<W> {
 
     ghost faults = { λ sink. sink.faults };
 
-    fn write(&mut self, bytes: &[u8]) -> Result<usize, IoFault> {
+    /// The bytes that the answer counts, and no others, went to the writer.
+    fn write(&mut self, bytes: &[u8]) -> Result<usize, IoFault>
+        ensures text { IfOk result (Writes bytes.now None None) }
+        ensures flushed { self.new.is_flushed ≡ flushed_after bytes.now self.old.is_flushed }
+        ensures cause { HasCause self.old.faults self.new.faults result }
+
+        // What the writer tells of its bytes, and that it takes no memory.
+        ensures handed_on { WriteAppends (W.contents self.old.writer) (W.contents self.new.writer) result bytes.now }
+        ensures memory { result ≢ Err IoFault.Memory }
+    {
         if bytes.is_empty() {
             return Ok(0);
         }
         self.is_flushed = false;
-        match self.writer.write(bytes) {
-            Ok(n) if n > 0 => Ok(n),
-            _ => {
-                self.faults = self.faults.saturating_add(1);
-                Err(IoFault::Failed)
-            }
+        let written = write_some(&mut self.writer, bytes);
+        if written.is_err() {
+            self.count_fault();
         }
+        written
     }
 
-    fn flush(&mut self) -> Result<(), IoFault> {
+    /// Adds no byte.
+    fn flush(&mut self) -> Result<(), IoFault>
+        ensures flushed { OnOk result (self.new.is_flushed ≡ true) }
+        ensures cause { HasCause self.old.faults self.new.faults result }
+
+        // What the writer tells of its bytes, and that it takes no memory.
+        ensures kept { Keeps (W.contents self.old.writer) (W.contents self.new.writer) }
+        ensures unflushed { OnErr result (self.new.is_flushed ≡ self.old.is_flushed) }
+        ensures memory { result ≢ Err IoFault.Memory }
+    {
         match self.writer.flush() {
             Ok(()) => {
                 self.is_flushed = true;
                 Ok(())
             }
             Err(_) => {
-                self.faults = self.faults.saturating_add(1);
+                self.count_fault();
                 Err(IoFault::Failed)
             }
         }
+    }
+}
+
+/// Hands the front of some bytes to a writer, at least one, and answers how many it took. A writer
+/// that takes none has failed.
+fn write_some<W: Write>(writer: &mut W, bytes: &[u8]) -> Result<usize, IoFault>
+    requires { 0 < length bytes.now }
+    ensures count { IfOk result (Writes bytes.now None None) }
+    ensures handed_on { WriteAppends (W.contents writer.old) (W.contents writer.new) result bytes.now }
+    ensures memory { result ≢ Err IoFault.Memory }
+{
+    match writer.write(bytes) {
+        Ok(n) if n > 0 => Ok(n),
+        _ => Err(IoFault::Failed),
     }
 }

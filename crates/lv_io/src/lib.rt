@@ -187,6 +187,3 @@ impl From<IoFault> for ReadFault {
         }
     }
 }
-
-#[cfg(test)]
-mod tests;

@@ -99,7 +99,7 @@ impl Shelf for MemShelf {
         ensures plan { self.new.plan ≡ after_call self.old.plan }
         ensures piece { self.new.piece ≡ self.old.piece }
     {
-        let fails = self.plan.call_fails();
+        let fails = self.plan.count_call();
         self.readers.reserve(1)?;
         self.opens.note(role, name)?;
         match place_of(self.files.as_slice(), name) {
@@ -131,7 +131,7 @@ impl Shelf for MemShelf {
         ensures plan { self.new.plan ≡ after_call self.old.plan }
         ensures piece { self.new.piece ≡ self.old.piece }
     {
-        if self.plan.call_fails() {
+        if self.plan.count_call() {
             self.faults.raise(slot.role);
             return Err(IoFault::Failed);
         }

@@ -91,7 +91,7 @@ impl Sink for MemSink {
         ensures piece { self.new.piece ≡ self.old.piece }
     {
         self.is_flushed = self.is_flushed && bytes.is_empty();
-        if self.plan.call_fails() {
+        if self.plan.count_call() {
             self.count_fault();
             return Err(IoFault::Failed);
         }
@@ -115,7 +115,7 @@ impl Sink for MemSink {
         ensures plan { self.new.plan ≡ after_call self.old.plan }
         ensures piece { self.new.piece ≡ self.old.piece }
     {
-        if self.plan.call_fails() {
+        if self.plan.count_call() {
             self.count_fault();
             return Err(IoFault::Failed);
         }

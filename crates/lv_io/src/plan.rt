@@ -29,7 +29,7 @@ impl FaultPlan {
     }
 
     /// Counts one more call, and answers whether it is to fail.
-    pub fn call_fails(&mut self) -> bool
+    pub fn count_call(&mut self) -> bool
         ensures answer { result ≡ next_fails self.old }
         ensures counted { self.new ≡ after_call self.old }
     {

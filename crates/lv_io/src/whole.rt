@@ -5,6 +5,7 @@ ghost use Rattle.std.specs.Io.KnownBytes.{append_known};
 ghost use Rattle.lv_io.specs.declared.Role.{Role};
 ghost use Rattle.lv_io.specs.declared.Slot.{Slot};
 ghost use Rattle.lv_io.specs.declared.ReadFault.TheVariants.{Failed as ReadFailed, TooLong as IsTooLong, Memory as ReadMemory};
+ghost use Rattle.lv_io.specs.declared.whole.TheConstants.{PIECE};
 ghost use Rattle.lv_io.specs.Outside.{HasCause, flushed_after};
 ghost use Rattle.lv_io.specs.Whole.{TakesAll, IsLonger, TakesAtMost, Grows, HasReadCause, OpensOne, AddsFront};
 
@@ -43,7 +44,7 @@ pub fn read_all<F: Shelf>(
 {
     let mut bytes = Vec::new(alloc);
     'read: loop {
-        let most = room(limit, bytes.len());
+        let most = next_piece(limit, bytes.len());
         if read_piece(shelf, slot, most, &mut bytes)? == 0 {
             return Ok(bytes);
         }
@@ -78,11 +79,11 @@ pub fn read_file<F: Shelf>(
     read_all(alloc, shelf, slot, limit)
 }
 
-/// How much to ask for next where `len` bytes came: up to one byte past the limit.
-fn room(limit: u64, len: usize) -> usize
+/// How many bytes to ask for next where `len` came: a piece, and at most one byte past the limit.
+fn next_piece(limit: u64, len: usize) -> usize
     requires { len ≤ limit }
     ensures some { 0 < result }
-    ensures piece { result ≤ 4096 }
+    ensures piece { result ≤ PIECE }
     ensures past { result + len ≤ limit + 1 }
 {
     (limit - len as u64).saturating_add(1).min(PIECE as u64) as usize
@@ -97,7 +98,7 @@ fn read_piece<F: Shelf>(
 ) -> Result<usize, ReadFault>
     requires known { IsTrue (F.knows shelf.old slot) }
     requires some { 0 < most }
-    requires piece { most ≤ 4096 }
+    requires piece { most ≤ PIECE }
     ensures bytes { IfOk result (Grows bytes.old.items bytes.new.items (F.rest shelf.old slot) (F.rest shelf.new slot)) }
     ensures count { IfOk result (λ n. n ≤ most) }
     ensures taken { TakesAtMost most (F.rest shelf.old slot) (F.rest shelf.new slot) }

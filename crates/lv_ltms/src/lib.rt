@@ -26,6 +26,3 @@ pub mod revision;
 
 pub use labels::{Link, Reason};
 pub use ltms::{Label, Ltms, Standing};
-
-#[cfg(test)]
-mod tests;

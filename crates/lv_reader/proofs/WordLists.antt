@@ -1,6 +1,6 @@
 -- Words taken one by one from lexemes that are all words.
 use Rattle.std.proofs.Common.{◌≡◌, ℕ, zero, suc, ◌+◌, ◌<◌, ◌≤◌, List, [], ◌∷◌, ◌++◌, length, drop, Option, Some, None, option_map, refl, sym, ap, subst, ◌∙◌, arith, append_assoc}
-use Rattle.std.proofs.lemmas.List.{drop_all}
+use Rattle.std.proofs.lemmas.List.{append-nil, drop_all}
 use Rattle.lv_text.specs.Lexemes.{Lexeme, word_at}
 use Rattle.lv_reader.specs.Equations.{words_of}
 
@@ -44,8 +44,4 @@ word_missing line at front whole inside h is = sym is ∙ ap (joined_words front
 pub words_taken : (line : List Lexeme) (at : ℕ) (front : List (List ℕ)) (whole : Option (List (List ℕ))) → length line ≤ at
     → joined_words front (words_of (drop at line)) ≡ whole → whole ≡ Some front
 words_taken line at front whole past is =
-    sym is ∙ ap (λ ls. joined_words front (words_of ls)) (drop_all at line past) ∙ ap Some (simp_nil front)
-  where
-    simp_nil : (xs : List (List ℕ)) → xs ++ [] ≡ xs
-    simp_nil [] = refl
-    simp_nil (x ∷ xs) = ap (λ ys. x ∷ ys) (simp_nil xs)
+    sym is ∙ ap (λ ls. joined_words front (words_of ls)) (drop_all at line past) ∙ ap Some (append-nil front)

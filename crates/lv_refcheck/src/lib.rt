@@ -10,6 +10,3 @@ pub mod marks;
 pub mod pass;
 
 pub use pass::check;
-
-#[cfg(test)]
-mod tests;

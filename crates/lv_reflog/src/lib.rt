@@ -5,6 +5,3 @@
 pub mod log;
 
 pub use log::{Hint, Log, Step};
-
-#[cfg(test)]
-mod tests;

@@ -13,3 +13,4 @@ pub mod SliceLaws
 pub mod BadBytes
 pub mod LexemeFacts
 pub mod Gaps
+pub mod ReadBack

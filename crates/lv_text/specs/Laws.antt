@@ -1,5 +1,5 @@
 -- What holds of tokens and lines whatever the text.
-use Rattle.std.specs.Prelude.{ℕ, ◌+◌, ◌<◌, ◌≤◌, ◌≡◌, ◌^◌, List, [], ◌∷◌, ◌++◌, Bool, true, false, not, length, map, nat_eq, decimal, ◌-◌, ◌||◌, ◌&&◌, nat_lt, slice_index, slice_range, drop, if◌then◌else◌, codes}
+use Rattle.std.specs.Prelude.{ℕ, ◌+◌, ◌<◌, ◌≤◌, ◌≡◌, ◌^◌, List, [], ◌∷◌, ◌++◌, Bool, true, false, not, length, map, All, nat_eq, decimal, ◌-◌, ◌||◌, ◌&&◌, nat_lt, slice_index, slice_range, drop, if◌then◌else◌, codes}
 use Rattle.std.specs.List.{list_all, list_any, starts_with}
 use Rattle.std.specs.Str.Lines.{strip_carriage_return}
 use Rattle.lv_base.specs.declared.limits.TheConstants.{LINE_BYTES}
@@ -7,8 +7,8 @@ use Rattle.lv_text.specs.declared.lexer.TokenKind.{TokenKind}
 use Rattle.lv_text.specs.declared.lexer.TokenKind.TheVariants.{Word, Number, Equals}
 use Rattle.lv_text.specs.declared.lexer.Token.{Token}
 use Rattle.lv_text.specs.Bytes.{is_blank, is_comment_mark, is_digit, is_letter, is_word_byte}
-use Rattle.lv_text.specs.Kinds.{has_kind, token_text}
-use Rattle.lv_text.specs.Lexemes.{line_reading}
+use Rattle.lv_text.specs.Kinds.{has_kind, is_ascii_byte, token_text}
+use Rattle.lv_text.specs.Lexemes.{Lexeme, reads, line_reading, is_word, is_number}
 use Rattle.lv_text.specs.Lines.{is_line_feed, lines_of, first_ended_line}
 use Rattle.lv_text.specs.Numbers.{number_value}
 use Rattle.lv_text.specs.Tokens.{Lexed, lexed, bad_byte, long_line, prepended, joined, all_tokens, line_tokens}
@@ -126,3 +126,30 @@ leave_blanks line place (t ∷ ts) = list_all is_blank (slice_range line place t
 -- the tokens of a line leave nothing of it but blanks and a comment
 abbrev pub TokensLeaveBlanks : Type 0
 TokensLeaveBlanks = (line : List ℕ) (ts : List Token) → all_tokens line ≡ lexed ts → leave_blanks line 0 ts ≡ true
+
+-- a lexeme's text is one of its kind, and is ASCII
+pub record IsLexeme (l : Lexeme) : Type 0 where
+  pub kind : has_kind l.kind l.text ≡ true
+  pub ascii : list_all is_ascii_byte l.text ≡ true
+
+-- the lexemes of a line are such
+abbrev pub LexemesHaveKinds : Type 0
+LexemesHaveKinds = (line : List ℕ) (ls : List Lexeme) → line_reading line ≡ reads ls → All IsLexeme ls
+
+-- a word or a number
+abbrev pub is_word_or_number : Lexeme → Bool
+is_word_or_number l = is_word l.kind || is_number l.kind
+
+-- what stands between two neighbours: one space, if each is a word or a number, else nothing
+abbrev pub gap_between : Lexeme → Lexeme → List ℕ
+gap_between l m = if is_word_or_number l && is_word_or_number m then 32 ∷ [] else []
+
+-- lexemes as they are printed, with no more spaces than needed
+abbrev pub printed : List Lexeme → List ℕ
+printed [] = []
+printed (l ∷ []) = l.text
+printed (l ∷ m ∷ more) = l.text ++ (gap_between l m ++ printed (m ∷ more))
+
+-- lexemes that are printed are read again, if the line is not too long
+abbrev pub PrintedIsReadAgain : Type 0
+PrintedIsReadAgain = (ls : List Lexeme) → All IsLexeme ls → length (printed ls) ≤ LINE_BYTES → line_reading (printed ls) ≡ reads ls

@@ -5,7 +5,7 @@
 ghost use Rattle.std.specs.Prelude.{◌≡◌, [], ◌∷◌, ◌++◌, codes};
 ghost use Rattle.lv_text.specs.Tokens.{line_tokens, lexed, bad_byte};
 ghost use Rattle.lv_text.specs.Lines.{lines_of};
-ghost use Rattle.lv_text.specs.Laws.{BadByteIsNotAllowed, token_at, CommentChangesNothing, CommentKeepsReading, TokensLeaveBlanks, BlankParts, BlankLineIsEmpty, TextIsToken, LineFeedEndsLine, ReturnGoesWithLineFeed, EndOfTextEndsLine, LinesPartAtLineFeed, FirstLineStays, TextMovesWithToken, TextStaysBeforeMore, PrintedNumberIsItself};
+ghost use Rattle.lv_text.specs.Laws.{BadByteIsNotAllowed, token_at, CommentChangesNothing, CommentKeepsReading, TokensLeaveBlanks, BlankParts, BlankLineIsEmpty, TextIsToken, LineFeedEndsLine, ReturnGoesWithLineFeed, EndOfTextEndsLine, LinesPartAtLineFeed, FirstLineStays, TextMovesWithToken, TextStaysBeforeMore, PrintedNumberIsItself, LexemesHaveKinds, PrintedIsReadAgain};
 
 use crate::lexer::TokenKind;
 
@@ -79,6 +79,16 @@ pub fn text_stays_before_more()
 /// A number as it is printed is read as itself.
 pub fn printed_number_is_itself()
     ensures { PrintedNumberIsItself }
+{}
+
+/// The lexemes of a line have texts of their kinds.
+pub fn lexemes_have_kinds()
+    ensures { LexemesHaveKinds }
+{}
+
+/// Lexemes that are printed with no more spaces than needed are read again as themselves.
+pub fn printed_is_read_again()
+    ensures { PrintedIsReadAgain }
 {}
 
 /// Lines that read as tokens.

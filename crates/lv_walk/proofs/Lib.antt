@@ -2,3 +2,4 @@ pub mod RankedLemmas
 pub mod ReasonLemmas
 pub mod WalkLemmas
 pub mod TurnLemmas
+pub mod KeptLemmas

@@ -16,10 +16,10 @@ use Rattle.lv_base.proofs.OrderLemmas.{irreflexive, transitive, connected}
 use Rattle.lv_walk.specs.Ranked.{rank_cmp, rises, is_rank, is_among, put_in_order, ranked}
 
 -- how ranks compare tells which comes before
-less_is_before : (xs ys : List ℕ) (o : Ordering) → o ≡ slice_cmp nat_cmp xs ys → is_lt o ≡ comes_before xs ys
+pub less_is_before : (xs ys : List ℕ) (o : Ordering) → o ≡ slice_cmp nat_cmp xs ys → is_lt o ≡ comes_before xs ys
 less_is_before = same_from_slice_cmp nat_cmp is_lt comes_before refl (λ _ _. refl) (λ _ _. refl) (λ x y xs ys o h. grind (arith, nat_tests))
 
-greater_is_after : (xs ys : List ℕ) (o : Ordering) → o ≡ slice_cmp nat_cmp xs ys → is_gt o ≡ comes_before ys xs
+pub greater_is_after : (xs ys : List ℕ) (o : Ordering) → o ≡ slice_cmp nat_cmp xs ys → is_gt o ≡ comes_before ys xs
 greater_is_after = same_from_slice_cmp nat_cmp is_gt (λ xs ys. comes_before ys xs) refl (λ _ _. refl) (λ _ _. refl) (λ x y xs ys o h. grind (arith, nat_tests))
 
 pub before_by_cmp : (a b : Rank) → rank_cmp a b ≡ Less → ranks_before a b ≡ true

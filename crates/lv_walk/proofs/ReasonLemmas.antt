@@ -9,7 +9,7 @@ use Rattle.lv_base.specs.declared.search.Pair.{Pair}
 use Rattle.lv_walk.specs.Reason.{reduced}
 
 module _ (possible : List Pair → Bool) (pairs kept : List Pair) (at : ℕ) (d : Pair) (whole : List Pair) (within : at < length pairs) where
-  next : drop at pairs ≡ get_or pairs at d ∷ drop (at + 1) pairs
+  pub next : drop at pairs ≡ get_or pairs at d ∷ drop (at + 1) pairs
   next = drop-cons pairs at d within ∙ ap (λ k. get_or pairs at d ∷ drop k pairs) (sym (add-one at))
 
   step : (b : Bool) → possible (kept ++ drop (at + 1) pairs) ≡ b
@@ -23,6 +23,19 @@ module _ (possible : List Pair → Bool) (pairs kept : List Pair) (at : ℕ) (d 
   -- another is left out
   pub pair_left_out : possible (kept ++ drop (at + 1) pairs) ≡ false → reduced possible kept (drop at pairs) ≡ whole → reduced possible kept (drop (at + 1) pairs) ≡ whole
   pair_left_out e is = sym (step false e) ∙ is
+
+module _ (takes : List Pair → Bool) (less : (front : List Pair) (p : Pair) (back : List Pair) → takes (front ++ (p ∷ back)) ≡ true → takes (front ++ back) ≡ true)
+    (pairs kept : List Pair) (at : ℕ) (d : Pair) (within : at < length pairs) (taken : takes (kept ++ drop at pairs) ≡ true) where
+  here : takes (kept ++ (get_or pairs at d ∷ drop (at + 1) pairs)) ≡ true
+  here = sym (ap (λ ps. takes (kept ++ ps)) (drop-cons pairs at d within ∙ ap (λ k. get_or pairs at d ∷ drop k pairs) (sym (add-one at)))) ∙ taken
+
+  -- a test that takes the kept pairs and those from this place on takes them without this one
+  pub taken_without : takes (kept ++ drop (at + 1) pairs) ≡ true
+  taken_without = less kept (get_or pairs at d) (drop (at + 1) pairs) here
+
+  -- and with this one kept
+  pub taken_with : takes ((kept ++ (get_or pairs at d ∷ [])) ++ drop (at + 1) pairs) ≡ true
+  taken_with = ap takes (append_assoc kept (get_or pairs at d ∷ []) (drop (at + 1) pairs)) ∙ here
 
 -- slots that rise from one number rise from a lower one
 rising_lower : (low high : ℕ) (ps : List Pair) → low ≤ high → slots_rise_from high ps ≡ true → slots_rise_from low ps ≡ true

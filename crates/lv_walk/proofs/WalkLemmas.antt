@@ -28,12 +28,12 @@ module _ (fits : Candidate → Bool) (reason : Candidate → List Pair) (k : ℕ
 
   module _ (budget : ℕ) where
     -- what holds however the next turn goes holds of the walk
-    turn : (P : Walked → Type 0) (r : Rank) (rs listed : List Rank) (kept : List (List Pair))
+    pub turn : (P : Walked → Type 0) (r : Rank) (rs listed : List Rank) (kept : List (List Pair))
         → (nat_eq (length listed) k ≡ true → P (record { outcome = Settled; listed = listed; kept = kept }))
         → (is_ruled_out kept r.choices ≡ true → P (walk_from fits reason k budget listed kept rs))
         → (nat_eq (length listed + length kept) budget ≡ true → P (record { outcome = Unsettled; listed = listed; kept = kept }))
         → (nat_eq (length listed) k ≡ false → nat_eq (length listed + length kept) budget ≡ false → passes r ≡ true → P (walk_from fits reason k budget (listed ++ (r ∷ [])) kept rs))
-        → (nat_eq (length listed + length kept) budget ≡ false → passes r ≡ false → P (walk_from fits reason k budget listed (kept ++ (reason (candidate_of r) ∷ [])) rs))
+        → (is_ruled_out kept r.choices ≡ false → nat_eq (length listed + length kept) budget ≡ false → passes r ≡ false → P (walk_from fits reason k budget listed (kept ++ (reason (candidate_of r) ∷ [])) rs))
         → P (walk_from fits reason k budget listed kept (r ∷ rs))
     turn P r rs listed kept enough passed used_up fitting refused =
         by (nat_eq (length listed) k) refl (is_ruled_out kept r.choices) refl (nat_eq (length listed + length kept) budget) refl (passes r) refl
@@ -47,7 +47,7 @@ module _ (fits : Candidate → Bool) (reason : Candidate → List Pair) (k : ℕ
         by false p true q d u e v = passed q
         by false p false q true u e v = used_up u
         by false p false q false u true v = fitting p u v
-        by false p false q false u false v = refused u v
+        by false p false q false u false v = refused q u v
 
     one_more : (r : Rank) (listed : List Rank) → length listed ≤ k → nat_eq (length listed) k ≡ false → length (listed ++ (r ∷ [])) ≤ k
     one_more r listed few e =
@@ -62,7 +62,7 @@ module _ (fits : Candidate → Bool) (reason : Candidate → List Pair) (k : ℕ
         (λ _. at_most rs listed kept few)
         (λ _. few)
         (λ e _ _. at_most rs (listed ++ (r ∷ [])) kept (one_more r listed few e))
-        (λ _ _. at_most rs listed (kept ++ (reason (candidate_of r) ∷ [])) few)
+        (λ _ _ _. at_most rs listed (kept ++ (reason (candidate_of r) ∷ [])) few)
 
     pub all_fit : (left listed : List Rank) (kept : List (List Pair)) → list_all passes listed ≡ true → list_all passes (walk_from fits reason k budget listed kept left).listed ≡ true
     all_fit [] listed kept fit = fit
@@ -72,7 +72,7 @@ module _ (fits : Candidate → Bool) (reason : Candidate → List Pair) (k : ℕ
         (λ _. all_fit rs listed kept fit)
         (λ _. fit)
         (λ _ _ f. all_fit rs (listed ++ (r ∷ [])) kept (list_all-append passes listed (r ∷ []) ∙ and_from (list_all passes listed) (list_all passes (r ∷ [])) fit (and_from (passes r) true f refl)))
-        (λ _ _. all_fit rs listed (kept ++ (reason (candidate_of r) ∷ [])) fit)
+        (λ _ _ _. all_fit rs listed (kept ++ (reason (candidate_of r) ∷ [])) fit)
 
     listed_more : (r : Rank) (listed : List Rank) (kept : List (List Pair)) → length listed + length kept ≤ budget → nat_eq (length listed + length kept) budget ≡ false
         → length (listed ++ (r ∷ [])) + length kept ≤ budget
@@ -95,7 +95,7 @@ module _ (fits : Candidate → Bool) (reason : Candidate → List Pair) (k : ℕ
         (λ _. within_budget rs listed kept few)
         (λ _. few)
         (λ _ u _. within_budget rs (listed ++ (r ∷ [])) kept (listed_more r listed kept few u))
-        (λ u _. within_budget rs listed (kept ++ (reason (candidate_of r) ∷ [])) (kept_more r listed kept few u))
+        (λ _ u _. within_budget rs listed (kept ++ (reason (candidate_of r) ∷ [])) (kept_more r listed kept few u))
 
     pub used_up_unsettled : (left listed : List Rank) (kept : List (List Pair)) → (walk_from fits reason k budget listed kept left).outcome ≡ Unsettled
         → length (walk_from fits reason k budget listed kept left).listed + length (walk_from fits reason k budget listed kept left).kept ≡ budget
@@ -106,7 +106,7 @@ module _ (fits : Candidate → Bool) (reason : Candidate → List Pair) (k : ℕ
         (λ _. used_up_unsettled rs listed kept)
         (λ u _. eqb-true (length listed + length kept) budget u)
         (λ _ _ _. used_up_unsettled rs (listed ++ (r ∷ [])) kept)
-        (λ _ _. used_up_unsettled rs listed (kept ++ (reason (candidate_of r) ∷ [])))
+        (λ _ _ _. used_up_unsettled rs listed (kept ++ (reason (candidate_of r) ∷ [])))
 
     pub with_ample : (left listed : List Rank) (kept : List (List Pair)) → length listed + length kept + length left ≤ budget → (walk_from fits reason k budget listed kept left).outcome ≡ Settled
     with_ample [] listed kept ample = refl
@@ -116,7 +116,7 @@ module _ (fits : Candidate → Bool) (reason : Candidate → List Pair) (k : ℕ
         (λ _. with_ample rs listed kept (omega arith))
         (λ e. let full : length listed + length kept ≡ budget = eqb-true (length listed + length kept) budget e in absurd (omega arith))
         (λ _ _ _. with_ample rs (listed ++ (r ∷ [])) kept (rw length-append (omega arith)))
-        (λ _ _. with_ample rs listed (kept ++ (reason (candidate_of r) ∷ [])) (rw length-append (omega arith)))
+        (λ _ _ _. with_ample rs listed (kept ++ (reason (candidate_of r) ∷ [])) (rw length-append (omega arith)))
 
     filter_yes : (r : Rank) (rs : List Rank) → passes r ≡ true → filter passes (r ∷ rs) ≡ r ∷ filter passes rs
     filter_yes r rs e = ap (λ t. cond t (r ∷ filter passes rs) (filter passes rs)) e
@@ -160,7 +160,7 @@ module _ (fits : Candidate → Bool) (reason : Candidate → List Pair) (k : ℕ
           ∙ append_assoc listed (r ∷ []) (take (k - length (listed ++ (r ∷ []))) (filter passes rs))
           ∙ ap (λ n. listed ++ take n (r ∷ filter passes rs)) (sym longer)
           ∙ ap (λ ys. listed ++ take (k - length listed) ys) (sym (filter_yes r rs f)))
-          (λ _ e s. is_exact rs listed (kept ++ (reason (candidate_of r) ∷ [])) parts.1 few (still_spares r kept parts.0 e apart) s ∙ sym (ap (λ ys. listed ++ take (k - length listed) ys) (filter_no r rs e)))
+          (λ _ _ e s. is_exact rs listed (kept ++ (reason (candidate_of r) ∷ [])) parts.1 few (still_spares r kept parts.0 e apart) s ∙ sym (ap (λ ys. listed ++ take (k - length listed) ys) (filter_no r rs e)))
 
     -- what was listed and kept stays in front
     pub listed_in_front : (left listed : List Rank) (kept : List (List Pair)) → (more : List Rank) × ((walk_from fits reason k budget listed kept left).listed ≡ listed ++ more)
@@ -173,7 +173,7 @@ module _ (fits : Candidate → Bool) (reason : Candidate → List Pair) (k : ℕ
         (λ _ _ _.
         let rest = listed_in_front rs (listed ++ (r ∷ [])) kept in
         (r ∷ rest.0, rest.1 ∙ append_assoc listed (r ∷ []) rest.0))
-        (λ _ _. listed_in_front rs listed (kept ++ (reason (candidate_of r) ∷ [])))
+        (λ _ _ _. listed_in_front rs listed (kept ++ (reason (candidate_of r) ∷ [])))
 
     pub kept_in_front : (left listed : List Rank) (kept : List (List Pair)) → (more : List (List Pair)) × ((walk_from fits reason k budget listed kept left).kept ≡ kept ++ more)
     kept_in_front [] listed kept = ([], sym (append-nil kept))
@@ -183,6 +183,6 @@ module _ (fits : Candidate → Bool) (reason : Candidate → List Pair) (k : ℕ
         (λ _. kept_in_front rs listed kept)
         (λ _. ([], sym (append-nil kept)))
         (λ _ _ _. kept_in_front rs (listed ++ (r ∷ [])) kept)
-        (λ _ _.
+        (λ _ _ _.
         let rest = kept_in_front rs listed (kept ++ (reason (candidate_of r) ∷ [])) in
         (reason (candidate_of r) ∷ rest.0, rest.1 ∙ append_assoc kept (reason (candidate_of r) ∷ []) rest.0))

@@ -1,6 +1,6 @@
 -- What ranked lists, reasons and walks promise.
-use Rattle.std.specs.Prelude.{◌≡◌, ℕ, ◌+◌, ◌≤◌, Bool, true, false, List, [], ◌∷◌, ◌++◌, ◌&&◌, length, take, filter}
-use Rattle.std.specs.List.{list_all}
+use Rattle.std.specs.Prelude.{◌≡◌, ℕ, ◌+◌, ◌≤◌, Bool, true, false, not, nat_eq, List, [], ◌∷◌, ◌++◌, ◌&&◌, length, take, filter}
+use Rattle.std.specs.List.{list_all, list_any}
 use Rattle.lv_base.specs.declared.rank.Rank.{Rank}
 use Rattle.lv_base.specs.declared.search.Pair.{Pair}
 use Rattle.lv_base.specs.declared.search.Candidate.{Candidate}
@@ -66,3 +66,26 @@ pub record WalkIsTakenUp : Type 0 where
       → take (length (walk fits reason k budget entries).listed) (walk fits reason k (budget + more) entries).listed ≡ (walk fits reason k budget entries).listed
   pub kept : (fits : Candidate → Bool) (reason : Candidate → List Pair) (k budget more : ℕ) (entries : List Rank)
       → take (length (walk fits reason k budget entries).kept) (walk fits reason k (budget + more) entries).kept ≡ (walk fits reason k budget entries).kept
+
+-- the pairs are one
+abbrev pub is_pair : Pair → Pair → Bool
+is_pair p q = nat_eq p.slot q.slot && nat_eq p.choice q.choice
+
+-- the list has all pairs of the other
+abbrev pub has_pairs : List Pair → List Pair → Bool
+has_pairs whole part = list_all (λ p. list_any (is_pair p) whole) part
+
+-- none of the lists has all pairs of another
+abbrev pub none_in_another : List (List Pair) → Bool
+none_in_another [] = true
+none_in_another (c ∷ cs) = list_all (λ d. not (has_pairs c d) && not (has_pairs d c)) cs && none_in_another cs
+
+-- of the candidates that suit and don't fit: each contains its reason, and no reason is another's proper part
+pub record AreMinimal (suits fits : Candidate → Bool) (reason : Candidate → List Pair) : Type 0 where
+  pub inside : (c : Candidate) → suits c ≡ true → fits c ≡ false → contains_all c.choices (reason c) ≡ true
+  pub whole : (c d : Candidate) → suits c ≡ true → suits d ≡ true → fits c ≡ false → fits d ≡ false → has_pairs (reason c) (reason d) ≡ true → has_pairs (reason d) (reason c) ≡ true
+
+-- with minimal reasons no kept conflict of a walk along entries that suit is in another
+abbrev pub KeptAreApart : Type 0
+KeptAreApart = (suits fits : Candidate → Bool) (reason : Candidate → List Pair) → AreMinimal suits fits reason → (k budget : ℕ) (entries : List Rank)
+    → list_all (λ r. suits (candidate_of r)) entries ≡ true → none_in_another (walk fits reason k budget entries).kept ≡ true

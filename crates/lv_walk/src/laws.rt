@@ -2,7 +2,7 @@
 //! needs one calls it.
 #![tactic(auto)]
 
-ghost use Rattle.lv_walk.specs.Laws.{RankedIsInOrder, RankedListIsOne, ReducedIsImpossiblePart, ReducedIsMinimal, WalkListsFitting, SettledWalkIsExact, WalkIsTakenUp};
+ghost use Rattle.lv_walk.specs.Laws.{RankedIsInOrder, RankedListIsOne, ReducedIsImpossiblePart, ReducedIsMinimal, WalkListsFitting, SettledWalkIsExact, WalkIsTakenUp, KeptAreApart};
 
 /// Ranks put in order rise, and are the same ranks.
 pub fn ranked_is_in_order()
@@ -39,4 +39,10 @@ pub fn settled_walk_is_exact()
 /// listed and kept stays in front.
 pub fn walk_is_taken_up()
     ensures { WalkIsTakenUp }
+{}
+
+/// Where a candidate's reason is a part of it, and no reason is another's proper part, no kept conflict of a walk is in
+/// another.
+pub fn kept_are_apart()
+    ensures { KeptAreApart }
 {}

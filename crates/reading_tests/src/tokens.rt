@@ -60,6 +60,19 @@ fn reads_a_line(rt: HostRuntime) -> Result<(), TextFault> {
 }
 
 #[test]
+fn keeps_the_room(rt: HostRuntime) -> Result<(), TextFault> {
+    let mut room = Vec::new(rt.alloc());
+    let first = TokenLine::read_into(rt.alloc(), &mut room, b"a b c")?;
+    assert!(rt; first.len() == 3);
+    let mut room = first.into_room();
+    let places = room.capacity();
+    let second = TokenLine::read_into(rt.alloc(), &mut room, b"end")?;
+    assert!(rt; second.len() == 1 && second.says(0, b"end"));
+    assert!(rt; second.into_room().capacity() == places);
+    Ok(())
+}
+
+#[test]
 fn tells_the_first_bad_byte(rt: HostRuntime) {
     let table: [(&[u8], usize); 8] = [
         (b"diagnose\r", 8),

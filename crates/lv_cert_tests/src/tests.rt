@@ -1,0 +1,107 @@
+//! Each public call with ample memory, and the first line out of form of small texts.
+use super::texts::{DIAGNOSIS, RECOVERY};
+use lv_base::Seq;
+use lv_cert::laws::{certificate_is_one, fault_is_no_certificate, fault_is_one, line_reads_back};
+use lv_cert::{Cert, CertFault, Head, Line, Literal, read_cert, write_cert};
+use std::alloc::Global;
+use std::test::Fail;
+
+/// Whether bytes are a certificate that is written as these same bytes.
+fn stays(alloc: Global, bytes: &[u8]) -> Result<bool, Fail> {
+    let cert = read_cert(alloc, bytes)?;
+    let text = write_cert(alloc, &cert)?;
+    Ok(text.as_slice() == bytes)
+}
+
+/// The first line of a text that is out of form or order; 0 where none is.
+fn fault(alloc: Global, bytes: &[u8]) -> Result<u64, Fail> {
+    match read_cert(alloc, bytes) {
+        Ok(_) => Ok(0),
+        Err(CertFault::Form(line)) => Ok(line),
+        Err(CertFault::Memory) => Err(Fail::from(CertFault::Memory)),
+    }
+}
+
+/// The fault of a text that begins a diagnosis and goes on with this.
+fn fault_behind(alloc: Global, more: &[u8]) -> Result<u64, Fail> {
+    let mut text = Vec::from_slice(
+        alloc,
+        b"certificate diagnosis\nmodel v\nk 1\nstate 0\ncontrol\n",
+    )?;
+    text.extend_from_slice(more)?;
+    fault(alloc, text.as_slice())
+}
+
+#[test]
+fn certificates_are_read_and_written(rt: HostRuntime) -> Result<(), Fail> {
+    line_reads_back();
+    certificate_is_one();
+    fault_is_one();
+    fault_is_no_certificate();
+    assert!(rt; stays(rt.alloc(), DIAGNOSIS)?);
+    assert!(rt; stays(rt.alloc(), RECOVERY)?);
+    Ok(())
+}
+
+#[test]
+fn lines_are_values(rt: HostRuntime) -> Result<(), Fail> {
+    let mut lines = Seq::new(rt.alloc());
+    let literal = Literal {
+        negated: true,
+        number: 3,
+    };
+    lines.push(Line::Numbers(Head::Limit, Seq::from_slice(rt.alloc(), &[4])?))?;
+    lines.push(Line::Clause(
+        Seq::from_slice(rt.alloc(), &[literal])?,
+        Seq::from_slice(rt.alloc(), &[1, 2])?,
+    ))?;
+    let text = write_cert(rt.alloc(), &Cert { lines })?;
+    assert!(rt; text.as_slice() == b"k 4\nclause -3 0 1 2 0\n".as_slice());
+    Ok(())
+}
+
+#[test]
+fn faults_of_order(rt: HostRuntime) -> Result<(), Fail> {
+    assert_eq!(rt; fault(rt.alloc(), b"")?, 1);
+    assert_eq!(rt; fault_behind(rt.alloc(), b"end\n")?, 0);
+    assert_eq!(rt; fault_behind(rt.alloc(), b"")?, 6);
+    assert_eq!(rt; fault_behind(rt.alloc(), b"end\nend\n")?, 7);
+    assert_eq!(rt;
+        fault_behind(
+            rt.alloc(),
+            b"listed 1\nnow\nnext\nlisted 1\nnow\nnext\nend\n"
+        )?,
+        9
+    );
+    assert_eq!(rt;
+        fault_behind(rt.alloc(), b"conflict\nsplit 1 conflict 1\nend\n")?,
+        7
+    );
+    assert_eq!(rt; fault_behind(rt.alloc(), b"split 1 recovery\nend\n")?, 6);
+    Ok(())
+}
+
+#[test]
+fn faults_of_lines(rt: HostRuntime) -> Result<(), Fail> {
+    assert_eq!(rt; fault_behind(rt.alloc(), b"end")?, 6);
+    assert_eq!(rt; fault_behind(rt.alloc(), b"end\r\n")?, 6);
+    assert_eq!(rt; fault_behind(rt.alloc(), b"fact  now 1 1\nend\n")?, 6);
+    assert_eq!(rt; fault_behind(rt.alloc(), b"fact now 01 1\nend\n")?, 6);
+    assert_eq!(rt;
+        fault_behind(rt.alloc(), b"conflict 1\nclause 0 0\nend\n")?,
+        6
+    );
+    assert_eq!(rt;
+        fault_behind(rt.alloc(), b"conflict 1 1\nclause 0 1 0\nend\n")?,
+        0
+    );
+    assert_eq!(rt;
+        fault_behind(rt.alloc(), b"conflict 1 1\nclause -0 0 1 0\nend\n")?,
+        7
+    );
+    let largest = b"fact now 1000000000000000000000000000000 1\nend\n";
+    assert_eq!(rt; fault_behind(rt.alloc(), largest)?, 0);
+    let too_large = b"fact now 1000000000000000000000000000001 1\nend\n";
+    assert_eq!(rt; fault_behind(rt.alloc(), too_large)?, 6);
+    Ok(())
+}

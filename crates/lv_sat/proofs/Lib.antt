@@ -1,0 +1,6 @@
+mod ListLemmas
+mod TrailLemmas
+mod SeenLemmas
+mod AnalysisLemmas
+mod MeasureLemmas
+mod SearchLemmas

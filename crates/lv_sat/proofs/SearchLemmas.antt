@@ -1,0 +1,292 @@
+-- What the search keeps at each turn, and what it shows at its ends.
+use Rattle.std.proofs.Common.{◌≡◌, ℕ, suc, zero, ◌+◌, ◌-◌, ◌<◌, ◌≤◌, Bool, true, false, not, List, [], ◌∷◌, ◌++◌, length, map, filter, take, drop, get_or, Option, Some, None, All, IfSome, slice_get, option_map, cond, if◌then◌else◌, append_assoc, refl, sym, ap, ap₂, subst, ◌∙◌, arith, Contains}
+use Rattle.std.proofs.lemmas.List.{append-nil, length-append, take-append-le, take-map, take-take, take_more, map-append, length-take, length-take-le}
+use Rattle.std.proofs.lemmas.List.Elements.{filter-append}
+use Rattle.std.proofs.Math.Seq.{get_or-append_seam, take-length}
+use Rattle.lv_base.specs.declared.ids.Lit.{Lit}
+use Rattle.lv_clauses.specs.Literals.{neg, same_truth, lit_holds, is_clause}
+use Rattle.lv_clauses.specs.ClauseMap.{ClauseMap, Slots, satisfies}
+use Rattle.lv_clauses.specs.Marks.{Marks, has, marked, mark_is}
+use Rattle.lv_clauses.proofs.LiteralLemmas.{neg_neg, any_member, all_member, lit_or_neg}
+use Rattle.lv_reflog.specs.declared.log.Hint.{Hint}
+use Rattle.lv_reflog.specs.declared.log.Hint.TheVariants.{Given, Earlier}
+use Rattle.lv_reflog.specs.declared.log.Step.{Step}
+use Rattle.lv_reflog.specs.Following.{clause_of, follows_by_hints, first_bad_after, first_bad_step, IsImplied}
+use Rattle.lv_reflog.proofs.SoundLemmas.{checked}
+use Rattle.lv_sat.specs.declared.trail.Entry.{Entry}
+use Rattle.lv_sat.specs.Answers.{IsModel, IsSublist, IsRefutation, last_clause, nothing, left_out, taken}
+use Rattle.lv_sat.specs.Trail.{among, lits_of, left_of, is_open, IsForced, IsTrail, IsTurned, IsSearch, IsExtended, IsReached, turned, values_of}
+use Rattle.lv_sat.specs.declared.search.Reached.{Reached}
+use Rattle.lv_sat.specs.declared.search.Reached.TheVariants.{Values, False}
+use Rattle.lv_sat.specs.Analysis.{sees, denial, IsDerived, IsTurning, Derives}
+use Rattle.lv_sat.specs.Measure.{above}
+use Rattle.lv_sat.proofs.ListLemmas.{among_member, among_contained, all_from, clause_take, clause_last}
+use Rattle.lv_sat.proofs.SeenLemmas.{from_filter, filter_none, from_map}
+use Rattle.lv_sat.proofs.TrailLemmas.{lits_push, trail_push, front_of, front_then, none_at, not_so}
+use Rattle.lv_sat.proofs.AnalysisLemmas.{front_among}
+use Rattle.lv_sat.proofs.MeasureLemmas.{above_longer, above_turned}
+
+-- a log that grows keeps its steps
+got_more : {X : Type 0} (xs ys : List X) (k : ℕ) (x : X) → slice_get xs k ≡ Some x → slice_get (xs ++ ys) k ≡ Some x
+got_more [] ys k x e = absurd (cc)
+got_more (y ∷ xs) ys zero x e = e
+got_more (y ∷ xs) ys (suc k) x e = got_more xs ys k x e
+
+clause_kept : (slots : Slots) (log : List Step) (s : Step) (h : Hint) (c : List Lit) → clause_of slots log h ≡ Some c → clause_of slots (log ++ s ∷ []) h ≡ Some c
+clause_kept slots log s (Given id) c e = e
+clause_kept slots log s (Earlier place) c e = by_step (slice_get log place) refl
+  where
+    by_step : (o : Option Step) → slice_get log place ≡ o → option_map (λ (t : Step). t.clause) (slice_get (log ++ s ∷ []) place) ≡ Some c
+    by_step None at = absurd (cc (ap (option_map (λ (t : Step). t.clause)) at, e))
+    by_step (Some t) at = ap (option_map (λ (k : Step). k.clause)) (got_more log (s ∷ []) place t at) ∙ sym (ap (option_map (λ (k : Step). k.clause)) at) ∙ e
+
+pub trail_grows : (cs : ClauseMap) (log : List Step) (s : Step) (marks : Marks) (entries : List Entry) → IsTrail cs log marks entries → IsTrail cs (log ++ s ∷ []) marks entries
+trail_grows cs log s marks entries trail =
+    record {
+      len = trail.len;
+      same = trail.same;
+      room = trail.room;
+      chain =
+          record {
+            clause = trail.chain.clause;
+            forced =
+                λ place d h within is.
+                let was : IsForced cs.slots log (lits_of (take place entries)) (get_or entries place d).lit h = trail.chain.forced place d h within is in
+                record { clause = was.clause; named = clause_kept cs.slots log s h was.clause was.named; left = was.left };
+          };
+    }
+
+-- a step that follows keeps a log valid
+valid_after : (cs : ClauseMap) (earlier steps : List Step) (s : Step) → first_bad_after cs earlier steps ≡ None → follows_by_hints cs (earlier ++ steps) s ≡ true → first_bad_after cs earlier (steps ++ s ∷ []) ≡ None
+valid_after cs earlier [] s e follows = ap (λ b. if b then None else Some (length earlier)) (ap (λ (es : List Step). follows_by_hints cs es s) (sym (append-nil earlier)) ∙ follows)
+valid_after cs earlier (t ∷ ts) s e follows = by_step (follows_by_hints cs earlier t) refl (λ rest more. valid_after cs (earlier ++ t ∷ []) ts s rest more)
+  where
+    by_step : (b : Bool) → follows_by_hints cs earlier t ≡ b
+        → (first_bad_after cs (earlier ++ t ∷ []) ts ≡ None → follows_by_hints cs ((earlier ++ t ∷ []) ++ ts) s ≡ true → first_bad_after cs (earlier ++ t ∷ []) (ts ++ s ∷ []) ≡ None)
+        → (if follows_by_hints cs earlier t then first_bad_after cs (earlier ++ t ∷ []) (ts ++ s ∷ []) else Some (length earlier)) ≡ None
+    by_step true f rest =
+        ap (λ b. if b then first_bad_after cs (earlier ++ t ∷ []) (ts ++ s ∷ []) else Some (length earlier)) f
+        ∙ rest (sym (ap (λ b. if b then first_bad_after cs (earlier ++ t ∷ []) ts else Some (length earlier)) f) ∙ e) (ap (λ (es : List Step). follows_by_hints cs es s) (append_assoc earlier (t ∷ []) ts) ∙ follows)
+    by_step false f rest = absurd (cc (ap (λ b. if b then first_bad_after cs (earlier ++ t ∷ []) ts else Some (length earlier)) f, e))
+
+pub valid_push : (cs : ClauseMap) (log : List Step) (s : Step) → first_bad_step cs log ≡ None → follows_by_hints cs log s ≡ true → first_bad_step cs (log ++ s ∷ []) ≡ None
+valid_push cs log s e follows = valid_after cs [] log s e follows
+
+-- a choice more
+pub extended_choice : (cs : ClauseMap) (log : List Step) (old mid entries more : List Entry) (a marks now : Marks) (found : Option Hint) (l : Lit) → IsExtended cs log old a mid None → IsExtended cs log mid marks entries found
+    → is_open marks l ≡ true → now ≡ marked marks l → more ≡ entries ++ record { lit = l; reason = None } ∷ [] → IsExtended cs log old now more None
+extended_choice cs log old mid entries more a marks now found l first next free now_is grown =
+    record {
+      trail =
+          subst (λ m. IsTrail cs log m more) (sym now_is)
+          (subst (IsTrail cs log (marked marks l)) (sym grown) (trail_push cs log marks entries next.trail (record { lit = l; reason = None }) free (λ h is. absurd (none_at h is))));
+      front = front_then old entries more (front_then old mid entries first.front next.front) (front_of entries more (record { lit = l; reason = None } ∷ []) grown);
+      refuted = λ h is. absurd (none_at h is);
+    }
+
+pub reached_false : (cs : ClauseMap) (log : List Step) (old mid entries : List Entry) (a marks : Marks) (h : Hint) → IsExtended cs log old a mid None → IsExtended cs log mid marks entries (Some h) → IsReached cs log old marks entries (False h)
+reached_false cs log old mid entries a marks h first next = record { trail = next.trail; front = front_then old mid entries first.front next.front; reaches = next.refuted h refl }
+
+-- the values of marks
+value_at : (marks : Marks) (v : ℕ) → get_or (values_of marks) v false ≡ mark_is (get_or marks v None) true
+value_at [] v = refl
+value_at (m ∷ ms) zero = refl
+value_at (m ∷ ms) (suc v) = value_at ms v
+
+pub marked_holds : (marks : Marks) (l : Lit) → has marks l ≡ true → lit_holds (values_of marks) l ≡ true
+marked_holds marks l e = ap (λ b. same_truth b l.sign) (value_at marks l.var.0) ∙ by_mark (get_or marks l.var.0 None) l.sign e
+  where
+    by_mark : (o : Option Bool) (s : Bool) → mark_is o s ≡ true → same_truth (mark_is o true) s ≡ true
+    by_mark None s f = absurd (cc)
+    by_mark (Some true) true f = refl
+    by_mark (Some true) false f = absurd (cc)
+    by_mark (Some false) true f = absurd (cc)
+    by_mark (Some false) false f = refl
+
+lits_len : (entries : List Entry) → length (lits_of entries) ≡ length entries
+lits_len [] = refl
+lits_len (e ∷ es) = ap suc (lits_len es)
+
+values_len : (marks : Marks) → length (values_of marks) ≡ length marks
+values_len [] = refl
+values_len (m ∷ ms) = ap suc (values_len ms)
+
+neg_twice : (ls : List Lit) → map neg (map neg ls) ≡ ls
+neg_twice [] = refl
+neg_twice (l ∷ ls) = ap₂ (λ k ks. k ∷ ks) (neg_neg l) (neg_twice ls)
+
+part_of : (p : Lit → Bool) (ls : List Lit) → IsSublist (filter p ls) ls
+part_of p [] = nothing
+part_of p (l ∷ ls) = by_value (p l) refl (part_of p ls)
+  where
+    by_value : (b : Bool) → p l ≡ b → IsSublist (filter p ls) ls → IsSublist (cond (p l) (l ∷ filter p ls) (filter p ls)) (l ∷ ls)
+    by_value true e rest = rw e (taken l rest)
+    by_value false e rest = rw e (left_out l rest)
+
+got_seam : {X : Type 0} (xs : List X) (x : X) → slice_get (xs ++ x ∷ []) (length xs) ≡ Some x
+got_seam [] x = refl
+got_seam (y ∷ xs) x = got_seam xs x
+
+got_last : {X : Type 0} (xs : List X) (x : X) → slice_get (xs ++ x ∷ []) (length (xs ++ x ∷ []) - 1) ≡ Some x
+got_last xs x = ap (slice_get (xs ++ x ∷ [])) (omega (arith, length-append xs (x ∷ []))) ∙ got_seam xs x
+
+module _ (cs : ClauseMap) (assumptions : List Lit) (log : List Step) where
+  long_enough : (entries : List Entry) → take (length assumptions) (lits_of entries) ≡ assumptions → length assumptions ≤ length (lits_of entries)
+  long_enough entries e = grind (arith, ap (λ (ls : List Lit). length ls) e, length-take (length assumptions) (lits_of entries))
+
+  front_lits : (entries : List Entry) → take (length assumptions) (lits_of entries) ≡ assumptions → lits_of (take (length assumptions) entries) ≡ assumptions
+  front_lits entries e = sym (take-map (λ (k : Entry). k.lit) (length assumptions) entries) ∙ e
+
+  pub search_extended : (a marks : Marks) (old entries : List Entry) → IsSearch cs assumptions log a old → IsTrail cs log marks entries → entries ≡ old ++ drop (length old) entries → IsSearch cs assumptions log marks entries
+  search_extended a marks old entries before trail front =
+      record {
+        trail = trail;
+        assumed =
+            ap (λ (es : List Entry). take (length assumptions) (lits_of es)) front
+            ∙ ap (take (length assumptions)) (map-append (λ (e : Entry). e.lit) old (drop (length old) entries))
+            ∙ take-append-le (length assumptions) (lits_of old) (lits_of (drop (length old) entries)) (long_enough old before.assumed)
+            ∙ before.assumed;
+        valid = before.valid;
+      }
+
+  pub floor_fits : (marks : Marks) (entries : List Entry) → IsSearch cs assumptions log marks entries → length assumptions ≤ length entries
+  floor_fits marks entries here = omega (arith, long_enough entries here.assumed, lits_len entries)
+
+  pub model_found : (marks : Marks) (entries : List Entry) (values : List Bool) → IsSearch cs assumptions log marks entries → values ≡ values_of marks → satisfies values cs.slots ≡ true → IsModel cs assumptions values
+  model_found marks entries values here is all_true =
+      record {
+        len = ap (λ (vs : List Bool). length vs) is ∙ values_len marks ∙ here.trail.len;
+        all_clauses = all_true;
+        all_assumptions = all_from (lit_holds values) assumptions (λ l h. ap (λ vs. lit_holds vs l) is ∙ marked_holds marks l (here.trail.same l ∙ front_among cs log entries here.trail.chain (length assumptions) l (ap (λ ls. among ls l) (front_lits entries here.assumed) ∙ among_member assumptions l h)));
+      }
+
+  -- a clause of negations of assumptions refutes
+  pub refutation_found : (marks : Marks) (entries : List Entry) (new : List Step) (core : List Lit) → IsSearch cs assumptions log marks entries → IsDerived cs log new entries (length assumptions)
+      → IfSome (last_clause new) (λ clause. core ≡ map neg clause) → IsRefutation cs assumptions core new
+  refutation_found marks entries new core here derived told =
+      record {
+        part = subst (λ ls. IsSublist ls assumptions) (sym core_is) (part_of (sees derived.seen) assumptions);
+        valid = valid_new;
+        ends = last_is ∙ ap Some (clause_is ∙ sym (ap (map neg) core_is));
+        none = λ values model. false_for values model (any_member (lit_holds values) derived.step.clause (implied.holds values model.all_clauses model.len));
+      }
+    where
+      clause_is : derived.step.clause ≡ map neg (filter (sees derived.seen) assumptions)
+      clause_is = derived.clause ∙ ap (λ ls. map neg (filter (sees derived.seen) ls)) (front_lits entries here.assumed)
+
+      last_is : last_clause new ≡ Some derived.step.clause
+      last_is =
+          ap (λ (steps : List Step). last_clause steps) derived.added
+          ∙ ap (option_map (λ (t : Step). t.clause)) (got_last log derived.step)
+
+      core_is : core ≡ filter (sees derived.seen) assumptions
+      core_is =
+          subst (λ (o : Option (List Lit)). IfSome o (λ clause. core ≡ map neg clause)) last_is told
+          ∙ ap (map neg) clause_is
+          ∙ neg_twice (filter (sees derived.seen) assumptions)
+
+      valid_new : first_bad_step cs new ≡ None
+      valid_new = ap (first_bad_step cs) derived.added ∙ valid_push cs log derived.step here.valid derived.follows
+
+      all_implied : All (IsImplied cs) (log ++ derived.step ∷ [])
+      all_implied =
+          subst (All (IsImplied cs)) (ap (λ (steps : List Step). take (length steps) steps) derived.added ∙ take-length (log ++ derived.step ∷ [])) (checked cs new None (sym valid_new))
+
+      implied : IsImplied cs derived.step
+      implied = subst (IsImplied cs) (get_or-append_seam log derived.step [] derived.step) (all_implied (length log) derived.step (omega (arith, length-append log (derived.step ∷ []))))
+
+      false_for : (values : List Bool) → IsModel cs assumptions values → (m : Lit) × Contains derived.step.clause m × (lit_holds values m ≡ true) → ⊥
+      false_for values model found =
+          lit_or_neg values found.0 found.2
+          (all_member (lit_holds values) assumptions (neg found.0) model.all_assumptions
+          (from_filter (sees derived.seen) assumptions (neg found.0) (from_map (filter (sees derived.seen) assumptions) found.0 (subst (λ ls. Contains ls found.0) clause_is found.1))))
+
+  -- the clause derived turns the choice
+  pub turn_forced : (marks : Marks) (entries : List Entry) (new : List Step) (place : ℕ) → IsSearch cs assumptions log marks entries → IsTurning cs log new (length assumptions) entries place → IsTurned cs new entries place (Earlier (length new - 1))
+  turn_forced marks entries new place here turning =
+      record {
+        forced =
+            λ d.
+            record {
+              clause = turning.derived.step.clause;
+              named = ap (λ (steps : List Step). last_clause steps) turning.derived.added ∙ ap (option_map (λ (t : Step). t.clause)) (got_last log turning.derived.step);
+              left =
+                  ap (left_of (lits_of (take place entries))) (turning.derived.clause ∙ split d)
+                  ∙ filter-append (q d) (map neg (filter p (lits_of (take place entries)))) (neg (get_or entries place d).lit ∷ [])
+                  ∙ ap₂ (λ (xs ys : List Lit). xs ++ ys) (filter_none (q d) (map neg (filter p (lits_of (take place entries)))) (λ m h. ap not (among_member (lits_of (take place entries)) (neg m) (from_filter p (lits_of (take place entries)) (neg m) (from_map (filter p (lits_of (take place entries))) m h)))))
+                  (ap (λ b. cond (not b) (neg (get_or entries place d).lit ∷ []) []) (absent d));
+            };
+      }
+    where
+      p : Lit → Bool
+      p = sees turning.derived.seen
+
+      q : Entry → Lit → Bool
+      q d m = not (among (lits_of (take place entries)) (neg m))
+
+      split : (d : Entry) → denial turning.derived.seen (take (place + 1) entries) ≡ map neg (filter p (lits_of (take place entries))) ++ neg (get_or entries place d).lit ∷ []
+      split d =
+          ap (λ (es : List Entry). map neg (filter p (lits_of es))) (take_more entries place d turning.within)
+          ∙ ap (λ ls. map neg (filter p ls)) (lits_push (take place entries) (get_or entries place d))
+          ∙ ap (map neg) (filter-append p (lits_of (take place entries)) ((get_or entries place d).lit ∷ []) ∙ ap (λ b. filter p (lits_of (take place entries)) ++ cond b ((get_or entries place d).lit ∷ []) []) (turning.seen d))
+          ∙ map-append neg (filter p (lits_of (take place entries))) ((get_or entries place d).lit ∷ [])
+
+      absent : (d : Entry) → among (lits_of (take place entries)) (neg (neg (get_or entries place d).lit)) ≡ false
+      absent d =
+          ap (among (lits_of (take place entries))) (neg_neg (get_or entries place d).lit)
+          ∙ not_so (among (lits_of (take place entries)) (get_or entries place d).lit)
+          (λ e. clause_last cs.bools (lits_of (take place entries)) (get_or entries place d).lit (get_or entries place d).lit
+          (ap (is_clause cs.bools) (sym (lits_push (take place entries) (get_or entries place d)) ∙ ap (λ (es : List Entry). lits_of es) (sym (take_more entries place d turning.within)) ∙ sym (take-map (λ (k : Entry). k.lit) (place + 1) entries)) ∙ clause_take cs.bools (place + 1) (lits_of entries) here.trail.chain.clause)
+          (among_contained (lits_of (take place entries)) (get_or entries place d).lit e) refl)
+
+  pub search_turned : (marks now : Marks) (entries left : List Entry) (new : List Step) (place : ℕ) (d : Entry) → IsSearch cs assumptions log marks entries → IsTurning cs log new (length assumptions) entries place
+      → left ≡ take place entries ++ turned (get_or entries place d) (Earlier (length new - 1)) ∷ []
+      → (IsTrail cs new marks entries → IsTurned cs new entries place (Earlier (length new - 1)) → IsTrail cs new now left) → IsSearch cs assumptions new now left
+  search_turned marks now entries left new place d here turning is made =
+      record {
+        trail = made (subst (λ (steps : List Step). IsTrail cs steps marks entries) (sym turning.derived.added) (trail_grows cs log turning.derived.step marks entries here.trail)) (turn_forced marks entries new place here turning);
+        assumed =
+            ap (λ (es : List Entry). take (length assumptions) (lits_of es)) is
+            ∙ ap (take (length assumptions)) (lits_push (take place entries) (turned (get_or entries place d) (Earlier (length new - 1))))
+            ∙ take-append-le (length assumptions) (lits_of (take place entries)) (neg (get_or entries place d).lit ∷ []) (omega (arith, turning.above, turning.within, lits_len (take place entries), length-take-le place entries (omega (arith, turning.within))))
+            ∙ ap (take (length assumptions)) (sym (take-map (λ (k : Entry). k.lit) place entries))
+            ∙ take-take (length assumptions) place (lits_of entries) turning.above
+            ∙ here.assumed;
+        valid = ap (first_bad_step cs) turning.derived.added ∙ valid_push cs log turning.derived.step here.valid turning.derived.follows;
+      }
+
+  -- fewer trails are above
+  pub search_falls : (marks : Marks) (old entries left : List Entry) (new : List Step) (place : ℕ) (d : Entry) → IsTrail cs log marks entries → entries ≡ old ++ drop (length old) entries
+      → IsTurning cs log new (length assumptions) entries place → left ≡ take place entries ++ turned (get_or entries place d) (Earlier (length new - 1)) ∷ [] → above cs.bools left < above cs.bools old
+  search_falls marks old entries left new place d trail front turning is =
+      omega (
+        arith,
+        ap (above cs.bools) is,
+        above_turned cs.bools entries place d (turned (get_or entries place d) (Earlier (length new - 1))) (Earlier (length new - 1)) (omega (arith, trail.room, trail.len)) turning.within (turning.chosen d) refl,
+        ap (above cs.bools) front,
+        above_longer cs.bools old (drop (length old) entries),
+      )
+
+  -- the ends and the turn of the loop
+  module _ (a marks : Marks) (old entries : List Entry) (before : IsSearch cs assumptions log a old) where
+    pub values_end : (values : List Bool) (reached : Reached) → reached ≡ Values values → IsReached cs log old marks entries reached → IsModel cs assumptions values
+    values_end values reached is told =
+        let here : IsReached cs log old marks entries (Values values) = subst (IsReached cs log old marks entries) is told in
+        model_found marks entries values (search_extended a marks old entries before here.trail here.front) here.reaches.0 here.reaches.2
+
+    pub refuted_end : (reached : Reached) (place : Option ℕ) (shown : List Entry) (new : List Step) (core : List Lit) → IsReached cs log old marks entries reached → shown ≡ entries → place ≡ None
+        → Derives cs log new (length assumptions) shown place → IfSome (last_clause new) (λ clause. core ≡ map neg clause) → IsRefutation cs assumptions core new
+    refuted_end reached place shown new core here same none derived told =
+        refutation_found marks entries new core (search_extended a marks old entries before here.trail here.front)
+        (subst (λ (es : List Entry). IsDerived cs log new es (length assumptions)) same (subst (Derives cs log new (length assumptions) shown) none derived)) told
+
+    module _ (reached : Reached) (place : ℕ) (found : Option ℕ) (shown left : List Entry) (new : List Step) (d : Entry) (here : IsReached cs log old marks entries reached) (same : shown ≡ entries) (some : found ≡ Some place)
+        (derived : Derives cs log new (length assumptions) shown found) (is : left ≡ take place entries ++ turned (get_or entries place d) (Earlier (length new - 1)) ∷ []) where
+      turning : IsTurning cs log new (length assumptions) entries place
+      turning = subst (λ (es : List Entry). IsTurning cs log new (length assumptions) es place) same (subst (Derives cs log new (length assumptions) shown) some derived)
+
+      pub turn_keeps : (now : Marks) → ((sets : ClauseMap) (steps : List Step) → IsTrail sets steps marks entries → IsTurned sets steps entries place (Earlier (length new - 1)) → IsTrail sets steps now left) → IsSearch cs assumptions new now left
+      turn_keeps now made = search_turned marks now entries left new place d (search_extended a marks old entries before here.trail here.front) turning is (made cs new)
+
+      pub turn_falls : above cs.bools left < above cs.bools old
+      turn_falls = search_falls marks old entries left new place d here.trail here.front turning is

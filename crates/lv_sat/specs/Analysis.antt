@@ -1,0 +1,104 @@
+-- What the analysis of a false clause derives: a clause of negations of entries that were needed.
+use Rattle.std.specs.Prelude.{◌≡◌, ℕ, ◌+◌, ◌<◌, ◌≤◌, Bool, true, false, List, [], ◌∷◌, ◌++◌, map, filter, length, take, Option, Some, None, reverse, slice_index_or, slice_set, unwrap_or}
+use Rattle.lv_base.specs.declared.ids.Lit.{Lit}
+use Rattle.lv_clauses.specs.Literals.{neg}
+use Rattle.lv_clauses.specs.ClauseMap.{ClauseMap, Slots}
+use Rattle.lv_clauses.specs.Marks.{Marks, has}
+use Rattle.lv_reflog.specs.declared.log.Hint.{Hint}
+use Rattle.lv_reflog.specs.declared.log.Step.{Step}
+use Rattle.lv_reflog.specs.Following.{clause_of, ends_well, follows_by_hints}
+use Rattle.lv_sat.specs.declared.trail.Entry.{Entry}
+use Rattle.lv_sat.specs.Trail.{lits_of, among}
+
+-- the literal's boolean was seen
+abbrev pub sees : List Bool → Lit → Bool
+sees seen l = slice_index_or seen l.var.0 false
+
+-- the booleans of all these literals seen too
+abbrev pub seen_all : List Bool → List Lit → List Bool
+seen_all seen [] = seen
+seen_all seen (l ∷ ls) = seen_all (slice_set seen l.var.0 true) ls
+
+-- and those of the clause that a hint names
+abbrev pub seen_by : Slots → List Step → Hint → List Bool → List Bool
+seen_by slots log h seen = seen_all seen (unwrap_or (clause_of slots log h) [])
+
+-- the literals of the entries seen
+abbrev pub needed : List Bool → List Entry → List Lit
+needed seen entries = filter (sees seen) (lits_of entries)
+
+-- the negations of the entries seen
+abbrev pub denial : List Bool → List Entry → List Lit
+denial seen entries = map neg (needed seen entries)
+
+-- the number of entries up to the place, or below the floor
+abbrev pub end_of : Option ℕ → ℕ → ℕ
+end_of None floor = floor
+end_of (Some place) floor = place + 1
+
+-- the literals that are among the first entries and were seen are marked, and nothing that isn't on the trail is
+pub record Covers (seen : List Bool) (entries : List Entry) (at : ℕ) (marks : Marks) : Type 0 where
+  pub needed : (l : Lit) → among (lits_of (take at entries)) l ≡ true → sees seen l ≡ true → has marks l ≡ true
+  pub within : (l : Lit) → has marks l ≡ true → among (lits_of entries) l ≡ true
+
+-- the hints taken, the last one first, end well once the entries seen before this place are taken as true
+pub record IsPending (set : ClauseMap) (log : List Step) (entries : List Entry) (at : ℕ) (seen : List Bool) (hints : List Hint) : Type 0 where
+  pub len : length seen ≡ set.bools
+  pub ends : (marks : Marks) → length marks ≡ set.bools → Covers seen entries at marks → ends_well set.slots log (reverse hints) marks ≡ true
+
+-- the walk stopped behind a choice that was seen, or at the floor
+pub record IsStopped (set : ClauseMap) (log : List Step) (entries : List Entry) (floor : ℕ) (seen : List Bool) (hints : List Hint) (place : ℕ) : Type 0 where
+  pub pending : IsPending set log entries (place + 1) seen hints
+  pub within : place < length entries
+  pub above : floor ≤ place
+  pub chosen : (d : Entry) → (slice_index_or entries place d).reason ≡ None
+  pub seen_too : (d : Entry) → sees seen (slice_index_or entries place d).lit ≡ true
+
+abbrev pub StopsAt : ClauseMap → List Step → List Entry → ℕ → List Bool → List Hint → Option ℕ → Type 0
+StopsAt set log entries floor seen hints None = IsPending set log entries floor seen hints
+StopsAt set log entries floor seen hints (Some place) = IsStopped set log entries floor seen hints place
+
+-- an entry that was seen gives way to its reason
+pub record GivesWay (slots : Slots) (log : List Step) (h : Hint) (old : List Bool) (given : List Hint) (new : List Bool) (more : List Hint) : Type 0 where
+  pub seen : new ≡ seen_by slots log h old
+  pub hints : more ≡ given ++ h ∷ []
+
+pub record IsUnchanged (old : List Bool) (given : List Hint) (new : List Bool) (more : List Hint) : Type 0 where
+  pub seen : new ≡ old
+  pub hints : more ≡ given
+
+abbrev pub GoesPast : Slots → List Step → Bool → Option Hint → List Bool → List Hint → List Bool → List Hint → Type 0
+GoesPast slots log false reason old hints new more = IsUnchanged old hints new more
+GoesPast slots log true None old hints new more = ⊥
+GoesPast slots log true (Some h) old hints new more = GivesWay slots log h old hints new more
+
+-- a choice that was seen
+pub record IsSeenChoice (entry : Entry) (seen : List Bool) : Type 0 where
+  pub seen_too : sees seen entry.lit ≡ true
+  pub chosen : entry.reason ≡ None
+
+-- the entry isn't needed or gives way to its reason, or it is a choice
+abbrev pub Passes : Slots → List Step → Entry → List Bool → List Hint → Bool → List Bool → List Hint → Type 0
+Passes slots log entry old hints false new more = IsSeenChoice entry old × IsUnchanged old hints new more
+Passes slots log entry old hints true new more = GoesPast slots log (sees old entry.lit) entry.reason old hints new more
+
+-- the log has one step more, which follows by its hints: its clause is of negations of the first entries
+pub record IsDerived (set : ClauseMap) (old new : List Step) (entries : List Entry) (at : ℕ) : Type 0 where
+  pub step : Step
+  pub seen : List Bool
+  pub added : new ≡ old ++ step ∷ []
+  pub clause : step.clause ≡ denial seen (take at entries)
+  pub follows : follows_by_hints set old step ≡ true
+
+-- the last literal of the clause negates the choice at this place
+pub record IsTurning (set : ClauseMap) (old new : List Step) (floor : ℕ) (entries : List Entry) (place : ℕ) : Type 0 where
+  pub derived : IsDerived set old new entries (place + 1)
+  pub within : place < length entries
+  pub above : floor ≤ place
+  pub chosen : (d : Entry) → (slice_index_or entries place d).reason ≡ None
+  pub seen : (d : Entry) → sees derived.seen (slice_index_or entries place d).lit ≡ true
+
+-- the clause has a choice, or it is of negations of entries below the floor alone
+abbrev pub Derives : ClauseMap → List Step → List Step → ℕ → List Entry → Option ℕ → Type 0
+Derives set old new floor entries None = IsDerived set old new entries floor
+Derives set old new floor entries (Some place) = IsTurning set old new floor entries place

@@ -1,0 +1,4 @@
+pub mod Answers
+pub mod Trail
+pub mod Analysis
+pub mod Measure

@@ -1,0 +1,105 @@
+-- The trail: literals taken as true, in an order in which each that isn't a choice is forced by a clause and those
+-- before it.
+use Rattle.std.specs.Prelude.{◌≡◌, ℕ, ◌+◌, ◌<◌, Bool, true, false, not, ◌&&◌, List, [], ◌∷◌, ◌++◌, length, map, filter, take, drop, Option, Some, None, is_none, is_some, count_by, slice_index_or, Contains}
+use Rattle.std.specs.List.{list_any, list_all}
+use Rattle.lv_base.specs.declared.ids.Lit.{Lit}
+use Rattle.lv_clauses.specs.Literals.{neg, same_truth, same_var, in_range, is_clause, clause_holds}
+use Rattle.lv_clauses.specs.ClauseMap.{ClauseMap, Slots, clause_at, slot_holds, satisfies}
+use Rattle.lv_clauses.specs.Marks.{Marks, has, mark_is, is_free}
+use Rattle.lv_reflog.specs.declared.log.Hint.{Hint}
+use Rattle.lv_reflog.specs.declared.log.Step.{Step}
+use Rattle.lv_reflog.specs.Following.{clause_of, first_bad_step}
+use Rattle.lv_sat.specs.declared.trail.Entry.{Entry}
+use Rattle.lv_sat.specs.declared.search.Reached.{Reached}
+use Rattle.lv_sat.specs.declared.search.Reached.TheVariants.{Values, False}
+
+abbrev pub same_lit : Lit → Lit → Bool
+same_lit a b = same_var a b && same_truth a.sign b.sign
+
+-- the literal is one of these
+abbrev pub among : List Lit → Lit → Bool
+among ls l = list_any (λ k. same_lit k l) ls
+
+-- the literals of the entries
+abbrev pub lits_of : List Entry → List Lit
+lits_of entries = map (λ (e : Entry). e.lit) entries
+
+-- the boolean is in range and unmarked
+abbrev pub is_open : Marks → Lit → Bool
+is_open marks l = in_range (length marks) l && is_free marks l
+
+-- the literals of the clause that aren't false where these are true
+abbrev pub left_of : List Lit → List Lit → List Lit
+left_of truths clause = filter (λ l. not (among truths (neg l))) clause
+
+-- the hint names a clause of which just this literal isn't false where these literals are true
+pub record IsForced (slots : Slots) (log : List Step) (truths : List Lit) (l : Lit) (h : Hint) : Type 0 where
+  pub clause : List Lit
+  pub named : clause_of slots log h ≡ Some clause
+  pub left : left_of truths clause ≡ l ∷ []
+
+-- the hint names a clause whose literals are all false where these are true
+pub record IsFalse (slots : Slots) (log : List Step) (truths : List Lit) (h : Hint) : Type 0 where
+  pub clause : List Lit
+  pub named : clause_of slots log h ≡ Some clause
+  pub turned : (m : Lit) → Contains clause m → among truths (neg m) ≡ true
+
+-- the entries are of distinct booleans in range, and each with a reason is forced by it and those before it
+pub record IsChain (set : ClauseMap) (log : List Step) (entries : List Entry) : Type 0 where
+  pub clause : is_clause set.bools (lits_of entries) ≡ true
+  pub forced : (place : ℕ) (d : Entry) (h : Hint) → place < length entries → (slice_index_or entries place d).reason ≡ Some h
+      → IsForced set.slots log (lits_of (take place entries)) (slice_index_or entries place d).lit h
+
+-- and the literals marked are those of the entries
+pub record IsTrail (set : ClauseMap) (log : List Step) (marks : Marks) (entries : List Entry) : Type 0 where
+  pub len : length marks ≡ set.bools
+  pub same : (l : Lit) → has marks l ≡ among (lits_of entries) l
+  pub room : length entries + count_by is_none marks ≡ length marks
+  pub chain : IsChain set log entries
+
+-- the entry's literal turned, forced by the hint's clause
+abbrev pub turned : Entry → Hint → Entry
+turned e h = record { lit = neg e.lit; reason = Some h }
+
+-- the hint's clause forces the negation of the entry at the place, where those before it are true
+pub record IsTurned (set : ClauseMap) (log : List Step) (entries : List Entry) (place : ℕ) (h : Hint) : Type 0 where
+  pub forced : (d : Entry) → IsForced set.slots log (lits_of (take place entries)) (neg (slice_index_or entries place d).lit) h
+
+-- what the search keeps: a trail that begins with the assumptions, and a valid log
+pub record IsSearch (set : ClauseMap) (assumptions : List Lit) (log : List Step) (marks : Marks) (entries : List Entry) : Type 0 where
+  pub trail : IsTrail set log marks entries
+  pub assumed : take (length assumptions) (lits_of entries) ≡ assumptions
+  pub valid : first_bad_step set log ≡ None
+
+-- the trail goes on from the old entries; a hint found names a false clause
+pub record IsExtended (set : ClauseMap) (log : List Step) (old : List Entry) (marks : Marks) (entries : List Entry) (found : Option Hint) : Type 0 where
+  pub trail : IsTrail set log marks entries
+  pub front : entries ≡ old ++ drop (length old) entries
+  pub refuted : (h : Hint) → found ≡ Some h → IsFalse set.slots log (lits_of entries) h
+
+-- each boolean's value, false where it has no mark
+abbrev pub values_of : Marks → List Bool
+values_of marks = map (λ m. mark_is m true) marks
+
+-- the clause of this number is over the booleans, and the values make it false
+pub record IsFalsified (set : ClauseMap) (values : List Bool) (id : ℕ) : Type 0 where
+  pub clause : List Lit
+  pub present : clause_at set.slots id ≡ Some clause
+  pub range : is_clause set.bools clause ≡ true
+  pub turned_all : clause_holds values clause ≡ false
+
+-- the clause of this number is false, or there is none, or it is true
+abbrev pub TellsFalse : ClauseMap → List Bool → ℕ → Bool → Type 0
+TellsFalse set values id true = IsFalsified set values id
+TellsFalse set values id false = slot_holds values (clause_at set.slots id) ≡ true
+
+-- either the marks are values that satisfy the clauses, or a clause is false
+abbrev pub Reaches : ClauseMap → List Step → Marks → List Entry → Reached → Type 0
+Reaches set log marks entries (Values values) = (values ≡ values_of marks) × (list_all is_some marks ≡ true) × (satisfies values set.slots ≡ true)
+Reaches set log marks entries (False h) = IsFalse set.slots log (lits_of entries) h
+
+-- the trail goes on from the old entries, to such an end
+pub record IsReached (set : ClauseMap) (log : List Step) (old : List Entry) (marks : Marks) (entries : List Entry) (reached : Reached) : Type 0 where
+  pub trail : IsTrail set log marks entries
+  pub front : entries ≡ old ++ drop (length old) entries
+  pub reaches : Reaches set log marks entries reached

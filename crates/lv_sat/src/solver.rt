@@ -1,0 +1,78 @@
+//! The solver: clauses that come and go, and the question whether they and some assumptions can be true together. It
+//! keeps copies of the clauses under their numbers, by which the log of a refutation names them.
+#![tactic(auto)]
+
+ghost use Rattle.std.specs.Prelude.{◌≡◌, IsTrue, IsSome, Some, None, IfOk, OnErr};
+ghost use Rattle.lv_clauses.specs.Literals.{is_clause};
+ghost use Rattle.lv_clauses.specs.ClauseMap.{clause_at, Puts};
+
+use super::answer::Answer;
+use super::search::search;
+use lv_base::{ClauseId, Lit};
+use lv_clauses::ClauseSet;
+use std::alloc::{AllocError, Global};
+use std::marker::Model;
+
+/// The clauses present over booleans counted from 0, seen by contracts as the map from their numbers.
+#[derive(Drop)]
+pub struct Solver {
+    alloc: Global,
+    set: ClauseSet,
+}
+
+impl Model for Solver {
+    ghost use Rattle.lv_clauses.specs.ClauseMap.{ClauseMap};
+
+    ghost Value = { ClauseMap };
+
+    ghost view = { λ s. s.set };
+}
+
+impl Solver {
+    ghost use Rattle.lv_sat.specs.Answers.{Answers};
+
+    /// A solver of copies of a set's clauses, each with its number.
+    pub fn new(alloc: Global, set: &ClauseSet) -> Result<Solver, AllocError>
+        ensures { IfOk result (λ s. s ≡ set.now) }
+    {
+        Ok(Solver {
+            alloc,
+            set: set.copy()?,
+        })
+    }
+
+    /// Adds a clause and answers its number, which no clause had. After want of memory the clauses are as they were.
+    pub fn add(&mut self, lits: &[Lit]) -> Result<ClauseId, AllocError>
+        requires { IsTrue (is_clause self.old.bools lits.now) }
+        ensures vacant { IfOk result (λ id. clause_at self.old.slots id.0 ≡ None) }
+        ensures added { IfOk result (λ id. Puts self.old self.new id.0 (Some lits.now)) }
+        ensures kept { OnErr result (self.new ≡ self.old) }
+    {
+        self.set.add(lits)
+    }
+
+    /// Takes away a clause that is present. Takes no memory.
+    pub fn remove(&mut self, id: ClauseId)
+        requires { IsSome (clause_at self.old.slots id.0) }
+        ensures { Puts self.old self.new id.0 None }
+    {
+        self.set.remove(id);
+    }
+
+    /// The clauses present, by which the log of a refutation can be checked.
+    pub fn clauses(&self) -> &ClauseSet
+        ensures { result.now ≡ self.now }
+    {
+        &self.set
+    }
+
+    /// Whether some values satisfy the clauses and make the assumptions true, which are of distinct booleans in range. It
+    /// changes no clause.
+    pub fn solve(&mut self, assumptions: &[Lit]) -> Result<Answer, AllocError>
+        requires { IsTrue (is_clause self.old.bools assumptions.now) }
+        ensures answer { IfOk result (λ answer. Answers self.old assumptions.now answer) }
+        ensures kept { self.new ≡ self.old }
+    {
+        search(self.alloc, &self.set, assumptions)
+    }
+}

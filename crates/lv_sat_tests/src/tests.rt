@@ -1,0 +1,159 @@
+//! Each public call with ample memory. A helper answers the core of a refutation whose log the checker accepts, and None
+//! where values were found that satisfy all clauses.
+use lv_base::{BoolId, ClauseId, Lit, Seq};
+use lv_clauses::{ClauseSet, is_clause, lit_holds};
+use lv_refcheck::check;
+use lv_sat::{Answer, Solver};
+use std::alloc::Global;
+use std::test::Fail;
+
+const ONE: Lit = Lit {
+    var: BoolId(0),
+    sign: true,
+};
+
+const NOT_ONE: Lit = Lit {
+    var: BoolId(0),
+    sign: false,
+};
+
+const TWO: Lit = Lit {
+    var: BoolId(1),
+    sign: true,
+};
+
+/// The literal of a boolean counted from 1, negative for false.
+fn lit(number: i32) -> Lit {
+    Lit {
+        var: BoolId(number.unsigned_abs().saturating_sub(1)),
+        sign: 0 < number,
+    }
+}
+
+/// A solver over so many booleans.
+fn solver_over(alloc: Global, bools: u32) -> Result<Solver, Fail> {
+    let set = ClauseSet::new(alloc, bools)?;
+    Ok(Solver::new(alloc, &set)?)
+}
+
+fn add(solver: &mut Solver, lits: &[Lit]) -> Result<Option<ClauseId>, Fail> {
+    if is_clause(solver.clauses().bools(), lits) {
+        return Ok(Some(solver.add(lits)?));
+    }
+    Ok(None)
+}
+
+/// The core where there is a refutation and the checker accepts its log.
+fn refuted(
+    alloc: Global,
+    solver: &mut Solver,
+    assumptions: &[Lit],
+) -> Result<Option<Seq<Lit>>, Fail> {
+    if !is_clause(solver.clauses().bools(), assumptions) {
+        return Ok(None);
+    }
+    match solver.solve(assumptions)? {
+        Answer::Sat(_) => Ok(None),
+        Answer::Unsat { core, log } => match check(alloc, solver.clauses(), &log)? {
+            Some(_) => Ok(None),
+            None => Ok(Some(core)),
+        },
+    }
+}
+
+/// Whether values were found that satisfy the clauses and the assumptions.
+fn satisfied(solver: &mut Solver, assumptions: &[Lit]) -> Result<bool, Fail> {
+    if !is_clause(solver.clauses().bools(), assumptions) {
+        return Ok(false);
+    }
+    match solver.solve(assumptions)? {
+        Answer::Unsat { .. } => Ok(false),
+        Answer::Sat(values) => Ok(
+            solver.clauses().satisfied(values.as_slice())
+                && assumptions
+                    .iter()
+                    .all(|lit| lit_holds(values.as_slice(), *lit)),
+        ),
+    }
+}
+
+#[test]
+fn no_clause_at_all(rt: HostRuntime) -> Result<(), Fail> {
+    let mut solver = solver_over(rt.alloc(), 2)?;
+    assert!(rt; satisfied(&mut solver, &[])?);
+    assert!(rt; satisfied(&mut solver, &[lit(-2), lit(1)])?);
+    Ok(())
+}
+
+#[test]
+fn the_empty_clause(rt: HostRuntime) -> Result<(), Fail> {
+    let mut solver = solver_over(rt.alloc(), 1)?;
+    add(&mut solver, &[])?;
+    let core = refuted(rt.alloc(), &mut solver, &[lit(1)])?;
+    assert!(rt; core.is_some_and(|lits| lits.is_empty()));
+    Ok(())
+}
+
+#[test]
+fn a_core_leaves_out_what_is_not_needed(rt: HostRuntime) -> Result<(), Fail> {
+    let mut solver = solver_over(rt.alloc(), 4)?;
+    add(&mut solver, &[lit(-1), lit(2)])?;
+    add(&mut solver, &[lit(-2), lit(-4)])?;
+    assert!(rt; satisfied(&mut solver, &[lit(1), lit(3)])?);
+    let core = refuted(rt.alloc(), &mut solver, &[lit(3), lit(4), lit(1)])?;
+    assert!(rt; core.is_some_and(|lits| lits.as_slice() == [lit(4), lit(1)].as_slice()));
+    Ok(())
+}
+
+#[test]
+fn clauses_come_and_go(rt: HostRuntime) -> Result<(), Fail> {
+    let mut set = ClauseSet::new(rt.alloc(), 2)?;
+    let first = set.add(&[ONE])?;
+    set.add(&[NOT_ONE, TWO])?;
+    set.remove(first);
+    let mut solver = Solver::new(rt.alloc(), &set)?;
+    assert!(rt; satisfied(&mut solver, &[lit(-1)])?);
+    assert_eq!(rt; add(&mut solver, &[lit(1)])?, Some(first));
+    assert!(rt; refuted(rt.alloc(), &mut solver, &[lit(-2)])?.is_some());
+    if solver.clauses().contains(first) {
+        solver.remove(first);
+    }
+    assert!(rt; satisfied(&mut solver, &[lit(-2)])?);
+    Ok(())
+}
+
+/// Four pigeons, three holes: the boolean that a pigeon sits in a hole, each counted from 0.
+fn sits(pigeon: i32, hole: i32) -> Lit {
+    lit(pigeon.wrapping_mul(3).wrapping_add(hole).wrapping_add(1))
+}
+
+/// Each pigeon sits, and no two of so many share a hole.
+fn pigeons(alloc: Global, count: i32) -> Result<Solver, Fail> {
+    let mut solver = solver_over(alloc, 12)?;
+    for pigeon in 0..count {
+        add(
+            &mut solver,
+            &[sits(pigeon, 0), sits(pigeon, 1), sits(pigeon, 2)],
+        )?;
+        for other in 0..pigeon {
+            for hole in 0..3 {
+                let (one, two) = (sits(pigeon, hole), sits(other, hole));
+                add(
+                    &mut solver,
+                    &[lv_clauses::negation(one), lv_clauses::negation(two)],
+                )?;
+            }
+        }
+    }
+    Ok(solver)
+}
+
+#[test]
+fn four_pigeons_in_three_holes(rt: HostRuntime) -> Result<(), Fail> {
+    let mut three = pigeons(rt.alloc(), 3)?;
+    assert!(rt; satisfied(&mut three, &[sits(0, 1)])?);
+    let mut four = pigeons(rt.alloc(), 4)?;
+    let core = refuted(rt.alloc(), &mut four, &[])?;
+    assert!(rt; core.is_some_and(|lits| lits.is_empty()));
+    Ok(())
+}

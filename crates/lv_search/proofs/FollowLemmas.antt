@@ -1,0 +1,165 @@
+-- What a turn does leaves the walk as it was.
+use Rattle.std.proofs.Common.{◌≡◌, ◌≢◌, ℕ, suc, ◌+◌, ◌≤◌, Bool, true, false, List, [], ◌∷◌, ◌++◌, length, drop, filter, refl, sym, ◌∙◌, ap, subst, cond, arith}
+use Rattle.std.specs.List.{list_all}
+use Rattle.std.proofs.lemmas.Bool.{and_from, and_parts}
+use Rattle.std.proofs.lemmas.List.{length-append}
+use Rattle.std.proofs.lemmas.List.Folds.{list_any_at}
+use Rattle.lv_base.specs.declared.rank.Rank.{Rank}
+use Rattle.lv_base.specs.declared.search.Pair.{Pair}
+use Rattle.lv_base.specs.declared.search.Candidate.{Candidate}
+use Rattle.lv_base.specs.Choices.{contains_all}
+use Rattle.lv_walk.specs.declared.outcome.Outcome.{Outcome}
+use Rattle.lv_walk.specs.Walk.{candidate_of}
+use Rattle.lv_walk.proofs.TurnLemmas.{walk_thinned, walk_listed, walk_refused}
+use Rattle.lv_search.specs.Frontier.{Thins}
+use Rattle.lv_search.specs.Standing.{Standing, trials_of, walk_on, conflict_at, all_suit, Follows, AreSame}
+use Rattle.lv_search.specs.Turn.{PassesOver, IsTrial, GoesOnTo, EndsAt}
+use Rattle.lv_search.proofs.NextLemmas.{first_and_rest}
+
+all_filtered : (p keeps : Rank → Bool) (rs : List Rank) → list_all p rs ≡ true → list_all p (filter keeps rs) ≡ true
+all_filtered p keeps [] h = refl
+all_filtered p keeps (r ∷ rs) h = by (keeps r) (all_filtered p keeps rs (and_parts (p r) (list_all p rs) h).1)
+  where
+    by : (b : Bool) → list_all p (filter keeps rs) ≡ true → list_all p (cond b (r ∷ filter keeps rs) (filter keeps rs)) ≡ true
+    by true rest = and_from (p r) (list_all p (filter keeps rs)) (and_parts (p r) (list_all p rs) h).0 rest
+    by false rest = rest
+
+module _ (suits fits : Candidate → Bool) (reason : Candidate → List Pair) where
+  pub follows_itself : (s : Standing) → Follows suits fits reason s s
+  follows_itself s = record { walk = λ budget few. refl; trials = omega arith; k = refl; suit = λ h. h }
+
+  pub follows_on : (a b d : Standing) → Follows suits fits reason a b → Follows suits fits reason b d → Follows suits fits reason a d
+  follows_on a b d f g =
+      let first = f.trials in
+      let then = g.trials in
+      record {
+        walk = λ budget few. g.walk budget few ∙ f.walk budget (omega (arith, then, few));
+        trials = omega (arith, first, then);
+        k = g.k ∙ f.k;
+        suit = λ h. g.suit (f.suit h);
+      }
+
+  module _ (budget : ℕ) (old : Standing) (few : trials_of old ≤ budget) where
+    -- what a kept conflict rules out may be dropped
+    pub thinned_goes_on : (number : ℕ) (left : List Rank) (new : Standing) → PassesOver number old → Thins (conflict_at old.kept number) old.left left
+        → new ≡ record old { left = left } → GoesOnTo suits fits reason budget old new
+    thinned_goes_on number left new passes thins is =
+        let shorter = thins.fewer in
+        subst (λ (s : Standing). GoesOnTo suits fits reason budget old s) (sym is)
+        record {
+          follows = record {
+            walk = λ b _. ap (λ rs. walk_on fits reason b (record old { left = rs })) thins.same
+                ∙ walk_thinned fits reason old.k b thins.keeps old.left old.listed old.kept (λ r e. list_any_at (contains_all r.choices) old.kept number [] passes.within (thins.only r e));
+            trials = omega arith;
+            k = refl;
+            suit = λ h. ap (λ rs. list_all (λ (r : Rank). suits (candidate_of r)) rs) thins.same ∙ all_filtered (λ (r : Rank). suits (candidate_of r)) thins.keeps old.left h;
+          };
+          few = few;
+          nearer = omega (arith, shorter);
+        }
+
+    module _ (rank : Rank) (candidate : Candidate) (t : IsTrial rank candidate budget old) where
+      abbrev rest : List Rank
+      rest = (first_and_rest old.left rank t.first).0
+
+      left_is : old.left ≡ rank ∷ rest
+      left_is = (first_and_rest old.left rank t.first).1
+
+      still_below : (b : ℕ) → trials_of old + 1 ≤ b → trials_of old ≢ b
+      still_below b more e = absurd (omega (arith, more, e))
+
+      one_left : trials_of old + 1 ≤ budget
+      one_left = let other : trials_of old ≢ budget = t.not_used_up in omega (arith, other, few)
+
+      more_listed : length (old.listed ++ (rank ∷ [])) + length old.kept ≡ trials_of old + 1
+      more_listed = let longer : length (old.listed ++ (rank ∷ [])) ≡ length old.listed + 1 = length-append old.listed (rank ∷ []) in omega (arith, longer)
+
+      more_kept : length old.listed + length (old.kept ++ (reason candidate ∷ [])) ≡ trials_of old + 1
+      more_kept = let longer : length (old.kept ++ (reason candidate ∷ [])) ≡ length old.kept + 1 = length-append old.kept (reason candidate ∷ []) in omega (arith, longer)
+
+      -- one that fits is listed
+      pub listed_goes_on : (new : Standing) → fits candidate ≡ true
+          → new ≡ record { k = old.k; listed = old.listed ++ (rank ∷ []); kept = old.kept; left = drop 1 old.left } → GoesOnTo suits fits reason budget old new
+      listed_goes_on new fit is =
+          subst (λ (s : Standing). GoesOnTo suits fits reason budget old s) (sym is)
+          record {
+            follows = record {
+              walk = λ b more. subst (λ (rs : List Rank). walk_on fits reason b (record { k = old.k; listed = old.listed ++ (rank ∷ []); kept = old.kept; left = drop 1 rs }) ≡ walk_on fits reason b (record old { left = rs })) (sym left_is)
+                  (sym (walk_listed fits reason old.k b rank rest old.listed old.kept t.fewer t.not_ruled_out (still_below b (omega (arith, more, more_listed))) (ap fits (sym t.candidate_is) ∙ fit)));
+              trials = omega (arith, more_listed);
+              k = refl;
+              suit = λ h. subst (λ (rs : List Rank). list_all (λ (r : Rank). suits (candidate_of r)) rs ≡ true → list_all (λ (r : Rank). suits (candidate_of r)) (drop 1 rs) ≡ true) (sym left_is)
+                  (λ a. (and_parts (suits (candidate_of rank)) (list_all (λ (r : Rank). suits (candidate_of r)) rest) a).1) h;
+            };
+            few = omega (arith, more_listed, one_left);
+            nearer =
+                let long : length old.left ≡ suc (length rest) = ap length left_is in
+                let short : length (drop 1 old.left) ≡ length rest = ap (λ rs. length (drop 1 rs)) left_is in
+                omega (arith, more_listed, one_left, long, short);
+          }
+
+      -- of one that doesn't the reason is kept
+      pub refused_goes_on : (new : Standing) → fits candidate ≡ false → contains_all candidate.choices (reason candidate) ≡ true
+          → new ≡ record { k = old.k; listed = old.listed; kept = old.kept ++ (reason candidate ∷ []); left = old.left } → GoesOnTo suits fits reason budget old new
+      refused_goes_on new fit inside is =
+          subst (λ (s : Standing). GoesOnTo suits fits reason budget old s) (sym is)
+          record {
+            follows = record {
+              walk = λ b more. subst (λ (rs : List Rank). walk_on fits reason b (record { k = old.k; listed = old.listed; kept = old.kept ++ (reason candidate ∷ []); left = rs }) ≡ walk_on fits reason b (record old { left = rs })) (sym left_is)
+                  (sym (subst (λ (c : Candidate). fits c ≡ false → contains_all c.choices (reason c) ≡ true
+                  → walk_on fits reason b (record old { left = rank ∷ rest }) ≡ walk_on fits reason b (record { k = old.k; listed = old.listed; kept = old.kept ++ (reason c ∷ []); left = rank ∷ rest })) (sym t.candidate_is)
+                  (walk_refused fits reason old.k b rank rest old.listed old.kept t.fewer t.not_ruled_out (still_below b (omega (arith, more, more_kept)))) fit inside));
+              trials = omega (arith, more_kept);
+              k = refl;
+              suit = λ h. h;
+            };
+            few = omega (arith, more_kept, one_left);
+            nearer = omega (arith, more_kept, one_left);
+          }
+
+      -- whatever the trial tells
+      pub tried_goes_on : (new : Standing)
+          → (fits candidate ≡ true → new ≡ record { k = old.k; listed = old.listed ++ (rank ∷ []); kept = old.kept; left = drop 1 old.left })
+          → (fits candidate ≡ false → new ≡ record { k = old.k; listed = old.listed; kept = old.kept ++ (reason candidate ∷ []); left = old.left })
+          → (fits candidate ≡ false → contains_all candidate.choices (reason candidate) ≡ true)
+          → GoesOnTo suits fits reason budget old new
+      tried_goes_on new listed refused inside = by (fits candidate) refl
+        where
+          by : (b : Bool) → fits candidate ≡ b → GoesOnTo suits fits reason budget old new
+          by true e = listed_goes_on new e (listed e)
+          by false e = refused_goes_on new e (inside e) (refused e)
+
+  -- the first of what suits suits
+  pub first_suits : (s : Standing) (rank : Rank) (candidate : Candidate) (budget : ℕ) → IsTrial rank candidate budget s → all_suit suits s ≡ true → suits candidate ≡ true
+  first_suits s rank candidate budget t h =
+      let left = first_and_rest s.left rank t.first in
+      ap suits t.candidate_is
+      ∙ (and_parts (suits (candidate_of rank)) (list_all (λ (r : Rank). suits (candidate_of r)) left.0)
+      (subst (λ (rs : List Rank). list_all (λ (r : Rank). suits (candidate_of r)) rs ≡ true) left.1 h)).0
+
+module _ {T : Type 0} (suits fits : T → Candidate → Bool) (reason : T → Candidate → List Pair) where
+  pub are_same_itself : (t : T) → AreSame suits fits reason t t
+  are_same_itself t = record { suits_same = refl; fits_same = refl; reason_same = refl }
+
+  pub are_same_on : (a b d : T) → AreSame suits fits reason a b → AreSame suits fits reason b d → AreSame suits fits reason a d
+  are_same_on a b d p q = record { suits_same = q.suits_same ∙ p.suits_same; fits_same = q.fits_same ∙ p.fits_same; reason_same = q.reason_same ∙ p.reason_same }
+
+  module _ (start now : T) (same : AreSame suits fits reason start now) where
+    -- what a turn's trial means is what it meant at the start
+    pub suit_now : (old new : Standing) → Follows (suits start) (fits start) (reason start) old new → all_suit (suits start) old ≡ true → all_suit (suits now) new ≡ true
+    suit_now old new f h = ap (λ (p : Candidate → Bool). all_suit p new) same.suits_same ∙ f.suit h
+
+    pub goes_on_after : (budget : ℕ) (a b d : Standing) → Follows (suits start) (fits start) (reason start) a b → GoesOnTo (suits now) (fits now) (reason now) budget b d
+        → Follows (suits start) (fits start) (reason start) a d
+    goes_on_after budget a b d f turn =
+        follows_on (suits start) (fits start) (reason start) a b d f
+        (subst (λ (p : Candidate → Bool). Follows p (fits start) (reason start) b d) same.suits_same
+        (subst (λ (p : Candidate → Bool). Follows (suits now) p (reason start) b d) same.fits_same
+        (subst (λ (r : Candidate → List Pair). Follows (suits now) (fits now) r b d) same.reason_same turn.follows)))
+
+    pub ends_after : (outcome : Outcome) (budget : ℕ) (a b d : Standing) → Follows (suits start) (fits start) (reason start) a b → trials_of b ≤ budget
+        → EndsAt outcome (fits now) (reason now) budget b d → EndsAt outcome (fits start) (reason start) budget a d
+    ends_after outcome budget a b d f few ends =
+        sym (f.walk budget few)
+        ∙ subst (λ (p : Candidate → Bool). EndsAt outcome p (reason start) budget b d) same.fits_same
+        (subst (λ (r : Candidate → List Pair). EndsAt outcome (fits now) r budget b d) same.reason_same ends)

@@ -1,0 +1,8 @@
+pub mod Trial
+pub mod Frontier
+pub mod Standing
+pub mod Turn
+pub mod Members
+pub mod Zones
+pub mod Search
+pub mod Laws

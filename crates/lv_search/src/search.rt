@@ -1,0 +1,114 @@
+//! The search: zones of candidates, what is listed and kept so far, and runs that go on where the last one stopped.
+#![tactic(auto)]
+
+ghost use Rattle.std.specs.Prelude.{◌≡◌, ◌+◌, ◌<◌, ◌≤◌, ◌^◌, [], true, List, take, filter, IfOk};
+ghost use Rattle.lv_base.specs.declared.rank.Rank.{Rank};
+ghost use Rattle.lv_walk.specs.declared.outcome.Outcome.TheVariants.{Settled};
+ghost use Rattle.lv_walk.specs.Walk.{candidate_of, walk};
+ghost use Rattle.lv_search.specs.Members.{ranked_members, sources_differ};
+ghost use Rattle.lv_search.specs.Standing.{trials_of, all_suit, AreSame, IsUnderWay, suit_all};
+
+use super::trial::Trial;
+use super::turn::{Held, Split, take_turns};
+use super::zones::Zones;
+use lv_base::{Conflict, Rank, Seq};
+use lv_boxes::{Grid, Zone};
+use lv_conflicts::Store;
+use lv_walk::Outcome;
+use std::alloc::{AllocError, Global};
+use std::marker::Model;
+
+/// A search for the first `k` candidates that fit. Contracts see where it stands: how many it is to list, what is listed
+/// and kept, and the candidates left in the order of their ranks; and by what zones were split.
+#[derive(Drop)]
+pub struct Search {
+    alloc: Global,
+    zones: Zones,
+    held: Held,
+}
+
+impl Model for Search {
+    ghost use Rattle.lv_search.specs.Search.{SearchValue};
+    ghost use Rattle.lv_search.specs.Turn.{standing};
+
+    ghost Value = { SearchValue };
+
+    ghost view = { λ s. record { standing = standing s.zones s.held; splits = s.held.splits } };
+}
+
+impl Search {
+    /// A search that has tried nothing, for the members of these zones, of which no two have one source. The grid tells
+    /// what choices cost.
+    pub fn new(alloc: Global, grid: Grid, zones: Vec<Zone>, k: u32) -> Result<Search, AllocError>
+        requires { sources_differ zones.items ≡ true }
+        ensures { IfOk result (λ search. search ≡ record { standing = record { k = k; listed = []; kept = []; left = ranked_members grid zones.items }; splits = [] }) }
+    {
+        let zones = Zones::new(alloc, grid, zones)?;
+        Ok(Search {
+            alloc,
+            zones,
+            held: Held {
+                k,
+                listed: Seq::new(alloc),
+                conflicts: Store::new(alloc)?,
+                splits: Seq::new(alloc),
+            },
+        })
+    }
+
+    /// Goes on with `more` trials at most. A search that is on the walk along some entries is then at the walk's end for
+    /// the sum of all trials given so far. After want of memory it is only dropped.
+    pub fn run<T: Trial>(&mut self, trial: &mut T, more: u64) -> Result<Outcome, AllocError>
+        requires number { trials_of self.old.standing + more < 2 ^ 64 }
+        requires suit { all_suit (T.suits trial.old) self.old.standing ≡ true }
+
+        // It comes to what the walk comes to, and where that is settled lists the first that fit.
+        ensures walk { (entries : List Rank) → IsUnderWay (T.suits trial.old) (T.fits trial.old) (T.reason trial.old) entries self.old.standing →
+            IfOk result (λ outcome. walk (T.fits trial.old) (T.reason trial.old) self.old.standing.k (trials_of self.old.standing + more) entries ≡ record { outcome = outcome; listed = self.new.standing.listed; kept = self.new.standing.kept }) }
+        ensures first { (entries : List Rank) → IsUnderWay (T.suits trial.old) (T.fits trial.old) (T.reason trial.old) entries self.old.standing → suit_all (T.suits trial.old) entries ≡ true →
+            IfOk result (λ outcome. outcome ≡ Settled → self.new.standing.listed ≡ take self.old.standing.k (filter (λ r. T.fits trial.old (candidate_of r)) entries)) }
+
+        // No more trials are made than were given.
+        ensures few { IfOk result (λ _. trials_of self.new.standing ≤ trials_of self.old.standing + more) }
+
+        // It can go on: it is on the same walk, under the same meanings.
+        ensures under_way { (entries : List Rank) → IsUnderWay (T.suits trial.old) (T.fits trial.old) (T.reason trial.old) entries self.old.standing →
+            IfOk result (λ _. IsUnderWay (T.suits trial.old) (T.fits trial.old) (T.reason trial.old) entries self.new.standing) }
+        ensures suit { IfOk result (λ _. all_suit (T.suits trial.old) self.new.standing ≡ true) }
+        ensures k { IfOk result (λ _. self.new.standing.k ≡ self.old.standing.k) }
+        ensures same { AreSame T.suits T.fits T.reason trial.old trial.new }
+    {
+        let budget = self.held.trials() + more;
+        take_turns(self.alloc, &mut self.zones, trial, &mut self.held, budget)
+    }
+
+    /// The candidates listed, in the order of their ranks. Takes no memory.
+    pub fn listed(&self) -> &[Rank]
+        ensures { result.now ≡ self.now.standing.listed }
+    {
+        self.held.listed.as_slice()
+    }
+
+    /// The conflicts kept, in the order in which they were found. Takes no memory.
+    pub fn conflicts(&self) -> &[Conflict]
+        ensures { result.now ≡ self.now.standing.kept }
+    {
+        self.held.conflicts.as_slice()
+    }
+
+    /// How many candidates were tried. Takes no memory.
+    pub fn trials(&self) -> u64
+        ensures { result ≡ trials_of self.now.standing }
+    {
+        self.held.trials()
+    }
+
+    /// The splits made, in order: each a zone and the kept conflict or listed candidate that split it. Zones are numbered
+    /// from 0, first those that the search began with; a split closes its zone and gives one zone for each pair of the
+    /// conflict, or for each choice of the candidate, the next numbers, those without members too. Takes no memory.
+    pub fn splits(&self) -> &[Split]
+        ensures { result.now ≡ self.now.splits }
+    {
+        self.held.splits.as_slice()
+    }
+}

@@ -1,0 +1,190 @@
+//! What is left to try as zones, a queue by the rank of each zone's least member, which is found once, when the zone is
+//! made. A zone is split only when its least member has come to the front: then the zone is closed, and its parts are
+//! opened. Zones are numbered in the order in which they are made, those without members too.
+#![tactic(auto)]
+
+ghost use Rattle.std.specs.Prelude.{◌≡◌, ◌≤◌, true, IfOk, IfSome, OnOk, OnErr, is_none, [], ◌∷◌, length};
+ghost use Rattle.lv_boxes.specs.Parts.{parts_of};
+ghost use Rattle.lv_boxes.specs.Laws.{pairs_of};
+ghost use Rattle.lv_boxes.specs.Least.{lacks_choice};
+ghost use Rattle.lv_search.specs.Members.{IsLeastRank, ranked_members, sources_differ};
+ghost use Rattle.lv_search.specs.Zones.{AreKept, HasMore, HasRoomFor};
+
+use super::frontier::Frontier;
+use lv_base::{Conflict, Rank, Seq};
+use lv_boxes::{Grid, Zone, choices_as_conflict, split};
+use std::alloc::{AllocError, Global};
+use std::collections::BTreeMap;
+use std::marker::Model;
+
+/// A zone that is open, and its number.
+#[derive(Debug, Drop)]
+struct Open {
+    number: usize,
+    zone: Zone,
+}
+
+/// The candidates left. Contracts see the list of them, each as its rank, in the order of their ranks.
+#[derive(Drop)]
+pub(crate) struct Zones {
+    alloc: Global,
+    grid: Grid,
+    queue: BTreeMap<Rank, Open>,
+    made: usize,
+}
+
+impl Model for Zones {
+    ghost use Rattle.std.specs.Prelude.{List};
+    ghost use Rattle.lv_base.specs.declared.rank.Rank.{Rank};
+    ghost use Rattle.lv_search.specs.Members.{ranked_members};
+    ghost use Rattle.lv_search.specs.Zones.{zones_of, AreKept};
+
+    ghost Value = { List Rank };
+
+    ghost view = { λ z. ranked_members z.grid (zones_of z.queue.entries) };
+
+    ghost invariant = { λ z. AreKept z.grid z.queue.entries };
+}
+
+/// The rank of the zone's least member, if it has members.
+fn least_of(alloc: Global, grid: &Grid, zone: &Zone) -> Result<Option<Rank>, AllocError>
+    ensures none { IfOk result (λ least. is_none least ≡ lacks_choice grid.now zone.now.masks) }
+    ensures least { IfOk result (λ least. IfSome least (λ rank. IsLeastRank grid.now zone.now rank)) }
+{
+    let mut choices = vec![in alloc; 0; grid.len()]?;
+    match grid.write_best(zone, &mut choices) {
+        Some(cost) => Ok(Some(Rank {
+            cost,
+            source: zone.source(),
+            choices: Seq::from_vec(choices),
+        })),
+        None => Ok(None),
+    }
+}
+
+/// Opens a zone, if it has members.
+fn open_zone(
+    alloc: Global,
+    grid: &Grid,
+    queue: &mut BTreeMap<Rank, Open>,
+    number: usize,
+    zone: Zone,
+) -> Result<(), AllocError>
+    requires { HasRoomFor grid.now (zone ∷ []) queue.old.entries }
+    ensures ok { OnOk result (HasMore grid.now (zone ∷ []) queue.old.entries queue.new.entries) }
+    ensures err { OnErr result (AreKept grid.now queue.new.entries) }
+{
+    if let Some(rank) = least_of(alloc, grid, &zone)? {
+        queue.insert(rank, Open { number, zone })?;
+    }
+    Ok(())
+}
+
+/// Opens zones, and numbers them on.
+fn open_all(
+    alloc: Global,
+    grid: &Grid,
+    queue: &mut BTreeMap<Rank, Open>,
+    made: &mut usize,
+    zones: Vec<Zone>,
+) -> Result<(), AllocError>
+    requires { HasRoomFor grid.now zones.items queue.old.entries }
+    ensures ok { OnOk result (HasMore grid.now zones.items queue.old.entries queue.new.entries) }
+    ensures err { OnErr result (AreKept grid.now queue.new.entries) }
+{
+    for zone in zones {
+        open_zone(alloc, grid, queue, *made, zone)?;
+        *made = made.saturating_add(1);
+    }
+    Ok(())
+}
+
+/// Opens the parts into which a conflict splits a zone that is closed.
+fn open_parts(
+    alloc: Global,
+    grid: &Grid,
+    queue: &mut BTreeMap<Rank, Open>,
+    made: &mut usize,
+    zone: &Zone,
+    conflict: &Conflict,
+) -> Result<(), AllocError>
+    requires { HasRoomFor grid.now (parts_of zone.now conflict.now) queue.old.entries }
+    ensures ok { OnOk result (HasMore grid.now (parts_of zone.now conflict.now) queue.old.entries queue.new.entries) }
+    ensures err { OnErr result (AreKept grid.now queue.new.entries) }
+{
+    let parts = split(alloc, zone, conflict)?;
+    open_all(alloc, grid, queue, made, parts)
+}
+
+impl Zones {
+    /// The members of these zones, whose sources differ, with what their choices cost.
+    pub(crate) fn new(alloc: Global, grid: Grid, zones: Vec<Zone>) -> Result<Zones, AllocError>
+        requires { sources_differ zones.items ≡ true }
+        ensures { IfOk result (λ left. left ≡ ranked_members grid zones.items) }
+    {
+        let mut queue = BTreeMap::new(alloc);
+        let mut made = 0;
+        open_all(alloc, &grid, &mut queue, &mut made, zones)?;
+        Ok(Zones {
+            alloc,
+            grid,
+            queue,
+            made,
+        })
+    }
+}
+
+impl Frontier for Zones {
+    ghost left = { λ zones. zones };
+
+    fn first(&self) -> Option<&Rank> {
+        match self.queue.first_key_value() {
+            Some((rank, _)) => Some(rank),
+            None => None,
+        }
+    }
+
+    fn drop_first(&mut self) -> Result<usize, AllocError> {
+        match self.queue.pop_first() {
+            Some((rank, open)) => {
+                let conflict = own_choices(self.alloc, &self.grid, &rank)?;
+                open_parts(
+                    self.alloc,
+                    &self.grid,
+                    &mut self.queue,
+                    &mut self.made,
+                    &open.zone,
+                    &conflict,
+                )?;
+                Ok(open.number)
+            }
+            None => Ok(self.made),
+        }
+    }
+
+    fn split_first(&mut self, conflict: &Conflict) -> Result<usize, AllocError> {
+        match self.queue.pop_first() {
+            Some((_, open)) => {
+                open_parts(
+                    self.alloc,
+                    &self.grid,
+                    &mut self.queue,
+                    &mut self.made,
+                    &open.zone,
+                    conflict,
+                )?;
+                Ok(open.number)
+            }
+            None => Ok(self.made),
+        }
+    }
+}
+
+/// All choices of a candidate with a choice for each slot, as a conflict.
+fn own_choices(alloc: Global, grid: &Grid, rank: &Rank) -> Result<Conflict, AllocError>
+    requires { length rank.now.choices ≡ length grid.now }
+    ensures { IfOk result (λ conflict. conflict ≡ pairs_of rank.now.choices) }
+{
+    let _slots = grid.len();
+    choices_as_conflict(alloc, rank.choices.as_slice())
+}
