@@ -1,7 +1,7 @@
 //! With ample memory each call answers. The candidates and what they contain are written out by hand.
 
-use lv_conflicts::Store;
 use lv_base::{Candidate, Conflict, Pair};
+use lv_conflicts::Store;
 use std::test::Fail;
 
 #[test]

@@ -1,7 +1,7 @@
 //! A formula of many kinds, and what its variables may range over.
 
-use lv_formula::{Condition, Formula, Range, Sort};
 use lv_base::{ValId, VarId};
+use lv_formula::{Condition, Formula, Range, Sort};
 use std::alloc::{AllocError, Global};
 
 fn is(var: u32, val: u32) -> Formula {

@@ -2,8 +2,8 @@
 
 ghost use Rattle.std.specs.Prelude.{◌≡◌, length, IfOk};
 
-use lv_boxes::{Grid, Zone, choices_as_conflict, split};
 use lv_base::Cost;
+use lv_boxes::{Grid, Zone, choices_as_conflict, split};
 use std::alloc::{AllocError, Global};
 use std::test::Fail;
 

@@ -3,6 +3,7 @@
 //! Each function does nothing: its contract is the law, which callers above cite by calling it.
 #![tactic(auto)]
 
+ghost use Rattle.lv_checker.specs.Example.{FormulasStandAsWritten};
 ghost use Rattle.lv_checker.specs.Laws.{OneModel, LinesGiveModel, LineWithoutTokensChangesNothing, TokensGiveModel, CommentGivesSameModel};
 
 /// A text gives at most one model.
@@ -28,4 +29,9 @@ pub fn tokens_give_model()
 /// A comment changes nothing, also behind a statement.
 pub fn comment_gives_same_model()
     ensures { CommentGivesSameModel }
+{}
+
+/// A worked example: the formulas of two modes, written the other way round, stand in the type as they are written.
+pub fn formulas_stand_as_written()
+    ensures { FormulasStandAsWritten }
 {}

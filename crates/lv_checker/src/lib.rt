@@ -27,4 +27,3 @@ pub use laws::{
     tokens_give_model,
 };
 pub use scope::system_comparison;
-

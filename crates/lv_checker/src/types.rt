@@ -89,7 +89,7 @@ fn with_formula(mut draft: TypeDraft, formula: ModeFormula) -> Result<TypeDraft,
 fn next_line(draft: &TypeDraft) -> Option<u32>
     ensures { result ≡ next_line draft.now }
 {
-    placed(draft.lines.len() + 1)
+    placed(draft.lines.len().saturating_add(1))
 }
 
 fn step_move(

@@ -17,7 +17,6 @@ use lv_base::{Candidate, Conflict, Seq, contains};
 use std::alloc::{AllocError, Global};
 use std::marker::Model;
 
-
 /// Conflicts by number: 0 for the one that was added first. Contracts see the list of them, each as the list of its
 /// pairs.
 #[derive(Debug, Drop)]

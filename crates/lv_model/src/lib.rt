@@ -25,5 +25,5 @@ pub mod variables;
 
 pub use lv_base::{Class, Name};
 pub use model::Model;
-pub use state::{State, TrackedState};
 pub use plant::{ComponentType, Domain, ModeFormula, Move, MoveKind, Part, Plant, Price, Variable};
+pub use state::{State, TrackedState};

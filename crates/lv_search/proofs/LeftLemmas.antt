@@ -21,9 +21,11 @@ use Rattle.lv_boxes.specs.Parts.{masks_with, masks_without, parts_of, are_slots_
 use Rattle.lv_boxes.specs.Laws.{pairs_of, LosesOne}
 use Rattle.lv_boxes.proofs.PartsLemmas.{is_member-with, is_member-without, parts_are_split}
 use Rattle.lv_boxes.proofs.MemberLemmas.{length-are_left, loses_one}
-use Rattle.lv_walk.specs.Ranked.{rank_cmp, rises, is_rank, is_among}
+use Rattle.lv_walk.specs.Ranked.{rises, is_rank, is_among}
+use Rattle.lv_base.specs.Rank.{rank_cmp}
 use Rattle.lv_walk.specs.Walk.{candidate_of}
-use Rattle.lv_walk.proofs.RankedLemmas.{before_by_cmp, greater_is_after, neither_is_same, not_before_itself, not_both_before, same_rank, is_itself, before_each, not_among_later, one_list}
+use Rattle.lv_walk.proofs.RankedLemmas.{neither_is_same, not_before_itself, not_both_before, same_rank, is_itself, before_each, not_among_later, one_list}
+use Rattle.lv_base.proofs.OrderLemmas.{before_by_cmp, greater_is_after}
 use Rattle.lv_search.specs.declared.zones.Open.{Open}
 use Rattle.lv_search.specs.Frontier.{FirstContains, Thins}
 use Rattle.lv_search.specs.Members.{ranked_members, ranks_in, times_in, sources_differ}

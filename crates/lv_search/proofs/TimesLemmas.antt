@@ -11,7 +11,7 @@ use Rattle.lv_base.specs.declared.rank.Rank.{Rank}
 use Rattle.lv_boxes.specs.Members.{ZoneValue, are_left, is_member, choices_cost}
 use Rattle.lv_boxes.specs.Least.{lacks_choice}
 use Rattle.lv_boxes.proofs.LeastLemmas.{lacks_choice-none}
-use Rattle.lv_walk.specs.Ranked.{rank_cmp}
+use Rattle.lv_base.specs.Rank.{rank_cmp}
 use Rattle.lv_walk.specs.Walk.{candidate_of}
 use Rattle.lv_walk.proofs.RankedLemmas.{equal_by_cmp}
 use Rattle.lv_search.specs.declared.zones.Open.{Open}

@@ -3,6 +3,5 @@
 #![tactic(auto)]
 
 mod avoids;
-
 #[cfg(test)]
 mod tests;

@@ -61,10 +61,22 @@ fn first_three_without_a_choice(rt: HostRuntime) -> Result<(), Fail> {
 
     // The zone of all is split by 00 into 1 and 2, 1 by the conflict into 3, 3 by 20, and 2 by 01.
     let splits = [
-        Split { zone: 0, by: By::Listed(0) },
-        Split { zone: 1, by: By::Conflict(0) },
-        Split { zone: 3, by: By::Listed(1) },
-        Split { zone: 2, by: By::Listed(2) },
+        Split {
+            zone: 0,
+            by: By::Listed(0),
+        },
+        Split {
+            zone: 1,
+            by: By::Conflict(0),
+        },
+        Split {
+            zone: 3,
+            by: By::Listed(1),
+        },
+        Split {
+            zone: 2,
+            by: By::Listed(2),
+        },
     ];
     assert!(rt; search.splits() == splits.as_slice());
     Ok(())

@@ -1,32 +1,15 @@
 -- Ranks put in among ranks in rising order stay in rising order, and a rising list is determined by the ranks in it.
-use Rattle.std.proofs.Common.{◌≡◌, ℕ, Bool, true, false, ◌&&◌, ◌||◌, List, [], ◌∷◌, ⊎_elim, refl, sym, ◌∙◌, ap, ap₂, subst, arith}
+use Rattle.std.proofs.Common.{◌≡◌, Bool, true, false, ◌&&◌, ◌||◌, List, [], ◌∷◌, ⊎_elim, refl, sym, ◌∙◌, ap, ap₂, subst}
 use Rattle.std.specs.List.{list_all}
 use Rattle.std.specs.declared.cmp.Ordering.{Ordering}
 use Rattle.std.specs.declared.cmp.Ordering.TheVariants.{Less, Equal, Greater}
 use Rattle.std.specs.BTreeSet.{insert_key}
-use Rattle.std.specs.Cmp.Lexicographic.{slice_cmp}
-use Rattle.std.specs.Ordering.{nat_cmp, is_lt, is_gt, match_ordering}
-use Rattle.std.proofs.lemmas.Cmp.{same_from_slice_cmp}
+use Rattle.std.specs.Ordering.{match_ordering}
 use Rattle.std.proofs.lemmas.Bool.{and_from, and_parts, or_from, or_parts, or_cases, or_left, not-true, not_from_false, both_ways, false_from_ne_true}
-use Rattle.std.proofs.lemmas.Bool.Decides.{nat_tests}
 use Rattle.lv_base.specs.declared.rank.Rank.{Rank}
-use Rattle.lv_base.specs.Order.{comes_before}
-use Rattle.lv_base.specs.Rank.{rank_key, ranks_before}
-use Rattle.lv_base.proofs.OrderLemmas.{irreflexive, transitive, connected}
-use Rattle.lv_walk.specs.Ranked.{rank_cmp, rises, is_rank, is_among, put_in_order, ranked}
-
--- how ranks compare tells which comes before
-pub less_is_before : (xs ys : List ℕ) (o : Ordering) → o ≡ slice_cmp nat_cmp xs ys → is_lt o ≡ comes_before xs ys
-less_is_before = same_from_slice_cmp nat_cmp is_lt comes_before refl (λ _ _. refl) (λ _ _. refl) (λ x y xs ys o h. grind (arith, nat_tests))
-
-pub greater_is_after : (xs ys : List ℕ) (o : Ordering) → o ≡ slice_cmp nat_cmp xs ys → is_gt o ≡ comes_before ys xs
-greater_is_after = same_from_slice_cmp nat_cmp is_gt (λ xs ys. comes_before ys xs) refl (λ _ _. refl) (λ _ _. refl) (λ x y xs ys o h. grind (arith, nat_tests))
-
-pub before_by_cmp : (a b : Rank) → rank_cmp a b ≡ Less → ranks_before a b ≡ true
-before_by_cmp a b e = sym (less_is_before (rank_key a) (rank_key b) Less (sym e))
-
-pub after_by_cmp : (a b : Rank) → rank_cmp a b ≡ Greater → ranks_before b a ≡ true
-after_by_cmp a b e = sym (greater_is_after (rank_key a) (rank_key b) Greater (sym e))
+use Rattle.lv_base.specs.Rank.{rank_key, rank_cmp, ranks_before}
+use Rattle.lv_base.proofs.OrderLemmas.{irreflexive, transitive, connected, less_is_before, greater_is_after, before_by_cmp, after_by_cmp}
+use Rattle.lv_walk.specs.Ranked.{rises, is_rank, is_among, put_in_order, ranked}
 
 pub neither_is_same : (a b : Rank) → ranks_before a b ≡ false → ranks_before b a ≡ false → a ≡ b
 neither_is_same a b p q =

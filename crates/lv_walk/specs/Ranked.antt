@@ -1,16 +1,9 @@
 -- Ranks in order, none twice.
 use Rattle.std.specs.Prelude.{Bool, true, ◌&&◌, ◌||◌, not, List, [], ◌∷◌}
 use Rattle.std.specs.List.{list_all, list_any}
-use Rattle.std.specs.declared.cmp.Ordering.{Ordering}
 use Rattle.std.specs.BTreeSet.{insert_key}
-use Rattle.std.specs.Cmp.Lexicographic.{slice_cmp}
-use Rattle.std.specs.Ordering.{nat_cmp, on}
 use Rattle.lv_base.specs.declared.rank.Rank.{Rank}
-use Rattle.lv_base.specs.Rank.{rank_key, ranks_before}
-
--- how ranks compare
-abbrev pub rank_cmp : Rank → Rank → Ordering
-rank_cmp = on rank_key (slice_cmp nat_cmp)
+use Rattle.lv_base.specs.Rank.{rank_cmp, ranks_before}
 
 -- each ranks before all later ones
 abbrev pub rises : List Rank → Bool

@@ -3,7 +3,7 @@
 use lv_base::{Class, Cost, MoveId, PartId, Seq, ValId, VarId};
 use lv_formula::{Condition, Formula};
 use lv_model::{
-    ComponentType, Domain, Model, ModeFormula, Move, MoveKind, Part, Plant, Price, Variable,
+    ComponentType, Domain, ModeFormula, Model, Move, MoveKind, Part, Plant, Price, Variable,
 };
 use std::alloc::{AllocError, Global};
 

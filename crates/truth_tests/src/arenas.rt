@@ -1,8 +1,8 @@
 //! Each public call once, with ample memory.
 ghost use Rattle.std.specs.Prelude.{◌≡◌};
 
-use lv_clauses::*;
 use lv_base::{BoolId, Lit};
+use lv_clauses::*;
 use std::test::Fail;
 
 /// The literal of a boolean and a sign.

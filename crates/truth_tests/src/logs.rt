@@ -1,6 +1,6 @@
 //! Each public call once, with ample memory.
-use lv_reflog::{Hint, Log};
 use lv_base::{BoolId, ClauseId, Lit};
+use lv_reflog::{Hint, Log};
 use std::test::Fail;
 
 #[test]

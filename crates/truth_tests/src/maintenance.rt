@@ -1,7 +1,7 @@
 //! Clauses and assumptions that come and go. Each call is made where its condition holds.
-use lv_ltms::{Label, Ltms, Reason, Standing};
 use lv_base::{BoolId, ClauseId, Lit};
 use lv_clauses::is_clause;
+use lv_ltms::{Label, Ltms, Reason, Standing};
 use std::alloc::AllocError;
 use std::test::Fail;
 
