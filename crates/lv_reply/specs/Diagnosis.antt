@@ -4,17 +4,17 @@ use Rattle.std.specs.Option.{option_map_or}
 use Rattle.lv_base.specs.declared.rank.Rank.{Rank}
 use Rattle.lv_model.specs.declared.plant.Plant.{Plant}
 use Rattle.lv_model.specs.declared.plant.ComponentType.{ComponentType}
-use Rattle.lv_model.specs.declared.plant.Mode.{Mode}
 use Rattle.lv_model.specs.declared.plant.Move.{Move}
 use Rattle.lv_model.specs.declared.plant.MoveKind.{MoveKind}
 use Rattle.lv_model.specs.declared.plant.MoveKind.TheVariants.{Step, Stay, Fault}
 use Rattle.lv_model.specs.declared.plant.Part.{Part}
 
-abbrev pub mode_name : List Mode → ℕ → List ℕ
-mode_name modes n = option_map_or (λ (m : Mode). m.name) (slice_get modes n) []
+-- the name of a mode; nothing where there is no such mode
+abbrev pub mode_name : List (List ℕ) → ℕ → List ℕ
+mode_name modes n = option_map_or (λ (name : List ℕ). name) (slice_get modes n) []
 
 -- a step or a fault, as `v closed>open #1`
-abbrev pub move_text : Part → List Mode → Move → List ℕ
+abbrev pub move_text : Part → List (List ℕ) → Move → List ℕ
 move_text p modes m =
     p.name ++ codes " " ++ mode_name modes m.source.0 ++ codes ">" ++ mode_name modes m.target.0 ++ codes " #" ++ decimal m.line
 

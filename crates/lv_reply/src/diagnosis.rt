@@ -9,7 +9,7 @@ ghost use Rattle.lv_reply.specs.Diagnosis.{mode_name, move_text, shown, shown_mo
 use itoa::Buffer;
 use lv_base::{MoveId, Rank, Seq, ValId};
 use lv_model::lookup::{move_of, type_of};
-use lv_model::{ComponentType, Mode, Model, Move, MoveKind, Name, Part};
+use lv_model::{ComponentType, Move, MoveKind, Name, Part, Plant};
 use std::alloc::{AllocError, Global};
 
 /// Adds a number.
@@ -22,12 +22,12 @@ fn push_number(out: &mut Vec<u8>, n: u64) -> Result<(), AllocError>
 }
 
 /// Adds the name of a mode; nothing where there is no such mode.
-fn push_mode(out: &mut Vec<u8>, modes: &[Mode], mode: ValId) -> Result<(), AllocError>
+fn push_mode(out: &mut Vec<u8>, modes: &[Name], mode: ValId) -> Result<(), AllocError>
     ensures { IfOk result (λ _. out.new.items ≡ out.old.items ++ mode_name modes.now mode.0) }
 {
     match modes.get(mode.0 as usize) {
-        Some(m) => {
-            out.extend_from_slice(m.name.as_slice())?;
+        Some(name) => {
+            out.extend_from_slice(name.as_slice())?;
             Ok(())
         }
         None => Ok(()),
@@ -35,7 +35,7 @@ fn push_mode(out: &mut Vec<u8>, modes: &[Mode], mode: ValId) -> Result<(), Alloc
 }
 
 /// A step or a fault of a part.
-fn text_of_move(alloc: Global, part: &Part, modes: &[Mode], m: &Move) -> Result<Vec<u8>, AllocError>
+fn text_of_move(alloc: Global, part: &Part, modes: &[Name], m: &Move) -> Result<Vec<u8>, AllocError>
     ensures { IfOk result (λ out. out.items ≡ move_text part.now modes.now m.now) }
 {
     let mut out = Vec::from_slice(alloc, part.name.as_slice())?;
@@ -53,7 +53,7 @@ fn push_shown(
     alloc: Global,
     out: &mut Vec<Name>,
     part: &Part,
-    modes: &[Mode],
+    modes: &[Name],
     m: &Move,
 ) -> Result<(), AllocError>
     ensures { IfOk result (λ _. out.new.items ≡ out.old.items ++ shown m.now.kind (move_text part.now modes.now m.now)) }
@@ -140,13 +140,12 @@ fn push_joined(out: &mut Vec<u8>, texts: &[Name]) -> Result<(), AllocError>
 fn push_line(
     alloc: Global,
     out: &mut Vec<u8>,
-    model: &Model,
+    plant: &Plant,
     n: u64,
     rank: &Rank,
 ) -> Result<(), AllocError>
-    ensures { IfOk result (λ _. out.new.items ≡ out.old.items ++ listed_line model.now n rank.now) }
+    ensures { IfOk result (λ _. out.new.items ≡ out.old.items ++ listed_line plant.now n rank.now) }
 {
-    let plant = model.plant();
     let moves = shown_moves(
         alloc,
         plant.types.as_slice(),
@@ -168,25 +167,25 @@ fn push_line(
 fn push_lines(
     alloc: Global,
     out: &mut Vec<u8>,
-    model: &Model,
+    plant: &Plant,
     ranks: &[Rank],
 ) -> Result<(), AllocError>
-    ensures { IfOk result (λ _. out.new.items ≡ out.old.items ++ listed_lines model.now 1 ranks.now) }
+    ensures { IfOk result (λ _. out.new.items ≡ out.old.items ++ listed_lines plant.now 1 ranks.now) }
 {
     for (i, rank) in ranks.iter().enumerate() {
-        push_line(alloc, out, model, i as u64 + 1, rank)?;
+        push_line(alloc, out, plant, i as u64 + 1, rank)?;
     }
     Ok(())
 }
 
 /// The text of a diagnosis that lists these candidates.
 #[tactic(auto, unfolding(crate::specs::Diagnosis::diagnosis_text))]
-pub fn diagnosis_text(alloc: Global, model: &Model, ranks: &[Rank]) -> Result<Vec<u8>, AllocError>
-    ensures { IfOk result (λ out. out.items ≡ diagnosis_text model.now ranks.now) }
+pub fn diagnosis_text(alloc: Global, plant: &Plant, ranks: &[Rank]) -> Result<Vec<u8>, AllocError>
+    ensures { IfOk result (λ out. out.items ≡ diagnosis_text plant.now ranks.now) }
 {
     let mut out = Vec::from_slice(alloc, b"settled ")?;
     push_number(&mut out, ranks.len() as u64)?;
     out.extend_from_slice(b"\n")?;
-    push_lines(alloc, &mut out, model, ranks)?;
+    push_lines(alloc, &mut out, plant, ranks)?;
     Ok(out)
 }

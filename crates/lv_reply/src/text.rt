@@ -26,6 +26,6 @@ pub fn reply_text(alloc: Global, model: &Model, reply: &Reply) -> Result<Vec<u8>
         Reply::Nothing => Ok(Vec::new(alloc)),
         Reply::Accepted => Vec::from_slice(alloc, b"ok\n"),
         Reply::Refused(refusal) => refusal_text(alloc, *refusal),
-        Reply::Settled(listed) => diagnosis_text(alloc, model, listed.as_slice()),
+        Reply::Settled(listed) => diagnosis_text(alloc, model.plant(), listed.as_slice()),
     }
 }

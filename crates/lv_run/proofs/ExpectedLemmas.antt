@@ -1,5 +1,5 @@
 -- What was expected where the session was not read, and what follows for the top call.
-use Rattle.std.proofs.Common.{◌≡◌, ◌≢◌, ◌⊎◌, ℕ, ◌<◌, Bool, true, false, length, nat_le, Option, None, Some, inl, inr, refl, sym, ◌∙◌, ap, subst, arith, List, []}
+use Rattle.std.proofs.Common.{◌≡◌, ◌≢◌, ◌⊎◌, ℕ, ◌<◌, ◌≤◌, Bool, true, false, length, nat_le, Option, None, Some, inl, inr, refl, sym, ◌∙◌, ap, subst, arith, List, []}
 use Rattle.std.specs.Prelude.{IfSome, IsTrue, IsErrAnd, Result, Ok, Err, if◌then◌else◌}
 use Rattle.std.specs.Option.{option_map, option_map_or}
 use Rattle.std.proofs.lemmas.Bool.Decides.{nat_tests}
@@ -7,12 +7,15 @@ use Rattle.lv_base.specs.declared.limits.TheConstants.{SESSION_BYTES}
 use Rattle.lv_model.specs.declared.plant.Plant.{Plant}
 use Rattle.lv_text.specs.Lines.{lines_of}
 use Rattle.lv_session.specs.Session.{start}
-use Rattle.lv_session.specs.Transcript.{AddsFrontOfTranscript}
+use Rattle.lv_session.specs.Transcript.{AddsTranscript, AddsFrontOfTranscript}
 use Rattle.lv_session.proofs.Serving.{no_line_served}
 use Rattle.lv_run.specs.Inputs.{accepted_model}
-use Rattle.lv_run.specs.Faults.{EndsModel, EndsSession, RefusesOnly, status_of, ended_status, model_refusal}
+use Rattle.lv_run.specs.Faults.{EndsModel, EndsSession, RefusesOnly, status_of, ended_status, model_refusal, fault_of_sink}
+use Rattle.lv_io.specs.Outside.{HasCause}
+use Rattle.lv_io.specs.declared.IoFault.{IoFault}
+use Rattle.lv_io.specs.declared.IoFault.TheVariants.{Failed, Memory}
 use Rattle.lv_run.specs.Arguments.{RunWords, run_words}
-use Rattle.lv_run.specs.Expected.{Expected, serves, fails, expected, expected_of_texts, expected_of_model, expected_of_session, status_expected, AddsSome, Meets, EndsAs, IsRefusal}
+use Rattle.lv_run.specs.Expected.{Expected, serves, fails, expected, expected_of_texts, expected_of_model, expected_of_session, status_expected, AddsSome, Meets, EndsAs, IsRefusal, is_silent}
 use Rattle.lv_run.specs.declared.status.Status.{Status}
 use Rattle.lv_run.specs.declared.status.Status.TheVariants.{Done, WordsRefused, ModelRefused, ModelUnread, SessionUnread, OutputFailed, SessionTooLong, OutOfMemory}
 use Rattle.lv_run.specs.declared.fault.RunFault.{RunFault}
@@ -209,3 +212,104 @@ session_not_refused o result fault ends handed =
     none NoOutput ends e = ends
     none LongSession ends e = absurd (cc)
     none NoMemory ends e = absurd (cc)
+
+fitting : (P : Expected → Type 0) (b : Bool) (plant : Plant) (session : List ℕ)
+    → b ≡ true
+    → P (serves plant session)
+    → P (if b then serves plant session else fails LongSession)
+fitting P true plant session fits given = given
+fitting P false plant session fits given = absurd (cc)
+
+session_served : (P : Expected → Type 0) (told : Option (List ℕ)) (plant : Plant) (session : List ℕ)
+    → IfSome told (λ text. text ≡ session)
+    → length session ≤ SESSION_BYTES
+    → P (serves plant session)
+    → IfSome (option_map (expected_of_session plant) told) P
+session_served P None plant session told within given = tt
+session_served P (Some text) plant session told within given =
+    fitting P (nat_le (length text) SESSION_BYTES) plant text
+    (let same : text ≡ session = told in let fits : length text ≤ SESSION_BYTES = rw same within in grind (arith, nat_tests))
+    (subst (λ (t : List ℕ). P (serves plant t)) (sym told) given)
+
+texts_served : (P : Expected → Type 0) (model told : Option (List ℕ)) (plant : Plant) (session : List ℕ)
+    → IfSome model (λ text. accepted_model text ≡ Some plant)
+    → IfSome told (λ text. text ≡ session)
+    → length session ≤ SESSION_BYTES
+    → P (serves plant session)
+    → IfSome (expected_of_texts model told) P
+texts_served P None told plant session accepted same within given = tt
+texts_served P (Some text) told plant session accepted same within given =
+    subst (λ (p : Option Plant). IfSome (expected_of_model told p) P) (sym accepted) (session_served P told plant session same within given)
+
+run_served : (P : Expected → Type 0) (file later : List ℕ → Option (List ℕ)) (words : List (List ℕ)) (run : RunWords) (plant : Plant) (session : List ℕ)
+    → later ≡ file
+    → run_words words ≡ Some run
+    → IfSome (file run.model) (λ text. accepted_model text ≡ Some plant)
+    → IfSome (later run.session) (λ text. text ≡ session)
+    → length session ≤ SESSION_BYTES
+    → P (serves plant session)
+    → IfSome (expected file words) P
+run_served P file later words run plant session same is accepted told within given =
+    asked P file words run is
+    (texts_served P (file run.model) (file run.session) plant session accepted
+    (subst (λ (f : List ℕ → Option (List ℕ)). IfSome (f run.session) (λ text. text ≡ session)) same told) within given)
+
+-- where a transcript was written
+pub served_whole : (file later : List ℕ → Option (List ℕ)) (words : List (List ℕ)) (run : RunWords) (plant : Plant) (session : List ℕ) (before after : Option (List ℕ))
+    → later ≡ file
+    → run_words words ≡ Some run
+    → IfSome (file run.model) (λ text. accepted_model text ≡ Some plant)
+    → IfSome (later run.session) (λ text. text ≡ session)
+    → length session ≤ SESSION_BYTES
+    → AddsTranscript plant session before after
+    → IfSome (expected file words) (λ e. Meets e before after Done)
+served_whole file later words run plant session before after same is accepted told within given =
+    run_served (λ e. Meets e before after Done) file later words run plant session same is accepted told within (refl, given)
+
+either_front : (plant : Plant) (session : List ℕ) (before after : Option (List ℕ)) (status : Status)
+    → (status ≡ OutputFailed) ⊎ (status ≡ OutOfMemory)
+    → AddsFrontOfTranscript plant session before after
+    → Meets (serves plant session) before after status
+either_front plant session before after status (inl is) given = subst (Meets (serves plant session) before after) (sym is) given
+either_front plant session before after status (inr is) given = subst (Meets (serves plant session) before after) (sym is) given
+
+-- where a front of one was
+pub served_partly : (file later : List ℕ → Option (List ℕ)) (words : List (List ℕ)) (run : RunWords) (plant : Plant) (session : List ℕ) (before after : Option (List ℕ)) (status : Status)
+    → later ≡ file
+    → run_words words ≡ Some run
+    → IfSome (file run.model) (λ text. accepted_model text ≡ Some plant)
+    → IfSome (later run.session) (λ text. text ≡ session)
+    → length session ≤ SESSION_BYTES
+    → (status ≡ OutputFailed) ⊎ (status ≡ OutOfMemory)
+    → AddsFrontOfTranscript plant session before after
+    → IfSome (expected file words) (λ e. Meets e before after status)
+served_partly file later words run plant session before after status same is accepted told within ends given =
+    run_served (λ e. Meets e before after status) file later words run plant session same is accepted told within
+    (either_front plant session before after status ends given)
+
+-- a status of the output is no refusal, and is not silent
+pub other_than_refused : (status : Status) → (status ≡ OutputFailed) ⊎ (status ≡ OutOfMemory) → status ≢ ModelRefused
+other_than_refused status (inl is) e = absurd (cc)
+other_than_refused status (inr is) e = absurd (cc)
+
+pub not_silent : {A : Type 0} (status : Status) → (status ≡ OutputFailed) ⊎ (status ≡ OutOfMemory) → IsTrue (is_silent status) → A
+not_silent status (inl is) quiet = let q : IsTrue (is_silent OutputFailed) = subst (λ (s : Status). IsTrue (is_silent s)) is quiet in absurd (cc)
+not_silent status (inr is) quiet = let q : IsTrue (is_silent OutOfMemory) = subst (λ (s : Status). IsTrue (is_silent s)) is quiet in absurd (cc)
+
+pub is_unread : (fault : RunFault) → status_of fault ≡ SessionUnread → fault ≡ NoSession
+is_unread BadWords e = absurd (cc)
+is_unread (BadModel code line) e = absurd (cc)
+is_unread NoModel e = absurd (cc)
+is_unread NoSession e = refl
+is_unread NoOutput e = absurd (cc)
+is_unread LongSession e = absurd (cc)
+is_unread NoMemory e = absurd (cc)
+
+pub sink_as_before : (result : Result (Unit {0}) RunFault) (fault : IoFault) (old new : ℕ)
+    → IsErrAnd result (λ e. e ≡ fault_of_sink fault)
+    → HasCause {T = Unit {0}} old new (Err fault)
+    → ended_status result ≢ OutputFailed
+    → new ≡ old
+sink_as_before (Ok x) fault old new is cause other = absurd is
+sink_as_before (Err e) Failed old new is cause other = absurd (other (ap status_of is))
+sink_as_before (Err e) Memory old new is cause other = cause

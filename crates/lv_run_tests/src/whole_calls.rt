@@ -273,22 +273,3 @@ fn failed_write_of_a_line(rt: HostRuntime) -> Result<(), AllocError> {
     assert!(rt; ends_so(rt.alloc(), &call, Status::OutputFailed, "", "model 0")?);
     Ok(())
 }
-
-#[test]
-fn session_over_its_limit(rt: HostRuntime) -> Result<(), AllocError> {
-    let session = vec![in rt.alloc(); b'\n'; 67_108_865]?;
-    let call = Call {
-        session: session.as_slice(),
-        ..faultless(RUN, "")
-    };
-    assert!(rt;
-        ends_so(
-            rt.alloc(),
-            &call,
-            Status::SessionTooLong,
-            "",
-            "session too long\n"
-        )?
-    );
-    Ok(())
-}

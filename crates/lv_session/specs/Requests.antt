@@ -1,17 +1,19 @@
 -- What a line of a session asks for.
-use Rattle.std.specs.Prelude.{ℕ, ◌+◌, Bool, ◌&&◌, nat_eq, nat_lt, List, length, position, slice_get, Option, Some, None, option_map, if◌then◌else◌, codes}
+use Rattle.std.specs.Prelude.{ℕ, ◌+◌, Bool, true, false, ◌&&◌, nat_eq, nat_lt, List, length, position, slice_get, Option, Some, None, option_map, if◌then◌else◌, codes}
 use Rattle.std.specs.Option.{option_and_then, option_map_or}
 use Rattle.lv_base.specs.declared.ids.VarId.{VarId}
+use Rattle.lv_base.specs.declared.limits.TheConstants.{VARIABLES}
+use Rattle.lv_base.specs.Names.{is_named}
 use Rattle.lv_text.specs.declared.lexer.TokenKind.{TokenKind}
-use Rattle.lv_text.specs.Tokens.{Lexed, lexed, bad_byte, long_line, line_tokens}
-use Rattle.lv_reader.specs.Equations.{says, word_at, has_kind_at, is_dot, is_equals, texts_of, kinds_of}
+use Rattle.lv_text.specs.declared.lexer.TokenKind.TheVariants.{Dot, Equals}
+use Rattle.lv_text.specs.Lexemes.{Lexeme, Reading, reads, has_bad_byte, is_too_long, line_reading, kind_at, word_at, says}
 use Rattle.lv_model.specs.declared.plant.Plant.{Plant}
 use Rattle.lv_model.specs.declared.plant.Domain.{Domain}
 use Rattle.lv_model.specs.declared.plant.ComponentType.{ComponentType}
 use Rattle.lv_model.specs.declared.plant.Part.{Part}
 use Rattle.lv_model.specs.declared.plant.Variable.{Variable}
 use Rattle.lv_model.specs.Lists.{controls}
-use Rattle.lv_model.specs.Names.{is_named, part_named, variable_named}
+use Rattle.lv_model.specs.Names.{part_named, variable_named}
 use Rattle.lv_reply.specs.declared.reply.Refusal.TheVariants.{UnknownWord}
 use Rattle.lv_session.specs.declared.request.Command.{Command}
 use Rattle.lv_session.specs.declared.request.Found.{Found}
@@ -20,7 +22,7 @@ use Rattle.lv_session.specs.declared.request.Request.TheVariants.{Nothing, Diagn
 
 -- a place in a list of a plant, each of which is below the limit on variables
 abbrev pub numbered : ℕ → Option ℕ
-numbered n = if nat_lt n 4096 then Some n else None
+numbered n = if nat_lt n VARIABLES then Some n else None
 
 -- the variable at a place of a type, whose variables are counted from the mode's number on
 abbrev pub variable_of_type : List Variable → ℕ → ℕ → Option Found
@@ -55,33 +57,45 @@ command_to plant controls part control value =
     option_and_then (λ place. option_map (λ v. record { place = place; value = v }) (value_of plant.domains value x.domain))
     (position (is_variable x.number) controls)) (variable_of plant part control)
 
+abbrev pub is_dot : TokenKind → Bool
+is_dot Dot = true
+is_dot kind = false
+
+abbrev pub is_equals : TokenKind → Bool
+is_equals Equals = true
+is_equals kind = false
+
+-- the token at a place has such a kind
+abbrev pub has_kind : (TokenKind → Bool) → List Lexeme → ℕ → Bool
+has_kind test line place = option_map_or test (kind_at line place) false
+
 -- six tokens that begin with `command`, with the signs of `command P.C = V`
-abbrev pub has_command_form : List (List ℕ) → List TokenKind → Bool
-has_command_form texts kinds =
-    nat_eq (length kinds) 6 && (says (codes "command") texts kinds 0 && (has_kind_at is_dot kinds 2 && has_kind_at is_equals kinds 4))
+abbrev pub has_command_form : List Lexeme → Bool
+has_command_form line =
+    nat_eq (length line) 6 && (says (codes "command") line 0 && (has_kind is_dot line 2 && has_kind is_equals line 4))
 
 -- what `command P.C = V` commands, where its names are those of a part, a control of it, and a value of the control's domain
-unfoldable pub command_of : Plant → List VarId → List (List ℕ) → List TokenKind → Option Command
-command_of plant controls texts kinds =
-    if has_command_form texts kinds
+unfoldable pub command_of : Plant → List VarId → List Lexeme → Option Command
+command_of plant controls line =
+    if has_command_form line
     then option_and_then (λ part. option_and_then (λ control. option_and_then (λ value.
-    command_to plant controls part control value) (word_at texts kinds 5)) (word_at texts kinds 3)) (word_at texts kinds 1)
+    command_to plant controls part control value) (word_at line 5)) (word_at line 3)) (word_at line 1)
     else None
 
--- what tokens of these texts and kinds ask for
-abbrev pub asked : Plant → List (List ℕ) → List TokenKind → Request
-asked plant texts kinds =
-    if nat_eq (length kinds) 0
+-- what the tokens of a line ask for
+abbrev pub asked : Plant → List Lexeme → Request
+asked plant line =
+    if nat_eq (length line) 0
     then Nothing
-    else (if nat_eq (length kinds) 1 && says (codes "diagnose") texts kinds 0
+    else (if nat_eq (length line) 1 && says (codes "diagnose") line 0
     then Diagnose
-    else option_map_or SetControl (command_of plant (controls plant) texts kinds) (Refused UnknownWord))
+    else option_map_or SetControl (command_of plant (controls plant) line) (Refused UnknownWord))
 
-abbrev pub asked_by : Plant → List ℕ → Lexed → Request
-asked_by plant line (lexed ts) = asked plant (texts_of line ts) (kinds_of ts)
-asked_by plant line (bad_byte place) = Refused UnknownWord
-asked_by plant line long_line = Refused UnknownWord
+abbrev pub asked_by : Plant → Reading → Request
+asked_by plant (reads line) = asked plant line
+asked_by plant (has_bad_byte place) = Refused UnknownWord
+asked_by plant is_too_long = Refused UnknownWord
 
 -- what a line asks for
 unfoldable pub request_of : Plant → List ℕ → Request
-request_of plant line = asked_by plant line (line_tokens line)
+request_of plant line = asked_by plant (line_reading line)

@@ -8,7 +8,7 @@ use Rattle.lv_model.specs.declared.plant.Plant.{Plant}
 use Rattle.lv_model.specs.declared.plant.Part.{Part}
 use Rattle.lv_model.specs.Lists.{controls}
 use Rattle.lv_meaning.specs.declared.facts.Facts.{Facts}
-use Rattle.lv_meaning.specs.declared.candidates.State.{State}
+use Rattle.lv_model.specs.declared.state.TrackedState.{TrackedState}
 use Rattle.lv_meaning.specs.Candidates.{first_possible}
 use Rattle.lv_reply.specs.declared.reply.Reply.{Reply}
 use Rattle.lv_reply.specs.declared.reply.Reply.TheVariants.{Nothing as Silence, Accepted, Refused as RefusedBy, Settled}
@@ -25,8 +25,8 @@ abbrev pub start : Plant → SessionState
 start plant = record { controls = map (λ (c : VarId). record { 0 = 0 }) (controls plant) }
 
 -- the one tracked state: the modes that the parts start in, at cost 0
-abbrev pub start_state : Plant → State
-start_state plant = record { modes = map (λ (p : Part). p.start) plant.parts; cost = record { 0 = 0 } }
+abbrev pub start_state : Plant → TrackedState
+start_state plant = record { state = record { modes = map (λ (p : Part). p.start) plant.parts }; cost = record { 0 = 0 } }
 
 -- nothing is observed
 abbrev pub facts_of : SessionState → Facts

@@ -3,22 +3,20 @@
 //! A line is read by the form of its word alone, and the names in it are looked up afterwards, from left to right.
 #![tactic(auto)]
 
-ghost use Rattle.std.specs.Prelude.{◌≡◌, ◌<◌, ◌+◌, ◌&&◌, IfOk, IfSome, All, position, length, nat_eq, slice_get};
-ghost use Rattle.std.specs.Option.{option_and_then, option_copied};
-ghost use Rattle.lv_text.specs.Kinds.{IsTokenOf};
-ghost use Rattle.lv_text.specs.Tokens.{line_tokens};
-ghost use Rattle.lv_reader.specs.Equations.{texts_of, kinds_of, word_at, has_kind_at, is_dot, is_equals};
+ghost use Rattle.std.specs.Prelude.{◌≡◌, ◌<◌, ◌+◌, ◌&&◌, IfOk, IfSome, position, length, nat_eq, slice_get};
+ghost use Rattle.std.specs.Option.{option_and_then};
+ghost use Rattle.lv_base.specs.declared.limits.TheConstants.{VARIABLES as MOST_VARIABLES};
+ghost use Rattle.lv_text.specs.Lexemes.{line_reading};
 ghost use Rattle.lv_model.specs.Lists.{controls};
 ghost use Rattle.lv_model.specs.Names.{variable_named};
-ghost use Rattle.lv_session.specs.Requests.{is_variable, numbered, variable_of_type, variable_of_part, variable_of, value_of, command_to, has_command_form, command_of, asked, asked_by, request_of};
+ghost use Rattle.lv_session.specs.Requests.{is_variable, numbered, variable_of_type, variable_of_part, variable_of, value_of, command_to, is_dot, is_equals, has_kind, has_command_form, command_of, asked, asked_by, request_of};
 
-use lv_base::VarId;
 use lv_base::limits::VARIABLES;
-use lv_model::names::{find_part, find_value, find_variable};
+use lv_base::{VarId, find_name};
+use lv_model::names::{find_part, find_variable};
 use lv_model::{ComponentType, Domain, Model, Part, Plant, Variable};
-use lv_reader::says;
 use lv_reply::Refusal;
-use lv_text::{TextFault, Token, TokenKind, tokens};
+use lv_text::{TextFault, TokenKind, TokenLine};
 use std::alloc::{AllocError, Global};
 
 /// A control, by its place among the controls in written order, and the value that it is commanded to.
@@ -49,7 +47,7 @@ pub struct Found {
 /// A place in a list of a plant, as a number: each is below the limit on variables.
 fn numbered(place: usize) -> Option<u32>
     ensures place { result ≡ numbered place }
-    ensures below { IfSome result (λ n. n < 4096) }
+    ensures below { IfSome result (λ n. n < MOST_VARIABLES) }
 {
     if place < VARIABLES as usize {
         Some(place as u32)
@@ -61,14 +59,14 @@ fn numbered(place: usize) -> Option<u32>
 /// The place of a type's variable of this name.
 fn variable_place(variables: &[Variable], name: &[u8]) -> Option<u32>
     ensures place { result ≡ option_and_then numbered (position (variable_named name.now) variables.now) }
-    ensures below { IfSome result (λ n. n < 4096) }
+    ensures below { IfSome result (λ n. n < MOST_VARIABLES) }
 {
     numbered(find_variable(variables, name)?)
 }
 
 /// The variable at this place of a type, whose variables are counted from `first`, its mode, on.
 fn variable_at(variables: &[Variable], first: VarId, place: u32) -> Option<Found>
-    requires { place < 4096 }
+    requires { place < MOST_VARIABLES }
     ensures { result ≡ variable_of_type variables.now first.0 place }
 {
     let variable = variables.get(place as usize)?;
@@ -108,7 +106,7 @@ fn value_of(domains: &[Domain], domain: u32, name: &[u8]) -> Option<u32>
     ensures { result ≡ value_of domains.now name.now domain }
 {
     let domain = domains.get(domain as usize)?;
-    numbered(find_value(domain.values.as_slice(), name)?)
+    numbered(find_name(domain.values.as_slice(), name)?)
 }
 
 /// The command that these names give.
@@ -127,76 +125,52 @@ fn command_to(
     Some(Command { place, value })
 }
 
-/// The word at this place of a line, counted from 0.
-fn word_at<'a>(line: &'a [u8], found: &[Token], place: usize) -> Option<&'a [u8]>
-    requires { All (IsTokenOf line.now) found.now }
-    ensures { option_copied result ≡ word_at (texts_of line.now found.now) (kinds_of found.now) place }
+/// Whether the token at this place is this sign.
+fn is_dot_at(line: &TokenLine<'_>, place: usize) -> bool
+    ensures { result ≡ has_kind is_dot line.now place }
 {
-    let token = found.get(place)?;
-    match token.kind {
-        TokenKind::Word => Some(&line[token.start..token.end]),
-        _ => None,
-    }
+    matches!(line.kind(place), Some(TokenKind::Dot))
 }
 
-/// The kind of the token at this place.
-fn kind_at(found: &[Token], place: usize) -> Option<TokenKind>
-    ensures { result ≡ slice_get (kinds_of found.now) place }
+fn is_equals_at(line: &TokenLine<'_>, place: usize) -> bool
+    ensures { result ≡ has_kind is_equals line.now place }
 {
-    Some(found.get(place)?.kind)
-}
-
-fn is_dot_at(found: &[Token], place: usize) -> bool
-    ensures { result ≡ has_kind_at is_dot (kinds_of found.now) place }
-{
-    matches!(kind_at(found, place), Some(TokenKind::Dot))
-}
-
-fn is_equals_at(found: &[Token], place: usize) -> bool
-    ensures { result ≡ has_kind_at is_equals (kinds_of found.now) place }
-{
-    matches!(kind_at(found, place), Some(TokenKind::Equals))
+    matches!(line.kind(place), Some(TokenKind::Equals))
 }
 
 /// Whether a line begins with `command` and has as many tokens, and the signs, of `command P.C = V`.
-fn has_command_form(line: &[u8], found: &[Token]) -> bool
-    requires { All (IsTokenOf line.now) found.now }
-    ensures { result ≡ has_command_form (texts_of line.now found.now) (kinds_of found.now) }
+fn has_command_form(line: &TokenLine<'_>) -> bool
+    ensures { result ≡ has_command_form line.now }
 {
-    found.len() == 6
-        && says(line, found, 0, b"command")
-        && is_dot_at(found, 2)
-        && is_equals_at(found, 4)
+    line.len() == 6 && line.says(0, b"command") && is_dot_at(line, 2) && is_equals_at(line, 4)
 }
 
 /// The command that a line `command P.C = V` gives.
 #[tactic(auto, unfolding(crate::specs::Requests::command_of))]
-fn command_of(plant: &Plant, controls: &[VarId], line: &[u8], found: &[Token]) -> Option<Command>
-    requires { All (IsTokenOf line.now) found.now }
-    ensures { result ≡ command_of plant.now controls.now (texts_of line.now found.now) (kinds_of found.now) }
+fn command_of(plant: &Plant, controls: &[VarId], line: &TokenLine<'_>) -> Option<Command>
+    ensures { result ≡ command_of plant.now controls.now line.now }
 {
-    if !has_command_form(line, found) {
+    if !has_command_form(line) {
         return None;
     }
-    let part = word_at(line, found, 1)?;
-    let control = word_at(line, found, 3)?;
-    let value = word_at(line, found, 5)?;
+    let part = line.word(1)?;
+    let control = line.word(3)?;
+    let value = line.word(5)?;
     command_to(plant, controls, part, control, value)
 }
 
 /// What the tokens of a line ask for.
-fn asked(alloc: Global, model: &Model, line: &[u8], found: &[Token]) -> Result<Request, AllocError>
-    requires { All (IsTokenOf line.now) found.now }
-    ensures { IfOk result (λ request. request ≡ asked model.now (texts_of line.now found.now) (kinds_of found.now)) }
+fn asked(alloc: Global, model: &Model, line: &TokenLine<'_>) -> Result<Request, AllocError>
+    ensures { IfOk result (λ request. request ≡ asked model.now line.now) }
 {
-    if found.is_empty() {
+    if line.is_empty() {
         return Ok(Request::Nothing);
     }
-    if found.len() == 1 && says(line, found, 0, b"diagnose") {
+    if line.len() == 1 && line.says(0, b"diagnose") {
         return Ok(Request::Diagnose);
     }
     let controls = model.controls(alloc)?;
-    match command_of(model.plant(), controls.as_slice(), line, found) {
+    match command_of(model.plant(), controls.as_slice(), line) {
         Some(command) => Ok(Request::SetControl(command)),
         None => Ok(Request::Refused(Refusal::UnknownWord)),
     }
@@ -207,8 +181,8 @@ fn asked(alloc: Global, model: &Model, line: &[u8], found: &[Token]) -> Result<R
 pub fn request_of(alloc: Global, model: &Model, line: &[u8]) -> Result<Request, AllocError>
     ensures { IfOk result (λ request. request ≡ request_of model.now line.now) }
 {
-    match tokens(alloc, line) {
-        Ok(found) => asked(alloc, model, line, found.as_slice()),
+    match TokenLine::read(alloc, line) {
+        Ok(found) => asked(alloc, model, &found),
         Err(TextFault::LongLine) => Ok(Request::Refused(Refusal::UnknownWord)),
         Err(TextFault::BadByte(_)) => Ok(Request::Refused(Refusal::UnknownWord)),
         Err(TextFault::Memory) => Err(AllocError),

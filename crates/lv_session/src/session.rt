@@ -8,14 +8,14 @@ ghost use Rattle.lv_reply.specs.Texts.{reply_text};
 ghost use Rattle.lv_reply.specs.declared.reply.Reply.TheVariants.{Settled, Accepted};
 ghost use Rattle.lv_model.specs.declared.plant.Part.{Part};
 ghost use Rattle.lv_meaning.specs.Facts.{FactsFit};
-ghost use Rattle.lv_meaning.specs.Candidates.{IsState};
+ghost use Rattle.lv_meaning.specs.Candidates.{IsTracked};
 ghost use Rattle.lv_model.specs.Lists.{controls};
 
 use crate::request::{Command, Request, request_of};
 use lv_base::limits::LISTED;
 use lv_base::{Cost, Rank, Seq, ValId};
-use lv_meaning::{Facts, State, candidates};
-use lv_model::{Model, Part};
+use lv_meaning::{Facts, candidates};
+use lv_model::{Model, Part, State, TrackedState};
 use lv_reply::{Reply, reply_text};
 use std::alloc::{AllocError, Global};
 use std::marker;
@@ -71,11 +71,15 @@ fn diagnosis(alloc: Global, model: &Model, values: &[ValId]) -> Result<Vec<Rank>
         present: Seq::new(alloc),
         next: Seq::new(alloc),
     };
+    let modes = starting_modes(alloc, model.plant().parts.as_slice())?;
     let state = State {
-        modes: Seq::from_vec(starting_modes(alloc, model.plant().parts.as_slice())?),
+        modes: Seq::from_vec(modes),
+    };
+    let tracked = TrackedState {
+        state,
         cost: Cost(0),
     };
-    candidates::diagnose(alloc, model, &facts, &[state], LISTED)
+    candidates::diagnose(alloc, model, &facts, &[tracked], LISTED as usize)
 }
 
 impl<'a> Session<'a> {

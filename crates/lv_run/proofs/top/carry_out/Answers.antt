@@ -1,8 +1,10 @@
 -- The opens at each exit, and what was expected where a file was not read.
-use Rattle.std.proofs.Common.{ap, map, Err, Global}
+use Rattle.std.proofs.Common.{ℕ, sym, subst, ap, ◌∙◌, map, Err, Global}
 use Rattle.std.specs.Prelude.{string_bytes}
+use Rattle.lv_io.specs.Outside.{Rose}
+use Rattle.lv_io.specs.declared.Role.TheVariants.{Second}
 use Rattle.lv_run.proofs.OpenLemmas.{opened_at_model, opened_at_session, opened_both, opened_at_output, sink_end}
-use Rattle.lv_run.proofs.ExpectedLemmas.{ended_at_model, refusal_at_model, ended_at_session, session_not_refused, not_refused}
+use Rattle.lv_run.proofs.ExpectedLemmas.{ended_at_model, refusal_at_model, ended_at_session, session_not_refused, not_refused, other_than_refused, not_silent, is_unread, sink_as_before, served_whole, served_partly, err_handed_on}
 use Rattle.lv_run.proofs.top.carry_out.Goals as goal
 
 pub returns-in_err-model-clause-meets : goal.returns-in_err-model-clause-meets
@@ -48,3 +50,34 @@ returns-in_err-write_transcript-clause-opens g c =
     opened_at_output (map (string_bytes {Z = Global}) c.args.words.now) _ _ _ _ _ c.in-Some.ensures
     (c.in_ok-model.ensures.opened (λ e. cc)) (c.in_ok-session.ensures.opened (λ e. cc))
     (sink_end _ c.in_err-write_transcript.field-0.0 c.from_residual-in_err-write_transcript.ensures.1)
+
+pub returns-in_err-session-clause-session_unread : goal.returns-in_err-session-clause-session_unread
+returns-in_err-session-clause-session_unread g c =
+    λ e. subst (λ (n : ℕ). Rose n (g.F.Shelf.faults c.load_session.new.shelf Second)) (c.in_ok-model.ensures.as_before (λ f. cc) Second)
+    (c.in_err-session.ensures.failed
+    (ap Err (is_unread c.in_err-session.field-0.0 (sym (err_handed_on _ c.in_err-session.field-0.0 c.from_residual-in_err-session.ensures.1) ∙ e))))
+
+pub returns-in_err-write_transcript-clause-meets : goal.returns-in_err-write_transcript-clause-meets
+returns-in_err-write_transcript-clause-meets g c =
+    served_partly _ _ (map (string_bytes {Z = Global}) c.args.words.now) _ _ _ _ _ _
+    c.load_model.ensures.files c.in-Some.ensures c.in_ok-model.ensures.model c.in_ok-session.ensures.session c.in_ok-session.ensures.within
+    (sink_end _ c.in_err-write_transcript.field-0.0 c.from_residual-in_err-write_transcript.ensures.1)
+    (rw c.as_slice.ensures.value at c.in_err-write_transcript.ensures.front)
+
+pub returns-in_err-write_transcript-clause-refusal : goal.returns-in_err-write_transcript-clause-refusal
+returns-in_err-write_transcript-clause-refusal g c =
+    not_refused _ _ (other_than_refused _ (sink_end _ c.in_err-write_transcript.field-0.0 c.from_residual-in_err-write_transcript.ensures.1))
+
+pub returns-in_err-write_transcript-clause-silent : goal.returns-in_err-write_transcript-clause-silent
+returns-in_err-write_transcript-clause-silent g c =
+    not_silent _ (sink_end _ c.in_err-write_transcript.field-0.0 c.from_residual-in_err-write_transcript.ensures.1)
+
+pub returns-in_err-write_transcript-clause-out_as_before : goal.returns-in_err-write_transcript-clause-out_as_before
+returns-in_err-write_transcript-clause-out_as_before g c =
+    sink_as_before _ c.in_err-write_transcript.field-0.0 _ _ c.from_residual-in_err-write_transcript.ensures.1 c.in_err-write_transcript.ensures.cause
+
+pub returns-clause-meets : goal.returns-clause-meets
+returns-clause-meets g c =
+    served_whole _ _ (map (string_bytes {Z = Global}) c.args.words.now) _ _ _ _ _
+    c.load_model.ensures.files c.in-Some.ensures c.in_ok-model.ensures.model c.in_ok-session.ensures.session c.in_ok-session.ensures.within
+    (rw c.as_slice.ensures.value at c.in_ok-write_transcript.ensures.text)
