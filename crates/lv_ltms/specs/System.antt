@@ -7,8 +7,8 @@ use Rattle.lv_clauses.specs.ClauseMap.{Slots, clause_at}
 use Rattle.lv_clauses.specs.Closure.{InClosure, IsContradictory}
 use Rattle.lv_clauses.specs.Marks.{Marks, has}
 use Rattle.lv_ltms.specs.declared.labels.Link.{Link}
-use Rattle.lv_ltms.specs.declared.ltms.Standing.{Standing}
-use Rattle.lv_ltms.specs.declared.ltms.Standing.TheVariants.{Consistent, Contradiction}
+use Rattle.lv_ltms.specs.declared.ltms.Status.{Status}
+use Rattle.lv_ltms.specs.declared.ltms.Status.TheVariants.{Consistent, Contradiction}
 use Rattle.lv_ltms.specs.Trail.{same_lit, trail_has, IsDerivation}
 use Rattle.lv_ltms.specs.Occurrences.{Rows}
 use Rattle.lv_ltms.specs.Counters.{Counted}
@@ -44,9 +44,9 @@ pub record PutsAssumed (old new : System) (assumed : Marks) : Type 0 where
   pub clauses : new.clauses ≡ old.clauses
   pub changed : new.assumed ≡ assumed
 
-abbrev pub TellsStanding : System → Standing → Type 0
-TellsStanding s Consistent = ¬ IsRefuted s
-TellsStanding s Contradiction = IsRefuted s
+abbrev pub TellsStatus : System → Status → Type 0
+TellsStatus s Consistent = ¬ IsRefuted s
+TellsStatus s Contradiction = IsRefuted s
 
 -- the trail holds just what is derived, each literal with its reason from those before it
 pub record IsWholeTrail (s : System) : Type 0 where

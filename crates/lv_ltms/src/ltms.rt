@@ -30,7 +30,7 @@ pub enum Label {
 
 /// Whether the clauses and assumptions present contradict each other by unit propagation.
 #[derive(Clone, Copy, Debug, PartialEq, Eq)]
-pub enum Standing {
+pub enum Status {
     Consistent,
     Contradiction,
 }
@@ -60,7 +60,7 @@ impl Model for Ltms {
 }
 
 impl Ltms {
-    ghost use Rattle.lv_ltms.specs.System.{System, PutsClause, PutsAssumed, IsRefuted, TellsStanding, IsWholeTrail, IsCore};
+    ghost use Rattle.lv_ltms.specs.System.{System, PutsClause, PutsAssumed, IsRefuted, TellsStatus, IsWholeTrail, IsCore};
     ghost use Rattle.lv_ltms.specs.Told.{TellsLabel};
 
     /// The system of no clauses and no assumptions over so many booleans.
@@ -188,13 +188,13 @@ impl Ltms {
     }
 
     /// Whether unit propagation over what is present comes to a contradiction.
-    pub fn status(&self) -> Standing
-        ensures { TellsStanding self.now result }
+    pub fn status(&self) -> Status
+        ensures { TellsStatus self.now result }
     {
         if self.arena.has_false() {
-            Standing::Contradiction
+            Status::Contradiction
         } else {
-            Standing::Consistent
+            Status::Consistent
         }
     }
 
