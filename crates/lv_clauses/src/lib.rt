@@ -7,7 +7,7 @@
 //! | the arena | `ClauseSet` |
 //! | laws of the unit closure | `closure_is_least`, `closure_is_sound` |
 //! | literals | `negation`, `is_clause`, `lit_holds`, `clause_holds` |
-//! | marks of booleans | `has`, `look`, `Finding` |
+//! | marks of booleans | `is_marked`, `look`, `Finding` |
 #![tactic(auto)]
 
 pub mod clause;
@@ -20,4 +20,4 @@ pub use clause::Clause;
 pub use clause_set::ClauseSet;
 pub use laws::{closure_is_least, closure_is_sound};
 pub use literals::{clause_holds, is_clause, lit_holds, negation};
-pub use marks::{Finding, has, look};
+pub use marks::{Finding, is_marked, look};

@@ -20,8 +20,8 @@ pub enum Finding {
 }
 
 /// Whether a literal is marked as true. A boolean past the end of the marks is unmarked. Takes no memory.
-pub fn has(marks: &[Option<bool>], lit: Lit) -> bool
-    ensures { result ≡ Marks.has marks.now lit }
+pub fn is_marked(marks: &[Option<bool>], lit: Lit) -> bool
+    ensures { result ≡ Marks.is_marked marks.now lit }
 {
     let index = lit.var.0 as usize;
     if index < marks.len() {
@@ -40,7 +40,7 @@ pub fn look(marks: &[Option<bool>], clause: &[Lit]) -> Finding
 {
     let mut left = None;
     for lit in clause {
-        if !has(marks, negation(*lit)) {
+        if !is_marked(marks, negation(*lit)) {
             match left {
                 Some(_) => return Finding::Open,
                 None => left = Some(*lit),

@@ -5,7 +5,7 @@
 ghost use Rattle.std.specs.Prelude.{◌≡◌, ◌≤◌, ◌&&◌, option_map, [], length, take, position, Some, None, IfOk, OnErr, IsSome, IsTrue, is_some, count_by, slice_set};
 ghost use Rattle.lv_clauses.specs.Literals.{is_clause, in_range};
 ghost use Rattle.lv_clauses.specs.ClauseMap.{clause_at};
-ghost use Rattle.lv_clauses.specs.Marks.{nothing, has, marked, is_free};
+ghost use Rattle.lv_clauses.specs.Marks.{nothing, is_marked, marked, is_free};
 ghost use Rattle.lv_ltms.specs.Trail.{reason_in};
 ghost use Rattle.lv_ltms.specs.Marked.{literals_from};
 ghost use Rattle.lv_ltms.specs.Labelled.{gives};
@@ -16,7 +16,7 @@ use super::occurrences::Occurrences;
 use super::propagation::{left_in, propagate, settle};
 use super::revision::revise;
 use lv_base::{BoolId, ClauseId, Lit};
-use lv_clauses::{has, negation};
+use lv_clauses::{is_marked, negation};
 use std::alloc::{AllocError, Global};
 use std::marker::Model;
 
@@ -118,10 +118,10 @@ impl Ltms {
         ensures { PutsAssumed self.old self.new (marked self.old.assumed lit) }
     {
         self.assumed[lit.var.0 as usize] = Some(lit.sign);
-        if has(self.labels.marks(), lit) {
+        if is_marked(self.labels.marks(), lit) {
             return;
         }
-        if has(self.labels.marks(), negation(lit)) {
+        if is_marked(self.labels.marks(), negation(lit)) {
             let from = self.labels.place_of(lit);
             revise(
                 from,
@@ -143,7 +143,7 @@ impl Ltms {
 
     /// Takes back an assumption.
     pub fn retract(&mut self, lit: Lit)
-        requires { IsTrue (has self.old.assumed lit) }
+        requires { IsTrue (is_marked self.old.assumed lit) }
         ensures { PutsAssumed self.old self.new (slice_set self.old.assumed lit.var.0 None) }
     {
         take_back(&mut self.assumed, lit);
@@ -160,9 +160,9 @@ impl Ltms {
 
     /// Whether a literal is one of the assumptions present.
     pub fn is_assumed(&self, lit: Lit) -> bool
-        ensures { result ≡ has self.now.assumed lit }
+        ensures { result ≡ is_marked self.now.assumed lit }
     {
-        has(self.assumed.as_slice(), lit)
+        is_marked(self.assumed.as_slice(), lit)
     }
 
     /// Whether a literal may be assumed: its boolean is in range, and neither it nor its negation is assumed.
@@ -203,10 +203,10 @@ impl Ltms {
         requires { ¬ IsRefuted self.now }
         ensures { TellsLabel self.now lit result }
     {
-        if has(self.labels.marks(), lit) {
+        if is_marked(self.labels.marks(), lit) {
             return Label::True;
         }
-        if has(self.labels.marks(), negation(lit)) {
+        if is_marked(self.labels.marks(), negation(lit)) {
             return Label::False;
         }
         Label::Unknown

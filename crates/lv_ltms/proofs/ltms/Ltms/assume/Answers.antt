@@ -2,7 +2,7 @@
 use Rattle.std.proofs.Common.{◌≡◌, List, length, false, IsTrue, vec_capacity, sym, ap, subst, ◌∙◌, ℕ}
 use Rattle.lv_base.specs.declared.ids.Lit.{Lit}
 use Rattle.lv_clauses.specs.Literals.{neg, in_range}
-use Rattle.lv_clauses.specs.Marks.{Marks, has, is_free}
+use Rattle.lv_clauses.specs.Marks.{Marks, is_marked, is_free}
 use Rattle.lv_ltms.specs.declared.labels.Link.{Link}
 use Rattle.lv_ltms.specs.declared.labels.Reason.TheVariants.{Assumed}
 use Rattle.lv_ltms.specs.Labelled.{Labelled, GoesOn, with_link}
@@ -18,13 +18,13 @@ invariant_of-self c =
     let range : IsTrue (in_range c.self.inside.bools c.args.lit) = subst (λ (s : System). IsTrue (in_range s.bools c.args.lit)) (sym c.self.view_is) c.requires.range in
     let free : IsTrue (is_free c.self.inside.assumed.items c.args.lit) = subst (λ (s : System). IsTrue (is_free s.assumed c.args.lit)) (sym c.self.view_is) c.requires.free in
     known_kept _ c.self.inside.index c.self.inside.arena c.self.inside.labels (vec_capacity c.self.inside.fallen) c.self.invariant c.args.lit range free
-    (ap (λ (m : Marks). has m c.args.lit) (sym c.marks.ensures) ∙ sym c.if-has.ensures)
+    (ap (λ (m : Marks). is_marked m c.args.lit) (sym c.marks.ensures) ∙ sym c.if-is_marked.ensures)
 
 pub revise-requires-clause-shaken : goal.revise-requires-clause-shaken
 revise-requires-clause-shaken c =
     let range : IsTrue (in_range c.self.inside.bools c.args.lit) = subst (λ (s : System). IsTrue (in_range s.bools c.args.lit)) (sym c.self.view_is) c.requires.range in
     let free : IsTrue (is_free c.self.inside.assumed.items c.args.lit) = subst (λ (s : System). IsTrue (is_free s.assumed c.args.lit)) (sym c.self.view_is) c.requires.free in
-    subst (IsShaken (has c.as_slice.result.now) c.self.inside.arena.clauses c.self.inside.labels.trail) (sym c.place_of-from.ensures)
+    subst (IsShaken (is_marked c.as_slice.result.now) c.self.inside.arena.clauses c.self.inside.labels.trail) (sym c.place_of-from.ensures)
     (shaken_assume _ c.self.inside.index c.self.inside.arena c.self.inside.labels (vec_capacity c.self.inside.fallen) c.self.invariant c.args.lit
     (within _ c.self.inside.index c.self.inside.arena c.self.inside.labels (vec_capacity c.self.inside.fallen) c.self.invariant c.args.lit range free) free c.as_slice.result.now c.as_slice.ensures.value)
 
@@ -32,8 +32,8 @@ pub propagate-requires : goal.propagate-requires
 propagate-requires c =
     let range : IsTrue (in_range c.self.inside.bools c.args.lit) = subst (λ (s : System). IsTrue (in_range s.bools c.args.lit)) (sym c.self.view_is) c.requires.range in
     let free : IsTrue (is_free c.self.inside.assumed.items c.args.lit) = subst (λ (s : System). IsTrue (is_free s.assumed c.args.lit)) (sym c.self.view_is) c.requires.free in
-    let p : has c.self.inside.labels.marks c.args.lit ≡ false = ap (λ (m : Marks). has m c.args.lit) (sym c.marks.ensures) ∙ sym c.if-has.ensures in
-    let q : has c.self.inside.labels.marks (neg c.args.lit) ≡ false = ap (λ (m : Marks). has m (neg c.args.lit)) (sym c.marks-2.ensures) ∙ ap (λ (l : Lit). has c.marks-2.result.now l) (sym c.negation.ensures) ∙ sym c.if-has-2.ensures in
+    let p : is_marked c.self.inside.labels.marks c.args.lit ≡ false = ap (λ (m : Marks). is_marked m c.args.lit) (sym c.marks.ensures) ∙ sym c.if-is_marked.ensures in
+    let q : is_marked c.self.inside.labels.marks (neg c.args.lit) ≡ false = ap (λ (m : Marks). is_marked m (neg c.args.lit)) (sym c.marks-2.ensures) ∙ ap (λ (l : Lit). is_marked c.marks-2.result.now l) (sym c.negation.ensures) ∙ sym c.if-is_marked-2.ensures in
     let state = pushed_state _ c.self.inside.index c.self.inside.arena c.self.inside.labels (vec_capacity c.self.inside.fallen) c.self.invariant c.args.lit range free p q in
     let grown : Labelled = with_link c.self.inside.labels (record { lit = c.args.lit; reason = Assumed }) in
     subst (λ (x : Labelled). IsPropagating (length x.marks) c.self.inside.index c.self.inside.arena x (length c.trail-from.result.now) none_excused) (sym c.push.ensures)
@@ -44,8 +44,8 @@ pub invariant_of-self-2 : goal.invariant_of-self-2
 invariant_of-self-2 c =
     let range : IsTrue (in_range c.self.inside.bools c.args.lit) = subst (λ (s : System). IsTrue (in_range s.bools c.args.lit)) (sym c.self.view_is) c.requires.range in
     let free : IsTrue (is_free c.self.inside.assumed.items c.args.lit) = subst (λ (s : System). IsTrue (is_free s.assumed c.args.lit)) (sym c.self.view_is) c.requires.free in
-    let p : has c.self.inside.labels.marks c.args.lit ≡ false = ap (λ (m : Marks). has m c.args.lit) (sym c.marks.ensures) ∙ sym c.if-has.ensures in
-    let q : has c.self.inside.labels.marks (neg c.args.lit) ≡ false = ap (λ (m : Marks). has m (neg c.args.lit)) (sym c.marks-2.ensures) ∙ ap (λ (l : Lit). has c.marks-2.result.now l) (sym c.negation.ensures) ∙ sym c.if-has-2.ensures in
+    let p : is_marked c.self.inside.labels.marks c.args.lit ≡ false = ap (λ (m : Marks). is_marked m c.args.lit) (sym c.marks.ensures) ∙ sym c.if-is_marked.ensures in
+    let q : is_marked c.self.inside.labels.marks (neg c.args.lit) ≡ false = ap (λ (m : Marks). is_marked m (neg c.args.lit)) (sym c.marks-2.ensures) ∙ ap (λ (l : Lit). is_marked c.marks-2.result.now l) (sym c.negation.ensures) ∙ sym c.if-is_marked-2.ensures in
     let state = pushed_state _ c.self.inside.index c.self.inside.arena c.self.inside.labels (vec_capacity c.self.inside.fallen) c.self.invariant c.args.lit range free p q in
     pushed_kept _ c.self.inside.index c.self.inside.arena c.self.inside.labels (vec_capacity c.self.inside.fallen) c.self.invariant c.args.lit range free p q c.propagate.new.labels c.propagate.new.arena c.propagate.ensures.clauses
     (subst (λ (n : ℕ). IsPropagating n c.self.inside.index c.propagate.new.arena c.propagate.new.labels (length c.propagate.new.labels.trail) none_excused)

@@ -1,7 +1,7 @@
 -- the clause goes out of the rows, and what it supported falls
 use Rattle.std.proofs.Common.{◌≡◌, List, length, position, unwrap_or, vec_capacity, IsSome, sym, ap, subst, ◌∙◌, ℕ}
 use Rattle.lv_clauses.specs.ClauseMap.{clause_at}
-use Rattle.lv_clauses.specs.Marks.{Marks, has}
+use Rattle.lv_clauses.specs.Marks.{Marks, is_marked}
 use Rattle.lv_ltms.specs.declared.labels.Link.{Link}
 use Rattle.lv_ltms.specs.Labelled.{gives}
 use Rattle.lv_ltms.specs.Propagating.{IsPropagating, none_excused}
@@ -26,6 +26,6 @@ revise-requires-clause-shaken c =
     c.unwrap_or-from.ensures
     ∙ ap (λ o. unwrap_or o (length c.trail-trail.result.now)) c.first_given.ensures
     ∙ ap (λ (t : List Link). unwrap_or (position (gives c.args.id) t) (length t)) c.trail-trail.ensures in
-    subst (λ (n : ℕ). IsShaken (has c.as_slice.result.now) c.remove.new.self.clauses c.self.inside.labels.trail n) (sym place)
-    (subst (λ (m : Marks). IsShaken (has m) c.remove.new.self.clauses c.self.inside.labels.trail (unwrap_or (position (gives c.args.id) c.self.inside.labels.trail) (length c.self.inside.labels.trail))) (sym c.as_slice.ensures.value)
+    subst (λ (n : ℕ). IsShaken (is_marked c.as_slice.result.now) c.remove.new.self.clauses c.self.inside.labels.trail n) (sym place)
+    (subst (λ (m : Marks). IsShaken (is_marked m) c.remove.new.self.clauses c.self.inside.labels.trail (unwrap_or (position (gives c.args.id) c.self.inside.labels.trail) (length c.self.inside.labels.trail))) (sym c.as_slice.ensures.value)
     (shaken_drop _ c.self.inside.index c.self.inside.arena c.self.inside.labels (vec_capacity c.self.inside.fallen) c.self.invariant c.args.id c.remove.new.self.clauses c.remove.ensures.removed.clause c.remove.ensures.removed.other_clauses))
