@@ -93,6 +93,11 @@ new_kept bools space assumed rows counted labels within e f g h =
     (subst (λ (x : Counted). IsKept (record { bools = bools; clauses = x.clauses; assumed = nothing bools; trail = labels.trail }) (blank_rows bools) x labels space) (sym g)
     (subst (λ (x : Labelled). IsKept (record { bools = bools; clauses = []; assumed = nothing bools; trail = x.trail }) (blank_rows bools) no_clauses x space) (sym h) (blank_kept bools space within))))
 
+-- the same rows and as much room serve as before
+pub kept_beside : {s : System} {rows new : Rows} {counted : Counted} {labels : Labelled} {space room : ℕ} → new ≡ rows → room ≡ space → IsKept s rows counted labels space → IsKept s new counted labels room
+kept_beside {s} {rows} {new} {counted} {labels} {space} {room} e f kept =
+    subst (λ (r : Rows). IsKept s r counted labels room) (sym e) (subst (λ (n : ℕ). IsKept s rows counted labels n) (sym f) kept)
+
 -- rows that have what they had serve as before
 pub same_rows_kept : (s : System) (rows new : Rows) (counted : Counted) (labels : Labelled) (space : ℕ) → IsKept s rows counted labels space → SameRows rows new → KeepsWidth rows new → IsKept s new counted labels space
 same_rows_kept s rows new counted labels space kept same width =

@@ -13,12 +13,13 @@
 //! | why a literal is true | `Reason`, `Link` |
 //!
 //! Inside, `labels` keeps labels and their reasons, `arena` clauses with counters, and `occurrences` the clauses that
-//! hold a literal; `propagation` finds what follows, and `revision` what no longer does.
+//! hold a literal: together a `network`. `propagation` finds what follows, and `revision` what no longer does.
 #![tactic(auto)]
 
 mod arena;
 mod labels;
 mod ltms;
+mod network;
 mod occurrences;
 mod propagation;
 mod revision;

@@ -12,46 +12,17 @@ ghost use Rattle.lv_clauses.specs.Marks.{is_marked};
 ghost use Rattle.lv_ltms.specs.Occurrences.{row_of};
 ghost use Rattle.lv_ltms.specs.Labelled.{Agrees};
 ghost use Rattle.lv_ltms.specs.Propagating.{IsPropagating, none_excused};
-ghost use Rattle.lv_ltms.specs.Revising.{IsShaken, IsSwept, AreFixed, AreMarked, AreMarkedOrWait, NoneAgainst, IsOneSided, GetsSupport, CanRaise, IsRaised, is_fallen, reason_stands, reason_found, is_unit_at};
+ghost use Rattle.lv_ltms.specs.Revising.{IsShaken, IsSwept, AreMarked, AreMarkedOrWait, NoneAgainst, IsOneSided, GetsSupport, CanRaise, IsRaised, is_fallen, reason_stands, reason_found, is_unit_at};
 ghost use Rattle.lv_ltms.specs.Trail.{IsDerivation};
 
 use super::arena::Arena;
 use super::labels::{Labels, Link, Reason};
 use super::occurrences::Occurrences;
-use super::propagation::propagate;
 use lv_base::{ClauseId, Lit};
 use lv_clauses::{is_marked, negation};
 
-/// Labels anew what the labels from a place of the trail on leave: those that lost their support fall, those that have
-/// another get it, and what follows is marked.
-pub fn revise(
-    from: usize,
-    assumed: &[Option<bool>],
-    index: &Occurrences,
-    arena: &mut Arena,
-    labels: &mut Labels,
-    fallen: &mut Vec<Lit>,
-)
-    requires state { IsPropagating (length labels.old.marks) index.now arena.old labels.old (length labels.old.trail) none_excused }
-    requires place { from ≤ length labels.old.trail }
-    requires shaken { IsShaken (is_marked assumed.now) arena.old.clauses labels.old.trail from }
-    requires marked { AreFixed (is_marked assumed.now) labels.old }
-    requires room { length labels.old.marks ≤ vec_capacity fallen.old }
-    ensures clauses { arena.new.clauses ≡ arena.old.clauses }
-    ensures state { IsPropagating (length labels.old.marks) index.now arena.new labels.new (length labels.new.trail) none_excused }
-    ensures derivation { IsDerivation arena.old.clauses (is_marked assumed.now) labels.new.trail }
-    ensures marked { AreMarked (is_marked assumed.now) labels.new }
-    ensures room { vec_capacity fallen.new ≡ vec_capacity fallen.old }
-{
-    fallen.clear();
-    sweep(from, assumed, index, arena, labels, fallen);
-    let kept = labels.trail().len();
-    support_all(fallen.as_slice(), assumed, index, arena, labels);
-    propagate(kept, index, arena, labels);
-}
-
 /// Goes along the trail from a place on: what still stands closes up, what doesn't loses its mark and is written down.
-fn sweep(
+pub fn sweep(
     from: usize,
     assumed: &[Option<bool>],
     index: &Occurrences,
@@ -108,7 +79,7 @@ fn raise_all(lit: Lit, index: &Occurrences, arena: &mut Arena)
 }
 
 /// Looks for another support of each boolean that lost its label.
-fn support_all(
+pub fn support_all(
     fallen: &[Lit],
     assumed: &[Option<bool>],
     index: &Occurrences,
