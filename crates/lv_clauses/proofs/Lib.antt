@@ -3,3 +3,4 @@ pub mod LiteralLemmas
 pub mod ClosureLemmas
 pub mod MarkLemmas
 pub mod BoundLemmas
+pub mod TakenLemmas

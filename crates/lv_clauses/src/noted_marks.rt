@@ -1,10 +1,10 @@
-//! The values that a step takes as true. What was marked is noted, so that a new step clears just that.
+//! Marks of booleans with a note of what was marked, so that clearing them takes no longer than marking did.
 #![tactic(auto)]
 
 ghost use Rattle.std.specs.Prelude.{◌≡◌, ◌&&◌, length, slice_set, None, IfOk, OnOk, OnErr};
 ghost use Rattle.lv_clauses.specs.Marks.{nothing, marked};
-ghost use Rattle.lv_refcheck.specs.Checking as Checking;
-ghost use Rattle.lv_refcheck.specs.Checking.{AreTaken};
+ghost use Rattle.lv_clauses.specs.Noted as Noted;
+ghost use Rattle.lv_clauses.specs.Noted.{AreTaken};
 
 use lv_base::Lit;
 use std::alloc::{AllocError, Global};
@@ -19,7 +19,7 @@ pub struct Marks {
 
 impl Model for Marks {
     ghost use Rattle.std.specs.Prelude.{List, Bool, Option};
-    ghost use Rattle.lv_refcheck.specs.Checking.{AreNoted};
+    ghost use Rattle.lv_clauses.specs.Noted.{AreNoted};
 
     ghost Value = { List (Option Bool) };
 
@@ -46,7 +46,7 @@ impl Marks {
 
     /// Whether the literal's boolean is in range and unmarked.
     pub fn is_open(&self, lit: Lit) -> bool
-        ensures { result ≡ Checking.is_open self.now lit }
+        ensures { result ≡ Noted.is_open self.now lit }
     {
         let index = lit.var.0 as usize;
         index < self.marks.len() && self.marks[index].is_none()
