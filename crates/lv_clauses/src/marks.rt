@@ -2,7 +2,7 @@
 //! of refutations share.
 #![tactic(auto)]
 
-ghost use Rattle.std.specs.Prelude.{◌≡◌};
+ghost use Rattle.std.specs.Prelude.{◌≡◌, None, slice_set};
 ghost use Rattle.lv_clauses.specs.Marks as Marks;
 
 use super::literals::negation;
@@ -31,6 +31,16 @@ pub fn is_marked(marks: &[Option<bool>], lit: Lit) -> bool
         }
     } else {
         false
+    }
+}
+
+/// Unmarks the boolean of a literal, if it is in range. Takes no memory.
+pub fn unmark(marks: &mut Vec<Option<bool>>, lit: Lit)
+    ensures { marks.new.items ≡ slice_set marks.old.items lit.var.0 None }
+{
+    let index = lit.var.0 as usize;
+    if index < marks.len() {
+        marks[index] = None;
     }
 }
 

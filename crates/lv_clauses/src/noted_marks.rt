@@ -1,11 +1,12 @@
 //! Marks of booleans with a note of what was marked, so that clearing them takes no longer than marking did.
 #![tactic(auto)]
 
-ghost use Rattle.std.specs.Prelude.{◌≡◌, ◌&&◌, length, slice_set, None, IfOk, OnOk, OnErr};
+ghost use Rattle.std.specs.Prelude.{◌≡◌, ◌&&◌, length, IfOk, OnOk, OnErr};
 ghost use Rattle.lv_clauses.specs.Marks.{nothing, marked};
 ghost use Rattle.lv_clauses.specs.Noted as Noted;
 ghost use Rattle.lv_clauses.specs.Noted.{AreTaken};
 
+use super::marks::unmark;
 use lv_base::Lit;
 use std::alloc::{AllocError, Global};
 use std::marker::Model;
@@ -81,15 +82,5 @@ fn unmark_all(marks: &mut Vec<Option<bool>>, taken: &[Lit])
 {
     for lit in taken {
         unmark(marks, *lit);
-    }
-}
-
-/// Unmarks the boolean of a literal, if it is in range.
-fn unmark(marks: &mut Vec<Option<bool>>, lit: Lit)
-    ensures { marks.new.items ≡ slice_set marks.old.items lit.var.0 None }
-{
-    let index = lit.var.0 as usize;
-    if index < marks.len() {
-        marks[index] = None;
     }
 }

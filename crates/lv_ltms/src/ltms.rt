@@ -14,7 +14,7 @@ use super::labels::{Link, Reason};
 use super::network::Network;
 use super::propagation::{left_in, settle};
 use lv_base::{BoolId, ClauseId, Lit};
-use lv_clauses::{is_marked, negation};
+use lv_clauses::{is_marked, negation, unmark};
 use std::alloc::{AllocError, Global};
 use std::marker::Model;
 
@@ -126,7 +126,7 @@ impl Ltms {
         requires { IsTrue (is_marked self.old.assumed lit) }
         ensures { PutsAssumed self.old self.new (slice_set self.old.assumed lit.var.0 None) }
     {
-        take_back(&mut self.assumed, lit);
+        unmark(&mut self.assumed, lit);
         let from = self.network.labels.place_of(lit);
         self.network.revise(from, self.assumed.as_slice());
     }
@@ -212,16 +212,6 @@ impl Ltms {
         ensures core { IsCore self.now (take result out.new) }
     {
         write_assumptions(self.bools, self.assumed.as_slice(), out)
-    }
-}
-
-/// Takes away the mark of a literal's boolean, if that is in range.
-fn take_back(assumed: &mut Vec<Option<bool>>, lit: Lit)
-    ensures { assumed.new.items ≡ slice_set assumed.old.items lit.var.0 None }
-{
-    let index = lit.var.0 as usize;
-    if index < assumed.len() {
-        assumed[index] = None;
     }
 }
 

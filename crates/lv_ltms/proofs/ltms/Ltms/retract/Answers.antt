@@ -8,4 +8,4 @@ use Rattle.lv_ltms.proofs.ltms.Ltms.retract.Goals as goal
 pub revise-requires-clause-shaken : goal.revise-requires-clause-shaken
 revise-requires-clause-shaken c =
     subst (IsShaken (is_marked c.as_slice.result.now) c.self.inside.network.arena.clauses c.self.inside.network.labels.trail) (sym c.place_of-from.ensures)
-    (shaken_retract _ c.self.inside.network.occurrences c.self.inside.network.arena c.self.inside.network.labels (vec_capacity c.self.inside.network.fallen) c.self.invariant c.args.lit c.as_slice.result.now (c.as_slice.ensures.value ∙ c.take_back.ensures))
+    (shaken_retract _ c.self.inside.network.occurrences c.self.inside.network.arena c.self.inside.network.labels (vec_capacity c.self.inside.network.fallen) c.self.invariant c.args.lit c.as_slice.result.now (c.as_slice.ensures.value ∙ c.unmark.ensures))
