@@ -1,6 +1,5 @@
 -- A walk over all clauses that ends at a bound.
 use Rattle.std.proofs.Common.{◌≡◌, ℕ, ◌<◌, suc, zero, Bool, true, List, [], ◌∷◌, drop, Some, None, IsSome, refl, arith}
-use Rattle.lv_base.specs.declared.ids.Lit.{Lit}
 use Rattle.lv_clauses.specs.ClauseMap.{Slots, clause_at, satisfies}
 
 -- past the numbers of the clauses present nothing is left to be made true

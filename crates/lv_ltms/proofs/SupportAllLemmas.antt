@@ -1,6 +1,5 @@
 -- Both literals of a boolean got the support that there is, so it waits no longer.
-use Rattle.std.proofs.Common.{◌≡◌, ◌⊎◌, ℕ, Bool, true, false, ◌||◌, nat_eq, List, [], ◌∷◌, length, Some, refl, sym, ap, subst, ◌∙◌, arith, inl, inr, Contains}
-use Rattle.std.proofs.lemmas.Bool.Decides.{nat_tests}
+use Rattle.std.proofs.Common.{◌≡◌, ◌⊎◌, ℕ, Bool, true, false, ◌||◌, List, [], ◌∷◌, length, Some, refl, sym, ap, subst, ◌∙◌, arith, inl, inr, Contains}
 use Rattle.lv_base.specs.declared.ids.Lit.{Lit}
 use Rattle.lv_clauses.specs.Literals.{neg, same_var}
 use Rattle.lv_clauses.specs.ClauseMap.{Slots, clause_at}
@@ -11,9 +10,9 @@ use Rattle.lv_ltms.specs.Occurrences.{Rows, times_in}
 use Rattle.lv_ltms.specs.Counters.{Counted}
 use Rattle.lv_ltms.specs.Labelled.{Labelled, Grows}
 use Rattle.lv_ltms.specs.Propagating.{left_count, IsPropagating, IsSettled, true_before}
-use Rattle.lv_ltms.specs.Revising.{is_fallen, NoneAgainst, GetsSupport, IsSupported, IsUnitFor, AreMarked, AreMarkedOrWait, AreFixed, IsSwept}
+use Rattle.lv_ltms.specs.Revising.{is_fallen, NoneAgainst, GetsSupport, IsSupported, IsUnitFor, AreMarkedOrWait, AreFixed, IsSwept}
 use Rattle.lv_ltms.proofs.CountLemmas.{left_count-same}
-use Rattle.lv_ltms.proofs.LabelLemmas.{Grows-then, Grows-len, Grows-self, before_kept, neg_not_free, not_free_cases}
+use Rattle.lv_ltms.proofs.LabelLemmas.{Grows-then, Grows-len, before_kept, neg_not_free, not_free_cases}
 use Rattle.lv_ltms.proofs.PropagationLemmas.{IsCounted-same, IsSettled-same, free_kept}
 use Rattle.lv_ltms.proofs.BoolLemmas.{eq_from, or_left, or_right_only}
 

@@ -1,6 +1,5 @@
 -- Another support of a boolean that lost its label.
 use Rattle.std.proofs.Common.{◌≡◌, ℕ, ◌<◌, Bool, true, false, ◌&&◌, ◌||◌, nat_eq, List, [], ◌∷◌, length, cond, find, option_map, Option, Some, None, is_some, refl, sym, ap, ap₂, subst, ◌∙◌, arith, inl, inr, Contains}
-use Rattle.std.proofs.lemmas.Bool.Decides.{nat_tests}
 use Rattle.lv_base.specs.declared.ids.Lit.{Lit}
 use Rattle.lv_base.specs.declared.ids.ClauseId.{ClauseId}
 use Rattle.lv_clauses.specs.Literals.{neg}
@@ -19,7 +18,7 @@ use Rattle.lv_ltms.specs.Propagating.{left_count, IsPropagating, true_before}
 use Rattle.lv_ltms.specs.Revising.{NoneAgainst, IsOneSided, GetsSupport, IsSupported, IsUnitFor, is_unit_at, reason_found}
 use Rattle.lv_ltms.proofs.TrailLemmas.{same_lit-equal}
 use Rattle.lv_ltms.proofs.CountLemmas.{lit_count-some, times_in-none, count_no, one_left}
-use Rattle.lv_ltms.proofs.LabelLemmas.{Grows-push, Grows-self, before_has, has_not_free, neg_not_free, pushed_has, pushed_marked}
+use Rattle.lv_ltms.proofs.LabelLemmas.{Grows-push, Grows-self, before_has, pushed_has, pushed_marked}
 use Rattle.lv_ltms.proofs.BoolLemmas.{eq_from, not_true}
 
 -- what is found passes and is of the list; where nothing is found nothing passes

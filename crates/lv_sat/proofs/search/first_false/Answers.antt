@@ -1,5 +1,5 @@
 -- no clause present has a number from the bound on
-use Rattle.std.proofs.Common.{◌<◌, sym, ◌∙◌, arith}
+use Rattle.std.proofs.Common.{sym, ◌∙◌, arith}
 use Rattle.lv_clauses.proofs.BoundLemmas.{none_left}
 use Rattle.lv_sat.proofs.search.first_false.Goals as goal
 
