@@ -2,7 +2,7 @@
 #![tactic(auto)]
 
 use lv_base::Lit;
-use lv_ltms::{Label, Ltms, Standing};
+use lv_ltms::{Label, Ltms, Status};
 use std::fmt::{self, Formatter, Write};
 
 /// How many calls were made, and what they came to.
@@ -45,7 +45,7 @@ impl Tally {
     }
 
     fn see(&mut self, ltms: &Ltms) {
-        if ltms.status() == Standing::Contradiction {
+        if ltms.status() == Status::Contradiction {
             self.contradictory = self.contradictory.wrapping_add(1);
         }
     }
@@ -73,7 +73,7 @@ impl fmt::Display for Tally {
 /// The label of a literal; None while the system is contradictory.
 pub fn label_of(ltms: &Ltms, lit: Lit) -> Option<Label> {
     match ltms.status() {
-        Standing::Consistent => Some(ltms.label(lit)),
-        Standing::Contradiction => None,
+        Status::Consistent => Some(ltms.label(lit)),
+        Status::Contradiction => None,
     }
 }

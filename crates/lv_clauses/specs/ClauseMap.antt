@@ -1,5 +1,5 @@
 -- The clauses present as a finite map from their numbers, and the values that satisfy them.
-use Rattle.std.specs.Prelude.{◌≡◌, ◌≢◌, ℕ, ◌+◌, Bool, true, IsTrue, List, [], ◌∷◌, Option, Some, None, slice_index_or}
+use Rattle.std.specs.Prelude.{◌≡◌, ◌≢◌, ℕ, ◌+◌, ◌-◌, ◌<◌, Bool, true, IsTrue, IsSome, List, [], ◌∷◌, Option, Some, None, slice_index_or}
 use Rattle.std.specs.List.{list_all}
 use Rattle.lv_base.specs.declared.ids.Lit.{Lit}
 use Rattle.lv_base.specs.declared.ids.ClauseId.{ClauseId}
@@ -23,6 +23,11 @@ pub record Puts (old new : ClauseMap) (id : ℕ) (slot : Option (List Lit)) : Ty
   pub bools : new.bools ≡ old.bools
   pub changed : clause_at new.slots id ≡ slot
   pub others : (other : ℕ) → other ≢ id → clause_at new.slots other ≡ clause_at old.slots other
+
+-- each clause present has a number below this one, and the number before it, if there is one, is that of a clause
+pub record IsBound (slots : Slots) (n : ℕ) : Type 0 where
+  pub above : (id : ℕ) → IsSome (clause_at slots id) → id < n
+  pub least : 0 < n → IsSome (clause_at slots (n - 1))
 
 -- each clause present is one over so many booleans
 abbrev pub AreClauses : ℕ → Slots → Type 0

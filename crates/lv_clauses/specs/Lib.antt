@@ -3,3 +3,4 @@ pub mod ClauseMap
 pub mod Closure
 pub mod Marks
 pub mod Laws
+pub mod Noted

@@ -18,8 +18,8 @@ mark_is None sign = false
 mark_is (Some value) sign = same_truth value sign
 
 -- the literal is marked as true
-abbrev pub has : Marks → Lit → Bool
-has marks l = mark_is (slice_index_or marks l.var.0 None) l.sign
+abbrev pub is_marked : Marks → Lit → Bool
+is_marked marks l = mark_is (slice_index_or marks l.var.0 None) l.sign
 
 -- the marks with the literal true
 abbrev pub marked : Marks → Lit → Marks
@@ -31,7 +31,7 @@ is_free marks l = is_none (slice_index_or marks l.var.0 None)
 
 -- the literals that aren't false
 abbrev pub unmet : Marks → List Lit → List Lit
-unmet marks c = filter (λ l. not (has marks (neg l))) c
+unmet marks c = filter (λ l. not (is_marked marks (neg l))) c
 
 abbrev pub finding_of : List Lit → Finding
 finding_of [] = AllFalse

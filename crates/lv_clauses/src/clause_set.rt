@@ -1,9 +1,9 @@
 //! The clause arena. A clause keeps its number while it is present; the number of one that was removed is given again.
 #![tactic(auto)]
 
-ghost use Rattle.std.specs.Prelude.{◌≡◌, ◌≤◌, IfSome, Some, None, [], length, IsSome, IsTrue, IfOk, OnErr, option_map, is_some};
+ghost use Rattle.std.specs.Prelude.{◌≡◌, IfSome, Some, None, [], length, IsSome, IsTrue, IfOk, OnErr, option_map, is_some};
 ghost use Rattle.lv_clauses.specs.Literals.{is_clause};
-ghost use Rattle.lv_clauses.specs.ClauseMap.{clause_at, Puts, satisfies, ids_of};
+ghost use Rattle.lv_clauses.specs.ClauseMap.{clause_at, Puts, IsBound, satisfies, ids_of};
 
 use super::clause::Clause;
 use super::literals::clause_holds;
@@ -111,11 +111,19 @@ impl ClauseSet {
         }
     }
 
-    /// A number above that of every clause present, for a walk over all of them that takes no memory.
+    /// The number after the highest of a clause present, 0 where there is none: for a walk over all of them that takes no
+    /// memory. It looks at each number for which there is room above that.
     pub fn bound(&self) -> usize
-        ensures { length self.now.slots ≤ result }
+        ensures { IsBound self.now.slots result }
     {
-        self.clauses.capacity()
+        let mut bound = self.clauses.capacity();
+        while bound > 0 {
+            if self.clauses.contains(bound - 1) {
+                return bound;
+            }
+            bound -= 1;
+        }
+        bound
     }
 
     /// The numbers of the clauses present, rising.

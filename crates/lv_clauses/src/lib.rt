@@ -7,7 +7,7 @@
 //! | the arena | `ClauseSet` |
 //! | laws of the unit closure | `closure_is_least`, `closure_is_sound` |
 //! | literals | `negation`, `is_clause`, `lit_holds`, `clause_holds` |
-//! | marks of booleans | `has`, `look`, `Finding` |
+//! | marks of booleans | `Marks`, `is_marked`, `unmark`, `look`, `Finding` |
 #![tactic(auto)]
 
 pub mod clause;
@@ -15,9 +15,11 @@ pub mod clause_set;
 pub mod laws;
 pub mod literals;
 pub mod marks;
+pub mod noted_marks;
 
 pub use clause::Clause;
 pub use clause_set::ClauseSet;
 pub use laws::{closure_is_least, closure_is_sound};
 pub use literals::{clause_holds, is_clause, lit_holds, negation};
-pub use marks::{Finding, has, look};
+pub use marks::{Finding, is_marked, look, unmark};
+pub use noted_marks::Marks;

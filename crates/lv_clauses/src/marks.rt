@@ -2,7 +2,7 @@
 //! of refutations share.
 #![tactic(auto)]
 
-ghost use Rattle.std.specs.Prelude.{◌≡◌};
+ghost use Rattle.std.specs.Prelude.{◌≡◌, None, slice_set};
 ghost use Rattle.lv_clauses.specs.Marks as Marks;
 
 use super::literals::negation;
@@ -20,8 +20,8 @@ pub enum Finding {
 }
 
 /// Whether a literal is marked as true. A boolean past the end of the marks is unmarked. Takes no memory.
-pub fn has(marks: &[Option<bool>], lit: Lit) -> bool
-    ensures { result ≡ Marks.has marks.now lit }
+pub fn is_marked(marks: &[Option<bool>], lit: Lit) -> bool
+    ensures { result ≡ Marks.is_marked marks.now lit }
 {
     let index = lit.var.0 as usize;
     if index < marks.len() {
@@ -34,13 +34,23 @@ pub fn has(marks: &[Option<bool>], lit: Lit) -> bool
     }
 }
 
+/// Unmarks the boolean of a literal, if it is in range. Takes no memory.
+pub fn unmark(marks: &mut Vec<Option<bool>>, lit: Lit)
+    ensures { marks.new.items ≡ slice_set marks.old.items lit.var.0 None }
+{
+    let index = lit.var.0 as usize;
+    if index < marks.len() {
+        marks[index] = None;
+    }
+}
+
 /// Looks at a clause's literals until two are found that aren't false. Takes no memory.
 pub fn look(marks: &[Option<bool>], clause: &[Lit]) -> Finding
     ensures { result ≡ Marks.look_at marks.now clause.now }
 {
     let mut left = None;
     for lit in clause {
-        if !has(marks, negation(*lit)) {
+        if !is_marked(marks, negation(*lit)) {
             match left {
                 Some(_) => return Finding::Open,
                 None => left = Some(*lit),

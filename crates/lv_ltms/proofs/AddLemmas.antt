@@ -1,7 +1,6 @@
 -- A new system, and a system with one clause more.
-use Rattle.std.proofs.Common.{◌≡◌, ◌≢◌, ◌⊎◌, ℕ, suc, zero, ◌+◌, ◌≤◌, Bool, true, false, nat_eq, List, [], ◌∷◌, length, get_or, replicate, Option, Some, None, IsTrue, is_none, count_by, if◌then◌else◌, refl, sym, ap, subst, ◌∙◌, arith, inl, inr, Contains}
+use Rattle.std.proofs.Common.{◌≡◌, ◌≢◌, ◌⊎◌, ℕ, suc, zero, ◌+◌, ◌≤◌, Bool, true, false, List, [], ◌∷◌, length, get_or, replicate, Option, Some, None, IsTrue, is_none, count_by, if◌then◌else◌, refl, sym, ap, subst, ◌∙◌, arith, inl, inr, Contains}
 use Rattle.std.proofs.lemmas.Bool.{cases_eq}
-use Rattle.std.proofs.lemmas.Bool.Decides.{nat_tests}
 use Rattle.std.proofs.lemmas.List.{length-replicate}
 use Rattle.std.proofs.lemmas.List.Elements.{Contains-append_left, Contains-append_right}
 use Rattle.std.proofs.Math.Seq.{take-length}
@@ -9,9 +8,9 @@ use Rattle.lv_base.specs.declared.ids.Lit.{Lit}
 use Rattle.lv_base.specs.declared.ids.ClauseId.{ClauseId}
 use Rattle.lv_clauses.specs.Literals.{neg, is_clause}
 use Rattle.lv_clauses.specs.ClauseMap.{Slots, clause_at, AreClauses}
-use Rattle.lv_clauses.specs.Marks.{Marks, nothing, has, is_free}
+use Rattle.lv_clauses.specs.Marks.{Marks, nothing, is_marked, is_free}
 use Rattle.lv_clauses.proofs.LiteralLemmas.{Contains-nil}
-use Rattle.lv_clauses.proofs.MarkLemmas.{has-nothing}
+use Rattle.lv_clauses.proofs.MarkLemmas.{is_marked-nothing}
 use Rattle.lv_ltms.specs.declared.labels.Link.{Link}
 use Rattle.lv_ltms.specs.declared.labels.Reason.{Reason}
 use Rattle.lv_ltms.specs.declared.labels.Reason.TheVariants.{Assumed, Clause}
@@ -67,7 +66,7 @@ blank_kept bools space within =
             supports = length-replicate {A = Reason} bools Assumed;
             agrees =
                 record {
-                  same = λ l. has-nothing bools l;
+                  same = λ l. is_marked-nothing bools l;
                   once = refl;
                   room = omega (arith, all_none bools, length-replicate {A = Option Bool} bools None);
                   backed = λ k h. absurd (Contains-nil k h);
@@ -77,7 +76,7 @@ blank_kept bools space within =
             settled = record { marked = λ id c l at none one in_clause left fine. absurd (cc at) };
           };
       derivation = start;
-      assumptions = record { marked = λ l e. absurd (cc (has-nothing bools l, e)) };
+      assumptions = record { marked = λ l e. absurd (cc (is_marked-nothing bools l, e)) };
       room = within;
     }
   where
@@ -92,6 +91,11 @@ new_kept bools space assumed rows counted labels within e f g h =
     (subst (λ (x : Rows). IsKept (record { bools = bools; clauses = counted.clauses; assumed = nothing bools; trail = labels.trail }) x counted labels space) (sym f)
     (subst (λ (x : Counted). IsKept (record { bools = bools; clauses = x.clauses; assumed = nothing bools; trail = labels.trail }) (blank_rows bools) x labels space) (sym g)
     (subst (λ (x : Labelled). IsKept (record { bools = bools; clauses = []; assumed = nothing bools; trail = x.trail }) (blank_rows bools) no_clauses x space) (sym h) (blank_kept bools space within))))
+
+-- the same rows and as much room serve as before
+pub kept_beside : {s : System} {rows new : Rows} {counted : Counted} {labels : Labelled} {space room : ℕ} → new ≡ rows → room ≡ space → IsKept s rows counted labels space → IsKept s new counted labels room
+kept_beside {s} {rows} {new} {counted} {labels} {space} {room} e f kept =
+    subst (λ (r : Rows). IsKept s r counted labels room) (sym e) (subst (λ (n : ℕ). IsKept s rows counted labels n) (sym f) kept)
 
 -- rows that have what they had serve as before
 pub same_rows_kept : (s : System) (rows new : Rows) (counted : Counted) (labels : Labelled) (space : ℕ) → IsKept s rows counted labels space → SameRows rows new → KeepsWidth rows new → IsKept s new counted labels space
@@ -118,7 +122,7 @@ same_rows_kept s rows new counted labels space kept same width =
     }
 
 module _ (s : System) (rows new_rows : Rows) (counted new : Counted) (labels : Labelled) (space : ℕ) (id : ℕ) (lits : List Lit) (n : ℕ) (kept : IsKept s rows counted labels space) (clause : IsTrue (is_clause s.bools lits))
-    (vacant : clause_at counted.clauses id ≡ None) (puts : PutsEntry counted new id (Some lits) n) (adds : AddsTo rows new_rows lits id) (width : KeepsWidth rows new_rows) (count : n ≡ left_count (has labels.marks) lits) where
+    (vacant : clause_at counted.clauses id ≡ None) (puts : PutsEntry counted new id (Some lits) n) (adds : AddsTo rows new_rows lits id) (width : KeepsWidth rows new_rows) (count : n ≡ left_count (is_marked labels.marks) lits) where
   pub added_clauses : AreClauses s.bools new.clauses
   added_clauses i d at = elim (cases_eq i id) [
     | inl same ↦
@@ -139,7 +143,7 @@ module _ (s : System) (rows new_rows : Rows) (counted new : Counted) (labels : L
       let same : occurs new_rows l i ≡ occurs rows l i = omega (arith, more) in
       same ∙ kept.state.index.exact l i ∙ ap (slot_lit_count l) (sym (puts.other_clauses i differs))
 
-  truth_is : (l : Lit) → has labels.marks l ≡ true_before (length labels.trail) labels.trail l
+  truth_is : (l : Lit) → is_marked labels.marks l ≡ true_before (length labels.trail) labels.trail l
   truth_is l = kept.state.agrees.same l ∙ ap (λ (t : List Link). trail_has t l) (sym (take-length labels.trail))
 
   -- the clause that came is settled, and the literal that it derives waits to be counted
@@ -166,9 +170,9 @@ module _ (s : System) (rows new_rows : Rows) (counted new : Counted) (labels : L
       counter : (i : ℕ) (c : List Lit) → clause_at new.clauses i ≡ Some c → ((l : Lit) → true_before (length labels.trail) labels.trail l ≡ true_before (length labels.trail) grown.trail l) → (i ≡ id) ⊎ (i ≢ id)
           → open_at new i ≡ left_count (true_before (length labels.trail) grown.trail) c + times_in [] i
       counter i c at before (inl same) =
-          let here : open_at new i ≡ left_count (has labels.marks) lits = ap (open_at new) same ∙ puts.counter ∙ count in
-          let now : left_count (has labels.marks) c ≡ left_count (true_before (length labels.trail) grown.trail) c = left_count-same (has labels.marks) (true_before (length labels.trail) grown.trail) (λ l. truth_is l ∙ before l) c in
-          omega (arith, here, now, ap (left_count (has labels.marks)) (same_clause i c same at))
+          let here : open_at new i ≡ left_count (is_marked labels.marks) lits = ap (open_at new) same ∙ puts.counter ∙ count in
+          let now : left_count (is_marked labels.marks) c ≡ left_count (true_before (length labels.trail) grown.trail) c = left_count-same (is_marked labels.marks) (true_before (length labels.trail) grown.trail) (λ l. truth_is l ∙ before l) c in
+          omega (arith, here, now, ap (left_count (is_marked labels.marks)) (same_clause i c same at))
       counter i c at before (inr differs) =
           let was : clause_at counted.clauses i ≡ Some c = sym (puts.other_clauses i differs) ∙ at in
           puts.other_counters i differs ∙ kept.state.counters.present i c was ∙ ap (λ m. m + times_in [] i) (left_count-same (true_before (length labels.trail) labels.trail) (true_before (length labels.trail) grown.trail) before c)
@@ -196,16 +200,16 @@ module _ (s : System) (rows new_rows : Rows) (counted new : Counted) (labels : L
         clauses = refl;
         trail = refl;
         state = state;
-        derivation = subst (λ (c : Slots). IsDerivation c (has s.assumed) last.trail) (sym same) (second.derivation (has s.assumed) (first.derivation (has s.assumed) over));
+        derivation = subst (λ (c : Slots). IsDerivation c (is_marked s.assumed) last.trail) (sym same) (second.derivation (is_marked s.assumed) (first.derivation (is_marked s.assumed) over));
         assumptions = record { marked = λ l e. second.grows.kept l (first.grows.kept l (kept.assumptions.marked l e)) };
         room = kept.room;
       }
     where
-      good : (before : List Link) (l : Lit) (r : Reason) → IsReason s.clauses (has s.assumed) before l r → IsReason new.clauses (has s.assumed) before l r
+      good : (before : List Link) (l : Lit) (r : Reason) → IsReason s.clauses (is_marked s.assumed) before l r → IsReason new.clauses (is_marked s.assumed) before l r
       good before l Assumed is = is
       good before l (Clause i) is = by_id (cases_eq i.0 id)
         where
-          by_id : (i.0 ≡ id) ⊎ (i.0 ≢ id) → IsReason new.clauses (has s.assumed) before l (Clause i)
+          by_id : (i.0 ≡ id) ⊎ (i.0 ≢ id) → IsReason new.clauses (is_marked s.assumed) before l (Clause i)
           by_id (inl here) = absurd (cc (sym is.present ∙ ap (λ (c : Slots). clause_at c i.0) kept.clauses ∙ ap (clause_at counted.clauses) here ∙ vacant))
           by_id (inr differs) =
               record {
@@ -215,5 +219,5 @@ module _ (s : System) (rows new_rows : Rows) (counted new : Counted) (labels : L
                 others = is.others;
               }
 
-      over : IsDerivation new.clauses (has s.assumed) labels.trail
-      over = derivation_to s.clauses new.clauses (has s.assumed) (has s.assumed) kept.derivation (λ before k h is. good before k.lit k.reason is)
+      over : IsDerivation new.clauses (is_marked s.assumed) labels.trail
+      over = derivation_to s.clauses new.clauses (is_marked s.assumed) (is_marked s.assumed) kept.derivation (λ before k h is. good before k.lit k.reason is)

@@ -12,7 +12,7 @@ use Rattle.lv_base.specs.declared.ids.Lit.{Lit}
 use Rattle.lv_ltms.specs.declared.arena.Entry.{Entry}
 use Rattle.lv_clauses.specs.ClauseMap.{clause_at}
 use Rattle.lv_ltms.specs.Counters.{Counted, open_at, Recounts, PutsEntry}
-use Rattle.lv_ltms.specs.Arena.{clause_of, counter_of, is_refuted, with_counter, one_at_zero, IsArena}
+use Rattle.lv_ltms.specs.Arena.{clause_of, counter_of, is_false_clause, with_counter, one_at_zero, IsArena}
 
 -- what contracts see of the entries
 abbrev pub shown : List (Option Entry) → Counted
@@ -76,20 +76,20 @@ entry_added {reserved} {new} {place} {e} old before key lits u same view here te
 
 -- what a slot adds to the number of counters that are 0
 abbrev pub weight : Option Entry → ℕ
-weight slot = cond (is_refuted slot) 1 0
+weight slot = cond (is_false_clause slot) 1 0
 
-count_cons : (slot : Option Entry) (rest : List (Option Entry)) → count_by is_refuted (slot ∷ rest) ≡ weight slot + count_by is_refuted rest
+count_cons : (slot : Option Entry) (rest : List (Option Entry)) → count_by is_false_clause (slot ∷ rest) ≡ weight slot + count_by is_false_clause rest
 count_cons slot rest = sum_by-cons weight slot rest
 
 -- lists that have the same at each key count the same
-same_count : (old new : List (Option Entry)) → ((key : ℕ) → get_or new key None ≡ get_or old key None) → count_by is_refuted new ≡ count_by is_refuted old
+same_count : (old new : List (Option Entry)) → ((key : ℕ) → get_or new key None ≡ get_or old key None) → count_by is_false_clause new ≡ count_by is_false_clause old
 same_count [] [] same = refl
 same_count [] (y ∷ ys) same = omega (arith, count_cons y ys, ap weight (same 0), same_count [] ys (λ key. same (suc key)))
 same_count (x ∷ xs) [] same = omega (arith, count_cons x xs, ap weight (same 0), same_count xs [] (λ key. same (suc key)))
 same_count (x ∷ xs) (y ∷ ys) same = omega (arith, count_cons x xs, count_cons y ys, ap weight (same 0), same_count xs ys (λ key. same (suc key)))
 
 -- lists that have the same at each key but one count the same but for what is there
-pub count_changed : (old new : List (Option Entry)) (key : ℕ) → ((other : ℕ) → other ≢ key → get_or new other None ≡ get_or old other None) → count_by is_refuted new + weight (get_or old key None) ≡ count_by is_refuted old + weight (get_or new key None)
+pub count_changed : (old new : List (Option Entry)) (key : ℕ) → ((other : ℕ) → other ≢ key → get_or new other None ≡ get_or old other None) → count_by is_false_clause new + weight (get_or old key None) ≡ count_by is_false_clause old + weight (get_or new key None)
 count_changed [] [] key same = refl
 count_changed [] (y ∷ ys) zero same = omega (arith, count_cons y ys, same_count [] ys (λ key. same (suc key) (omega arith)))
 count_changed (x ∷ xs) [] zero same = omega (arith, count_cons x xs, same_count xs [] (λ key. same (suc key) (omega arith)))
@@ -107,7 +107,7 @@ one_slot (Some e) = by_zero (nat_eq e.left 0)
     by_zero false = omega arith
 
 -- there are no more counters at 0 than entries
-pub count_fits : (slots : List (Option Entry)) → count_by is_refuted slots ≤ count_by is_some slots
+pub count_fits : (slots : List (Option Entry)) → count_by is_false_clause slots ≤ count_by is_some slots
 count_fits [] = omega arith
 count_fits (slot ∷ rest) = omega (arith, count_cons slot rest, sum_by-cons (λ o. cond (is_some o) 1 0) slot rest, one_slot slot, count_fits rest)
 
@@ -119,20 +119,20 @@ zero_step true c n e = ap not (differ (1 + n) (omega arith))
 zero_step false c n e = rw zero-add e
 
 -- a counter is 0 exactly where the number of those is not
-pub zero_counted : (slots : List (Option Entry)) → not (nat_eq (count_by is_refuted slots) 0) ≡ list_any (λ n. nat_eq n 0) (map counter_of slots)
+pub zero_counted : (slots : List (Option Entry)) → not (nat_eq (count_by is_false_clause slots) 0) ≡ list_any (λ n. nat_eq n 0) (map counter_of slots)
 zero_counted [] = refl
 zero_counted (None ∷ rest) = zero_counted rest
-zero_counted (Some e ∷ rest) = rw (count_cons (Some e) rest) (zero_step (nat_eq e.left 0) _ (count_by is_refuted rest) (zero_counted rest))
+zero_counted (Some e ∷ rest) = rw (count_cons (Some e) rest) (zero_step (nat_eq e.left 0) _ (count_by is_false_clause rest) (zero_counted rest))
 
 -- so many counters at 0 are no more than entries
-pub arena_fits : (slots : List (Option Entry)) (refuted : ℕ) → IsArena slots refuted → refuted ≤ count_by is_some slots
-arena_fits slots refuted arena = omega (arith, arena.counted, count_fits slots)
+pub arena_fits : (slots : List (Option Entry)) (false_clauses : ℕ) → IsArena slots false_clauses → false_clauses ≤ count_by is_some slots
+arena_fits slots false_clauses arena = omega (arith, arena.counted, count_fits slots)
 
 -- the entries after one more came
-pub arena_more : {reserved new : Slab Entry} {key : ℕ} {e : Entry} (old : List (Option Entry)) (refuted : ℕ) → Updates reserved new key (Some e) → reserved.slots ≡ old → get_or reserved.slots key None ≡ None → IsArena old refuted → length e.clause < 2 ^ 64 → IsArena new.slots (refuted + one_at_zero e.left)
-arena_more {reserved} {new} {key} {e} old refuted u same vacant arena fits =
+pub arena_more : {reserved new : Slab Entry} {key : ℕ} {e : Entry} (old : List (Option Entry)) (false_clauses : ℕ) → Updates reserved new key (Some e) → reserved.slots ≡ old → get_or reserved.slots key None ≡ None → IsArena old false_clauses → length e.clause < 2 ^ 64 → IsArena new.slots (false_clauses + one_at_zero e.left)
+arena_more {reserved} {new} {key} {e} old false_clauses u same vacant arena fits =
     record {
-      counted = omega (arith, count_changed reserved.slots new.slots key u.others, ap weight vacant, ap weight u.changed, ap (count_by is_refuted) same, arena.counted);
+      counted = omega (arith, count_changed reserved.slots new.slots key u.others, ap weight vacant, ap weight u.changed, ap (count_by is_false_clause) same, arena.counted);
       short = λ k f at. elim (cases_eq k key) [
         | inl here ↦ subst (λ o. IfSome o (λ e. length e.clause < 2 ^ 64)) (sym u.changed ∙ ap (λ j. get_or new.slots j None) (sym here) ∙ at) fits
         | inr differs ↦ arena.short k f (ap (λ xs. get_or xs k None) (sym same) ∙ sym (u.others k differs) ∙ at)
@@ -140,8 +140,8 @@ arena_more {reserved} {new} {key} {e} old refuted u same vacant arena fits =
     }
 
 -- a counter above 0 may come down to 0
-pub counter_fits : (slots new : List (Option Entry)) (key : ℕ) (e : Entry) (n refuted : ℕ) → new ≡ set slots key (with_counter (get_or slots key None) n) → IsArena slots refuted → get_or slots key None ≡ Some e → 0 < e.left → refuted + one_at_zero n ≤ count_by is_some new
-counter_fits slots new key e n refuted written arena at above =
+pub counter_fits : (slots new : List (Option Entry)) (key : ℕ) (e : Entry) (n false_clauses : ℕ) → new ≡ set slots key (with_counter (get_or slots key None) n) → IsArena slots false_clauses → get_or slots key None ≡ Some e → 0 < e.left → false_clauses + one_at_zero n ≤ count_by is_some new
+counter_fits slots new key e n false_clauses written arena at above =
     let within : key < length slots = grind (arith, get_or_past) in
     let none : weight (Some e) ≡ 0 = ap (λ b. cond b 1 0) (differ e.left above) in
     let slot = with_counter (get_or slots key None) n in

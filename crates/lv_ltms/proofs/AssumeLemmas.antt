@@ -5,8 +5,8 @@ use Rattle.std.proofs.lemmas.List.{length-set}
 use Rattle.lv_base.specs.declared.ids.Lit.{Lit}
 use Rattle.lv_clauses.specs.Literals.{neg, in_range}
 use Rattle.lv_clauses.specs.ClauseMap.{Slots}
-use Rattle.lv_clauses.specs.Marks.{has, marked, is_free}
-use Rattle.lv_clauses.proofs.MarkLemmas.{has-marked_cases}
+use Rattle.lv_clauses.specs.Marks.{is_marked, marked, is_free}
+use Rattle.lv_clauses.proofs.MarkLemmas.{is_marked-marked_cases}
 use Rattle.lv_ltms.specs.declared.labels.Link.{Link}
 use Rattle.lv_ltms.specs.declared.labels.Reason.TheVariants.{Assumed}
 use Rattle.lv_ltms.specs.Trail.{IsDerivation, next}
@@ -26,11 +26,11 @@ module _ (s : System) (rows : Rows) (counted : Counted) (labels : Labelled) (spa
   pub within : lit.var.0 < length s.assumed
   within = omega (arith, below s.bools lit range, kept.assumed)
 
-  over : IsDerivation counted.clauses (has (marked s.assumed lit)) labels.trail
-  over = derivation_assumed s rows counted labels space kept (has (marked s.assumed lit)) labels.trail kept.derivation (λ k h e. assumed_more s rows counted labels space kept lit within free k.lit e)
+  over : IsDerivation counted.clauses (is_marked (marked s.assumed lit)) labels.trail
+  over = derivation_assumed s rows counted labels space kept (is_marked (marked s.assumed lit)) labels.trail kept.derivation (λ k h e. assumed_more s rows counted labels space kept lit within free k.lit e)
 
   -- the literal is marked already
-  pub known_kept : has labels.marks lit ≡ true → IsKept (record { bools = s.bools; clauses = counted.clauses; assumed = marked s.assumed lit; trail = labels.trail }) rows counted labels space
+  pub known_kept : is_marked labels.marks lit ≡ true → IsKept (record { bools = s.bools; clauses = counted.clauses; assumed = marked s.assumed lit; trail = labels.trail }) rows counted labels space
   known_kept known =
       record {
         assumed = length-set s.assumed lit.var.0 (Some lit.sign) ∙ kept.assumed;
@@ -40,13 +40,13 @@ module _ (s : System) (rows : Rows) (counted : Counted) (labels : Labelled) (spa
         derivation = over;
         assumptions =
             record {
-              marked = λ l e. elim (has-marked_cases s.assumed lit l e) [ inl same ↦ ap (has labels.marks) same ∙ known | inr old ↦ kept.assumptions.marked l old ];
+              marked = λ l e. elim (is_marked-marked_cases s.assumed lit l e) [ inl same ↦ ap (is_marked labels.marks) same ∙ known | inr old ↦ kept.assumptions.marked l old ];
             };
         room = kept.room;
       }
 
   -- the literal is marked now, and what follows is propagated
-  module _ (p : has labels.marks lit ≡ false) (q : has labels.marks (neg lit) ≡ false) where
+  module _ (p : is_marked labels.marks lit ≡ false) (q : is_marked labels.marks (neg lit) ≡ false) where
     abbrev pub link : Link
     link = record { lit = lit; reason = Assumed }
 
@@ -71,15 +71,15 @@ module _ (s : System) (rows : Rows) (counted : Counted) (labels : Labelled) (spa
           trail = refl;
           state = state;
           derivation =
-              subst (λ (c : Slots). IsDerivation c (has (marked s.assumed lit)) last.trail) (sym same)
-              (goes.derivation (has (marked s.assumed lit)) (next labels.trail link over (assumed_here s rows counted labels space kept lit within free) refl));
+              subst (λ (c : Slots). IsDerivation c (is_marked (marked s.assumed lit)) last.trail) (sym same)
+              (goes.derivation (is_marked (marked s.assumed lit)) (next labels.trail link over (assumed_here s rows counted labels space kept lit within free) refl));
           assumptions =
               record {
                 marked =
                     λ l e.
                     goes.grows.kept l
-                    (elim (has-marked_cases s.assumed lit l e) [
-                      | inl same_lit ↦ ap (has (with_link labels link).marks) same_lit ∙ pushed_has labels link inside inside_supports p q kept.state.agrees
+                    (elim (is_marked-marked_cases s.assumed lit l e) [
+                      | inl same_lit ↦ ap (is_marked (with_link labels link).marks) same_lit ∙ pushed_has labels link inside inside_supports p q kept.state.agrees
                       | inr old ↦ grows.kept l (kept.assumptions.marked l old)
                     ]);
               };

@@ -6,7 +6,7 @@ use Rattle.lv_base.specs.declared.ids.Lit.{Lit}
 use Rattle.lv_clauses.specs.Literals.{neg, same_truth, same_var, distinct}
 use Rattle.lv_clauses.specs.ClauseMap.{Slots}
 use Rattle.lv_clauses.specs.Closure.{InClosure, IsContradictory, assumption, unit, both_signs, empty_clause}
-use Rattle.lv_clauses.specs.Marks.{Marks, has, mark_is}
+use Rattle.lv_clauses.specs.Marks.{Marks, is_marked, mark_is}
 use Rattle.lv_clauses.proofs.LiteralLemmas.{and_right, or_right}
 use Rattle.lv_ltms.specs.Trail.{same_lit}
 use Rattle.lv_ltms.specs.Marked.{literals_from}
@@ -80,5 +80,5 @@ all_assumed s core refuted e =
           let place : l.var.0 ≡ at.place = omega (arith, at.var) in
           ap (λ k. mark_is (get_or s.assumed k None) l.sign) place ∙ at.mark;
       distinct = listed_distinct 0 s.assumed;
-      contradictory = refuted_grows s.clauses (has s.assumed) (in_list (literals_from 0 s.assumed)) (λ l h. marked_listed 0 s.assumed l l.var.0 (omega arith) h) refuted;
+      contradictory = refuted_grows s.clauses (is_marked s.assumed) (in_list (literals_from 0 s.assumed)) (λ l h. marked_listed 0 s.assumed l l.var.0 (omega arith) h) refuted;
     })

@@ -1,16 +1,15 @@
 -- What one link more makes of labels, and what labels that grow keep.
-use Rattle.std.proofs.Common.{◌≡◌, ◌≢◌, ◌⊎◌, ℕ, ◌+◌, ◌<◌, ◌≤◌, suc, zero, Bool, true, false, not, ◌||◌, nat_eq, List, [], ◌∷◌, ◌++◌, length, take, drop, get_or, Option, Some, None, is_none, refl, sym, ap, ap₂, ◌∙◌, arith, inl, inr, Contains}
+use Rattle.std.proofs.Common.{◌≡◌, ◌≢◌, ◌⊎◌, ℕ, ◌+◌, ◌<◌, ◌≤◌, suc, zero, Bool, true, false, not, ◌||◌, List, [], ◌∷◌, ◌++◌, length, take, drop, get_or, Option, Some, None, is_none, refl, sym, ap, ap₂, ◌∙◌, arith, inl, inr, Contains}
 use Rattle.std.proofs.lemmas.Bool.{cases_lt}
-use Rattle.std.proofs.lemmas.Bool.Decides.{nat_tests}
 use Rattle.std.proofs.lemmas.List.{length-append, length-set, get_or-set_same, get_or-set_other, take-append-le, take-append-drop, append_assoc}
 use Rattle.std.proofs.lemmas.List.Elements.{Contains-append_cases}
 use Rattle.std.proofs.lemmas.List.Folds.{list_any-append, list_any_more, list_any_at}
 use Rattle.std.proofs.Math.Seq.{drop-append_seam}
 use Rattle.lv_base.specs.declared.ids.Lit.{Lit}
 use Rattle.lv_clauses.specs.Literals.{neg, same_truth, same_var}
-use Rattle.lv_clauses.specs.Marks.{Marks, has, mark_is, is_free}
+use Rattle.lv_clauses.specs.Marks.{Marks, is_marked, mark_is, is_free}
 use Rattle.lv_clauses.proofs.LiteralLemmas.{Contains-nil, Contains-cases, and_left, and_right, and_both, any_member, member_any, same_or_neg}
-use Rattle.lv_clauses.proofs.MarkLemmas.{has-marked_free, same_truth-self}
+use Rattle.lv_clauses.proofs.MarkLemmas.{is_marked-marked_free, same_truth-self}
 use Rattle.lv_ltms.specs.declared.labels.Link.{Link}
 use Rattle.lv_ltms.specs.declared.labels.Reason.TheVariants.{Assumed}
 use Rattle.lv_ltms.specs.Trail.{same_lit, trail_has}
@@ -32,20 +31,20 @@ not_marked : (o : Option Bool) (s : Bool) → is_none o ≡ true → mark_is o s
 not_marked None s e = refl
 not_marked (Some b) s e = absurd (cc)
 
-pub has_not_neg : (marks : Marks) (l : Lit) → has marks l ≡ true → has marks (neg l) ≡ false
+pub has_not_neg : (marks : Marks) (l : Lit) → is_marked marks l ≡ true → is_marked marks (neg l) ≡ false
 has_not_neg marks l e = (marked_cases _ l.sign e).0
 
-pub has_not_free : (marks : Marks) (l : Lit) → has marks l ≡ true → is_free marks l ≡ false
+pub has_not_free : (marks : Marks) (l : Lit) → is_marked marks l ≡ true → is_free marks l ≡ false
 has_not_free marks l e = (marked_cases _ l.sign e).1
 
-pub neg_not_free : (marks : Marks) (l : Lit) → has marks (neg l) ≡ true → is_free marks l ≡ false
+pub neg_not_free : (marks : Marks) (l : Lit) → is_marked marks (neg l) ≡ true → is_free marks l ≡ false
 neg_not_free marks l e = (marked_cases _ (not l.sign) e).1
 
-pub free_not_has : (marks : Marks) (l : Lit) → is_free marks l ≡ true → has marks l ≡ false
+pub free_not_has : (marks : Marks) (l : Lit) → is_free marks l ≡ true → is_marked marks l ≡ false
 free_not_has marks l e = not_marked _ l.sign e
 
 -- a boolean that is marked has one of its literals marked
-pub not_free_cases : (marks : Marks) (l : Lit) → is_free marks l ≡ false → (has marks l ≡ true) ⊎ (has marks (neg l) ≡ true)
+pub not_free_cases : (marks : Marks) (l : Lit) → is_free marks l ≡ false → (is_marked marks l ≡ true) ⊎ (is_marked marks (neg l) ≡ true)
 not_free_cases marks l e = by_mark (get_or marks l.var.0 None) l.sign e
   where
     by_mark : (o : Option Bool) (s : Bool) → is_none o ≡ false → (mark_is o s ≡ true) ⊎ (mark_is o (not s) ≡ true)
@@ -60,7 +59,7 @@ past_none [] v e = refl
 past_none (m ∷ ms) zero e = absurd (omega (arith, e))
 past_none (m ∷ ms) (suc v) e = past_none ms v (omega (arith, e))
 
-pub has_within : (marks : Marks) (l : Lit) → has marks l ≡ true → l.var.0 < length marks
+pub has_within : (marks : Marks) (l : Lit) → is_marked marks l ≡ true → l.var.0 < length marks
 has_within marks l e = elim (cases_lt l.var.0 (length marks)) [
   | inl within ↦ within
   | inr past ↦ absurd (cc (ap (λ (o : Option Bool). mark_is o l.sign) (past_none marks l.var.0 past), e))
@@ -93,7 +92,7 @@ once_push (k ∷ ks) link once fresh =
     (once_push ks link (and_right (not (has_boolean ks k.lit)) (is_once ks) once) ((or_parts (same_var k.lit link.lit) (has_boolean ks link.lit) fresh).1))
 
 module _ (labels : Labelled) (link : Link) (within : link.lit.var.0 < length labels.marks) (inside : link.lit.var.0 < length labels.supports)
-    (p : has labels.marks link.lit ≡ false) (q : has labels.marks (neg link.lit) ≡ false) (agrees : Agrees labels.marks labels.supports labels.trail) where
+    (p : is_marked labels.marks link.lit ≡ false) (q : is_marked labels.marks (neg link.lit) ≡ false) (agrees : Agrees labels.marks labels.supports labels.trail) where
   boolean_fresh : has_boolean labels.trail link.lit ≡ false
   boolean_fresh =
       not_true (has_boolean labels.trail link.lit)
@@ -116,7 +115,7 @@ module _ (labels : Labelled) (link : Link) (within : link.lit.var.0 < length lab
       record {
         same =
             λ l.
-            has-marked_free labels.marks link.lit l within p q
+            is_marked-marked_free labels.marks link.lit l within p q
             ∙ ap (λ b. b || same_lit link.lit l) (agrees.same l)
             ∙ sym (trail_has-push labels.trail link l);
         once = once_push labels.trail link agrees.once boolean_fresh;
@@ -143,7 +142,7 @@ module _ (labels : Labelled) (link : Link) (within : link.lit.var.0 < length lab
   Grows-push =
       record {
         agrees = Agrees-push;
-        kept = λ l e. has-marked_free labels.marks link.lit l within p q ∙ ap (λ b. b || same_lit link.lit l) e;
+        kept = λ l e. is_marked-marked_free labels.marks link.lit l within p q ∙ ap (λ b. b || same_lit link.lit l) e;
         front = ap (λ (more : List Link). labels.trail ++ more) (sym (drop-append_seam labels.trail (link ∷ [])));
         marks = length-set labels.marks link.lit.var.0 (Some link.lit.sign);
         supports = length-set labels.supports link.lit.var.0 link.reason;
@@ -153,7 +152,7 @@ module _ (labels : Labelled) (link : Link) (within : link.lit.var.0 < length lab
   pub pushed_marked : is_free (with_link labels link).marks link.lit ≡ false
   pushed_marked = ap is_none (get_or-set_same labels.marks link.lit.var.0 (Some link.lit.sign) None within)
 
-  pub pushed_has : has (with_link labels link).marks link.lit ≡ true
+  pub pushed_has : is_marked (with_link labels link).marks link.lit ≡ true
   pushed_has = ap (λ (o : Option Bool). mark_is o link.lit.sign) (get_or-set_same labels.marks link.lit.var.0 (Some link.lit.sign) None within) ∙ same_truth-self link.lit.sign
 
 pub Grows-self : (labels : Labelled) → Agrees labels.marks labels.supports labels.trail → Grows labels labels

@@ -1,14 +1,13 @@
 -- One literal more of the trail is counted: its clauses wait, and each is counted down in turn.
-use Rattle.std.proofs.Common.{◌≡◌, ◌≢◌, ◌⊎◌, ℕ, ◌+◌, ◌-◌, ◌<◌, ◌≤◌, Bool, true, false, ◌||◌, nat_eq, List, [], ◌∷◌, length, drop, get_or, Option, Some, None, IsSome, is_some, refl, sym, ap, subst, ◌∙◌, arith, inl, inr, Contains}
+use Rattle.std.proofs.Common.{◌≡◌, ◌≢◌, ◌⊎◌, ℕ, ◌+◌, ◌-◌, ◌<◌, ◌≤◌, Bool, true, false, ◌||◌, List, [], ◌∷◌, length, drop, get_or, Option, Some, None, IsSome, is_some, refl, sym, ap, subst, ◌∙◌, arith, inl, inr, Contains}
 use Rattle.std.proofs.lemmas.Bool.{cases_eq}
-use Rattle.std.proofs.lemmas.Bool.Decides.{nat_tests}
 use Rattle.std.proofs.lemmas.List.{drop_more, drop_all}
 use Rattle.std.proofs.lemmas.List.Elements.{Contains-get_or}
 use Rattle.lv_base.specs.declared.ids.Lit.{Lit}
 use Rattle.lv_base.specs.declared.ids.ClauseId.{ClauseId}
 use Rattle.lv_clauses.specs.Literals.{neg}
 use Rattle.lv_clauses.specs.ClauseMap.{Slots, clause_at, AreClauses}
-use Rattle.lv_clauses.specs.Marks.{Marks, has, is_free}
+use Rattle.lv_clauses.specs.Marks.{Marks, is_marked, is_free}
 use Rattle.lv_ltms.specs.declared.labels.Link.{Link}
 use Rattle.lv_ltms.specs.Trail.{same_lit, IsDerivation}
 use Rattle.lv_ltms.specs.Occurrences.{Rows, row_of, times_in, has_number, lit_count, slot_lit_count, IsIndex}
@@ -101,7 +100,7 @@ module _ (clauses : Slots) (after : Lit → Bool) (start : Labelled) (id : Claus
       by_slot (Some c) e s = omega (arith, is.counted.present id.0 c e, times_same id waiting)
 
   -- the clause was counted down
-  pub falling_next : (next : Counted) (grown : Labelled) → IsSome (clause_at now.clauses id.0) → ((l : Lit) → after l ≡ true → has labels.marks l ≡ true) → Recounts now next id.0 (open_at now id.0 - 1) → GoesOn now.clauses labels grown
+  pub falling_next : (next : Counted) (grown : Labelled) → IsSome (clause_at now.clauses id.0) → ((l : Lit) → after l ≡ true → is_marked labels.marks l ≡ true) → Recounts now next id.0 (open_at now id.0 - 1) → GoesOn now.clauses labels grown
       → (open_at now id.0 ≡ 2 → Settles now.clauses id.0 labels grown) → IsFalling clauses after start waiting next grown
   falling_next next grown some inside recounts goes settles =
       record {
@@ -177,7 +176,7 @@ falling_start bools rows old start at link d state within is =
     }
 
 -- what is true before a place is marked, also in labels that grew
-pub before_marked : (start labels : Labelled) (at : ℕ) → Agrees start.marks start.supports start.trail → Grows start labels → (l : Lit) → true_before at start.trail l ≡ true → has labels.marks l ≡ true
+pub before_marked : (start labels : Labelled) (at : ℕ) → Agrees start.marks start.supports start.trail → Grows start labels → (l : Lit) → true_before at start.trail l ≡ true → is_marked labels.marks l ≡ true
 before_marked start labels at agrees grows l e = grows.kept l (agrees.same l ∙ before_has at start.trail l e)
 
 -- the first clause that waits is the one at hand

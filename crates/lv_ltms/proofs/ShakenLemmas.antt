@@ -1,5 +1,5 @@
 -- What has to hold before labels are taken away, where an assumption went, one came against a label, or a clause went.
-use Rattle.std.proofs.Common.{◌≡◌, ◌≢◌, ◌⊎◌, ℕ, ◌+◌, ◌<◌, ◌≤◌, Bool, true, false, not, ◌&&◌, ◌||◌, nat_eq, nat_lt, List, [], ◌∷◌, ◌++◌, length, take, get_or, set, position, unwrap_or, Option, Some, None, cond, refl, sym, ap, subst, ◌∙◌, arith, inl, inr, Contains}
+use Rattle.std.proofs.Common.{◌≡◌, ◌≢◌, ◌⊎◌, ℕ, ◌+◌, ◌<◌, ◌≤◌, Bool, true, false, not, ◌&&◌, nat_eq, nat_lt, List, [], ◌∷◌, ◌++◌, length, take, get_or, set, position, unwrap_or, Option, Some, None, cond, refl, sym, ap, subst, ◌∙◌, arith, inl, inr, Contains}
 use Rattle.std.specs.List.{position_or_len}
 use Rattle.std.proofs.lemmas.Bool.{cases_eq, cases_lt}
 use Rattle.std.proofs.lemmas.Bool.Decides.{nat_tests}
@@ -11,9 +11,9 @@ use Rattle.lv_base.specs.declared.ids.Lit.{Lit}
 use Rattle.lv_base.specs.declared.ids.ClauseId.{ClauseId}
 use Rattle.lv_clauses.specs.Literals.{neg, same_truth, same_var}
 use Rattle.lv_clauses.specs.ClauseMap.{Slots, clause_at}
-use Rattle.lv_clauses.specs.Marks.{Marks, has, marked, mark_is, is_free}
+use Rattle.lv_clauses.specs.Marks.{Marks, is_marked, marked, mark_is, is_free}
 use Rattle.lv_clauses.proofs.LiteralLemmas.{any_member}
-use Rattle.lv_clauses.proofs.MarkLemmas.{has-marked_free, has-marked_cases, same_truth-self}
+use Rattle.lv_clauses.proofs.MarkLemmas.{is_marked-marked_free, is_marked-marked_cases, same_truth-self}
 use Rattle.lv_ltms.specs.declared.labels.Link.{Link}
 use Rattle.lv_ltms.specs.declared.labels.Reason.{Reason}
 use Rattle.lv_ltms.specs.declared.labels.Reason.TheVariants.{Assumed, Clause}
@@ -123,17 +123,17 @@ module _ {X : Type 0} (p : X → Bool) (xs : List X) where
       from_not false e = refl
 
 -- an assumption taken back adds none
-pub has_unset : (marks : Marks) (v : ℕ) (l : Lit) → has (set marks v None) l ≡ true → has marks l ≡ true
+pub has_unset : (marks : Marks) (v : ℕ) (l : Lit) → is_marked (set marks v None) l ≡ true → is_marked marks l ≡ true
 has_unset marks v l e = by_var (cases_eq l.var.0 v) (cases_lt v (length marks))
   where
-    by_var : (l.var.0 ≡ v) ⊎ (l.var.0 ≢ v) → (v < length marks) ⊎ (length marks ≤ v) → has marks l ≡ true
+    by_var : (l.var.0 ≡ v) ⊎ (l.var.0 ≢ v) → (v < length marks) ⊎ (length marks ≤ v) → is_marked marks l ≡ true
     by_var (inl same) (inl within) =
         let gone : get_or (set marks v None) l.var.0 None ≡ None = ap (λ n. get_or (set marks v None) n None) same ∙ get_or-set_same marks v None None within in
         absurd (cc (ap (λ (o : Option Bool). mark_is o l.sign) gone, e))
-    by_var (inl same) (inr past) = ap (λ (m : Marks). has m l) (sym (set_past marks v None past)) ∙ e
+    by_var (inl same) (inr past) = ap (λ (m : Marks). is_marked m l) (sym (set_past marks v None past)) ∙ e
     by_var (inr differs) within = ap (λ (o : Option Bool). mark_is o l.sign) (sym (get_or-set_other marks v l.var.0 None None differs)) ∙ e
 
-unset_other : (marks : Marks) (v : ℕ) (l : Lit) → (l.var.0 ≡ v → ⊥) → has marks l ≡ true → has (set marks v None) l ≡ true
+unset_other : (marks : Marks) (v : ℕ) (l : Lit) → (l.var.0 ≡ v → ⊥) → is_marked marks l ≡ true → is_marked (set marks v None) l ≡ true
 unset_other marks v l differs e = ap (λ (o : Option Bool). mark_is o l.sign) (get_or-set_other marks v l.var.0 None None differs) ∙ e
 
 apart_from : (a b : ℕ) → nat_eq a b ≡ false → a ≡ b → ⊥
@@ -141,7 +141,7 @@ apart_from a b e f = cc (eq_is a b f, e)
 
 module _ (s : System) (rows : Rows) (counted : Counted) (labels : Labelled) (space : ℕ) (kept : IsKept s rows counted labels space) where
   -- an assumption isn't false
-  pub assumed_not_false : (n : ℕ) (l : Lit) → has s.assumed l ≡ true → true_before n labels.trail (neg l) ≡ false
+  pub assumed_not_false : (n : ℕ) (l : Lit) → is_marked s.assumed l ≡ true → true_before n labels.trail (neg l) ≡ false
   assumed_not_false n l e =
       not_true (true_before n labels.trail (neg l))
       (λ f. cc (kept.state.agrees.same (neg l), before_has n labels.trail (neg l) f, has_not_neg labels.marks l (kept.assumptions.marked l e)))
@@ -150,21 +150,21 @@ module _ (s : System) (rows : Rows) (counted : Counted) (labels : Labelled) (spa
   same_slots id c at = ap (λ (x : Slots). clause_at x id) kept.clauses ∙ at
 
   -- the reasons go over to other assumptions
-  pub derivation_assumed : (now : Lit → Bool) (trail : List Link) → IsDerivation s.clauses (has s.assumed) trail → ((k : Link) → Contains trail k → has s.assumed k.lit ≡ true → now k.lit ≡ true) → IsDerivation counted.clauses now trail
-  derivation_assumed now trail derived good = derivation_to s.clauses counted.clauses (has s.assumed) now derived (λ before k h is. by_reason before k h k.reason is)
+  pub derivation_assumed : (now : Lit → Bool) (trail : List Link) → IsDerivation s.clauses (is_marked s.assumed) trail → ((k : Link) → Contains trail k → is_marked s.assumed k.lit ≡ true → now k.lit ≡ true) → IsDerivation counted.clauses now trail
+  derivation_assumed now trail derived good = derivation_to s.clauses counted.clauses (is_marked s.assumed) now derived (λ before k h is. by_reason before k h k.reason is)
     where
-      by_reason : (before : List Link) (k : Link) → Contains trail k → (r : Reason) → IsReason s.clauses (has s.assumed) before k.lit r → IsReason counted.clauses now before k.lit r
+      by_reason : (before : List Link) (k : Link) → Contains trail k → (r : Reason) → IsReason s.clauses (is_marked s.assumed) before k.lit r → IsReason counted.clauses now before k.lit r
       by_reason before k h Assumed is = good k h is
       by_reason before k h (Clause id) is = subst (λ (c : Slots). IsReason c now before k.lit (Clause id)) kept.clauses is
 
-  pub shaken_retract : (lit : Lit) (now : Marks) → now ≡ set s.assumed lit.var.0 None → IsShaken (has now) counted.clauses labels.trail (unwrap_or (position (λ (k : Link). same_var k.lit lit) labels.trail) (length labels.trail))
+  pub shaken_retract : (lit : Lit) (now : Marks) → now ≡ set s.assumed lit.var.0 None → IsShaken (is_marked now) counted.clauses labels.trail (unwrap_or (position (λ (k : Link). same_var k.lit lit) labels.trail) (length labels.trail))
   shaken_retract lit now is =
-      subst (λ (m : Marks). IsShaken (has m) counted.clauses labels.trail (unwrap_or (position (λ (k : Link). same_var k.lit lit) labels.trail) (length labels.trail))) (sym is)
+      subst (λ (m : Marks). IsShaken (is_marked m) counted.clauses labels.trail (unwrap_or (position (λ (k : Link). same_var k.lit lit) labels.trail) (length labels.trail))) (sym is)
       (record {
         one_sided = record { one_side = λ l e. has_not_neg (set s.assumed lit.var.0 None) l e };
         backed = derivation_backed counted.clauses same_slots kept.derivation;
         derivation =
-            derivation_assumed (has (set s.assumed lit.var.0 None)) (take (unwrap_or (position (λ (k : Link). same_var k.lit lit) labels.trail) (length labels.trail)) labels.trail)
+            derivation_assumed (is_marked (set s.assumed lit.var.0 None)) (take (unwrap_or (position (λ (k : Link). same_var k.lit lit) labels.trail) (length labels.trail)) labels.trail)
             (derivation_front (unwrap_or (position (λ (k : Link). same_var k.lit lit) labels.trail) (length labels.trail)) kept.derivation)
             (λ k h e. unset_other s.assumed lit.var.0 k.lit (apart_from k.lit.var.0 lit.var.0 (before_fails (λ (j : Link). same_var j.lit lit) labels.trail k h)) e);
         against = record { against = λ l e. assumed_not_false (unwrap_or (position (λ (k : Link). same_var k.lit lit) labels.trail) (length labels.trail)) l (has_unset s.assumed lit.var.0 l e) };
@@ -172,26 +172,26 @@ module _ (s : System) (rows : Rows) (counted : Counted) (labels : Labelled) (spa
 
   -- a literal that was free is assumed
   module _ (lit : Lit) (within : lit.var.0 < length s.assumed) (free : is_free s.assumed lit ≡ true) where
-    pub assumed_more : (l : Lit) → has s.assumed l ≡ true → has (marked s.assumed lit) l ≡ true
+    pub assumed_more : (l : Lit) → is_marked s.assumed l ≡ true → is_marked (marked s.assumed lit) l ≡ true
     assumed_more l e =
-        has-marked_free s.assumed lit l within (free_not_has s.assumed lit free) (free_not_has s.assumed (neg lit) free) ∙ or_left (has s.assumed l) (same_var lit l && same_truth lit.sign l.sign) e
+        is_marked-marked_free s.assumed lit l within (free_not_has s.assumed lit free) (free_not_has s.assumed (neg lit) free) ∙ or_left (is_marked s.assumed l) (same_var lit l && same_truth lit.sign l.sign) e
 
-    pub assumed_here : has (marked s.assumed lit) lit ≡ true
+    pub assumed_here : is_marked (marked s.assumed lit) lit ≡ true
     assumed_here = ap (λ (o : Option Bool). mark_is o lit.sign) (get_or-set_same s.assumed lit.var.0 (Some lit.sign) None within) ∙ same_truth-self lit.sign
 
-    pub shaken_assume : (now : Marks) → now ≡ marked s.assumed lit → IsShaken (has now) counted.clauses labels.trail (unwrap_or (position (λ (k : Link). same_var k.lit lit) labels.trail) (length labels.trail))
+    pub shaken_assume : (now : Marks) → now ≡ marked s.assumed lit → IsShaken (is_marked now) counted.clauses labels.trail (unwrap_or (position (λ (k : Link). same_var k.lit lit) labels.trail) (length labels.trail))
     shaken_assume now is =
-        subst (λ (m : Marks). IsShaken (has m) counted.clauses labels.trail (unwrap_or (position (λ (k : Link). same_var k.lit lit) labels.trail) (length labels.trail))) (sym is)
+        subst (λ (m : Marks). IsShaken (is_marked m) counted.clauses labels.trail (unwrap_or (position (λ (k : Link). same_var k.lit lit) labels.trail) (length labels.trail))) (sym is)
         (record {
           one_sided = record { one_side = λ l e. has_not_neg (marked s.assumed lit) l e };
           backed = derivation_backed counted.clauses same_slots kept.derivation;
           derivation =
-              derivation_assumed (has (marked s.assumed lit)) (take (unwrap_or (position (λ (k : Link). same_var k.lit lit) labels.trail) (length labels.trail)) labels.trail)
+              derivation_assumed (is_marked (marked s.assumed lit)) (take (unwrap_or (position (λ (k : Link). same_var k.lit lit) labels.trail) (length labels.trail)) labels.trail)
               (derivation_front (unwrap_or (position (λ (k : Link). same_var k.lit lit) labels.trail) (length labels.trail)) kept.derivation) (λ k h e. assumed_more k.lit e);
-          against = record { against = λ l e. by_which l (has-marked_cases s.assumed lit l e) };
+          against = record { against = λ l e. by_which l (is_marked-marked_cases s.assumed lit l e) };
         })
       where
-        by_which : (l : Lit) → (l ≡ lit) ⊎ (has s.assumed l ≡ true) → true_before (unwrap_or (position (λ (k : Link). same_var k.lit lit) labels.trail) (length labels.trail)) labels.trail (neg l) ≡ false
+        by_which : (l : Lit) → (l ≡ lit) ⊎ (is_marked s.assumed l ≡ true) → true_before (unwrap_or (position (λ (k : Link). same_var k.lit lit) labels.trail) (length labels.trail)) labels.trail (neg l) ≡ false
         by_which l (inr old) = assumed_not_false (unwrap_or (position (λ (k : Link). same_var k.lit lit) labels.trail) (length labels.trail)) l old
         by_which l (inl same) =
             not_true (true_before (unwrap_or (position (λ (k : Link). same_var k.lit lit) labels.trail) (length labels.trail)) labels.trail (neg l))
@@ -201,13 +201,13 @@ module _ (s : System) (rows : Rows) (counted : Counted) (labels : Labelled) (spa
             cc (before_fails (λ (j : Link). same_var j.lit lit) labels.trail found.0 found.1, same, found.2))
 
   pub shaken_drop : (id : ClauseId) (after : Slots) → clause_at after id.0 ≡ None → ((other : ℕ) → other ≢ id.0 → clause_at after other ≡ clause_at counted.clauses other)
-      → IsShaken (has s.assumed) after labels.trail (unwrap_or (position (gives id) labels.trail) (length labels.trail))
+      → IsShaken (is_marked s.assumed) after labels.trail (unwrap_or (position (gives id) labels.trail) (length labels.trail))
   shaken_drop id after gone others =
       record {
         one_sided = record { one_side = λ l e. has_not_neg s.assumed l e };
         backed = derivation_backed after still kept.derivation;
         derivation =
-            derivation_to s.clauses after (has s.assumed) (has s.assumed) (derivation_front (unwrap_or (position (gives id) labels.trail) (length labels.trail)) kept.derivation)
+            derivation_to s.clauses after (is_marked s.assumed) (is_marked s.assumed) (derivation_front (unwrap_or (position (gives id) labels.trail) (length labels.trail)) kept.derivation)
             (λ before k h is. by_reason before k k.reason (before_fails (gives id) labels.trail k h) is);
         against = record { against = λ l e. assumed_not_false (unwrap_or (position (gives id) labels.trail) (length labels.trail)) l e };
       }
@@ -218,7 +218,7 @@ module _ (s : System) (rows : Rows) (counted : Counted) (labels : Labelled) (spa
         | inr differs ↦ same_slots i c (sym (others i differs) ∙ at)
       ]
 
-      by_reason : (before : List Link) (k : Link) (r : Reason) → is_reason id r ≡ false → IsReason s.clauses (has s.assumed) before k.lit r → IsReason after (has s.assumed) before k.lit r
+      by_reason : (before : List Link) (k : Link) (r : Reason) → is_reason id r ≡ false → IsReason s.clauses (is_marked s.assumed) before k.lit r → IsReason after (is_marked s.assumed) before k.lit r
       by_reason before k Assumed e is = is
       by_reason before k (Clause i) e is =
           record {

@@ -1,19 +1,18 @@
 -- Both literals of a boolean got the support that there is, so it waits no longer.
-use Rattle.std.proofs.Common.{◌≡◌, ◌⊎◌, ℕ, Bool, true, false, ◌||◌, nat_eq, List, [], ◌∷◌, length, Some, refl, sym, ap, subst, ◌∙◌, arith, inl, inr, Contains}
-use Rattle.std.proofs.lemmas.Bool.Decides.{nat_tests}
+use Rattle.std.proofs.Common.{◌≡◌, ◌⊎◌, ℕ, Bool, true, false, ◌||◌, List, [], ◌∷◌, length, Some, refl, sym, ap, subst, ◌∙◌, arith, inl, inr, Contains}
 use Rattle.lv_base.specs.declared.ids.Lit.{Lit}
 use Rattle.lv_clauses.specs.Literals.{neg, same_var}
 use Rattle.lv_clauses.specs.ClauseMap.{Slots, clause_at}
-use Rattle.lv_clauses.specs.Marks.{has, is_free}
+use Rattle.lv_clauses.specs.Marks.{is_marked, is_free}
 use Rattle.lv_clauses.proofs.LiteralLemmas.{or_right, same_or_neg, neg_neg}
 use Rattle.lv_ltms.specs.Trail.{IsDerivation}
 use Rattle.lv_ltms.specs.Occurrences.{Rows, times_in}
 use Rattle.lv_ltms.specs.Counters.{Counted}
 use Rattle.lv_ltms.specs.Labelled.{Labelled, Grows}
 use Rattle.lv_ltms.specs.Propagating.{left_count, IsPropagating, IsSettled, true_before}
-use Rattle.lv_ltms.specs.Revising.{is_fallen, NoneAgainst, GetsSupport, IsSupported, IsUnitFor, AreMarked, AreMarkedOrWait, AreFixed, IsSwept}
+use Rattle.lv_ltms.specs.Revising.{is_fallen, NoneAgainst, GetsSupport, IsSupported, IsUnitFor, AreMarkedOrWait, AreFixed, IsSwept}
 use Rattle.lv_ltms.proofs.CountLemmas.{left_count-same}
-use Rattle.lv_ltms.proofs.LabelLemmas.{Grows-then, Grows-len, Grows-self, before_kept, neg_not_free, not_free_cases}
+use Rattle.lv_ltms.proofs.LabelLemmas.{Grows-then, Grows-len, before_kept, neg_not_free, not_free_cases}
 use Rattle.lv_ltms.proofs.PropagationLemmas.{IsCounted-same, IsSettled-same, free_kept}
 use Rattle.lv_ltms.proofs.BoolLemmas.{eq_from, or_left, or_right_only}
 
@@ -22,7 +21,7 @@ pub record IsSupporting (assumed : Lit → Bool) (rows : Rows) (counted : Counte
   pub state : IsPropagating (length start.marks) rows counted labels (length start.trail) (is_fallen waiting)
   pub grows : Grows start labels
   pub derivation : IsDerivation counted.clauses assumed start.trail → IsDerivation counted.clauses assumed labels.trail
-  pub against : NoneAgainst assumed (has labels.marks)
+  pub against : NoneAgainst assumed (is_marked labels.marks)
   pub marked : AreMarkedOrWait assumed labels waiting
 
 -- labels that grew are counted as far as before
@@ -63,13 +62,13 @@ module _ (assumed : Lit → Bool) (rows : Rows) (counted : Counted) (start old m
   same_mid l = before_kept mid new (length start.trail) second.grows mid_state.place l
 
   -- an assumption of the boolean is marked
-  assumed_marked : (l : Lit) → assumed l ≡ true → (l ≡ f) ⊎ (l ≡ neg f) → has new.marks l ≡ true
+  assumed_marked : (l : Lit) → assumed l ≡ true → (l ≡ f) ⊎ (l ≡ neg f) → is_marked new.marks l ≡ true
   assumed_marked l a (inl same) =
       let a2 : assumed f ≡ true = ap assumed (sym same) ∙ a in
-      ap (has new.marks) same ∙ second.grows.kept f (first_supported.by_assumption a2)
+      ap (is_marked new.marks) same ∙ second.grows.kept f (first_supported.by_assumption a2)
   assumed_marked l a (inr turned) =
       let a2 : assumed (neg f) ≡ true = ap assumed (sym turned) ∙ a in
-      ap (has new.marks) turned ∙ second_supported.by_assumption a2
+      ap (is_marked new.marks) turned ∙ second_supported.by_assumption a2
 
   -- a clause that leaves a literal of the boolean has it marked
   clause_marked : (l : Lit) (id : ℕ) (c : List Lit) → IsUnitFor counted.clauses (true_before (length start.trail) new.trail) l id c → (l ≡ f) ⊎ (l ≡ neg f) → (b : Bool) → assumed (neg l) ≡ b → is_free new.marks l ≡ false
@@ -123,20 +122,20 @@ module _ (assumed : Lit → Bool) (rows : Rows) (counted : Counted) (start old m
       by_var id c l there none one in_clause left fine false e =
           new_state.settled.marked id c l there none one in_clause left (ap (λ b. b || is_fallen waiting l) e ∙ fine)
 
-      by_same : (l : Lit) → assumed l ≡ true → (b : Bool) → same_var f l ≡ b → (has new.marks l || is_fallen waiting l) ≡ true
-      by_same l a true e = or_left (has new.marks l) (is_fallen waiting l) (assumed_marked l a (way_of l e))
-      by_same l a false e = by_mark (has old.marks l) refl
+      by_same : (l : Lit) → assumed l ≡ true → (b : Bool) → same_var f l ≡ b → (is_marked new.marks l || is_fallen waiting l) ≡ true
+      by_same l a true e = or_left (is_marked new.marks l) (is_fallen waiting l) (assumed_marked l a (way_of l e))
+      by_same l a false e = by_mark (is_marked old.marks l) refl
         where
-          by_mark : (b : Bool) → has old.marks l ≡ b → (has new.marks l || is_fallen waiting l) ≡ true
-          by_mark true h = or_left (has new.marks l) (is_fallen waiting l) (second.grows.kept l (first.grows.kept l h))
+          by_mark : (b : Bool) → is_marked old.marks l ≡ b → (is_marked new.marks l || is_fallen waiting l) ≡ true
+          by_mark true h = or_left (is_marked new.marks l) (is_fallen waiting l) (second.grows.kept l (first.grows.kept l h))
           by_mark false h =
-              let waits : is_fallen (f ∷ waiting) l ≡ true = or_right_only (has old.marks l) (is_fallen (f ∷ waiting) l) (is.marked.marked l a) h in
-              or_right (has new.marks l) (is_fallen waiting l) (or_right_only (same_var f l) (is_fallen waiting l) waits e)
+              let waits : is_fallen (f ∷ waiting) l ≡ true = or_right_only (is_marked old.marks l) (is_fallen (f ∷ waiting) l) (is.marked.marked l a) h in
+              or_right (is_marked new.marks l) (is_fallen waiting l) (or_right_only (same_var f l) (is_fallen waiting l) waits e)
 
 -- an assumption whose boolean was marked is marked still, or its boolean fell
 pub swept_marked : (assumed : Lit → Bool) (clauses : Slots) (old new : Labelled) (fallen : List Lit) → AreFixed assumed old → IsSwept assumed clauses old new fallen → AreMarkedOrWait assumed new fallen
 swept_marked assumed clauses old new fallen fixed swept = record { marked = λ l a. by_mark l a (not_free_cases old.marks l (fixed.fixed l a)) }
   where
-    by_mark : (l : Lit) → assumed l ≡ true → (has old.marks l ≡ true) ⊎ (has old.marks (neg l) ≡ true) → (has new.marks l || is_fallen fallen l) ≡ true
+    by_mark : (l : Lit) → assumed l ≡ true → (is_marked old.marks l ≡ true) ⊎ (is_marked old.marks (neg l) ≡ true) → (is_marked new.marks l || is_fallen fallen l) ≡ true
     by_mark l a (inl here) = swept.kept l here
-    by_mark l a (inr turned) = or_right (has new.marks l) (is_fallen fallen l) (or_right_only (has new.marks (neg l)) (is_fallen fallen (neg l)) (swept.kept (neg l) turned) (swept.against.against l a))
+    by_mark l a (inr turned) = or_right (is_marked new.marks l) (is_fallen fallen l) (or_right_only (is_marked new.marks (neg l)) (is_fallen fallen (neg l)) (swept.kept (neg l) turned) (swept.against.against l a))

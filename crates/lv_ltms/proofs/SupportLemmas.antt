@@ -1,13 +1,12 @@
 -- Another support of a boolean that lost its label.
 use Rattle.std.proofs.Common.{◌≡◌, ℕ, ◌<◌, Bool, true, false, ◌&&◌, ◌||◌, nat_eq, List, [], ◌∷◌, length, cond, find, option_map, Option, Some, None, is_some, refl, sym, ap, ap₂, subst, ◌∙◌, arith, inl, inr, Contains}
-use Rattle.std.proofs.lemmas.Bool.Decides.{nat_tests}
 use Rattle.lv_base.specs.declared.ids.Lit.{Lit}
 use Rattle.lv_base.specs.declared.ids.ClauseId.{ClauseId}
 use Rattle.lv_clauses.specs.Literals.{neg}
 use Rattle.lv_clauses.specs.ClauseMap.{clause_at}
-use Rattle.lv_clauses.specs.Marks.{has, is_free}
+use Rattle.lv_clauses.specs.Marks.{is_marked, is_free}
 use Rattle.lv_clauses.proofs.LiteralLemmas.{Contains-head, Contains-tail, Contains-cases, Contains-nil, neg_neg, and_right}
-use Rattle.lv_clauses.proofs.MarkLemmas.{has-marked_free}
+use Rattle.lv_clauses.proofs.MarkLemmas.{is_marked-marked_free}
 use Rattle.lv_ltms.specs.declared.labels.Link.{Link}
 use Rattle.lv_ltms.specs.declared.labels.Reason.{Reason}
 use Rattle.lv_ltms.specs.declared.labels.Reason.TheVariants.{Assumed, Clause}
@@ -19,7 +18,7 @@ use Rattle.lv_ltms.specs.Propagating.{left_count, IsPropagating, true_before}
 use Rattle.lv_ltms.specs.Revising.{NoneAgainst, IsOneSided, GetsSupport, IsSupported, IsUnitFor, is_unit_at, reason_found}
 use Rattle.lv_ltms.proofs.TrailLemmas.{same_lit-equal}
 use Rattle.lv_ltms.proofs.CountLemmas.{lit_count-some, times_in-none, count_no, one_left}
-use Rattle.lv_ltms.proofs.LabelLemmas.{Grows-push, Grows-self, before_has, has_not_free, neg_not_free, pushed_has, pushed_marked}
+use Rattle.lv_ltms.proofs.LabelLemmas.{Grows-push, Grows-self, before_has, pushed_has, pushed_marked}
 use Rattle.lv_ltms.proofs.BoolLemmas.{eq_from, not_true}
 
 -- what is found passes and is of the list; where nothing is found nothing passes
@@ -66,7 +65,7 @@ lit_some l (m ∷ ms) some = by_value (same_lit m l) refl (lit_some l ms)
     by_value true e later = subst (Contains (m ∷ ms)) (same_lit-equal m l e) (Contains-head m ms)
     by_value false e later = Contains-tail m l ms (later (λ f. some (count_no (λ k. same_lit k l) m ms e ∙ f)))
 
-module _ (assumed : Lit → Bool) (rows : Rows) (counted : Counted) (old : Labelled) (l : Lit) (agrees : Agrees old.marks old.supports old.trail) (one_sided : IsOneSided assumed) (against : NoneAgainst assumed (has old.marks)) where
+module _ (assumed : Lit → Bool) (rows : Rows) (counted : Counted) (old : Labelled) (l : Lit) (agrees : Agrees old.marks old.supports old.trail) (one_sided : IsOneSided assumed) (against : NoneAgainst assumed (is_marked old.marks)) where
   -- the labels stay as they are
   kept_as_is : ((bools at : ℕ) (excused : Lit → Bool) → IsPropagating bools rows counted old at excused → IsSupported assumed counted.clauses (true_before at old.trail) old l) → GetsSupport assumed rows counted old old l
   kept_as_is supported =
@@ -103,8 +102,8 @@ module _ (assumed : Lit → Bool) (rows : Rows) (counted : Counted) (old : Label
           absurd (none_passes (is_unit_at counted) (row_of rows l) (record { 0 = id }) nothing there passes)
 
   -- a support was found
-  module _ (r : Reason) (found : reason_found (assumed l) counted (row_of rows l) ≡ Some r) (within : l.var.0 < length old.marks) (inside : l.var.0 < length old.supports) (p : has old.marks l ≡ false)
-      (q : has old.marks (neg l) ≡ false) (free : assumed (neg l) ≡ false) where
+  module _ (r : Reason) (found : reason_found (assumed l) counted (row_of rows l) ≡ Some r) (within : l.var.0 < length old.marks) (inside : l.var.0 < length old.supports) (p : is_marked old.marks l ≡ false)
+      (q : is_marked old.marks (neg l) ≡ false) (free : assumed (neg l) ≡ false) where
     abbrev pub link : Link
     link = record { lit = l; reason = r }
 
@@ -144,14 +143,14 @@ module _ (assumed : Lit → Bool) (rows : Rows) (counted : Counted) (old : Label
         by_value false e =
             clause_reason bools at excused state (find (is_unit_at counted) (row_of rows l)) refl (sym (ap (λ (b : Bool). reason_found b counted (row_of rows l)) e) ∙ found)
 
-    still_against : (m : Lit) → assumed m ≡ true → has (with_link old link).marks (neg m) ≡ false
+    still_against : (m : Lit) → assumed m ≡ true → is_marked (with_link old link).marks (neg m) ≡ false
     still_against m a =
         let other : same_lit l (neg m) ≡ false =
         not_true (same_lit l (neg m))
         (λ e.
         let is : neg l ≡ m = ap neg (same_lit-equal l (neg m) e) ∙ neg_neg m in
         cc (ap assumed is, a, free)) in
-        has-marked_free old.marks l (neg m) within p q ∙ ap₂ (λ x y. x || y) (against.against m a) other
+        is_marked-marked_free old.marks l (neg m) within p q ∙ ap₂ (λ x y. x || y) (against.against m a) other
 
     pub supported_found : GetsSupport assumed rows counted old (with_link old link) l
     supported_found =

@@ -10,7 +10,7 @@ use Rattle.std.proofs.lemmas.List.Sums.{sum_by-set, count_by-le-length}
 use Rattle.lv_base.specs.declared.ids.Lit.{Lit}
 use Rattle.lv_clauses.specs.Literals.{neg, same_truth, same_var}
 use Rattle.lv_clauses.specs.ClauseMap.{Slots, clause_at}
-use Rattle.lv_clauses.specs.Marks.{Marks, has, mark_is}
+use Rattle.lv_clauses.specs.Marks.{Marks, is_marked, mark_is}
 use Rattle.lv_clauses.proofs.LiteralLemmas.{Contains-tail, and_left, and_right, and_both}
 use Rattle.lv_ltms.specs.declared.labels.Link.{Link}
 use Rattle.lv_ltms.specs.declared.labels.Reason.{Reason}
@@ -65,7 +65,7 @@ module _ (front rest : List Link) (link : Link) (marks : Marks) (supports : List
         fresh = not_true (trail_has (front ++ rest) link.lit) (λ e. cc (trail_boolean (front ++ rest) link.lit e, alone_here.fresh));
       }
 
-  link_marked : has marks link.lit ≡ true
+  link_marked : is_marked marks link.lit ≡ true
   link_marked = agrees.same link.lit ∙ contained_has (front ++ link ∷ rest) link (Contains-append_right front (link ∷ rest) link (0, omega arith, refl))
 
   pub link_within : link.lit.var.0 < length marks
@@ -77,7 +77,7 @@ module _ (front rest : List Link) (link : Link) (marks : Marks) (supports : List
   pub other_mark : (v : ℕ) → v ≢ link.lit.var.0 → get_or (set marks link.lit.var.0 None) v None ≡ get_or marks v None
   other_mark v differs = get_or-set_other marks link.lit.var.0 v None None differs
 
-  same_after : (l : Lit) → (l.var.0 ≡ link.lit.var.0) ⊎ (l.var.0 ≢ link.lit.var.0) → has (set marks link.lit.var.0 None) l ≡ trail_has (front ++ rest) l
+  same_after : (l : Lit) → (l.var.0 ≡ link.lit.var.0) ⊎ (l.var.0 ≢ link.lit.var.0) → is_marked (set marks link.lit.var.0 None) l ≡ trail_has (front ++ rest) l
   same_after l (inl same) =
       let gone : get_or (set marks link.lit.var.0 None) l.var.0 None ≡ None = ap (λ v. get_or (set marks link.lit.var.0 None) v None) same ∙ get_or-set_same marks link.lit.var.0 None None link_within in
       let fresh : has_boolean (front ++ rest) l ≡ false = ap (λ v. list_any (λ (k : Link). nat_eq k.lit.var.0 v) (front ++ rest)) same ∙ alone_here.fresh in
@@ -182,7 +182,7 @@ module _ (front rest : List Link) (link : Link) (marks : Marks) (supports : List
       one_of a b e never = elim (cases_eq a 0) [ inl nothing ↦ absurd (never nothing) | inr some ↦ omega (arith, e, some) ]
 
   -- what was marked is marked still, or its boolean fell
-  pub kept_without : (fallen : List Lit) (l : Lit) → (has marks l || is_fallen fallen l) ≡ true → (has (set marks link.lit.var.0 None) l || is_fallen (fallen ++ link.lit ∷ []) l) ≡ true
+  pub kept_without : (fallen : List Lit) (l : Lit) → (is_marked marks l || is_fallen fallen l) ≡ true → (is_marked (set marks link.lit.var.0 None) l || is_fallen (fallen ++ link.lit ∷ []) l) ≡ true
   kept_without fallen l e = by_var (cases_eq l.var.0 link.lit.var.0)
     where
       pushed : is_fallen (fallen ++ link.lit ∷ []) l ≡ (is_fallen fallen l || (same_var link.lit l || false))
@@ -198,13 +198,13 @@ module _ (front rest : List Link) (link : Link) (marks : Marks) (supports : List
       keep false true c f = refl
       keep false false c f = absurd (cc)
 
-      by_var : (l.var.0 ≡ link.lit.var.0) ⊎ (l.var.0 ≢ link.lit.var.0) → (has (set marks link.lit.var.0 None) l || is_fallen (fallen ++ link.lit ∷ []) l) ≡ true
+      by_var : (l.var.0 ≡ link.lit.var.0) ⊎ (l.var.0 ≢ link.lit.var.0) → (is_marked (set marks link.lit.var.0 None) l || is_fallen (fallen ++ link.lit ∷ []) l) ≡ true
       by_var (inl same) =
-          ap (λ b. has (set marks link.lit.var.0 None) l || b) (pushed ∙ ap (λ b. is_fallen fallen l || (b || false)) (eq_is link.lit.var.0 l.var.0 (sym same)))
-          ∙ last_true (has (set marks link.lit.var.0 None) l) (is_fallen fallen l)
+          ap (λ b. is_marked (set marks link.lit.var.0 None) l || b) (pushed ∙ ap (λ b. is_fallen fallen l || (b || false)) (eq_is link.lit.var.0 l.var.0 (sym same)))
+          ∙ last_true (is_marked (set marks link.lit.var.0 None) l) (is_fallen fallen l)
       by_var (inr differs) =
           ap₂ (λ a b. a || b) (ap (λ (o : Option Bool). mark_is o l.sign) (other_mark l.var.0 differs)) pushed
-          ∙ keep (has marks l) (is_fallen fallen l) (same_var link.lit l || false) e
+          ∙ keep (is_marked marks l) (is_fallen fallen l) (same_var link.lit l || false) e
 
 -- where no boolean stands twice one that stands in front doesn't stand behind
 once_apart : (front rest : List Link) (l : Lit) → is_once (front ++ rest) ≡ true → has_boolean front l ≡ true → has_boolean rest l ≡ false

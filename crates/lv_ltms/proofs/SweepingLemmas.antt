@@ -1,7 +1,6 @@
 -- The loop of the sweep: what it keeps true from link to link.
 use Rattle.std.proofs.Common.{◌≡◌, ℕ, ◌+◌, ◌<◌, ◌≤◌, Bool, true, false, not, ◌&&◌, ◌||◌, nat_lt, List, [], ◌∷◌, ◌++◌, length, take, drop, get_or, set, None, refl, sym, ap, ap₂, subst, ◌∙◌, arith}
 use Rattle.std.specs.List.{list_all}
-use Rattle.std.proofs.lemmas.Bool.Decides.{nat_tests}
 use Rattle.std.proofs.lemmas.Grind.{drop_more_same}
 use Rattle.std.proofs.lemmas.List.{length-append, length-set, take-append-drop, take_more_set, drop_more, drop_all, drop-set-lt, append_assoc, append-nil}
 use Rattle.std.proofs.lemmas.List.Folds.{list_all-append}
@@ -9,7 +8,7 @@ use Rattle.std.proofs.Math.Seq.{take-length}
 use Rattle.lv_base.specs.declared.ids.Lit.{Lit}
 use Rattle.lv_clauses.specs.Literals.{neg, in_range}
 use Rattle.lv_clauses.specs.ClauseMap.{Slots, AreClauses}
-use Rattle.lv_clauses.specs.Marks.{has}
+use Rattle.lv_clauses.specs.Marks.{is_marked}
 use Rattle.lv_clauses.proofs.LiteralLemmas.{and_left, and_right, and_both, neg_neg}
 use Rattle.lv_ltms.specs.declared.labels.Link.{Link}
 use Rattle.lv_ltms.specs.Trail.{same_lit, trail_has, IsDerivation, IsReason, next}
@@ -41,7 +40,7 @@ pub record IsSweeping (assumed : Lit → Bool) (bools : ℕ) (clauses : Slots) (
   pub settled : IsSettled clauses (trail_has (standing_trail labels.trail kept at)) labels.marks [] (is_fallen fallen)
   pub derivation : IsDerivation clauses assumed (take kept labels.trail)
   pub against : NoneAgainst assumed (trail_has (take kept labels.trail))
-  pub marked : (l : Lit) → has old.marks l ≡ true → (has labels.marks l || is_fallen fallen l) ≡ true
+  pub marked : (l : Lit) → is_marked old.marks l ≡ true → (is_marked labels.marks l || is_fallen fallen l) ≡ true
   pub range : list_all (in_range bools) fallen ≡ true
 
 module _ (assumed : Lit → Bool) (bools : ℕ) (rows : Rows) (old : Labelled) where
@@ -64,7 +63,7 @@ module _ (assumed : Lit → Bool) (bools : ℕ) (rows : Rows) (old : Labelled) w
         settled = IsSettled-same now.clauses (true_before (length old.trail) old.trail) (trail_has (standing_trail old.trail from from)) old.marks [] (is_fallen []) whole state.settled;
         derivation = shaken.derivation;
         against = shaken.against;
-        marked = λ l e. or_left (has old.marks l) false e;
+        marked = λ l e. or_left (is_marked old.marks l) false e;
         range = refl;
       }
 

@@ -11,7 +11,7 @@ use Rattle.lv_clauses.specs.Literals.{neg, same_var, distinct, in_range}
 use Rattle.lv_clauses.specs.ClauseMap.{Slots, clause_at}
 use Rattle.lv_clauses.specs.Closure.{InClosure, IsContradictory, unit, both_signs, empty_clause}
 use Rattle.lv_clauses.specs.Laws.{IsClosed}
-use Rattle.lv_clauses.specs.Marks.{Marks, has, is_free}
+use Rattle.lv_clauses.specs.Marks.{Marks, is_marked, is_free}
 use Rattle.lv_clauses.proofs.LiteralLemmas.{Contains-head, any_member, and_right, lit_cases}
 use Rattle.lv_clauses.proofs.ClosureLemmas.{least}
 use Rattle.lv_ltms.specs.declared.labels.Link.{Link}
@@ -56,10 +56,10 @@ none_zero counters e id z = elim (cases_lt id (length counters)) [
 
 module _ (s : System) (rows : Rows) (counted : Counted) (labels : Labelled) (space : ℕ) (kept : IsKept s rows counted labels space) where
   -- what is marked is derived
-  pub marked_derived : (l : Lit) → has labels.marks l ≡ true → IsDerived s l
+  pub marked_derived : (l : Lit) → is_marked labels.marks l ≡ true → IsDerived s l
   marked_derived l e = derivation_sound kept.derivation l (sym (kept.state.agrees.same l) ∙ e)
 
-  counted_truth : (l : Lit) → true_before (length labels.trail) labels.trail l ≡ has labels.marks l
+  counted_truth : (l : Lit) → true_before (length labels.trail) labels.trail l ≡ is_marked labels.marks l
   counted_truth l = ap (λ (t : List Link). trail_has t l) (take-length labels.trail) ∙ sym (kept.state.agrees.same l)
 
   clause_there : (id : ℕ) → clause_at s.clauses id ≡ clause_at counted.clauses id
@@ -75,7 +75,7 @@ module _ (s : System) (rows : Rows) (counted : Counted) (labels : Labelled) (spa
       by_slot id z None at = absurd (omega (arith, z, kept.state.counters.absent id at))
       by_slot id z (Some c) at =
           let none : left_count (true_before (length labels.trail) labels.trail) c ≡ 0 = omega (arith, z, kept.state.counters.present id c at) in
-          refuted_by s.clauses (has s.assumed) id c (clause_there id ∙ at)
+          refuted_by s.clauses (is_marked s.assumed) id c (clause_there id ∙ at)
           (λ m in_clause. marked_derived (neg m) (sym (counted_truth (neg m)) ∙ none_left (true_before (length labels.trail) labels.trail) c m none in_clause))
 
   module _ (calm : has_zero counted ≡ false) where
@@ -83,15 +83,15 @@ module _ (s : System) (rows : Rows) (counted : Counted) (labels : Labelled) (spa
     never_zero id c at none = none_zero counted.counters calm id (omega (arith, none, kept.state.counters.present id c at))
 
     -- what is marked is closed
-    closed : IsClosed s.clauses (has s.assumed) (has labels.marks)
+    closed : IsClosed s.clauses (is_marked s.assumed) (is_marked labels.marks)
     closed =
         record {
           assumptions = kept.assumptions.marked;
-          units = λ id c l at in_clause others. by_turned id c l (sym (clause_there id) ∙ at) in_clause (λ m h differs. counted_truth (neg m) ∙ others m h differs) (has labels.marks (neg l)) refl;
+          units = λ id c l at in_clause others. by_turned id c l (sym (clause_there id) ∙ at) in_clause (λ m h differs. counted_truth (neg m) ∙ others m h differs) (is_marked labels.marks (neg l)) refl;
         }
       where
         by_turned : (id : ℕ) (c : List Lit) (l : Lit) → clause_at counted.clauses id ≡ Some c → Contains c l → ((m : Lit) → Contains c m → m ≢ l → true_before (length labels.trail) labels.trail (neg m) ≡ true)
-            → (b : Bool) → has labels.marks (neg l) ≡ b → has labels.marks l ≡ true
+            → (b : Bool) → is_marked labels.marks (neg l) ≡ b → is_marked labels.marks l ≡ true
         by_turned id c l at in_clause others true e =
             absurd (never_zero id c at (nothing_left (true_before (length labels.trail) labels.trail) c (λ m h. elim (lit_cases m l) [
               | inl same ↦ ap (λ k. true_before (length labels.trail) labels.trail (neg k)) same ∙ counted_truth (neg l) ∙ e
@@ -107,27 +107,27 @@ module _ (s : System) (rows : Rows) (counted : Counted) (labels : Labelled) (spa
             ]
 
     pub consistent : IsRefuted s → ⊥
-    consistent (both_signs l p q) = cc (has_not_neg labels.marks l (least (has labels.marks) closed l p), least (has labels.marks) closed (neg l) q)
+    consistent (both_signs l p q) = cc (has_not_neg labels.marks l (least (is_marked labels.marks) closed l p), least (is_marked labels.marks) closed (neg l) q)
     consistent (empty_clause id at) = never_zero id [] (sym (clause_there id) ∙ at) refl
 
-    pub derived_calm : (l : Lit) → IsDerived s l → has labels.marks l ≡ true
-    derived_calm l h = least (has labels.marks) closed l h
+    pub derived_calm : (l : Lit) → IsDerived s l → is_marked labels.marks l ≡ true
+    derived_calm l h = least (is_marked labels.marks) closed l h
 
   -- what is derived is marked where there is no contradiction
-  pub derived_marked : ¬ IsRefuted s → (l : Lit) → IsDerived s l → has labels.marks l ≡ true
+  pub derived_marked : ¬ IsRefuted s → (l : Lit) → IsDerived s l → is_marked labels.marks l ≡ true
   derived_marked fine l h = by_zero (has_zero counted) refl
     where
-      by_zero : (b : Bool) → has_zero counted ≡ b → has labels.marks l ≡ true
+      by_zero : (b : Bool) → has_zero counted ≡ b → is_marked labels.marks l ≡ true
       by_zero true e = absurd (fine (zero_refutes e))
       by_zero false e = derived_calm e l h
 
-  pub unmarked_not_derived : ¬ IsRefuted s → (l : Lit) → has labels.marks l ≡ false → IsDerived s l → ⊥
+  pub unmarked_not_derived : ¬ IsRefuted s → (l : Lit) → is_marked labels.marks l ≡ false → IsDerived s l → ⊥
   unmarked_not_derived fine l e h = cc (derived_marked fine l h, e)
 
   pub whole_trail : ¬ IsRefuted s → IsWholeTrail s
   whole_trail fine =
       record {
-        derivation = subst (IsDerivation s.clauses (has s.assumed)) (sym kept.trail) kept.derivation;
+        derivation = subst (IsDerivation s.clauses (is_marked s.assumed)) (sym kept.trail) kept.derivation;
         complete = λ l h. ap (λ t. trail_has t l) kept.trail ∙ sym (kept.state.agrees.same l) ∙ derived_marked fine l h;
       }
 
@@ -136,7 +136,7 @@ module _ (marks : Marks) (supports : List Reason) (trail : List Link) (agrees : 
   reason_known : is_free marks l ≡ false → reason_in trail l ≡ Some (support_at supports l)
   reason_known marked = by_found (find (λ (k : Link). same_var k.lit l) trail) refl
     where
-      on_trail : (m : Lit) → nat_eq m.var.0 l.var.0 ≡ true → has marks m ≡ true → find (λ (k : Link). same_var k.lit l) trail ≡ None → ⊥
+      on_trail : (m : Lit) → nat_eq m.var.0 l.var.0 ≡ true → is_marked marks m ≡ true → find (λ (k : Link). same_var k.lit l) trail ≡ None → ⊥
       on_trail m e h none =
           let found = any_member (λ (k : Link). same_lit k.lit m) trail (sym (agrees.same m) ∙ h) in
           none_passes (λ (k : Link). same_var k.lit l) trail found.0 none found.1 (ap (λ (j : Lit). same_var j l) (same_lit-equal found.0.lit m found.2) ∙ e)
@@ -161,7 +161,7 @@ module _ (marks : Marks) (supports : List Reason) (trail : List Link) (agrees : 
       by_found None e = ap (option_map (λ (j : Link). j.reason)) e
       by_found (Some k) e =
           let passes = found_passes (λ (j : Link). same_var j.lit l) trail k e in
-          let there : has marks k.lit ≡ true = agrees.same k.lit ∙ contained_has trail k passes.1 in
+          let there : is_marked marks k.lit ≡ true = agrees.same k.lit ∙ contained_has trail k passes.1 in
           let busy : is_free marks l ≡ false = ap (λ v. is_none (get_or marks v None)) (sym (eq_from k.lit.var.0 l.var.0 passes.0)) ∙ has_not_free marks k.lit there in
           absurd (cc (free, busy))
 

@@ -1,13 +1,12 @@
 -- What one link more makes of the trail, and that all on it is in the closure.
-use Rattle.std.proofs.Common.{◌≡◌, ◌⊎◌, ℕ, ◌+◌, ◌<◌, Bool, true, false, not, ◌||◌, nat_eq, List, [], ◌∷◌, ◌++◌, length, get_or, Option, Some, None, is_none, cond, count_by, refl, sym, ap, subst, ◌∙◌, arith, inl, inr}
-use Rattle.std.proofs.lemmas.Bool.Decides.{nat_tests}
+use Rattle.std.proofs.Common.{◌≡◌, ◌⊎◌, ℕ, ◌+◌, ◌<◌, Bool, true, false, not, ◌||◌, List, [], ◌∷◌, ◌++◌, length, get_or, Option, Some, None, is_none, cond, count_by, refl, sym, ap, subst, ◌∙◌, arith, inl, inr}
 use Rattle.std.proofs.lemmas.List.Folds.{list_any-append}
 use Rattle.std.proofs.lemmas.List.Sums.{sum_by-set}
 use Rattle.lv_base.specs.declared.ids.Lit.{Lit}
 use Rattle.lv_clauses.specs.Literals.{neg, same_truth, same_var}
 use Rattle.lv_clauses.specs.ClauseMap.{Slots}
 use Rattle.lv_clauses.specs.Closure.{InClosure, assumption, unit}
-use Rattle.lv_clauses.specs.Marks.{has, mark_is}
+use Rattle.lv_clauses.specs.Marks.{is_marked, mark_is}
 use Rattle.lv_clauses.proofs.LiteralLemmas.{lit_of, and_left, and_right}
 use Rattle.lv_clauses.proofs.MarkLemmas.{same_truth-equal}
 use Rattle.lv_ltms.specs.declared.labels.Link.{Link}
@@ -40,7 +39,7 @@ unmarked (Some false) false p q = absurd (cc)
 abbrev number : ℕ → ℕ
 number n = n
 
-pub free_count-push : (labels : Labelled) (link : Link) → link.lit.var.0 < length labels.marks → has labels.marks link.lit ≡ false → has labels.marks (neg link.lit) ≡ false
+pub free_count-push : (labels : Labelled) (link : Link) → link.lit.var.0 < length labels.marks → is_marked labels.marks link.lit ≡ false → is_marked labels.marks (neg link.lit) ≡ false
     → count_by is_none (with_link labels link).marks + 1 ≡ count_by is_none labels.marks
 free_count-push labels link within p q =
     let none : get_or labels.marks link.lit.var.0 None ≡ None = unmarked (get_or labels.marks link.lit.var.0 None) link.lit.sign p q in

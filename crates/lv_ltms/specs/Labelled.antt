@@ -5,7 +5,7 @@ use Rattle.lv_base.specs.declared.ids.Lit.{Lit}
 use Rattle.lv_base.specs.declared.ids.ClauseId.{ClauseId}
 use Rattle.lv_clauses.specs.Literals.{same_var}
 use Rattle.lv_clauses.specs.ClauseMap.{Slots}
-use Rattle.lv_clauses.specs.Marks.{Marks, has, marked, is_free}
+use Rattle.lv_clauses.specs.Marks.{Marks, is_marked, marked, is_free}
 use Rattle.lv_ltms.specs.declared.labels.Link.{Link}
 use Rattle.lv_ltms.specs.declared.labels.Reason.{Reason}
 use Rattle.lv_ltms.specs.declared.labels.Reason.TheVariants.{Assumed, Clause}
@@ -44,7 +44,7 @@ gives id link = is_reason id link.reason
 
 -- the literals marked are those on the trail, each boolean once, with the supports kept
 pub record Agrees (marks : Marks) (supports : List Reason) (trail : List Link) : Type 0 where
-  pub same : (l : Lit) → has marks l ≡ trail_has trail l
+  pub same : (l : Lit) → is_marked marks l ≡ trail_has trail l
   pub once : is_once trail ≡ true
   pub room : length trail + count_by is_none marks ≡ length marks
   pub backed : (k : Link) → Contains trail k → support_at supports k.lit ≡ k.reason
@@ -65,7 +65,7 @@ without_mark labels l = record { marks = slice_set labels.marks l.var.0 None; su
 -- the new labels have all that the old ones have, in the same order
 pub record Grows (old new : Labelled) : Type 0 where
   pub agrees : Agrees new.marks new.supports new.trail
-  pub kept : (l : Lit) → has old.marks l ≡ true → has new.marks l ≡ true
+  pub kept : (l : Lit) → is_marked old.marks l ≡ true → is_marked new.marks l ≡ true
   pub front : new.trail ≡ old.trail ++ drop (length old.trail) new.trail
   pub marks : length new.marks ≡ length old.marks
   pub supports : length new.supports ≡ length old.supports

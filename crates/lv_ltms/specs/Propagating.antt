@@ -4,7 +4,7 @@ use Rattle.lv_base.specs.declared.ids.Lit.{Lit}
 use Rattle.lv_base.specs.declared.ids.ClauseId.{ClauseId}
 use Rattle.lv_clauses.specs.Literals.{neg}
 use Rattle.lv_clauses.specs.ClauseMap.{Slots, clause_at, AreClauses}
-use Rattle.lv_clauses.specs.Marks.{Marks, has, is_free}
+use Rattle.lv_clauses.specs.Marks.{Marks, is_marked, is_free}
 use Rattle.lv_ltms.specs.declared.labels.Link.{Link}
 use Rattle.lv_ltms.specs.Trail.{trail_has}
 use Rattle.lv_ltms.specs.Occurrences.{Rows, times_in, IsIndex, HasWidth}
@@ -53,4 +53,4 @@ pub record IsPropagating (bools : ℕ) (rows : Rows) (counted : Counted) (labels
 -- where all other literals of the clause were false, the boolean of the literal left is marked
 pub record Settles (clauses : Slots) (id : ℕ) (old new : Labelled) : Type 0 where
   pub marked : (c : List Lit) (l : Lit) → clause_at clauses id ≡ Some c → Contains c l
-      → ((k : Lit) → Contains c k → k ≢ l → has old.marks (neg k) ≡ true) → is_free new.marks l ≡ false
+      → ((k : Lit) → Contains c k → k ≢ l → is_marked old.marks (neg k) ≡ true) → is_free new.marks l ≡ false

@@ -5,7 +5,7 @@ use Rattle.lv_base.specs.declared.ids.Lit.{Lit}
 use Rattle.lv_base.specs.declared.ids.ClauseId.{ClauseId}
 use Rattle.lv_clauses.specs.Literals.{neg, same_var}
 use Rattle.lv_clauses.specs.ClauseMap.{Slots, clause_at}
-use Rattle.lv_clauses.specs.Marks.{has, is_free}
+use Rattle.lv_clauses.specs.Marks.{is_marked, is_free}
 use Rattle.lv_ltms.specs.declared.labels.Link.{Link}
 use Rattle.lv_ltms.specs.declared.labels.Reason.{Reason}
 use Rattle.lv_ltms.specs.declared.labels.Reason.TheVariants.{Assumed, Clause}
@@ -44,8 +44,8 @@ pub record IsShaken (assumed : Lit → Bool) (clauses : Slots) (trail : List Lin
 -- the labels that lost their support are gone, and what stays is derived
 pub record IsSwept (assumed : Lit → Bool) (clauses : Slots) (old new : Labelled) (fallen : List Lit) : Type 0 where
   pub derivation : IsDerivation clauses assumed new.trail
-  pub against : NoneAgainst assumed (has new.marks)
-  pub kept : (l : Lit) → has old.marks l ≡ true → (has new.marks l || is_fallen fallen l) ≡ true
+  pub against : NoneAgainst assumed (is_marked new.marks)
+  pub kept : (l : Lit) → is_marked old.marks l ≡ true → (is_marked new.marks l || is_fallen fallen l) ≡ true
 
 -- the clause is present and has no literal left but this one
 pub record IsUnitFor (clauses : Slots) (truth : Lit → Bool) (l : Lit) (id : ℕ) (c : List Lit) : Type 0 where
@@ -57,13 +57,13 @@ pub record IsUnitFor (clauses : Slots) (truth : Lit → Bool) (l : Lit) (id : �
 -- the literal is marked where it is assumed, and its boolean where a clause gives the literal a label and the negation
 -- isn't assumed
 pub record IsSupported (assumed : Lit → Bool) (clauses : Slots) (truth : Lit → Bool) (labels : Labelled) (l : Lit) : Type 0 where
-  pub by_assumption : assumed l ≡ true → has labels.marks l ≡ true
+  pub by_assumption : assumed l ≡ true → is_marked labels.marks l ≡ true
   pub by_clause : (id : ℕ) (c : List Lit) → IsUnitFor clauses truth l id c → assumed (neg l) ≡ false → is_free labels.marks l ≡ false
 
 -- a literal got its label, if something supports it
 pub record GetsSupport (assumed : Lit → Bool) (rows : Rows) (counted : Counted) (old new : Labelled) (l : Lit) : Type 0 where
   pub grows : Grows old new
-  pub against : NoneAgainst assumed (has new.marks)
+  pub against : NoneAgainst assumed (is_marked new.marks)
   pub derivation : (bools at : ℕ) (excused : Lit → Bool) → IsPropagating bools rows counted old at excused → IsDerivation counted.clauses assumed old.trail → IsDerivation counted.clauses assumed new.trail
   pub supported : (bools at : ℕ) (excused : Lit → Bool) → IsPropagating bools rows counted old at excused → IsSupported assumed counted.clauses (true_before at old.trail) new l
 
@@ -73,11 +73,11 @@ pub record AreFixed (assumed : Lit → Bool) (labels : Labelled) : Type 0 where
 
 -- each assumption is marked
 pub record AreMarked (assumed : Lit → Bool) (labels : Labelled) : Type 0 where
-  pub marked : (l : Lit) → assumed l ≡ true → has labels.marks l ≡ true
+  pub marked : (l : Lit) → assumed l ≡ true → is_marked labels.marks l ≡ true
 
 -- each assumption is marked, or its boolean waits for another support
 pub record AreMarkedOrWait (assumed : Lit → Bool) (labels : Labelled) (waiting : List Lit) : Type 0 where
-  pub marked : (l : Lit) → assumed l ≡ true → (has labels.marks l || is_fallen waiting l) ≡ true
+  pub marked : (l : Lit) → assumed l ≡ true → (is_marked labels.marks l || is_fallen waiting l) ≡ true
 
 -- the reason still supports the literal
 abbrev pub reason_stands : (Lit → Bool) → Counted → Lit → Reason → Bool

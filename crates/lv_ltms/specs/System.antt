@@ -5,10 +5,10 @@ use Rattle.lv_base.specs.declared.ids.Lit.{Lit}
 use Rattle.lv_clauses.specs.Literals.{distinct}
 use Rattle.lv_clauses.specs.ClauseMap.{Slots, clause_at}
 use Rattle.lv_clauses.specs.Closure.{InClosure, IsContradictory}
-use Rattle.lv_clauses.specs.Marks.{Marks, has}
+use Rattle.lv_clauses.specs.Marks.{Marks, is_marked}
 use Rattle.lv_ltms.specs.declared.labels.Link.{Link}
-use Rattle.lv_ltms.specs.declared.ltms.Standing.{Standing}
-use Rattle.lv_ltms.specs.declared.ltms.Standing.TheVariants.{Consistent, Contradiction}
+use Rattle.lv_ltms.specs.declared.ltms.Status.{Status}
+use Rattle.lv_ltms.specs.declared.ltms.Status.TheVariants.{Consistent, Contradiction}
 use Rattle.lv_ltms.specs.Trail.{same_lit, trail_has, IsDerivation}
 use Rattle.lv_ltms.specs.Occurrences.{Rows}
 use Rattle.lv_ltms.specs.Counters.{Counted}
@@ -25,11 +25,11 @@ pub record System : Type 0 where
 
 -- the literal is in the unit closure of the clauses and assumptions present
 abbrev pub IsDerived : System → Lit → Type 0
-IsDerived s l = InClosure s.clauses (has s.assumed) l
+IsDerived s l = InClosure s.clauses (is_marked s.assumed) l
 
 -- the unit closure of the clauses and assumptions present is contradictory
 abbrev pub IsRefuted : System → Type 0
-IsRefuted s = IsContradictory s.clauses (has s.assumed)
+IsRefuted s = IsContradictory s.clauses (is_marked s.assumed)
 
 -- the new system has this clause or nothing at the number, all other clauses and the assumptions are as before
 pub record PutsClause (old new : System) (id : ℕ) (slot : Option (List Lit)) : Type 0 where
@@ -44,13 +44,13 @@ pub record PutsAssumed (old new : System) (assumed : Marks) : Type 0 where
   pub clauses : new.clauses ≡ old.clauses
   pub changed : new.assumed ≡ assumed
 
-abbrev pub TellsStanding : System → Standing → Type 0
-TellsStanding s Consistent = ¬ IsRefuted s
-TellsStanding s Contradiction = IsRefuted s
+abbrev pub TellsStatus : System → Status → Type 0
+TellsStatus s Consistent = ¬ IsRefuted s
+TellsStatus s Contradiction = IsRefuted s
 
 -- the trail holds just what is derived, each literal with its reason from those before it
 pub record IsWholeTrail (s : System) : Type 0 where
-  pub derivation : IsDerivation s.clauses (has s.assumed) s.trail
+  pub derivation : IsDerivation s.clauses (is_marked s.assumed) s.trail
   pub complete : (l : Lit) → IsDerived s l → trail_has s.trail l ≡ true
 
 abbrev pub in_list : List Lit → Lit → Bool
@@ -58,7 +58,7 @@ in_list ls l = list_any (λ k. same_lit k l) ls
 
 -- assumptions present, of distinct booleans, which with the clauses present are contradictory
 pub record IsCore (s : System) (core : List Lit) : Type 0 where
-  pub present : (l : Lit) → in_list core l ≡ true → has s.assumed l ≡ true
+  pub present : (l : Lit) → in_list core l ≡ true → is_marked s.assumed l ≡ true
   pub distinct : distinct core ≡ true
   pub contradictory : IsContradictory s.clauses (in_list core)
 
@@ -69,6 +69,6 @@ pub record IsKept (s : System) (rows : Rows) (counted : Counted) (labels : Label
   pub clauses : s.clauses ≡ counted.clauses
   pub trail : s.trail ≡ labels.trail
   pub state : IsPropagating s.bools rows counted labels (length labels.trail) none_excused
-  pub derivation : IsDerivation s.clauses (has s.assumed) labels.trail
-  pub assumptions : AreMarked (has s.assumed) labels
+  pub derivation : IsDerivation s.clauses (is_marked s.assumed) labels.trail
+  pub assumptions : AreMarked (is_marked s.assumed) labels
   pub room : s.bools ≤ space

@@ -32,7 +32,7 @@ struct Entry {
 pub struct Arena {
     alloc: Global,
     entries: Slab<Entry>,
-    refuted: usize,
+    false_clauses: usize,
 }
 
 impl Model for Arena {
@@ -44,7 +44,7 @@ impl Model for Arena {
 
     ghost view = { λ s. record { clauses = map clause_of s.entries.slots; counters = map counter_of s.entries.slots } };
 
-    ghost invariant = { λ s. IsArena s.entries.slots s.refuted };
+    ghost invariant = { λ s. IsArena s.entries.slots s.false_clauses };
 }
 
 impl Arena {
@@ -55,7 +55,7 @@ impl Arena {
         Ok(Arena {
             alloc,
             entries: Slab::with_capacity(alloc, FIRST_ROOM)?,
-            refuted: 0,
+            false_clauses: 0,
         })
     }
 
@@ -82,7 +82,7 @@ impl Arena {
         let id = ClauseId(self.entries.vacant_key());
         index.add(lits, id)?;
         self.entries.insert_reserved(Entry { clause, left });
-        self.refuted = count_in(self.refuted, left, &self.entries);
+        self.false_clauses = count_in(self.false_clauses, left, &self.entries);
         Ok(id)
     }
 
@@ -95,7 +95,7 @@ impl Arena {
         ensures width { KeepsWidth index.old index.new }
     {
         let Entry { clause, left } = self.entries.remove(id.0);
-        self.refuted = count_out(self.refuted, left);
+        self.false_clauses = count_out(self.false_clauses, left);
         index.remove(clause.lits(), id);
     }
 
@@ -136,7 +136,7 @@ impl Arena {
     {
         let left = self.entries[id.0].left - 1;
         write_counter(&mut self.entries, id.0, left);
-        self.refuted = count_in(self.refuted, left, &self.entries);
+        self.false_clauses = count_in(self.false_clauses, left, &self.entries);
         left
     }
 
@@ -147,7 +147,7 @@ impl Arena {
         ensures { Recounts self.old self.new id.0 (open_at self.old id.0 + 1) }
     {
         let left = self.entries[id.0].left;
-        self.refuted = count_out(self.refuted, left);
+        self.false_clauses = count_out(self.false_clauses, left);
         write_counter(&mut self.entries, id.0, left + 1);
     }
 
@@ -155,7 +155,7 @@ impl Arena {
     pub fn has_false(&self) -> bool
         ensures { result ≡ has_zero self.now }
     {
-        self.refuted != 0
+        self.false_clauses != 0
     }
 }
 
@@ -168,23 +168,27 @@ fn write_counter(entries: &mut Slab<Entry>, key: usize, left: usize)
 }
 
 /// How many counters are 0 once there is this one more.
-fn count_in(refuted: usize, left: usize, entries: &Slab<Entry>) -> usize
-    requires { refuted + one_at_zero left ≤ slab_len entries.now }
-    ensures { result ≡ refuted + one_at_zero left }
+fn count_in(false_clauses: usize, left: usize, entries: &Slab<Entry>) -> usize
+    requires { false_clauses + one_at_zero left ≤ slab_len entries.now }
+    ensures { result ≡ false_clauses + one_at_zero left }
 {
     let len = entries.len();
     if left == 0 {
-        prove!(refuted < len);
-        refuted + 1
+        prove!(false_clauses < len);
+        false_clauses + 1
     } else {
-        refuted
+        false_clauses
     }
 }
 
 /// How many counters are 0 once this one is gone.
-fn count_out(refuted: usize, left: usize) -> usize
-    requires { one_at_zero left ≤ refuted }
-    ensures { result ≡ refuted - one_at_zero left }
+fn count_out(false_clauses: usize, left: usize) -> usize
+    requires { one_at_zero left ≤ false_clauses }
+    ensures { result ≡ false_clauses - one_at_zero left }
 {
-    if left == 0 { refuted - 1 } else { refuted }
+    if left == 0 {
+        false_clauses - 1
+    } else {
+        false_clauses
+    }
 }

@@ -9,20 +9,20 @@
 //!
 //! | part | items |
 //! |---|---|
-//! | the system | `Ltms`, `Standing`, `Label` |
-//! | labels and their reasons | `labels`, `Reason`, `Link` |
-//! | clauses with counters | `arena` |
-//! | the clauses that hold a literal | `occurrences` |
-//! | what follows | `propagation` |
-//! | what no longer follows | `revision` |
+//! | the system | `Ltms`, `Status`, `Label` |
+//! | why a literal is true | `Reason`, `Link` |
+//!
+//! Inside, `labels` keeps labels and their reasons, `arena` clauses with counters, and `occurrences` the clauses that
+//! hold a literal: together a `network`. `propagation` finds what follows, and `revision` what no longer does.
 #![tactic(auto)]
 
-pub mod arena;
-pub mod labels;
-pub mod ltms;
-pub mod occurrences;
-pub mod propagation;
-pub mod revision;
+mod arena;
+mod labels;
+mod ltms;
+mod network;
+mod occurrences;
+mod propagation;
+mod revision;
 
 pub use labels::{Link, Reason};
-pub use ltms::{Label, Ltms, Standing};
+pub use ltms::{Label, Ltms, Status};

@@ -5,18 +5,16 @@
 ghost use Rattle.std.specs.Prelude.{◌≡◌, ◌≤◌, ◌&&◌, option_map, [], length, take, position, Some, None, IfOk, OnErr, IsSome, IsTrue, is_some, count_by, slice_set};
 ghost use Rattle.lv_clauses.specs.Literals.{is_clause, in_range};
 ghost use Rattle.lv_clauses.specs.ClauseMap.{clause_at};
-ghost use Rattle.lv_clauses.specs.Marks.{nothing, has, marked, is_free};
+ghost use Rattle.lv_clauses.specs.Marks.{nothing, is_marked, marked, is_free};
 ghost use Rattle.lv_ltms.specs.Trail.{reason_in};
 ghost use Rattle.lv_ltms.specs.Marked.{literals_from};
 ghost use Rattle.lv_ltms.specs.Labelled.{gives};
 
-use super::arena::Arena;
-use super::labels::{Labels, Link, Reason};
-use super::occurrences::Occurrences;
-use super::propagation::{left_in, propagate, settle};
-use super::revision::revise;
+use super::labels::{Link, Reason};
+use super::network::Network;
+use super::propagation::{left_in, settle};
 use lv_base::{BoolId, ClauseId, Lit};
-use lv_clauses::{has, negation};
+use lv_clauses::{is_marked, negation, unmark};
 use std::alloc::{AllocError, Global};
 use std::marker::Model;
 
@@ -30,7 +28,7 @@ pub enum Label {
 
 /// Whether the clauses and assumptions present contradict each other by unit propagation.
 #[derive(Clone, Copy, Debug, PartialEq, Eq)]
-pub enum Standing {
+pub enum Status {
     Consistent,
     Contradiction,
 }
@@ -40,12 +38,8 @@ pub enum Standing {
 #[derive(Drop)]
 pub struct Ltms {
     bools: u32,
-    arena: Arena,
-    index: Occurrences,
     assumed: Vec<Option<bool>>,
-    labels: Labels,
-    // Room for the literals that lose their label in one call.
-    fallen: Vec<Lit>,
+    network: Network,
 }
 
 impl Model for Ltms {
@@ -54,13 +48,13 @@ impl Model for Ltms {
 
     ghost Value = { System };
 
-    ghost view = { λ s. record { bools = s.bools; clauses = s.arena.clauses; assumed = s.assumed.items; trail = s.labels.trail } };
+    ghost view = { λ s. record { bools = s.bools; clauses = s.network.arena.clauses; assumed = s.assumed.items; trail = s.network.labels.trail } };
 
-    ghost invariant = { λ s. IsKept (record { bools = s.bools; clauses = s.arena.clauses; assumed = s.assumed.items; trail = s.labels.trail }) s.index s.arena s.labels (vec_capacity s.fallen) };
+    ghost invariant = { λ s. IsKept (record { bools = s.bools; clauses = s.network.arena.clauses; assumed = s.assumed.items; trail = s.network.labels.trail }) s.network.occurrences s.network.arena s.network.labels (vec_capacity s.network.fallen) };
 }
 
 impl Ltms {
-    ghost use Rattle.lv_ltms.specs.System.{System, PutsClause, PutsAssumed, IsRefuted, TellsStanding, IsWholeTrail, IsCore};
+    ghost use Rattle.lv_ltms.specs.System.{System, PutsClause, PutsAssumed, IsRefuted, TellsStatus, IsWholeTrail, IsCore};
     ghost use Rattle.lv_ltms.specs.Told.{TellsLabel};
 
     /// The system of no clauses and no assumptions over so many booleans.
@@ -69,11 +63,8 @@ impl Ltms {
     {
         Ok(Ltms {
             bools,
-            arena: Arena::new(alloc)?,
-            index: Occurrences::new(alloc, bools)?,
             assumed: vec![in alloc; None; bools as usize]?,
-            labels: Labels::new(alloc, bools)?,
-            fallen: Vec::with_capacity(alloc, bools as usize)?,
+            network: Network::new(alloc, bools)?,
         })
     }
 
@@ -84,11 +75,14 @@ impl Ltms {
         ensures added { IfOk result (λ id. PutsClause self.old self.new id.0 (Some lits.now)) }
         ensures kept { OnErr result (self.new ≡ self.old) }
     {
-        let from = self.labels.trail().len();
-        let left = left_in(lits, self.labels.marks());
-        let id = self.arena.add(lits, left, &mut self.index)?;
-        settle(id, &self.arena, &mut self.labels);
-        propagate(from, &self.index, &mut self.arena, &mut self.labels);
+        let from = self.network.labels.trail().len();
+        let left = left_in(lits, self.network.labels.marks());
+        let id = self
+            .network
+            .arena
+            .add(lits, left, &mut self.network.occurrences)?;
+        settle(id, &self.network.arena, &mut self.network.labels);
+        self.network.propagate(from);
         Ok(id)
     }
 
@@ -97,17 +91,10 @@ impl Ltms {
         requires { IsSome (clause_at self.old.clauses id.0) }
         ensures { PutsClause self.old self.new id.0 None }
     {
-        let trail = self.labels.trail();
+        let trail = self.network.labels.trail();
         let from = first_given(trail, id).unwrap_or(trail.len());
-        self.arena.remove(id, &mut self.index);
-        revise(
-            from,
-            self.assumed.as_slice(),
-            &self.index,
-            &mut self.arena,
-            &mut self.labels,
-            &mut self.fallen,
-        );
+        self.network.arena.remove(id, &mut self.network.occurrences);
+        self.network.revise(from, self.assumed.as_slice());
     }
 
     /// Adds an assumption: a literal that isn't assumed, nor its negation. Where its negation is derived, that label
@@ -118,51 +105,37 @@ impl Ltms {
         ensures { PutsAssumed self.old self.new (marked self.old.assumed lit) }
     {
         self.assumed[lit.var.0 as usize] = Some(lit.sign);
-        if has(self.labels.marks(), lit) {
+        if is_marked(self.network.labels.marks(), lit) {
             return;
         }
-        if has(self.labels.marks(), negation(lit)) {
-            let from = self.labels.place_of(lit);
-            revise(
-                from,
-                self.assumed.as_slice(),
-                &self.index,
-                &mut self.arena,
-                &mut self.labels,
-                &mut self.fallen,
-            );
+        if is_marked(self.network.labels.marks(), negation(lit)) {
+            let from = self.network.labels.place_of(lit);
+            self.network.revise(from, self.assumed.as_slice());
             return;
         }
-        let from = self.labels.trail().len();
-        self.labels.push(Link {
+        let from = self.network.labels.trail().len();
+        self.network.labels.push(Link {
             lit,
             reason: Reason::Assumed,
         });
-        propagate(from, &self.index, &mut self.arena, &mut self.labels);
+        self.network.propagate(from);
     }
 
     /// Takes back an assumption.
     pub fn retract(&mut self, lit: Lit)
-        requires { IsTrue (has self.old.assumed lit) }
+        requires { IsTrue (is_marked self.old.assumed lit) }
         ensures { PutsAssumed self.old self.new (slice_set self.old.assumed lit.var.0 None) }
     {
-        take_back(&mut self.assumed, lit);
-        let from = self.labels.place_of(lit);
-        revise(
-            from,
-            self.assumed.as_slice(),
-            &self.index,
-            &mut self.arena,
-            &mut self.labels,
-            &mut self.fallen,
-        );
+        unmark(&mut self.assumed, lit);
+        let from = self.network.labels.place_of(lit);
+        self.network.revise(from, self.assumed.as_slice());
     }
 
     /// Whether a literal is one of the assumptions present.
     pub fn is_assumed(&self, lit: Lit) -> bool
-        ensures { result ≡ has self.now.assumed lit }
+        ensures { result ≡ is_marked self.now.assumed lit }
     {
-        has(self.assumed.as_slice(), lit)
+        is_marked(self.assumed.as_slice(), lit)
     }
 
     /// Whether a literal may be assumed: its boolean is in range, and neither it nor its negation is assumed.
@@ -177,7 +150,7 @@ impl Ltms {
     pub fn find_clause(&self, id: ClauseId) -> Option<&[Lit]>
         ensures { option_map (λ lits. lits.now) result ≡ clause_at self.now.clauses id.0 }
     {
-        self.arena.find(id)
+        self.network.arena.find(id)
     }
 
     /// The number of booleans.
@@ -188,13 +161,13 @@ impl Ltms {
     }
 
     /// Whether unit propagation over what is present comes to a contradiction.
-    pub fn status(&self) -> Standing
-        ensures { TellsStanding self.now result }
+    pub fn status(&self) -> Status
+        ensures { TellsStatus self.now result }
     {
-        if self.arena.has_false() {
-            Standing::Contradiction
+        if self.network.arena.has_false() {
+            Status::Contradiction
         } else {
-            Standing::Consistent
+            Status::Consistent
         }
     }
 
@@ -203,10 +176,10 @@ impl Ltms {
         requires { ¬ IsRefuted self.now }
         ensures { TellsLabel self.now lit result }
     {
-        if has(self.labels.marks(), lit) {
+        if is_marked(self.network.labels.marks(), lit) {
             return Label::True;
         }
-        if has(self.labels.marks(), negation(lit)) {
+        if is_marked(self.network.labels.marks(), negation(lit)) {
             return Label::False;
         }
         Label::Unknown
@@ -219,7 +192,7 @@ impl Ltms {
         ensures reason { result ≡ reason_in self.now.trail lit }
         ensures trail { IsWholeTrail self.now }
     {
-        self.labels.reason(lit)
+        self.network.labels.reason(lit)
     }
 
     /// How many assumptions are present.
@@ -239,16 +212,6 @@ impl Ltms {
         ensures core { IsCore self.now (take result out.new) }
     {
         write_assumptions(self.bools, self.assumed.as_slice(), out)
-    }
-}
-
-/// Takes away the mark of a literal's boolean, if that is in range.
-fn take_back(assumed: &mut Vec<Option<bool>>, lit: Lit)
-    ensures { assumed.new.items ≡ slice_set assumed.old.items lit.var.0 None }
-{
-    let index = lit.var.0 as usize;
-    if index < assumed.len() {
-        assumed[index] = None;
     }
 }
 

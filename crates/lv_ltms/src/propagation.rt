@@ -5,7 +5,7 @@
 
 ghost use Rattle.std.specs.Prelude.{◌≡◌, ◌<◌, ◌-◌, ◌+◌, length, nat_eq, IsSome, IfSome, IsTrue};
 ghost use Rattle.lv_clauses.specs.ClauseMap.{clause_at, AreClauses};
-ghost use Rattle.lv_clauses.specs.Marks.{has};
+ghost use Rattle.lv_clauses.specs.Marks.{is_marked};
 ghost use Rattle.lv_ltms.specs.Counters.{open_at, Recounts};
 ghost use Rattle.lv_ltms.specs.Labelled.{Agrees, GoesOn};
 ghost use Rattle.lv_ltms.specs.Propagating.{IsPropagating, Settles, left_count, none_excused};
@@ -15,7 +15,7 @@ use super::arena::Arena;
 use super::labels::{Labels, Link, Reason};
 use super::occurrences::Occurrences;
 use lv_base::{ClauseId, Lit};
-use lv_clauses::{Finding, has, look, negation};
+use lv_clauses::{Finding, is_marked, look, negation};
 
 /// Counts the literals of the trail from a place on, and marks all that follows.
 pub fn propagate(from: usize, index: &Occurrences, arena: &mut Arena, labels: &mut Labels)
@@ -71,7 +71,7 @@ pub fn settle(id: ClauseId, arena: &Arena, labels: &mut Labels)
     ensures settles { Settles arena.now.clauses id.0 labels.old labels.new }
 {
     if let Finding::Unit(lit) = look(labels.marks(), arena.get(id)) {
-        if !has(labels.marks(), lit) {
+        if !is_marked(labels.marks(), lit) {
             labels.push(Link {
                 lit,
                 reason: Reason::Clause(id),
@@ -82,9 +82,9 @@ pub fn settle(id: ClauseId, arena: &Arena, labels: &mut Labels)
 
 /// How many literals aren't false.
 pub fn left_in(lits: &[Lit], marks: &[Option<bool>]) -> usize
-    ensures { result ≡ left_count (has marks.now) lits.now }
+    ensures { result ≡ left_count (is_marked marks.now) lits.now }
 {
     lits.iter()
-        .filter(|lit| !has(marks, negation(**lit)))
+        .filter(|lit| !is_marked(marks, negation(**lit)))
         .count()
 }

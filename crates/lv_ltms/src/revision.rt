@@ -8,50 +8,21 @@
 ghost use Rattle.std.specs.Prelude.{◌≡◌, ◌<◌, ◌≤◌, ◌&&◌, [], length, not, find, vec_capacity, IsTrue};
 ghost use Rattle.std.specs.List.{list_all};
 ghost use Rattle.lv_clauses.specs.Literals.{neg, in_range};
-ghost use Rattle.lv_clauses.specs.Marks.{has};
+ghost use Rattle.lv_clauses.specs.Marks.{is_marked};
 ghost use Rattle.lv_ltms.specs.Occurrences.{row_of};
 ghost use Rattle.lv_ltms.specs.Labelled.{Agrees};
 ghost use Rattle.lv_ltms.specs.Propagating.{IsPropagating, none_excused};
-ghost use Rattle.lv_ltms.specs.Revising.{IsShaken, IsSwept, AreFixed, AreMarked, AreMarkedOrWait, NoneAgainst, IsOneSided, GetsSupport, CanRaise, IsRaised, is_fallen, reason_stands, reason_found, is_unit_at};
+ghost use Rattle.lv_ltms.specs.Revising.{IsShaken, IsSwept, AreMarked, AreMarkedOrWait, NoneAgainst, IsOneSided, GetsSupport, CanRaise, IsRaised, is_fallen, reason_stands, reason_found, is_unit_at};
 ghost use Rattle.lv_ltms.specs.Trail.{IsDerivation};
 
 use super::arena::Arena;
 use super::labels::{Labels, Link, Reason};
 use super::occurrences::Occurrences;
-use super::propagation::propagate;
 use lv_base::{ClauseId, Lit};
-use lv_clauses::{has, negation};
-
-/// Labels anew what the labels from a place of the trail on leave: those that lost their support fall, those that have
-/// another get it, and what follows is marked.
-pub fn revise(
-    from: usize,
-    assumed: &[Option<bool>],
-    index: &Occurrences,
-    arena: &mut Arena,
-    labels: &mut Labels,
-    fallen: &mut Vec<Lit>,
-)
-    requires state { IsPropagating (length labels.old.marks) index.now arena.old labels.old (length labels.old.trail) none_excused }
-    requires place { from ≤ length labels.old.trail }
-    requires shaken { IsShaken (has assumed.now) arena.old.clauses labels.old.trail from }
-    requires marked { AreFixed (has assumed.now) labels.old }
-    requires room { length labels.old.marks ≤ vec_capacity fallen.old }
-    ensures clauses { arena.new.clauses ≡ arena.old.clauses }
-    ensures state { IsPropagating (length labels.old.marks) index.now arena.new labels.new (length labels.new.trail) none_excused }
-    ensures derivation { IsDerivation arena.old.clauses (has assumed.now) labels.new.trail }
-    ensures marked { AreMarked (has assumed.now) labels.new }
-    ensures room { vec_capacity fallen.new ≡ vec_capacity fallen.old }
-{
-    fallen.clear();
-    sweep(from, assumed, index, arena, labels, fallen);
-    let kept = labels.trail().len();
-    support_all(fallen.as_slice(), assumed, index, arena, labels);
-    propagate(kept, index, arena, labels);
-}
+use lv_clauses::{is_marked, negation};
 
 /// Goes along the trail from a place on: what still stands closes up, what doesn't loses its mark and is written down.
-fn sweep(
+pub fn sweep(
     from: usize,
     assumed: &[Option<bool>],
     index: &Occurrences,
@@ -61,13 +32,13 @@ fn sweep(
 )
     requires state { IsPropagating (length labels.old.marks) index.now arena.old labels.old (length labels.old.trail) none_excused }
     requires place { from ≤ length labels.old.trail }
-    requires shaken { IsShaken (has assumed.now) arena.old.clauses labels.old.trail from }
+    requires shaken { IsShaken (is_marked assumed.now) arena.old.clauses labels.old.trail from }
     requires room { length labels.old.marks ≤ vec_capacity fallen.old }
     requires empty { fallen.old.items ≡ [] }
     ensures clauses { arena.new.clauses ≡ arena.old.clauses }
     ensures state { IsPropagating (length labels.old.marks) index.now arena.new labels.new (length labels.new.trail) (is_fallen fallen.new.items) }
     ensures range { IsTrue (list_all (in_range (length labels.old.marks)) fallen.new.items) }
-    ensures swept { IsSwept (has assumed.now) arena.old.clauses labels.old labels.new fallen.new.items }
+    ensures swept { IsSwept (is_marked assumed.now) arena.old.clauses labels.old labels.new fallen.new.items }
     ensures room { vec_capacity fallen.new ≡ vec_capacity fallen.old }
 {
     let mut kept = from;
@@ -88,11 +59,11 @@ fn sweep(
 /// Whether a label's reason still supports it: the assumption is present, or the clause is and has no other literal
 /// left. An assumption of the negation takes the label away.
 fn stands(link: Link, assumed: &[Option<bool>], arena: &Arena) -> bool
-    ensures { result ≡ (not (has assumed.now (neg link.lit)) && reason_stands (has assumed.now) arena.now link.lit link.reason) }
+    ensures { result ≡ (not (is_marked assumed.now (neg link.lit)) && reason_stands (is_marked assumed.now) arena.now link.lit link.reason) }
 {
-    !has(assumed, negation(link.lit))
+    !is_marked(assumed, negation(link.lit))
         && match link.reason {
-            Reason::Assumed => has(assumed, link.lit),
+            Reason::Assumed => is_marked(assumed, link.lit),
             Reason::Clause(id) => arena.is_unit(id),
         }
 }
@@ -108,7 +79,7 @@ fn raise_all(lit: Lit, index: &Occurrences, arena: &mut Arena)
 }
 
 /// Looks for another support of each boolean that lost its label.
-fn support_all(
+pub fn support_all(
     fallen: &[Lit],
     assumed: &[Option<bool>],
     index: &Occurrences,
@@ -117,12 +88,12 @@ fn support_all(
 )
     requires state { IsPropagating (length labels.old.marks) index.now arena.now labels.old (length labels.old.trail) (is_fallen fallen.now) }
     requires range { IsTrue (list_all (in_range (length labels.old.marks)) fallen.now) }
-    requires one_sided { IsOneSided (has assumed.now) }
-    requires against { NoneAgainst (has assumed.now) (has labels.old.marks) }
-    requires marked { AreMarkedOrWait (has assumed.now) labels.old fallen.now }
+    requires one_sided { IsOneSided (is_marked assumed.now) }
+    requires against { NoneAgainst (is_marked assumed.now) (is_marked labels.old.marks) }
+    requires marked { AreMarkedOrWait (is_marked assumed.now) labels.old fallen.now }
     ensures state { IsPropagating (length labels.old.marks) index.now arena.now labels.new (length labels.old.trail) none_excused }
-    ensures derivation { IsDerivation arena.now.clauses (has assumed.now) labels.old.trail → IsDerivation arena.now.clauses (has assumed.now) labels.new.trail }
-    ensures marked { AreMarked (has assumed.now) labels.new }
+    ensures derivation { IsDerivation arena.now.clauses (is_marked assumed.now) labels.old.trail → IsDerivation arena.now.clauses (is_marked assumed.now) labels.new.trail }
+    ensures marked { AreMarked (is_marked assumed.now) labels.new }
 {
     for lit in fallen {
         support(*lit, assumed, index, arena, labels);
@@ -142,13 +113,13 @@ fn support(
     requires range { lit.var.0 < length labels.old.marks }
     requires supports { length labels.old.supports ≡ length labels.old.marks }
     requires agrees { Agrees labels.old.marks labels.old.supports labels.old.trail }
-    requires one_sided { IsOneSided (has assumed.now) }
-    requires against { NoneAgainst (has assumed.now) (has labels.old.marks) }
-    ensures { GetsSupport (has assumed.now) index.now arena.now labels.old labels.new lit }
+    requires one_sided { IsOneSided (is_marked assumed.now) }
+    requires against { NoneAgainst (is_marked assumed.now) (is_marked labels.old.marks) }
+    ensures { GetsSupport (is_marked assumed.now) index.now arena.now labels.old labels.new lit }
 {
-    if has(labels.marks(), lit)
-        || has(labels.marks(), negation(lit))
-        || has(assumed, negation(lit))
+    if is_marked(labels.marks(), lit)
+        || is_marked(labels.marks(), negation(lit))
+        || is_marked(assumed, negation(lit))
     {
         return;
     }
@@ -164,9 +135,9 @@ fn reason_for(
     index: &Occurrences,
     arena: &Arena,
 ) -> Option<Reason>
-    ensures { result ≡ reason_found (has assumed.now lit) arena.now (row_of index.now lit) }
+    ensures { result ≡ reason_found (is_marked assumed.now lit) arena.now (row_of index.now lit) }
 {
-    if has(assumed, lit) {
+    if is_marked(assumed, lit) {
         return Some(Reason::Assumed);
     }
     first_unit(index.of(lit), arena).map(|id| Reason::Clause(id))

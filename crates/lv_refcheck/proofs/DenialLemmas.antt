@@ -10,7 +10,7 @@ use Rattle.lv_clauses.specs.Literals.{neg, same_var, in_range, distinct, is_clau
 use Rattle.lv_clauses.specs.Marks.{Marks, nothing, marked, is_free}
 use Rattle.lv_clauses.proofs.LiteralLemmas.{and_left}
 use Rattle.lv_reflog.specs.Following.{denied}
-use Rattle.lv_refcheck.specs.Checking.{is_open}
+use Rattle.lv_clauses.specs.Noted.{is_open}
 
 -- the literals are of distinct booleans, in range and unmarked
 abbrev pub fits : Marks → List Lit → Bool

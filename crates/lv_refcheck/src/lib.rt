@@ -6,7 +6,6 @@
 //! ends in the empty clause thus shows that there are none.
 #![tactic(auto)]
 
-pub mod marks;
-pub mod pass;
+mod pass;
 
 pub use pass::check;

@@ -7,9 +7,8 @@ ghost use Rattle.lv_clauses.specs.Marks.{nothing, look_at};
 ghost use Rattle.lv_reflog.specs.Following as Following;
 ghost use Rattle.lv_reflog.specs.Following.{IsImplied, denied, first_bad_step, follows_by_hints};
 
-use super::marks::Marks;
 use lv_base::Lit;
-use lv_clauses::{ClauseSet, Finding, look, negation};
+use lv_clauses::{ClauseSet, Finding, Marks, look, negation};
 use lv_reflog::{Hint, Log, Step};
 use std::alloc::{AllocError, Global};
 

@@ -9,9 +9,9 @@ use Rattle.std.proofs.lemmas.Option.{slice_get_within, get_or_from_slice_get, sl
 use Rattle.lv_base.specs.declared.ids.Lit.{Lit}
 use Rattle.lv_clauses.specs.Literals.{neg, same_truth, lit_holds, clause_holds, is_clause}
 use Rattle.lv_clauses.specs.ClauseMap.{ClauseMap, satisfies}
-use Rattle.lv_clauses.specs.Marks.{Marks, nothing, has, marked, unmet, finding_of}
+use Rattle.lv_clauses.specs.Marks.{Marks, nothing, is_marked, marked, unmet, finding_of}
 use Rattle.lv_clauses.proofs.LiteralLemmas.{lit_or_neg, present_holds, and_right}
-use Rattle.lv_clauses.proofs.MarkLemmas.{has-marked_cases, has-nothing}
+use Rattle.lv_clauses.proofs.MarkLemmas.{is_marked-marked_cases, is_marked-nothing}
 use Rattle.lv_reflog.specs.declared.log.Step.{Step}
 use Rattle.lv_reflog.specs.declared.log.Hint.{Hint}
 use Rattle.lv_reflog.specs.declared.log.Hint.TheVariants.{Given, Earlier}
@@ -19,20 +19,20 @@ use Rattle.lv_reflog.specs.Following.{clause_of, denied, ends_well, goes_on, goe
 
 -- each literal marked as true is true under the values
 record AreTrue (values : List Bool) (marks : Marks) : Type 0 where
-  holds : (l : Lit) → has marks l ≡ true → lit_holds values l ≡ true
+  holds : (l : Lit) → is_marked marks l ≡ true → lit_holds values l ≡ true
 
 AreTrue-marked : (values : List Bool) (marks : Marks) (l : Lit) → lit_holds values l ≡ true → AreTrue values marks → AreTrue values (marked marks l)
 AreTrue-marked values marks l holds before =
     record {
       holds =
-          λ m e. elim (has-marked_cases marks l m e) [
+          λ m e. elim (is_marked-marked_cases marks l m e) [
             | inl same ↦ ap (lit_holds values) same ∙ holds
             | inr was ↦ before.holds m was
           ];
     }
 
 AreTrue-nothing : (values : List Bool) (n : ℕ) → AreTrue values (nothing n)
-AreTrue-nothing values n = record { holds = λ l e. absurd (cc (has-nothing n l)) }
+AreTrue-nothing values n = record { holds = λ l e. absurd (cc (is_marked-nothing n l)) }
 
 -- of two opposite literals one is true
 other_holds : (values : List Bool) (l : Lit) → lit_holds values l ≡ false → lit_holds values (neg l) ≡ true
@@ -62,7 +62,7 @@ AreTrue-denied values marks (l ∷ ls) e before =
 -- of a true clause a literal that isn't marked as false is true
 unmet_holds : (values : List Bool) (marks : Marks) (c : List Lit) → AreTrue values marks → clause_holds values c ≡ true → list_any (lit_holds values) (unmet marks c) ≡ true
 unmet_holds values marks [] t e = e
-unmet_holds values marks (l ∷ ls) t e = by_mark (has marks (neg l)) refl (λ (more : clause_holds values ls ≡ true). unmet_holds values marks ls t more)
+unmet_holds values marks (l ∷ ls) t e = by_mark (is_marked marks (neg l)) refl (λ (more : clause_holds values ls ≡ true). unmet_holds values marks ls t more)
   where
     or_left : (a b : Bool) → a ≡ true → (a || b) ≡ true
     or_left true b p = refl
@@ -78,7 +78,7 @@ unmet_holds values marks (l ∷ ls) t e = by_mark (has marks (neg l)) refl (λ (
     left true h n = absurd (lit_or_neg values l h n)
     left false h n = sym (ap (λ b. b || clause_holds values ls) h) ∙ e
 
-    by_mark : (b : Bool) → has marks (neg l) ≡ b → (clause_holds values ls ≡ true → list_any (lit_holds values) (unmet marks ls) ≡ true) → list_any (lit_holds values) (cond (not (has marks (neg l))) (l ∷ unmet marks ls) (unmet marks ls)) ≡ true
+    by_mark : (b : Bool) → is_marked marks (neg l) ≡ b → (clause_holds values ls ≡ true → list_any (lit_holds values) (unmet marks ls) ≡ true) → list_any (lit_holds values) (cond (not (is_marked marks (neg l))) (l ∷ unmet marks ls) (unmet marks ls)) ≡ true
     by_mark true h ih = rw h (ih (left (lit_holds values l) refl (t.holds (neg l) h)))
     by_mark false h ih = rw h (kept (lit_holds values l) refl ih)
 

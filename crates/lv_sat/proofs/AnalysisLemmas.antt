@@ -6,9 +6,9 @@ use Rattle.lv_base.specs.declared.ids.Lit.{Lit}
 use Rattle.lv_clauses.specs.Literals.{neg, distinct, in_range, is_clause}
 use Rattle.std.specs.List.{list_all}
 use Rattle.lv_clauses.specs.ClauseMap.{ClauseMap}
-use Rattle.lv_clauses.specs.Marks.{Marks, nothing, has, marked, finding_of}
+use Rattle.lv_clauses.specs.Marks.{Marks, nothing, is_marked, marked, finding_of}
 use Rattle.lv_clauses.proofs.LiteralLemmas.{neg_neg, and_right, and_both, or_right}
-use Rattle.lv_clauses.proofs.MarkLemmas.{has-nothing, has-marked_cases}
+use Rattle.lv_clauses.proofs.MarkLemmas.{is_marked-nothing, is_marked-marked_cases}
 use Rattle.lv_reflog.specs.declared.log.Hint.{Hint}
 use Rattle.lv_reflog.specs.declared.log.Step.{Step}
 use Rattle.lv_reflog.specs.Following.{clause_of, is_last, goes_on, goes_on_from, ends_well, denied, follows_by_hints}
@@ -66,7 +66,7 @@ module _ (cs : ClauseMap) (log : List Step) (entries : List Entry) (trail : IsCh
       now_seen : seen ≡ seen_all blank refuted.clause
       now_seen = seen_is ∙ ap (λ (o : Option (List Lit)). seen_all blank (unwrap_or o [])) refuted.named
 
-      turned : (now : Marks) → Covers seen entries (length entries) now → (m : Lit) → Contains refuted.clause m → not (has now (neg m)) ≡ false
+      turned : (now : Marks) → Covers seen entries (length entries) now → (m : Lit) → Contains refuted.clause m → not (is_marked now (neg m)) ≡ false
       turned now covers m h2 =
           ap not
           (covers.needed (neg m) (ap (λ (es : List Entry). among (lits_of es) (neg m)) (take-length entries) ∙ refuted.turned m h2)
@@ -75,7 +75,7 @@ module _ (cs : ClauseMap) (log : List Step) (entries : List Entry) (trail : IsCh
       ends_here : (now : Marks) → Covers seen entries (length entries) now → ends_well cs.slots log (h ∷ []) now ≡ true
       ends_here now covers =
           ap (goes_on_from now true (ends_well cs.slots log [])) refuted.named
-          ∙ ap (λ ls. goes_on now true (ends_well cs.slots log []) (finding_of ls)) (filter_none (λ m. not (has now (neg m))) refuted.clause (turned now covers))
+          ∙ ap (λ ls. goes_on now true (ends_well cs.slots log []) (finding_of ls)) (filter_none (λ m. not (is_marked now (neg m))) refuted.clause (turned now covers))
 
   module _ (at : ℕ) (d : Entry) (within : at < length entries) (seen : List Bool) (hints : List Hint) (pending : IsPending cs log entries (at + 1) seen hints) where
     more_among : (l : Lit) → among (lits_of (take (at + 1) entries)) l ≡ (among (lits_of (take at entries)) l || same_lit (get_or entries at d).lit l)
@@ -97,7 +97,7 @@ module _ (cs : ClauseMap) (log : List Step) (entries : List Entry) (trail : IsCh
               });
         }
       where
-        by_place : (now : Marks) → Covers seen entries at now → (l : Lit) → sees seen l ≡ true → (among (lits_of (take at entries)) l ≡ true) ⊎ (same_lit (get_or entries at d).lit l ≡ true) → has now l ≡ true
+        by_place : (now : Marks) → Covers seen entries at now → (l : Lit) → sees seen l ≡ true → (among (lits_of (take at entries)) l ≡ true) ⊎ (same_lit (get_or entries at d).lit l ≡ true) → is_marked now l ≡ true
         by_place now covers l seen_it (inl before) = covers.needed l before seen_it
         by_place now covers l seen_it (inr here) = absurd (cc (ap (sees seen) (same_lit-equal (get_or entries at d).lit l here), unseen, seen_it))
 
@@ -133,7 +133,7 @@ module _ (cs : ClauseMap) (log : List Step) (entries : List Entry) (trail : IsCh
         still : (l : Lit) → sees seen l ≡ true → sees now_seen l ≡ true
         still l e = ap (λ s. sees s l) grown ∙ sees_keeps seen forced.clause l e
 
-        same_left : (now : Marks) → Covers now_seen entries at now → (m : Lit) → Contains forced.clause m → not (has now (neg m)) ≡ not (among (lits_of (take at entries)) (neg m))
+        same_left : (now : Marks) → Covers now_seen entries at now → (m : Lit) → Contains forced.clause m → not (is_marked now (neg m)) ≡ not (among (lits_of (take at entries)) (neg m))
         same_left now covers m h2 = by_truth (among (lits_of (take at entries)) (neg m)) refl
           where
             is_left : among (lits_of (take at entries)) (neg m) ≡ false → m ≡ (get_or entries at d).lit
@@ -145,30 +145,30 @@ module _ (cs : ClauseMap) (log : List Step) (entries : List Entry) (trail : IsCh
                 only true p = refl
                 only false p = p
 
-            by_truth : (b : Bool) → among (lits_of (take at entries)) (neg m) ≡ b → not (has now (neg m)) ≡ not (among (lits_of (take at entries)) (neg m))
+            by_truth : (b : Bool) → among (lits_of (take at entries)) (neg m) ≡ b → not (is_marked now (neg m)) ≡ not (among (lits_of (take at entries)) (neg m))
             by_truth true e =
                 ap not
                 (covers.needed (neg m) e (ap (λ s. sees s m) grown ∙ sees_member seen forced.clause m h2 (subst (λ n. m.var.0 < n) (sym pending.len) (in_range_of (neg m) (front_among at (neg m) e))))
                 ∙ sym e)
             by_truth false e =
                 ap not
-                (not_so (has now (neg m)) (λ f. opposed (get_or entries at d).lit here_among (covers.within (neg (get_or entries at d).lit) (subst (λ k. has now (neg k) ≡ true) (is_left e) f)))
+                (not_so (is_marked now (neg m)) (λ f. opposed (get_or entries at d).lit here_among (covers.within (neg (get_or entries at d).lit) (subst (λ k. is_marked now (neg k) ≡ true) (is_left e) f)))
                 ∙ sym e)
 
         covers_then : (now : Marks) → length now ≡ cs.bools → Covers now_seen entries at now → Covers seen entries (at + 1) (marked now (get_or entries at d).lit)
         covers_then now size covers =
             record {
               needed = λ l among_it seen_it. by_place l seen_it (or_cases (among (lits_of (take at entries)) l) (same_lit (get_or entries at d).lit l) (sym (more_among l) ∙ among_it));
-              within = λ l e. by_mark l (has-marked_cases now (get_or entries at d).lit l e);
+              within = λ l e. by_mark l (is_marked-marked_cases now (get_or entries at d).lit l e);
             }
           where
-            by_place : (l : Lit) → sees seen l ≡ true → (among (lits_of (take at entries)) l ≡ true) ⊎ (same_lit (get_or entries at d).lit l ≡ true) → has (marked now (get_or entries at d).lit) l ≡ true
+            by_place : (l : Lit) → sees seen l ≡ true → (among (lits_of (take at entries)) l ≡ true) ⊎ (same_lit (get_or entries at d).lit l ≡ true) → is_marked (marked now (get_or entries at d).lit) l ≡ true
             by_place l seen_it (inl before) = marked_other now (get_or entries at d).lit l (apart l before) (covers.needed l before (still l seen_it))
             by_place l seen_it (inr here) =
-                subst (λ k. has (marked now (get_or entries at d).lit) k ≡ true) (same_lit-equal (get_or entries at d).lit l here)
+                subst (λ k. is_marked (marked now (get_or entries at d).lit) k ≡ true) (same_lit-equal (get_or entries at d).lit l here)
                 (marked_self now (get_or entries at d).lit (subst (λ n. (get_or entries at d).lit.var.0 < n) (sym size) (in_range_of (get_or entries at d).lit here_among)))
 
-            by_mark : (l : Lit) → (l ≡ (get_or entries at d).lit) ⊎ (has now l ≡ true) → among (lits_of entries) l ≡ true
+            by_mark : (l : Lit) → (l ≡ (get_or entries at d).lit) ⊎ (is_marked now l ≡ true) → among (lits_of entries) l ≡ true
             by_mark l (inl same) = ap (among (lits_of entries)) same ∙ here_among
             by_mark l (inr was) = covers.within l was
 
@@ -176,7 +176,7 @@ module _ (cs : ClauseMap) (log : List Step) (entries : List Entry) (trail : IsCh
         goes now size covers =
             ap (goes_on_from now (is_last (reverse hints)) (ends_well cs.slots log (reverse hints))) forced.named
             ∙ ap (λ ls. goes_on now (is_last (reverse hints)) (ends_well cs.slots log (reverse hints)) (finding_of ls))
-            (filter_same (λ m. not (has now (neg m))) (λ m. not (among (lits_of (take at entries)) (neg m))) forced.clause (same_left now covers) ∙ forced.left)
+            (filter_same (λ m. not (is_marked now (neg m))) (λ m. not (among (lits_of (take at entries)) (neg m))) forced.clause (same_left now covers) ∙ forced.left)
             ∙ pending.ends (marked now (get_or entries at d).lit) (length-set now (get_or entries at d).lit.var.0 (Some (get_or entries at d).lit.sign) ∙ size) (covers_then now size covers)
 
     pub pending_goes : (now_seen : List Bool) (more : List Hint) → GoesPast cs.slots log (sees seen (get_or entries at d).lit) (get_or entries at d).reason seen hints now_seen more → IsPending cs log entries at now_seen more
@@ -204,8 +204,8 @@ module _ (cs : ClauseMap) (log : List Step) (entries : List Entry) (trail : IsCh
       clause_here : is_clause cs.bools (denial seen (take at entries)) ≡ true
       clause_here = denial_clause cs.bools (sees seen) (lits_of (take at entries)) front_clause
 
-      by_source : (l : Lit) → (has (nothing cs.bools) l ≡ true) ⊎ Contains (denial seen (take at entries)) (neg l) → among (lits_of entries) l ≡ true
-      by_source l (inl never) = absurd (cc (has-nothing cs.bools l, never))
+      by_source : (l : Lit) → (is_marked (nothing cs.bools) l ≡ true) ⊎ Contains (denial seen (take at entries)) (neg l) → among (lits_of entries) l ≡ true
+      by_source l (inl never) = absurd (cc (is_marked-nothing cs.bools l, never))
       by_source l (inr there) =
           front_among at l
           (ap (among (lits_of (take at entries))) (sym (neg_neg l))
@@ -217,7 +217,7 @@ module _ (cs : ClauseMap) (log : List Step) (entries : List Entry) (trail : IsCh
             needed =
                 λ l among_it seen_it.
                 let there : Contains (denial seen (take at entries)) (neg l) = in_map (filter (sees seen) (lits_of (take at entries))) l (in_filter (sees seen) (lits_of (take at entries)) l (among_contained (lits_of (take at entries)) l among_it) seen_it) in
-                subst (λ k. has (denied (nothing cs.bools) (denial seen (take at entries))) k ≡ true) (neg_neg l)
+                subst (λ k. is_marked (denied (nothing cs.bools) (denial seen (take at entries))) k ≡ true) (neg_neg l)
                 (denied_has (nothing cs.bools) (denial seen (take at entries)) (neg l) (and_right (list_all (in_range cs.bools) (denial seen (take at entries))) (distinct (denial seen (take at entries))) clause_here) there
                 (subst (λ n. l.var.0 < n) (sym (length-replicate {A = Option Bool} cs.bools None)) (in_range_of l (front_among at l among_it))));
             within = λ l e. by_source l (denied_only (nothing cs.bools) (denial seen (take at entries)) l e);

@@ -6,7 +6,7 @@ use Rattle.std.proofs.Math.Seq.{get_or-append_seam, take-length}
 use Rattle.lv_base.specs.declared.ids.Lit.{Lit}
 use Rattle.lv_clauses.specs.Literals.{neg, same_truth, lit_holds, is_clause}
 use Rattle.lv_clauses.specs.ClauseMap.{ClauseMap, Slots, satisfies}
-use Rattle.lv_clauses.specs.Marks.{Marks, has, marked, mark_is}
+use Rattle.lv_clauses.specs.Marks.{Marks, is_marked, marked, mark_is}
 use Rattle.lv_clauses.proofs.LiteralLemmas.{neg_neg, any_member, all_member, lit_or_neg}
 use Rattle.lv_reflog.specs.declared.log.Hint.{Hint}
 use Rattle.lv_reflog.specs.declared.log.Hint.TheVariants.{Given, Earlier}
@@ -93,7 +93,7 @@ value_at [] v = refl
 value_at (m ∷ ms) zero = refl
 value_at (m ∷ ms) (suc v) = value_at ms v
 
-pub marked_holds : (marks : Marks) (l : Lit) → has marks l ≡ true → lit_holds (values_of marks) l ≡ true
+pub marked_holds : (marks : Marks) (l : Lit) → is_marked marks l ≡ true → lit_holds (values_of marks) l ≡ true
 marked_holds marks l e = ap (λ b. same_truth b l.sign) (value_at marks l.var.0) ∙ by_mark (get_or marks l.var.0 None) l.sign e
   where
     by_mark : (o : Option Bool) (s : Bool) → mark_is o s ≡ true → same_truth (mark_is o true) s ≡ true

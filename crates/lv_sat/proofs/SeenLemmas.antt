@@ -5,9 +5,9 @@ use Rattle.std.proofs.lemmas.Bool.{cases_eq, cases_lt}
 use Rattle.std.proofs.lemmas.List.{get_or-set_same, get_or-set_other, length-set, set_past}
 use Rattle.lv_base.specs.declared.ids.Lit.{Lit}
 use Rattle.lv_clauses.specs.Literals.{neg, same_var, in_range, distinct, is_clause}
-use Rattle.lv_clauses.specs.Marks.{Marks, has, marked, mark_is}
+use Rattle.lv_clauses.specs.Marks.{Marks, is_marked, marked, mark_is}
 use Rattle.lv_clauses.proofs.LiteralLemmas.{neg_neg, and_left, and_right, and_both, Contains-head, Contains-tail, Contains-cases}
-use Rattle.lv_clauses.proofs.MarkLemmas.{has-marked_cases, same_truth-self}
+use Rattle.lv_clauses.proofs.MarkLemmas.{is_marked-marked_cases, same_truth-self}
 use Rattle.lv_reflog.specs.Following.{denied}
 use Rattle.lv_sat.specs.Analysis.{sees, seen_all}
 use Rattle.lv_sat.proofs.ListLemmas.{eq_is, not_true}
@@ -117,22 +117,22 @@ pub denied_len : (marks : Marks) (c : List Lit) → length (denied marks c) ≡ 
 denied_len marks [] = refl
 denied_len marks (l ∷ ls) = denied_len (marked marks (neg l)) ls ∙ length-set marks l.var.0 (Some (not l.sign))
 
-pub denied_only : (marks : Marks) (c : List Lit) (l : Lit) → has (denied marks c) l ≡ true → (has marks l ≡ true) ⊎ Contains c (neg l)
+pub denied_only : (marks : Marks) (c : List Lit) (l : Lit) → is_marked (denied marks c) l ≡ true → (is_marked marks l ≡ true) ⊎ Contains c (neg l)
 denied_only marks [] l e = inl e
 denied_only marks (x ∷ xs) l e = by_place (denied_only (marked marks (neg x)) xs l e)
   where
-    by_mark : (l ≡ neg x) ⊎ (has marks l ≡ true) → (has marks l ≡ true) ⊎ Contains (x ∷ xs) (neg l)
+    by_mark : (l ≡ neg x) ⊎ (is_marked marks l ≡ true) → (is_marked marks l ≡ true) ⊎ Contains (x ∷ xs) (neg l)
     by_mark (inl same) = inr (subst (λ k. Contains (x ∷ xs) k) (sym (neg_neg x) ∙ ap neg (sym same)) (Contains-head x xs))
     by_mark (inr was) = inl was
 
-    by_place : (has (marked marks (neg x)) l ≡ true) ⊎ Contains xs (neg l) → (has marks l ≡ true) ⊎ Contains (x ∷ xs) (neg l)
-    by_place (inl now) = by_mark (has-marked_cases marks (neg x) l now)
+    by_place : (is_marked (marked marks (neg x)) l ≡ true) ⊎ Contains xs (neg l) → (is_marked marks l ≡ true) ⊎ Contains (x ∷ xs) (neg l)
+    by_place (inl now) = by_mark (is_marked-marked_cases marks (neg x) l now)
     by_place (inr more) = inr (Contains-tail x (neg l) xs more)
 
-pub marked_other : (marks : Marks) (l m : Lit) → m.var.0 ≢ l.var.0 → has marks m ≡ true → has (marked marks l) m ≡ true
+pub marked_other : (marks : Marks) (l m : Lit) → m.var.0 ≢ l.var.0 → is_marked marks m ≡ true → is_marked (marked marks l) m ≡ true
 marked_other marks l m differs e = ap (λ (o : Option Bool). mark_is o m.sign) (get_or-set_other marks l.var.0 m.var.0 (Some l.sign) None differs) ∙ e
 
-pub marked_self : (marks : Marks) (l : Lit) → l.var.0 < length marks → has (marked marks l) l ≡ true
+pub marked_self : (marks : Marks) (l : Lit) → l.var.0 < length marks → is_marked (marked marks l) l ≡ true
 marked_self marks l within = ap (λ (o : Option Bool). mark_is o l.sign) (get_or-set_same marks l.var.0 (Some l.sign) None within) ∙ same_truth-self l.sign
 
 all_apart : (l : Lit) (ls : List Lit) (m : Lit) → list_all (λ k. not (same_var l k)) ls ≡ true → Contains ls m → m.var.0 ≢ l.var.0
@@ -143,20 +143,20 @@ all_apart l (x ∷ xs) m e h same = by_place (Contains-cases x m xs h) (λ more.
     by_place (inl is) rest = not_true (same_var l x) (and_left (not (same_var l x)) (list_all (λ k. not (same_var l k)) xs) e) (eq_is l.var.0 x.var.0 (sym (ap (λ (k : Lit). k.var.0) is ∙ same)))
     by_place (inr more) rest = rest more
 
-denied_keeps : (marks : Marks) (c : List Lit) (l : Lit) → ((k : Lit) → Contains c k → k.var.0 ≢ l.var.0) → has marks l ≡ true → has (denied marks c) l ≡ true
+denied_keeps : (marks : Marks) (c : List Lit) (l : Lit) → ((k : Lit) → Contains c k → k.var.0 ≢ l.var.0) → is_marked marks l ≡ true → is_marked (denied marks c) l ≡ true
 denied_keeps marks [] l apart e = e
 denied_keeps marks (x ∷ xs) l apart e =
     denied_keeps (marked marks (neg x)) xs l (λ k h. apart k (Contains-tail x k xs h)) (marked_other marks (neg x) l (λ f. apart x (Contains-head x xs) (sym f)) e)
 
-pub denied_has : (marks : Marks) (c : List Lit) (l : Lit) → distinct c ≡ true → Contains c l → l.var.0 < length marks → has (denied marks c) (neg l) ≡ true
+pub denied_has : (marks : Marks) (c : List Lit) (l : Lit) → distinct c ≡ true → Contains c l → l.var.0 < length marks → is_marked (denied marks c) (neg l) ≡ true
 denied_has marks [] l e h within = absurd (omega (arith, h.1))
 denied_has marks (x ∷ xs) l e h within =
     by_place (Contains-cases x l xs h)
     (λ more. denied_has (marked marks (neg x)) xs l (and_right (list_all (λ k. not (same_var x k)) xs) (distinct xs) e) more (subst (λ n. l.var.0 < n) (sym (length-set marks x.var.0 (Some (not x.sign)))) within))
   where
-    by_place : (x ≡ l) ⊎ Contains xs l → (Contains xs l → has (denied (marked marks (neg x)) xs) (neg l) ≡ true) → has (denied (marked marks (neg x)) xs) (neg l) ≡ true
+    by_place : (x ≡ l) ⊎ Contains xs l → (Contains xs l → is_marked (denied (marked marks (neg x)) xs) (neg l) ≡ true) → is_marked (denied (marked marks (neg x)) xs) (neg l) ≡ true
     by_place (inl same) rest =
         denied_keeps (marked marks (neg x)) xs (neg l)
         (λ k h2 f. all_apart x xs k (and_left (list_all (λ m. not (same_var x m)) xs) (distinct xs) e) h2 (f ∙ ap (λ (m : Lit). m.var.0) (sym same)))
-        (subst (λ (k : Lit). has (marked marks (neg k)) (neg l) ≡ true) (sym same) (marked_self marks (neg l) within))
+        (subst (λ (k : Lit). is_marked (marked marks (neg k)) (neg l) ≡ true) (sym same) (marked_self marks (neg l) within))
     by_place (inr more) rest = rest more

@@ -9,10 +9,10 @@ use Rattle.std.proofs.lemmas.Option.{same_Some, none-some}
 use Rattle.lv_base.specs.declared.ids.Lit.{Lit}
 use Rattle.lv_clauses.specs.Literals.{neg, same_truth, in_range, is_clause}
 use Rattle.lv_clauses.specs.ClauseMap.{ClauseMap}
-use Rattle.lv_clauses.specs.Marks.{Marks, nothing, has, marked, mark_is, is_free, unmet, look_at, finding_of}
+use Rattle.lv_clauses.specs.Marks.{Marks, nothing, is_marked, marked, mark_is, is_free, unmet, look_at, finding_of}
 use Rattle.lv_clauses.specs.declared.marks.Finding.TheVariants.{AllFalse, Unit}
 use Rattle.lv_clauses.proofs.LiteralLemmas.{and_left, and_right, and_both, Contains-nil, or_right}
-use Rattle.lv_clauses.proofs.MarkLemmas.{has-nothing, has-marked_free}
+use Rattle.lv_clauses.proofs.MarkLemmas.{is_marked-nothing, is_marked-marked_free}
 use Rattle.lv_reflog.specs.declared.log.Hint.{Hint}
 use Rattle.lv_reflog.specs.declared.log.Step.{Step}
 use Rattle.lv_reflog.specs.Following.{clause_of}
@@ -33,7 +33,7 @@ both_ways (Some true) false p q = absurd (cc)
 both_ways (Some false) true p q = absurd (cc)
 both_ways (Some false) false p q = absurd (cc)
 
-pub one_sign : (marks : Marks) (l : Lit) → has marks l ≡ true → has marks (neg l) ≡ true → ⊥
+pub one_sign : (marks : Marks) (l : Lit) → is_marked marks l ≡ true → is_marked marks (neg l) ≡ true → ⊥
 one_sign marks l p q = both_ways (get_or marks l.var.0 None) l.sign p q
 
 false_or : (a b : Bool) → a ≡ false → b ≡ false → (a || b) ≡ false
@@ -55,7 +55,7 @@ pub lits_push : (entries : List Entry) (e : Entry) → lits_of (entries ++ e ∷
 lits_push entries e = map-append (λ (k : Entry). k.lit) entries (e ∷ [])
 
 -- a free literal isn't marked, nor is its negation
-pub free_has : (marks : Marks) (l m : Lit) → is_free marks l ≡ true → m.var.0 ≡ l.var.0 → has marks m ≡ false
+pub free_has : (marks : Marks) (l m : Lit) → is_free marks l ≡ true → m.var.0 ≡ l.var.0 → is_marked marks m ≡ false
 free_has marks l m free same = ap (λ k. mark_is (get_or marks k None) m.sign) same ∙ ap (λ (o : Option Bool). mark_is o m.sign) (none_from (get_or marks l.var.0 None) free)
 
 -- how often there is no mark
@@ -74,7 +74,7 @@ none_of o e = ap (λ b. cond b 1 0) e
 none_count : (n : ℕ) → count_by is_none (nothing n) ≡ n
 none_count n = omega (arith, sum_by-replicate weight n None)
 
-has_some : (marks : Marks) (l : Lit) → has marks l ≡ true → is_none (get_or marks l.var.0 None) ≡ false
+has_some : (marks : Marks) (l : Lit) → is_marked marks l ≡ true → is_none (get_or marks l.var.0 None) ≡ false
 has_some marks l e = by_mark (get_or marks l.var.0 None) e
   where
     by_mark : (o : Option Bool) → mark_is o l.sign ≡ true → is_none o ≡ false
@@ -86,7 +86,7 @@ module _ (cs : ClauseMap) (log : List Step) where
   trail_start marks e =
       record {
         len = ap (λ (m : Marks). length m) e ∙ length-replicate {A = Option Bool} cs.bools None;
-        same = λ l. ap (λ (m : Marks). has m l) e ∙ has-nothing cs.bools l;
+        same = λ l. ap (λ (m : Marks). is_marked m l) e ∙ is_marked-nothing cs.bools l;
         room = omega (arith, ap (λ (m : Marks). count_by is_none m) e, none_count cs.bools, ap (λ (m : Marks). length m) e, length-replicate {A = Option Bool} cs.bools None);
         chain = record { clause = refl; forced = λ place d h within. absurd (omega (arith, within)) };
       }
@@ -102,7 +102,7 @@ module _ (cs : ClauseMap) (log : List Step) where
         record {
           len = length-set marks e.lit.var.0 (Some e.lit.sign) ∙ trail.len;
           same =
-              λ l. has-marked_free marks e.lit l within (free_has marks e.lit e.lit free refl) (free_has marks e.lit (neg e.lit) free refl)
+              λ l. is_marked-marked_free marks e.lit l within (free_has marks e.lit e.lit free refl) (free_has marks e.lit (neg e.lit) free refl)
               ∙ ap (λ b. b || same_lit e.lit l) (trail.same l)
               ∙ sym (ap (λ ls. among ls l) (lits_push entries e) ∙ among_push (lits_of entries) e.lit l);
           room = omega (arith, trail.room, length-set marks e.lit.var.0 (Some e.lit.sign), length-append entries (e ∷ []), count_set marks e.lit.var.0 (Some e.lit.sign) within, one_of (get_or marks e.lit.var.0 None) free);
@@ -170,7 +170,7 @@ module _ (cs : ClauseMap) (log : List Step) where
         whole_clause : is_clause cs.bools (lits_of front ++ e.lit ∷ []) ≡ true
         whole_clause = ap (is_clause cs.bools) (sym whole) ∙ trail.chain.clause
 
-        was : (l : Lit) → has marks l ≡ (among (lits_of front) l || same_lit e.lit l)
+        was : (l : Lit) → is_marked marks l ≡ (among (lits_of front) l || same_lit e.lit l)
         was l = trail.same l ∙ ap (λ ls. among ls l) whole ∙ among_push (lits_of front) e.lit l
 
         within : e.lit.var.0 < length marks
@@ -179,7 +179,7 @@ module _ (cs : ClauseMap) (log : List Step) where
         busy_here : is_none (get_or marks e.lit.var.0 None) ≡ false
         busy_here = has_some marks e.lit (was e.lit ∙ or_right (among (lits_of front) e.lit) (same_lit e.lit e.lit) (same_lit-self e.lit))
 
-        by_var : (l : Lit) → (l.var.0 ≡ e.lit.var.0) ⊎ (l.var.0 ≢ e.lit.var.0) → has (set marks e.lit.var.0 None) l ≡ among (lits_of front) l
+        by_var : (l : Lit) → (l.var.0 ≡ e.lit.var.0) ⊎ (l.var.0 ≢ e.lit.var.0) → is_marked (set marks e.lit.var.0 None) l ≡ among (lits_of front) l
         by_var l (inl same) =
             ap (λ (o : Option Bool). mark_is o l.sign) (ap (λ k. get_or (set marks e.lit.var.0 None) k None) same ∙ get_or-set_same marks e.lit.var.0 None None within)
             ∙ sym (not_so (among (lits_of front) l) (λ h. clause_last cs.bools (lits_of front) e.lit l whole_clause (among_contained (lits_of front) l h) same))
@@ -209,7 +209,7 @@ open_apart cs log marks entries l trail within apart =
     and_both (in_range (length marks) l) (is_free marks l) (lt_is l.var.0 (length marks) (omega (arith, within, trail.len)))
     (unmarked (get_or marks l.var.0 None) l.sign (absent l refl) (absent (neg l) refl))
   where
-    absent : (m : Lit) → m.var.0 ≡ l.var.0 → has marks m ≡ false
+    absent : (m : Lit) → m.var.0 ≡ l.var.0 → is_marked marks m ≡ false
     absent m same = trail.same m ∙ not_so (among (lits_of entries) m) (λ e. apart m (among_contained (lits_of entries) m e) same)
 
 -- the entry at a place is turned
@@ -247,16 +247,16 @@ extended_then cs log old mid new a b found first next = record { trail = next.tr
 -- a clause that is seen to be false
 pub look_false : (cs : ClauseMap) (log : List Step) (marks : Marks) (entries : List Entry) (h : Hint) (c : List Lit) → IsTrail cs log marks entries → clause_of cs.slots log h ≡ Some c → look_at marks c ≡ AllFalse
     → IsFalse cs.slots log (lits_of entries) h
-look_false cs log marks entries h c trail named seen = record { clause = c; named = named; turned = λ m h2. sym (trail.same (neg m)) ∙ marked_false m h2 (has marks (neg m)) refl }
+look_false cs log marks entries h c trail named seen = record { clause = c; named = named; turned = λ m h2. sym (trail.same (neg m)) ∙ marked_false m h2 (is_marked marks (neg m)) refl }
   where
     none : (ls : List Lit) → finding_of ls ≡ AllFalse → ls ≡ []
     none [] e = refl
     none (x ∷ []) e = absurd (cc)
     none (x ∷ (y ∷ ys)) e = absurd (cc)
 
-    marked_false : (m : Lit) → Contains c m → (b : Bool) → has marks (neg m) ≡ b → has marks (neg m) ≡ true
+    marked_false : (m : Lit) → Contains c m → (b : Bool) → is_marked marks (neg m) ≡ b → is_marked marks (neg m) ≡ true
     marked_false m h2 true e = e
-    marked_false m h2 false e = absurd (Contains-nil m (subst (λ ls. Contains ls m) (none (unmet marks c) seen) (in_filter (λ l. not (has marks (neg l))) c m h2 (ap not e))))
+    marked_false m h2 false e = absurd (Contains-nil m (subst (λ ls. Contains ls m) (none (unmet marks c) seen) (in_filter (λ l. not (is_marked marks (neg l))) c m h2 (ap not e))))
 
 -- a clause that is seen to force a literal
 pub look_unit : (cs : ClauseMap) (log : List Step) (marks : Marks) (entries : List Entry) (h : Hint) (c : List Lit) (l : Lit) → IsTrail cs log marks entries → clause_of cs.slots log h ≡ Some c → look_at marks c ≡ Unit l
@@ -265,7 +265,7 @@ look_unit cs log marks entries h c l trail named seen =
     record {
       clause = c;
       named = named;
-      left = filter_same (λ m. not (among (lits_of entries) (neg m))) (λ m. not (has marks (neg m))) c (λ m h2. ap not (sym (trail.same (neg m)))) ∙ one (unmet marks c) seen;
+      left = filter_same (λ m. not (among (lits_of entries) (neg m))) (λ m. not (is_marked marks (neg m))) c (λ m h2. ap not (sym (trail.same (neg m)))) ∙ one (unmet marks c) seen;
     }
   where
     one : (ls : List Lit) → finding_of ls ≡ Unit l → ls ≡ l ∷ []

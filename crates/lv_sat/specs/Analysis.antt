@@ -3,7 +3,7 @@ use Rattle.std.specs.Prelude.{◌≡◌, ℕ, ◌+◌, ◌<◌, ◌≤◌, Bool,
 use Rattle.lv_base.specs.declared.ids.Lit.{Lit}
 use Rattle.lv_clauses.specs.Literals.{neg}
 use Rattle.lv_clauses.specs.ClauseMap.{ClauseMap, Slots}
-use Rattle.lv_clauses.specs.Marks.{Marks, has}
+use Rattle.lv_clauses.specs.Marks.{Marks, is_marked}
 use Rattle.lv_reflog.specs.declared.log.Hint.{Hint}
 use Rattle.lv_reflog.specs.declared.log.Step.{Step}
 use Rattle.lv_reflog.specs.Following.{clause_of, ends_well, follows_by_hints}
@@ -38,8 +38,8 @@ end_of (Some place) floor = place + 1
 
 -- the literals that are among the first entries and were seen are marked, and nothing that isn't on the trail is
 pub record Covers (seen : List Bool) (entries : List Entry) (at : ℕ) (marks : Marks) : Type 0 where
-  pub needed : (l : Lit) → among (lits_of (take at entries)) l ≡ true → sees seen l ≡ true → has marks l ≡ true
-  pub within : (l : Lit) → has marks l ≡ true → among (lits_of entries) l ≡ true
+  pub needed : (l : Lit) → among (lits_of (take at entries)) l ≡ true → sees seen l ≡ true → is_marked marks l ≡ true
+  pub within : (l : Lit) → is_marked marks l ≡ true → among (lits_of entries) l ≡ true
 
 -- the hints taken, the last one first, end well once the entries seen before this place are taken as true
 pub record IsPending (set : ClauseMap) (log : List Step) (entries : List Entry) (at : ℕ) (seen : List Bool) (hints : List Hint) : Type 0 where

@@ -5,7 +5,7 @@ use Rattle.std.specs.List.{list_any, list_all}
 use Rattle.lv_base.specs.declared.ids.Lit.{Lit}
 use Rattle.lv_clauses.specs.Literals.{neg, same_truth, same_var, in_range, is_clause, clause_holds}
 use Rattle.lv_clauses.specs.ClauseMap.{ClauseMap, Slots, clause_at, slot_holds, satisfies}
-use Rattle.lv_clauses.specs.Marks.{Marks, has, mark_is, is_free}
+use Rattle.lv_clauses.specs.Marks.{Marks, is_marked, mark_is, is_free}
 use Rattle.lv_reflog.specs.declared.log.Hint.{Hint}
 use Rattle.lv_reflog.specs.declared.log.Step.{Step}
 use Rattle.lv_reflog.specs.Following.{clause_of, first_bad_step}
@@ -53,7 +53,7 @@ pub record IsChain (set : ClauseMap) (log : List Step) (entries : List Entry) : 
 -- and the literals marked are those of the entries
 pub record IsTrail (set : ClauseMap) (log : List Step) (marks : Marks) (entries : List Entry) : Type 0 where
   pub len : length marks ≡ set.bools
-  pub same : (l : Lit) → has marks l ≡ among (lits_of entries) l
+  pub same : (l : Lit) → is_marked marks l ≡ among (lits_of entries) l
   pub room : length entries + count_by is_none marks ≡ length marks
   pub chain : IsChain set log entries
 

@@ -96,6 +96,6 @@ fn clauses_are_looked_at(rt: HostRuntime) -> Result<(), Fail> {
     for (marks, finding) in &table {
         assert_eq!(rt; look(marks.as_slice(), clause.as_slice()), *finding);
     }
-    assert!(rt; has(&[Some(true)], lit(0, true)) && !has(&[None], lit(0, false)));
+    assert!(rt; is_marked(&[Some(true)], lit(0, true)) && !is_marked(&[None], lit(0, false)));
     Ok(())
 }

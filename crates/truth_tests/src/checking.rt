@@ -1,8 +1,7 @@
 //! Logs that are valid and logs that aren't, over the clauses `a or b`, `not a or b`, `not b`.
 use lv_base::{BoolId, ClauseId, Lit};
-use lv_clauses::ClauseSet;
+use lv_clauses::{ClauseSet, Marks};
 use lv_refcheck::check;
-use lv_refcheck::marks::Marks;
 use lv_reflog::{Hint, Log};
 use std::alloc::{AllocError, Global};
 use std::test::Fail;

@@ -1,7 +1,7 @@
 //! Clauses and assumptions that come and go. Each call is made where its condition holds.
 use lv_base::{BoolId, ClauseId, Lit};
 use lv_clauses::is_clause;
-use lv_ltms::{Label, Ltms, Reason, Standing};
+use lv_ltms::{Label, Ltms, Reason, Status};
 use std::alloc::AllocError;
 use std::test::Fail;
 
@@ -60,15 +60,15 @@ fn retract(ltms: &mut Ltms, lit: Lit) {
 
 fn label(ltms: &Ltms, lit: Lit) -> Option<Label> {
     match ltms.status() {
-        Standing::Consistent => Some(ltms.label(lit)),
-        Standing::Contradiction => None,
+        Status::Consistent => Some(ltms.label(lit)),
+        Status::Contradiction => None,
     }
 }
 
 fn reason(ltms: &Ltms, lit: Lit) -> Option<Reason> {
     match ltms.status() {
-        Standing::Consistent => ltms.reason(lit),
-        Standing::Contradiction => None,
+        Status::Consistent => ltms.reason(lit),
+        Status::Contradiction => None,
     }
 }
 
@@ -78,8 +78,8 @@ fn core_size(ltms: &Ltms) -> Option<usize> {
         return None;
     }
     match ltms.status() {
-        Standing::Consistent => None,
-        Standing::Contradiction => Some(ltms.core(&mut out)),
+        Status::Consistent => None,
+        Status::Contradiction => Some(ltms.core(&mut out)),
     }
 }
 
@@ -130,9 +130,9 @@ fn labels_keep_another_support(rt: HostRuntime) -> Result<(), Fail> {
 fn an_empty_clause_comes_and_goes(rt: HostRuntime) -> Result<(), Fail> {
     let mut ltms = Ltms::new(rt.alloc(), 3)?;
     let empty = add(&mut ltms, &[])?;
-    assert_eq!(rt; ltms.status(), Standing::Contradiction);
+    assert_eq!(rt; ltms.status(), Status::Contradiction);
     assume(&mut ltms, A);
-    assert_eq!(rt; ltms.status(), Standing::Contradiction);
+    assert_eq!(rt; ltms.status(), Status::Contradiction);
     drop_clause(&mut ltms, empty);
     assert_eq!(rt; label(&ltms, A), Some(Label::True));
     Ok(())

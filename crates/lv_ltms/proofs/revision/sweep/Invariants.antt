@@ -1,12 +1,12 @@
 -- what was kept and what is still to come
 use Rattle.std.proofs.Common.{◌≡◌, length, vec_capacity}
-use Rattle.lv_clauses.specs.Marks.{has}
+use Rattle.lv_clauses.specs.Marks.{is_marked}
 use Rattle.lv_ltms.proofs.SweepingLemmas.{IsSweeping}
 use Rattle.lv_ltms.proofs.revision.sweep.Given as goal
 
 abbrev pub invariant-loop-at : goal.invariant-loop-at
 invariant-loop-at l =
     record {
-      sweeping : IsSweeping (has l.assumed) (length l.fn.labels.marks) l.fn.arena.clauses l.fn.labels l.at l.kept l.arena l.labels l.fallen.items;
+      sweeping : IsSweeping (is_marked l.assumed) (length l.fn.labels.marks) l.fn.arena.clauses l.fn.labels l.at l.kept l.arena l.labels l.fallen.items;
       room : vec_capacity l.fallen ≡ vec_capacity l.fn.fallen;
     }

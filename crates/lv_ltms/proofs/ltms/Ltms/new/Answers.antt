@@ -5,5 +5,5 @@ use Rattle.lv_ltms.proofs.ltms.Ltms.new.Goals as goal
 
 pub invariant_of-result : goal.invariant_of-result
 invariant_of-result c =
-    new_kept c.args.bools (vec_capacity c.in_ok-with_capacity.field-0) c.in_ok-vec.field-0.items c.in_ok-new-2.field-0 c.in_ok-new.field-0 c.in_ok-new-3.field-0 c.in_ok-with_capacity.ensures.capacity (search rules)
-    c.in_ok-new-2.ensures.value c.in_ok-new.ensures c.in_ok-new-3.ensures
+    new_kept c.args.bools (vec_capacity c.in_ok-new.field-0.fallen) c.in_ok-vec.field-0.items c.in_ok-new.field-0.occurrences c.in_ok-new.field-0.arena c.in_ok-new.field-0.labels c.in_ok-new.ensures.room (search rules)
+    c.in_ok-new.ensures.occurrences c.in_ok-new.ensures.arena c.in_ok-new.ensures.labels

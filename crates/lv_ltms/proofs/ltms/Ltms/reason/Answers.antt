@@ -6,5 +6,5 @@ use Rattle.lv_ltms.proofs.ltms.Ltms.reason.Goals as goal
 
 pub returns-clause-trail : goal.returns-clause-trail
 returns-clause-trail c =
-    whole_trail c.args.self.now c.self.inside.index c.self.inside.arena c.self.inside.labels (vec_capacity c.self.inside.fallen)
-    (subst (λ (s : System). IsKept s c.self.inside.index c.self.inside.arena c.self.inside.labels (vec_capacity c.self.inside.fallen)) c.self.view_is c.self.invariant) c.requires
+    whole_trail c.args.self.now c.self.inside.network.occurrences c.self.inside.network.arena c.self.inside.network.labels (vec_capacity c.self.inside.network.fallen)
+    (subst (λ (s : System). IsKept s c.self.inside.network.occurrences c.self.inside.network.arena c.self.inside.network.labels (vec_capacity c.self.inside.network.fallen)) c.self.view_is c.self.invariant) c.requires

@@ -6,10 +6,10 @@ use Rattle.lv_ltms.proofs.ltms.Ltms.status.Goals as goal
 
 pub returns-then-has_false : goal.returns-then-has_false
 returns-then-has_false c =
-    zero_refutes c.args.self.now c.self.inside.index c.self.inside.arena c.self.inside.labels (vec_capacity c.self.inside.fallen)
-    (subst (λ (s : System). IsKept s c.self.inside.index c.self.inside.arena c.self.inside.labels (vec_capacity c.self.inside.fallen)) c.self.view_is c.self.invariant) (sym c.if-has_false.ensures)
+    zero_refutes c.args.self.now c.self.inside.network.occurrences c.self.inside.network.arena c.self.inside.network.labels (vec_capacity c.self.inside.network.fallen)
+    (subst (λ (s : System). IsKept s c.self.inside.network.occurrences c.self.inside.network.arena c.self.inside.network.labels (vec_capacity c.self.inside.network.fallen)) c.self.view_is c.self.invariant) (sym c.if-has_false.ensures)
 
 pub returns-else-has_false : goal.returns-else-has_false
 returns-else-has_false c =
-    consistent c.args.self.now c.self.inside.index c.self.inside.arena c.self.inside.labels (vec_capacity c.self.inside.fallen)
-    (subst (λ (s : System). IsKept s c.self.inside.index c.self.inside.arena c.self.inside.labels (vec_capacity c.self.inside.fallen)) c.self.view_is c.self.invariant) (sym c.if-has_false.ensures)
+    consistent c.args.self.now c.self.inside.network.occurrences c.self.inside.network.arena c.self.inside.network.labels (vec_capacity c.self.inside.network.fallen)
+    (subst (λ (s : System). IsKept s c.self.inside.network.occurrences c.self.inside.network.arena c.self.inside.network.labels (vec_capacity c.self.inside.network.fallen)) c.self.view_is c.self.invariant) (sym c.if-has_false.ensures)

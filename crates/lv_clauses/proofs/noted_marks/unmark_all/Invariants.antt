@@ -1,7 +1,7 @@
 -- what is still marked is among the literals left
 use Rattle.std.proofs.Common.{◌≡◌, drop, length}
-use Rattle.lv_refcheck.specs.Checking.{AreTaken}
-use Rattle.lv_refcheck.proofs.marks.unmark_all.Given as goal
+use Rattle.lv_clauses.specs.Noted.{AreTaken}
+use Rattle.lv_clauses.proofs.noted_marks.unmark_all.Given as goal
 
 abbrev pub invariant-loop-lit : goal.invariant-loop-lit
 invariant-loop-lit l =

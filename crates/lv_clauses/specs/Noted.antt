@@ -1,4 +1,4 @@
--- What the checker keeps while it goes over a step, and what it has shown where it stops.
+-- Marks and the literals noted as taken for true.
 use Rattle.std.specs.Prelude.{◌≡◌, ℕ, Bool, true, ◌&&◌, nat_eq, List, length, All, None, is_some, slice_index_or}
 use Rattle.std.specs.List.{list_any}
 use Rattle.lv_base.specs.declared.ids.Lit.{Lit}
@@ -14,13 +14,13 @@ abbrev pub AreTaken : Marks → List Lit → Type 0
 AreTaken marks taken = (var : ℕ) → is_some (slice_index_or marks var None) ≡ true → list_any (is_of var) taken ≡ true
 
 -- the literal's boolean is marked
-pub record IsMarked (marks : Marks) (l : Lit) : Type 0 where
+pub record HasMark (marks : Marks) (l : Lit) : Type 0 where
   pub marked : is_some (slice_index_or marks l.var.0 None) ≡ true
 
 -- what is noted are literals of just those booleans that are marked
 pub record AreNoted (marks : Marks) (noted : List Lit) : Type 0 where
   pub each_marked : AreTaken marks noted
-  pub each_noted : All (IsMarked marks) noted
+  pub each_noted : All (HasMark marks) noted
 
 -- the boolean is in range and unmarked
 abbrev pub is_open : Marks → Lit → Bool

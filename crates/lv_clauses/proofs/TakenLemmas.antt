@@ -8,7 +8,7 @@ use Rattle.std.proofs.lemmas.List.Elements.{All-push, All-weaker}
 use Rattle.std.proofs.lemmas.List.Folds.{list_any-append}
 use Rattle.lv_base.specs.declared.ids.Lit.{Lit}
 use Rattle.lv_clauses.specs.Marks.{Marks, nothing}
-use Rattle.lv_refcheck.specs.Checking.{AreTaken, AreNoted, IsMarked, is_of}
+use Rattle.lv_clauses.specs.Noted.{AreTaken, AreNoted, HasMark, is_of}
 
 -- a slot that was set to nothing holds nothing
 none_at : (marks : Marks) (k : ℕ) → get_or (set marks k None) k None ≡ None
@@ -41,7 +41,7 @@ some_at : (marks : Marks) (k : ℕ) (b : Bool) → k < length marks → is_some 
 some_at marks k b below = ap is_some (get_or-set_same marks k (Some b) None below)
 
 -- what is marked stays so
-still_marked : (marks : Marks) (k : ℕ) (b : Bool) → k < length marks → (m : Lit) → IsMarked marks m → IsMarked (set marks k (Some b)) m
+still_marked : (marks : Marks) (k : ℕ) (b : Bool) → k < length marks → (m : Lit) → HasMark marks m → HasMark (set marks k (Some b)) m
 still_marked marks k b below m h = elim (cases_eq m.var.0 k) [
   | inl same ↦ record { marked = ap (λ i. is_some (get_or (set marks k (Some b)) i None)) same ∙ some_at marks k b below }
   | inr differs ↦ record { marked = ap is_some (get_or-set_other marks k m.var.0 (Some b) None differs) ∙ h.marked }
@@ -58,7 +58,7 @@ pub AreNoted-take : (marks : Marks) (noted : List Lit) (l : Lit) (b : Bool) → 
 AreNoted-take marks noted l b below h =
     record {
       each_marked = λ var marked. list_any-append (is_of var) noted (l ∷ []) ∙ found var marked (cases_eq var l.var.0);
-      each_noted = All-push (IsMarked (set marks l.var.0 (Some b))) noted l (All-weaker (IsMarked marks) (IsMarked (set marks l.var.0 (Some b))) (still_marked marks l.var.0 b below) noted h.each_noted) (record { marked = some_at marks l.var.0 b below });
+      each_noted = All-push (HasMark (set marks l.var.0 (Some b))) noted l (All-weaker (HasMark marks) (HasMark (set marks l.var.0 (Some b))) (still_marked marks l.var.0 b below) noted h.each_noted) (record { marked = some_at marks l.var.0 b below });
     }
   where
     found : (var : ℕ) → is_some (get_or (set marks l.var.0 (Some b)) var None) ≡ true → (var ≡ l.var.0) ⊎ (var ≡ l.var.0 → ⊥) → (list_any (is_of var) noted || list_any (is_of var) (l ∷ [])) ≡ true

@@ -1,11 +1,12 @@
-//! The values that a step takes as true. What was marked is noted, so that a new step clears just that.
+//! Marks of booleans with a note of what was marked, so that clearing them takes no longer than marking did.
 #![tactic(auto)]
 
-ghost use Rattle.std.specs.Prelude.{◌≡◌, ◌&&◌, length, slice_set, None, IfOk, OnOk, OnErr};
+ghost use Rattle.std.specs.Prelude.{◌≡◌, ◌&&◌, length, IfOk, OnOk, OnErr};
 ghost use Rattle.lv_clauses.specs.Marks.{nothing, marked};
-ghost use Rattle.lv_refcheck.specs.Checking as Checking;
-ghost use Rattle.lv_refcheck.specs.Checking.{AreTaken};
+ghost use Rattle.lv_clauses.specs.Noted as Noted;
+ghost use Rattle.lv_clauses.specs.Noted.{AreTaken};
 
+use super::marks::unmark;
 use lv_base::Lit;
 use std::alloc::{AllocError, Global};
 use std::marker::Model;
@@ -19,7 +20,7 @@ pub struct Marks {
 
 impl Model for Marks {
     ghost use Rattle.std.specs.Prelude.{List, Bool, Option};
-    ghost use Rattle.lv_refcheck.specs.Checking.{AreNoted};
+    ghost use Rattle.lv_clauses.specs.Noted.{AreNoted};
 
     ghost Value = { List (Option Bool) };
 
@@ -46,7 +47,7 @@ impl Marks {
 
     /// Whether the literal's boolean is in range and unmarked.
     pub fn is_open(&self, lit: Lit) -> bool
-        ensures { result ≡ Checking.is_open self.now lit }
+        ensures { result ≡ Noted.is_open self.now lit }
     {
         let index = lit.var.0 as usize;
         index < self.marks.len() && self.marks[index].is_none()
@@ -81,15 +82,5 @@ fn unmark_all(marks: &mut Vec<Option<bool>>, taken: &[Lit])
 {
     for lit in taken {
         unmark(marks, *lit);
-    }
-}
-
-/// Unmarks the boolean of a literal, if it is in range.
-fn unmark(marks: &mut Vec<Option<bool>>, lit: Lit)
-    ensures { marks.new.items ≡ slice_set marks.old.items lit.var.0 None }
-{
-    let index = lit.var.0 as usize;
-    if index < marks.len() {
-        marks[index] = None;
     }
 }

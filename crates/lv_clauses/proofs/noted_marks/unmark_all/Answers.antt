@@ -2,9 +2,9 @@
 use Rattle.std.proofs.Common.{◌≤◌, length, ap, subst, ◌∙◌, arith}
 use Rattle.std.proofs.lemmas.List.{drop_all}
 use Rattle.lv_clauses.specs.Marks.{nothing}
-use Rattle.lv_refcheck.specs.Checking.{AreTaken}
-use Rattle.lv_refcheck.proofs.TakenLemmas.{nothing-from_taken}
-use Rattle.lv_refcheck.proofs.marks.unmark_all.Goals as goal
+use Rattle.lv_clauses.specs.Noted.{AreTaken}
+use Rattle.lv_clauses.proofs.TakenLemmas.{nothing-from_taken}
+use Rattle.lv_clauses.proofs.noted_marks.unmark_all.Goals as goal
 
 pub returns : goal.returns
 returns c =
