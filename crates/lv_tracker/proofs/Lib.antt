@@ -1,0 +1,4 @@
+pub mod SameModes
+pub mod KeptLemmas
+pub mod FirstLemmas
+pub mod ListLemmas
