@@ -12,7 +12,7 @@ abbrev pub Among : {X : Type 0} → X → List X → Type 0
 Among x [] = ⊥
 Among x (y ∷ ys) = (x ≡ y) ⊎ Among x ys
 
-among : {X : Type 0} (xs : List X) (x : X) → Contains xs x → Among x xs
+pub among : {X : Type 0} (xs : List X) (x : X) → Contains xs x → Among x xs
 among [] x (k, lt, e) = absurd (omega arith)
 among (y ∷ ys) x (zero, lt, e) = inl (sym e)
 among (y ∷ ys) x (suc k, lt, e) = inr (among ys x (k, omega arith, e))
@@ -63,7 +63,7 @@ distinct_by_pairs : (ss : List TrackedState) → are_distinct ss ≡ each_pair d
 distinct_by_pairs [] = refl
 distinct_by_pairs (s ∷ ss) = ap (λ b. list_all (differs s) ss && b) (distinct_by_pairs ss)
 
-order_by_pairs : (listed ss : List TrackedState) → in_order_of listed ss ≡ each_pair (appears_before listed) ss
+pub order_by_pairs : (listed ss : List TrackedState) → in_order_of listed ss ≡ each_pair (appears_before listed) ss
 order_by_pairs listed [] = refl
 order_by_pairs listed (s ∷ ss) = ap (λ b. list_all (appears_before listed s) ss && b) (order_by_pairs listed ss)
 

@@ -24,3 +24,7 @@ pub record AreFirsts (listed kept : List TrackedState) : Type 0 where
 
 abbrev pub FirstOfEachAreFirsts : Type 0
 FirstOfEachAreFirsts = (listed : List TrackedState) → AreFirsts listed (first_of_each listed)
+
+-- and no other list is
+abbrev pub FirstOfEachIsOne : Type 0
+FirstOfEachIsOne = (listed kept : List TrackedState) → AreFirsts listed kept → kept ≡ first_of_each listed
