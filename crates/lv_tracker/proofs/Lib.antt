@@ -1,0 +1,5 @@
+pub mod SameModes
+pub mod KeptLemmas
+pub mod FirstLemmas
+pub mod ListLemmas
+pub mod OneList

@@ -1,0 +1,4 @@
+pub mod Targets
+pub mod Distinct
+pub mod Tracked
+pub mod Laws
