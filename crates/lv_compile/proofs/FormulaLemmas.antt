@@ -11,8 +11,8 @@ use Rattle.lv_formula.specs.declared.range.Range.{Range}
 use Rattle.lv_formula.specs.Tree.{Tree, always, never, is, same, negation, all, any, implies, iff, Trees, none, more, truth_of, all_true, some_true, number_of, both_or_neither}
 use Rattle.lv_formula.specs.Fits.{is_same_sort, fits, each_fits}
 use Rattle.lv_compile.specs.Booleans.{Booleans, value_bool, value_literal}
-use Rattle.lv_compile.specs.FormulaClauses.{Clauses, product, formula_clauses, joined_clauses, multiplied_clauses}
-use Rattle.lv_compile.specs.Laws.{literal_is_true, clause_is_true, are_true, size_of, Encode, HaveBooleans}
+use Rattle.lv_compile.specs.FormulaClauses.{Clauses, each_after, size_of, equality_clause, product, formula_clauses, joined_clauses, multiplied_clauses}
+use Rattle.lv_compile.specs.Laws.{literal_is_true, clause_is_true, are_true, Encode, HaveBooleans}
 
 -- laws of truth values
 
@@ -134,7 +134,7 @@ nat_eq_turned a b = by (nat_eq a b) refl (nat_eq b a) refl
     by false e false f = refl
 
 module _ (truth : ℕ → Bool) where
-  each_longer : (p : List Lit) (qs : Clauses) → are_true truth (map (λ (q : List Lit). p ++ q) qs) ≡ (clause_is_true truth p || are_true truth qs)
+  each_longer : (p : List Lit) (qs : Clauses) → are_true truth (each_after qs p) ≡ (clause_is_true truth p || are_true truth qs)
   each_longer p [] = sym (true_or (clause_is_true truth p))
   each_longer p (q ∷ qs) =
       ap₂ (λ (a b : Bool). a && b) (list_any-append (literal_is_true truth) p q) (each_longer p qs) ∙ together (clause_is_true truth p) (clause_is_true truth q) (are_true truth qs)
@@ -145,7 +145,7 @@ module _ (truth : ℕ → Bool) where
   pub product_true : (ps qs : Clauses) → are_true truth (product ps qs) ≡ (are_true truth ps || are_true truth qs)
   product_true [] qs = refl
   product_true (p ∷ ps) qs =
-      joined_true (map (λ (q : List Lit). p ++ q) qs) (product ps qs)
+      joined_true (each_after qs p) (product ps qs)
       ∙ ap₂ (λ (a b : Bool). a && b) (each_longer p qs) (product_true ps qs)
       ∙ apart_from (clause_is_true truth p) (are_true truth ps) (are_true truth qs)
 
@@ -193,8 +193,8 @@ module _ (ranges : List Range) (b : Booleans) (base : ℕ) (have : HaveBooleans 
       let y_size = have.size y found.right found.at_right in
       let sizes = have.alike x y found.left found.right found.at_left found.at_right found.sorts in
       let in_range = code.in_range (base + x) x_within in
-      list_all-map (clause_is_true truth) (λ (v : ℕ). value_literal b (base + x) v false ∷ value_literal b (base + y) v sign ∷ []) (range_with_len 0 (size_of b (base + x)))
-      ∙ only_meant (λ v. same_truth (nat_eq (number_of a (base + y)) v) sign) (λ v. clause_is_true truth (value_literal b (base + x) v false ∷ value_literal b (base + y) v sign ∷ [])) (number_of a (base + x))
+      list_all-map (clause_is_true truth) (equality_clause b (base + x) (base + y) sign) (range_with_len 0 (size_of b (base + x)))
+      ∙ only_meant (λ v. same_truth (nat_eq (number_of a (base + y)) v) sign) (λ v. clause_is_true truth (equality_clause b (base + x) (base + y) sign v)) (number_of a (base + x))
       (size_of b (base + x)) 0
       (λ v low high.
       two_literals (same_truth (truth (value_bool b (base + x) v)) false) (same_truth (truth (value_bool b (base + y) v)) sign)

@@ -1,2 +1,5 @@
+pub mod GatherLemmas
+pub mod FoldLemmas
+pub mod BooleanLemmas
 pub mod CleaningLemmas
 pub mod FormulaLemmas

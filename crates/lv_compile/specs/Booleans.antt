@@ -1,6 +1,6 @@
 -- How booleans are numbered: one for each value of each variable before the step, then one for each value of each variable
 -- after it, then one for each move of each part.
-use Rattle.std.specs.Prelude.{ℕ, ◌+◌, Bool, List, take}
+use Rattle.std.specs.Prelude.{◌≡◌, ℕ, ◌+◌, ◌<◌, ◌^◌, Bool, List, [], ◌∷◌, take}
 use Rattle.std.specs.List.{sum}
 use Rattle.lv_base.specs.declared.ids.Lit.{Lit}
 use Rattle.lv_model.specs.declared.plant.Plant.{Plant}
@@ -40,3 +40,13 @@ choice_bool plant part n = first_choice plant + sum (take part (move_counts plan
 -- how many booleans there are
 abbrev pub bool_count : Plant → ℕ
 bool_count plant = first_choice plant + sum (move_counts plant)
+
+-- where the booleans of each variable begin
+abbrev pub starts_from : ℕ → List ℕ → List ℕ
+starts_from first [] = []
+starts_from first (n ∷ ns) = first ∷ starts_from (first + n) ns
+
+-- these do, and all the booleans have numbers in range
+pub record AreStarts (first : ℕ) (sizes starts : List ℕ) : Type 0 where
+  pub begin : starts ≡ starts_from first sizes
+  pub fit : first + sum sizes < 2 ^ 32

@@ -1,5 +1,5 @@
 -- The clauses that a formula comes to in a sign: all of them are true exactly where the formula has that truth.
-use Rattle.std.specs.Prelude.{ℕ, ◌+◌, Bool, true, false, not, List, [], ◌∷◌, ◌++◌, map, slice_index_or}
+use Rattle.std.specs.Prelude.{ℕ, ◌+◌, Bool, true, false, not, nat_lt, nat_le, ◌&&◌, List, [], ◌∷◌, ◌++◌, map, length, slice_index_or}
 use Rattle.std.specs.List.{flat_map, range_with_len}
 use Rattle.lv_base.specs.declared.ids.Lit.{Lit}
 use Rattle.lv_formula.specs.Tree.{Tree, always, never, is, same, negation, all, any, implies, iff, Trees, none, more}
@@ -8,9 +8,13 @@ use Rattle.lv_compile.specs.Booleans.{Booleans, value_literal}
 abbrev pub Clauses : Type 0
 Clauses = List (List Lit)
 
+-- the clauses with these literals before their own
+abbrev pub each_after : Clauses → List Lit → Clauses
+each_after qs p = map (λ (q : List Lit). p ++ q) qs
+
 -- for each clause of the first list and each of the second, the literals of both
 abbrev pub product : Clauses → Clauses → Clauses
-product ps qs = flat_map (λ (p : List Lit). map (λ (q : List Lit). p ++ q) qs) ps
+product ps qs = flat_map (each_after qs) ps
 
 -- true of everything, false of everything
 abbrev pub no_clause : Clauses
@@ -23,10 +27,17 @@ abbrev pub when_true : Bool → Clauses
 when_true true = no_clause
 when_true false = empty_clause
 
--- for each value v of x: if x has v, then y has it, or hasn't
+-- how many values the variable has
+abbrev pub size_of : Booleans → ℕ → ℕ
+size_of b x = slice_index_or b.sizes x 0
+
+-- if x has the value, then y has it, or hasn't
+abbrev pub equality_clause : Booleans → ℕ → ℕ → Bool → ℕ → List Lit
+equality_clause b x y sign v = value_literal b x v false ∷ value_literal b y v sign ∷ []
+
+-- for each value of x
 abbrev pub equality_clauses : Booleans → ℕ → ℕ → Bool → Clauses
-equality_clauses b x y sign =
-    map (λ (v : ℕ). value_literal b x v false ∷ value_literal b y v sign ∷ []) (range_with_len 0 (slice_index_or b.sizes x 0))
+equality_clauses b x y sign = map (equality_clause b x y sign) (range_with_len 0 (size_of b x))
 
 abbrev mutual
   -- where variable x of the formula is variable base + x of the copy
@@ -56,3 +67,24 @@ abbrev mutual
   pub multiplied_clauses : Booleans → ℕ → Bool → Trees → Clauses
   multiplied_clauses b base sign none = empty_clause
   multiplied_clauses b base sign (more f fs) = product (formula_clauses b base sign f) (multiplied_clauses b base sign fs)
+
+-- both variables are there, and y has each value that x has
+abbrev pub are_comparable : Booleans → ℕ → ℕ → Bool
+are_comparable b x y = (nat_lt x (length b.sizes) && nat_lt y (length b.sizes)) && nat_le (size_of b x) (size_of b y)
+
+abbrev mutual
+  -- each equation speaks of values that have booleans
+  pub speaks_of : Booleans → ℕ → Tree → Bool
+  speaks_of b base always = true
+  speaks_of b base never = true
+  speaks_of b base (is x v) = nat_lt v (size_of b (base + x))
+  speaks_of b base (same x y) = are_comparable b (base + x) (base + y)
+  speaks_of b base (negation f) = speaks_of b base f
+  speaks_of b base (all fs) = each_speaks_of b base fs
+  speaks_of b base (any fs) = each_speaks_of b base fs
+  speaks_of b base (implies f g) = speaks_of b base f && speaks_of b base g
+  speaks_of b base (iff f g) = speaks_of b base f && speaks_of b base g
+
+  pub each_speaks_of : Booleans → ℕ → Trees → Bool
+  each_speaks_of b base none = true
+  each_speaks_of b base (more f fs) = speaks_of b base f && each_speaks_of b base fs

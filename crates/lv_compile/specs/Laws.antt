@@ -1,5 +1,5 @@
 -- What clauses say of truth values of their booleans, and that a formula's clauses say what the formula says.
-use Rattle.std.specs.Prelude.{◌≡◌, ◌+◌, ◌<◌, ℕ, Bool, true, nat_eq, List, length, Some, slice_get, slice_index_or}
+use Rattle.std.specs.Prelude.{◌≡◌, ◌+◌, ◌<◌, ℕ, Bool, true, nat_eq, List, length, Some, slice_get}
 use Rattle.std.specs.List.{list_all, list_any}
 use Rattle.lv_base.specs.declared.ids.Lit.{Lit}
 use Rattle.lv_base.specs.declared.ids.ValId.{ValId}
@@ -8,7 +8,7 @@ use Rattle.lv_formula.specs.declared.range.Range.{Range}
 use Rattle.lv_formula.specs.Tree.{Tree, truth_of, number_of}
 use Rattle.lv_formula.specs.Fits.{fits, is_same_sort}
 use Rattle.lv_compile.specs.Booleans.{Booleans, value_bool}
-use Rattle.lv_compile.specs.FormulaClauses.{Clauses, formula_clauses}
+use Rattle.lv_compile.specs.FormulaClauses.{Clauses, size_of, formula_clauses}
 use Rattle.lv_compile.specs.Cleaning.{cleaned}
 
 -- the truth values, one for each boolean, make the literal true
@@ -21,9 +21,6 @@ clause_is_true truth c = list_any (literal_is_true truth) c
 -- they make each of the clauses true
 abbrev pub are_true : (ℕ → Bool) → Clauses → Bool
 are_true truth cs = list_all (clause_is_true truth) cs
-
-abbrev pub size_of : Booleans → ℕ → ℕ
-size_of b x = slice_index_or b.sizes x 0
 
 -- of the booleans of each variable exactly the one of its value in the assignment is true
 pub record Encode (truth : ℕ → Bool) (b : Booleans) (a : List ValId) : Type 0 where

@@ -5,5 +5,8 @@
 //! refutation can name it by number.
 #![tactic(auto)]
 
+pub mod clause_lists;
 pub mod examples;
+pub mod formula;
 pub mod laws;
+pub mod value_bools;
