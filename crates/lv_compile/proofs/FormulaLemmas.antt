@@ -1,5 +1,5 @@
 -- A formula's clauses in a sign are all true exactly where the formula has that truth.
-use Rattle.std.proofs.Common.{◌≡◌, ◌+◌, ◌≤◌, ◌<◌, ℕ, suc, zero, Bool, true, false, not, ◌&&◌, ◌||◌, nat_eq, nat_lt, List, [], ◌∷◌, ◌++◌, map, slice_get, Option, Some, None, refl, sym, ap, ap₂, ◌∙◌, arith}
+use Rattle.std.proofs.Common.{◌≡◌, ◌+◌, ◌≤◌, ◌<◌, ℕ, suc, zero, Bool, true, false, not, ◌&&◌, ◌||◌, nat_eq, nat_lt, List, [], ◌∷◌, ◌++◌, slice_get, Option, Some, None, refl, sym, ap, ap₂, ◌∙◌, arith}
 use Rattle.std.specs.List.{list_all, range_with_len}
 use Rattle.std.specs.Option.{option_map_or}
 use Rattle.std.proofs.lemmas.Bool.{and_parts}
@@ -11,7 +11,7 @@ use Rattle.lv_formula.specs.declared.range.Range.{Range}
 use Rattle.lv_formula.specs.Tree.{Tree, always, never, is, same, negation, all, any, implies, iff, Trees, none, more, truth_of, all_true, some_true, number_of, both_or_neither}
 use Rattle.lv_formula.specs.Fits.{is_same_sort, fits, each_fits}
 use Rattle.lv_compile.specs.Booleans.{Booleans, value_bool, value_literal}
-use Rattle.lv_compile.specs.FormulaClauses.{Clauses, each_after, size_of, equality_clause, product, formula_clauses, joined_clauses, multiplied_clauses}
+use Rattle.lv_compile.specs.FormulaClauses.{Clauses, each_after, size_of, equality_clause, product, formula_clauses, gathered_clauses}
 use Rattle.lv_compile.specs.Laws.{literal_is_true, clause_is_true, are_true, Encode, HaveBooleans}
 
 -- laws of truth values
@@ -250,34 +250,34 @@ module _ (ranges : List Range) (b : Booleans) (base : ℕ) (have : HaveBooleans 
         (product_true truth (formula_clauses b base false f) (formula_clauses b base false g) ∙ ap₂ (λ (p q : Bool). p || q) ff gf)
         ∙ not_equal (truth_of a base f) (truth_of a base g)
 
-    all_exact : (fs : Trees) → each_fits ranges fs ≡ true → are_true truth (joined_clauses b base true fs) ≡ same_truth (all_true a base fs) true
+    all_exact : (fs : Trees) → each_fits ranges fs ≡ true → are_true truth (gathered_clauses b base true true fs) ≡ same_truth (all_true a base fs) true
     all_exact none h = refl
     all_exact (more f fs) h =
         let two = and_parts (fits ranges f) (each_fits ranges fs) h in
-        joined_true truth (formula_clauses b base true f) (joined_clauses b base true fs)
+        joined_true truth (formula_clauses b base true f) (gathered_clauses b base true true fs)
         ∙ ap₂ (λ (p q : Bool). p && q) (exact f two.0 true) (all_exact fs two.1)
         ∙ both_true (truth_of a base f) (all_true a base fs)
 
-    not_all_exact : (fs : Trees) → each_fits ranges fs ≡ true → are_true truth (multiplied_clauses b base false fs) ≡ same_truth (all_true a base fs) false
+    not_all_exact : (fs : Trees) → each_fits ranges fs ≡ true → are_true truth (gathered_clauses b base false false fs) ≡ same_truth (all_true a base fs) false
     not_all_exact none h = refl
     not_all_exact (more f fs) h =
         let two = and_parts (fits ranges f) (each_fits ranges fs) h in
-        product_true truth (formula_clauses b base false f) (multiplied_clauses b base false fs)
+        product_true truth (formula_clauses b base false f) (gathered_clauses b base false false fs)
         ∙ ap₂ (λ (p q : Bool). p || q) (exact f two.0 false) (not_all_exact fs two.1)
         ∙ one_false (truth_of a base f) (all_true a base fs)
 
-    any_exact : (fs : Trees) → each_fits ranges fs ≡ true → are_true truth (multiplied_clauses b base true fs) ≡ same_truth (some_true a base fs) true
+    any_exact : (fs : Trees) → each_fits ranges fs ≡ true → are_true truth (gathered_clauses b base false true fs) ≡ same_truth (some_true a base fs) true
     any_exact none h = refl
     any_exact (more f fs) h =
         let two = and_parts (fits ranges f) (each_fits ranges fs) h in
-        product_true truth (formula_clauses b base true f) (multiplied_clauses b base true fs)
+        product_true truth (formula_clauses b base true f) (gathered_clauses b base false true fs)
         ∙ ap₂ (λ (p q : Bool). p || q) (exact f two.0 true) (any_exact fs two.1)
         ∙ one_true (truth_of a base f) (some_true a base fs)
 
-    not_any_exact : (fs : Trees) → each_fits ranges fs ≡ true → are_true truth (joined_clauses b base false fs) ≡ same_truth (some_true a base fs) false
+    not_any_exact : (fs : Trees) → each_fits ranges fs ≡ true → are_true truth (gathered_clauses b base true false fs) ≡ same_truth (some_true a base fs) false
     not_any_exact none h = refl
     not_any_exact (more f fs) h =
         let two = and_parts (fits ranges f) (each_fits ranges fs) h in
-        joined_true truth (formula_clauses b base false f) (joined_clauses b base false fs)
+        joined_true truth (formula_clauses b base false f) (gathered_clauses b base true false fs)
         ∙ ap₂ (λ (p q : Bool). p && q) (exact f two.0 false) (not_any_exact fs two.1)
         ∙ both_false (truth_of a base f) (some_true a base fs)

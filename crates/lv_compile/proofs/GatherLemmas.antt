@@ -1,16 +1,11 @@
 -- Gathering is associative, and begins and ends with what says nothing.
-use Rattle.std.proofs.Common.{◌≡◌, ◌+◌, ℕ, arith, Bool, true, false, not, List, [], ◌∷◌, ◌++◌, map, refl, sym, ap, ap₂, ◌∙◌}
-use Rattle.std.specs.List.{flat_map, range_with_len}
+use Rattle.std.proofs.Common.{◌≡◌, ◌+◌, ℕ, arith, Bool, true, false, List, [], ◌∷◌, ◌++◌, map, refl, sym, ap, ap₂, ◌∙◌}
+use Rattle.std.specs.List.{range_with_len}
 use Rattle.std.proofs.lemmas.List.FromFn.{map-range_with_len_more}
 use Rattle.std.proofs.lemmas.List.{append_assoc, append-nil, map-append}
 use Rattle.std.proofs.lemmas.Grind.{flat_map-append}
 use Rattle.lv_base.specs.declared.ids.Lit.{Lit}
-use Rattle.lv_compile.specs.FormulaClauses.{Clauses, each_after, product, when_true}
-use Rattle.lv_compile.specs.Fold.{gather, gathered, Both, in_sign, in_both_signs}
-
-pub sign_of_both : (clauses : Bool → Clauses) (sign : Bool) → in_sign sign (in_both_signs clauses) ≡ clauses sign
-sign_of_both clauses true = refl
-sign_of_both clauses false = refl
+use Rattle.lv_compile.specs.FormulaClauses.{Clauses, each_after, product, gather, when_true}
 
 longer_nil : (qs : Clauses) → map (λ (q : List Lit). [] ++ q) qs ≡ qs
 longer_nil [] = refl
@@ -51,23 +46,10 @@ pub gather_assoc : (of_all : Bool) (ps qs rs : Clauses) → gather of_all (gathe
 gather_assoc true ps qs rs = append_assoc ps qs rs
 gather_assoc false ps qs rs = product_assoc ps qs rs
 
--- the operands of a list, in either sign
-
-pub of_all_start : (sign : Bool) (cs : List Both)
-    → gather sign (when_true sign) (gathered sign (map (in_sign sign) cs)) ≡ in_sign sign (record { positive = gathered true (map (in_sign true) cs); negative = gathered false (map (in_sign false) cs) })
-of_all_start true cs = gather_start true (gathered true (map (in_sign true) cs))
-of_all_start false cs = gather_start false (gathered false (map (in_sign false) cs))
-
-pub of_one_start : (sign : Bool) (cs : List Both)
-    → gather (not sign) (when_true (not sign)) (gathered (not sign) (map (in_sign sign) cs)) ≡ in_sign sign (record { positive = gathered false (map (in_sign true) cs); negative = gathered true (map (in_sign false) cs) })
-of_one_start true cs = gather_start false (gathered false (map (in_sign true) cs))
-of_one_start false cs = gather_start true (gathered true (map (in_sign false) cs))
-
-pub of_either : (sign : Bool) (f g : Both)
-    → product (in_sign (not sign) f) (in_sign true g) ++ product (in_sign sign f) (in_sign false g)
-    ≡ in_sign sign (record { positive = product f.negative g.positive ++ product f.positive g.negative; negative = product f.positive g.positive ++ product f.negative g.negative })
-of_either true f g = refl
-of_either false f g = refl
+-- one operand more
+pub gathered_more : (of_all : Bool) (out new more rest left whole : Clauses) → new ≡ gather of_all out more → left ≡ gather of_all more rest → gather of_all out left ≡ whole → gather of_all new rest ≡ whole
+gathered_more of_all out new more rest left whole is cut so_far =
+    ap (λ (n : Clauses). gather of_all n rest) is ∙ gather_assoc of_all out more rest ∙ ap (λ (l : Clauses). gather of_all out l) (sym cut) ∙ so_far
 
 -- the clause of one value more
 pub one_more : (clause_of : ℕ → List Lit) (out new : Clauses) (c : List Lit) (v : ℕ) → out ≡ map clause_of (range_with_len 0 v) → new ≡ out ++ c ∷ [] → c ≡ clause_of v → new ≡ map clause_of (range_with_len 0 (v + 1))

@@ -1,4 +1,6 @@
--- The clauses that a formula comes to in a sign: all of them are true exactly where the formula has that truth.
+-- The clauses that a formula comes to in a sign: all of them are true exactly where the formula has that truth. That all of
+-- some operands hold is said by the clauses of each, one list behind the other; that one of them holds by the product of
+-- their lists. In the negative sign a conjunction says that one operand fails, a disjunction that all do.
 use Rattle.std.specs.Prelude.{ℕ, ◌+◌, Bool, true, false, not, nat_lt, nat_le, ◌&&◌, List, [], ◌∷◌, ◌++◌, map, length, slice_index_or}
 use Rattle.std.specs.List.{flat_map, range_with_len}
 use Rattle.lv_base.specs.declared.ids.Lit.{Lit}
@@ -15,6 +17,11 @@ each_after qs p = map (λ (q : List Lit). p ++ q) qs
 -- for each clause of the first list and each of the second, the literals of both
 abbrev pub product : Clauses → Clauses → Clauses
 product ps qs = flat_map (each_after qs) ps
+
+-- what says that both lists hold, or that one of them does
+abbrev pub gather : Bool → Clauses → Clauses → Clauses
+gather true ps qs = ps ++ qs
+gather false ps qs = product ps qs
 
 -- true of everything, false of everything
 abbrev pub no_clause : Clauses
@@ -47,26 +54,16 @@ abbrev mutual
   formula_clauses b base sign (is x v) = (value_literal b (base + x) v sign ∷ []) ∷ []
   formula_clauses b base sign (same x y) = equality_clauses b (base + x) (base + y) sign
   formula_clauses b base sign (negation f) = formula_clauses b base (not sign) f
-  formula_clauses b base true (all fs) = joined_clauses b base true fs
-  formula_clauses b base false (all fs) = multiplied_clauses b base false fs
-  formula_clauses b base true (any fs) = multiplied_clauses b base true fs
-  formula_clauses b base false (any fs) = joined_clauses b base false fs
-  formula_clauses b base true (implies f g) = product (formula_clauses b base false f) (formula_clauses b base true g)
-  formula_clauses b base false (implies f g) = formula_clauses b base true f ++ formula_clauses b base false g
-  formula_clauses b base true (iff f g) =
-      product (formula_clauses b base false f) (formula_clauses b base true g) ++ product (formula_clauses b base true f) (formula_clauses b base false g)
-  formula_clauses b base false (iff f g) =
-      product (formula_clauses b base true f) (formula_clauses b base true g) ++ product (formula_clauses b base false f) (formula_clauses b base false g)
+  formula_clauses b base sign (all fs) = gathered_clauses b base sign sign fs
+  formula_clauses b base sign (any fs) = gathered_clauses b base (not sign) sign fs
+  formula_clauses b base sign (implies f g) = gather (not sign) (formula_clauses b base (not sign) f) (formula_clauses b base sign g)
+  formula_clauses b base sign (iff f g) =
+      product (formula_clauses b base (not sign) f) (formula_clauses b base true g) ++ product (formula_clauses b base sign f) (formula_clauses b base false g)
 
-  -- of all operands
-  pub joined_clauses : Booleans → ℕ → Bool → Trees → Clauses
-  joined_clauses b base sign none = no_clause
-  joined_clauses b base sign (more f fs) = formula_clauses b base sign f ++ joined_clauses b base sign fs
-
-  -- of one operand or another
-  pub multiplied_clauses : Booleans → ℕ → Bool → Trees → Clauses
-  multiplied_clauses b base sign none = empty_clause
-  multiplied_clauses b base sign (more f fs) = product (formula_clauses b base sign f) (multiplied_clauses b base sign fs)
+  -- that all operands have the sign, or that one of them has it
+  pub gathered_clauses : Booleans → ℕ → Bool → Bool → Trees → Clauses
+  gathered_clauses b base of_all sign none = when_true of_all
+  gathered_clauses b base of_all sign (more f fs) = gather of_all (formula_clauses b base sign f) (gathered_clauses b base of_all sign fs)
 
 -- both variables are there, and y has each value that x has
 abbrev pub are_comparable : Booleans → ℕ → ℕ → Bool

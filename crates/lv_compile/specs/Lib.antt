@@ -1,6 +1,5 @@
 pub mod Booleans
 pub mod FormulaClauses
-pub mod Fold
 pub mod Cleaning
 pub mod ModelClauses
 pub mod Laws

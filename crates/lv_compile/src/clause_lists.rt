@@ -3,8 +3,7 @@
 #![tactic(auto)]
 
 ghost use Rattle.std.specs.Prelude.{◌≡◌, ◌++◌, IfOk, map};
-ghost use Rattle.lv_compile.specs.FormulaClauses.{each_after, product, when_true};
-ghost use Rattle.lv_compile.specs.Fold.{gather};
+ghost use Rattle.lv_compile.specs.FormulaClauses.{each_after, product, gather, when_true};
 
 use lv_base::{Lit, Seq};
 use std::alloc::{AllocError, Global};

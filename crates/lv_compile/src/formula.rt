@@ -2,11 +2,8 @@
 #![tactic(auto)]
 
 ghost use Rattle.std.specs.Prelude.{◌≡◌, false, ◌++◌, IfOk, IsTrue, [], ◌∷◌, ◌<◌, ◌≤◌, ◌+◌, map, length};
-ghost use Rattle.std.specs.List.{range_with_len};
-ghost use Rattle.lv_formula.specs.Tree.{tree_of};
-ghost use Rattle.lv_compile.specs.Booleans.{value_literal};
-ghost use Rattle.lv_compile.specs.FormulaClauses.{formula_clauses, equality_clause, equality_clauses, speaks_of, size_of};
-ghost use Rattle.lv_compile.specs.Fold.{clauses_in, in_sign, speaks_in};
+ghost use Rattle.lv_formula.specs.Tree.{tree_of, trees_of};
+ghost use Rattle.lv_compile.specs.FormulaClauses.{formula_clauses, gathered_clauses, equality_clause, equality_clauses, speaks_of, each_speaks_of, size_of};
 
 use crate::clause_lists::{both_lists, gather, product, when_true};
 use crate::value_bools::ValueBools;
@@ -66,6 +63,7 @@ fn equality(
 
 /// The clauses of a formula in a sign: where truth values encode an assignment, they make all of them true exactly where
 /// the formula has that truth. Variable `v` of the formula is variable `base + v` of the copy.
+#[cycle(formula_clauses)]
 pub fn formula_clauses(
     alloc: Global,
     bools: &ValueBools,
@@ -75,21 +73,6 @@ pub fn formula_clauses(
 ) -> Result<Vec<Seq<Lit>>, AllocError>
     requires { IsTrue (speaks_of bools.now base (tree_of formula.now)) }
     ensures { IfOk result (λ out. out.items ≡ formula_clauses bools.now base sign (tree_of formula.now)) }
-{
-    clauses_from(alloc, bools, base, formula, sign)
-}
-
-/// The same, in the terms of a fold over the formula.
-#[tactic(auto, using(crate::proofs::GatherLemmas::of_all_start, crate::proofs::GatherLemmas::of_one_start, crate::proofs::GatherLemmas::of_either, crate::proofs::GatherLemmas::gather_end, crate::proofs::GatherLemmas::gather_assoc))]
-fn clauses_from(
-    alloc: Global,
-    bools: &ValueBools,
-    base: u32,
-    formula: &Formula,
-    sign: bool,
-) -> Result<Vec<Seq<Lit>>, AllocError>
-    requires { IsTrue (speaks_in bools.now base formula.now) }
-    ensures { IfOk result (λ out. out.items ≡ in_sign sign (clauses_in bools.now base formula.now)) }
 {
     match formula {
         Formula::True => when_true(alloc, sign),
@@ -107,36 +90,43 @@ fn clauses_from(
                 sign,
             },
         ),
-        Formula::Not(f) => clauses_from(alloc, bools, base, f, !sign),
-        Formula::And(fs) => {
-            let mut out = when_true(alloc, sign)?;
-            'all: for f in fs {
-                let more = clauses_from(alloc, bools, base, f, sign)?;
-                out = gather(alloc, sign, out, more)?;
-            }
-            Ok(out)
-        }
-        Formula::Or(fs) => {
-            let mut out = when_true(alloc, !sign)?;
-            'any: for f in fs {
-                let more = clauses_from(alloc, bools, base, f, sign)?;
-                out = gather(alloc, !sign, out, more)?;
-            }
-            Ok(out)
-        }
+        Formula::Not(f) => formula_clauses(alloc, bools, base, f, !sign),
+        Formula::And(fs) => gathered_clauses(alloc, bools, base, fs, sign, sign),
+        Formula::Or(fs) => gathered_clauses(alloc, bools, base, fs, sign, !sign),
         Formula::Implies(f, g) => {
-            let left = clauses_from(alloc, bools, base, f, !sign)?;
-            let right = clauses_from(alloc, bools, base, g, sign)?;
+            let left = formula_clauses(alloc, bools, base, f, !sign)?;
+            let right = formula_clauses(alloc, bools, base, g, sign)?;
             gather(alloc, !sign, left, right)
         }
         Formula::Iff(f, g) => {
-            let one = clauses_from(alloc, bools, base, f, !sign)?;
-            let other = clauses_from(alloc, bools, base, g, true)?;
+            let one = formula_clauses(alloc, bools, base, f, !sign)?;
+            let other = formula_clauses(alloc, bools, base, g, true)?;
             let front = product(alloc, one.as_slice(), other.as_slice())?;
-            let one = clauses_from(alloc, bools, base, f, sign)?;
-            let other = clauses_from(alloc, bools, base, g, false)?;
+            let one = formula_clauses(alloc, bools, base, f, sign)?;
+            let other = formula_clauses(alloc, bools, base, g, false)?;
             let back = product(alloc, one.as_slice(), other.as_slice())?;
             both_lists(front, back)
         }
     }
+}
+
+/// That all the operands have the sign, or that one of them has it.
+#[cycle(formula_clauses)]
+fn gathered_clauses(
+    alloc: Global,
+    bools: &ValueBools,
+    base: u32,
+    operands: &[Formula],
+    sign: bool,
+    of_all: bool,
+) -> Result<Vec<Seq<Lit>>, AllocError>
+    requires { IsTrue (each_speaks_of bools.now base (trees_of (map tree_of operands.now))) }
+    ensures { IfOk result (λ out. out.items ≡ gathered_clauses bools.now base of_all sign (trees_of (map tree_of operands.now))) }
+{
+    let mut out = when_true(alloc, of_all)?;
+    'operands: for operand in operands {
+        let more = formula_clauses(alloc, bools, base, operand, sign)?;
+        out = gather(alloc, of_all, out, more)?;
+    }
+    Ok(out)
 }

@@ -1,5 +1,5 @@
 -- the variable is there, and its booleans have numbers in range
-use Rattle.std.proofs.Common.{◌≡◌, ◌+◌, ◌<◌, ap, arith}
+use Rattle.std.proofs.Common.{ap, arith}
 use Rattle.lv_compile.specs.Booleans.{literal}
 use Rattle.lv_compile.proofs.BooleanLemmas.{start_there, number_fits, number_is}
 use Rattle.lv_compile.proofs.value_bools.ValueBools.literal.Goals as goal
