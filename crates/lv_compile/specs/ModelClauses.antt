@@ -95,6 +95,6 @@ raw_clauses plant =
     ++ copy_clauses (booleans_next plant) plant
     ++ choices_clauses (booleans_now plant) (booleans_next plant) plant.types (first_choice plant) plant.parts
 
--- the clauses of the plant: true of exactly the values that make a step
+-- the clauses of the plant
 abbrev pub model_clauses : Plant → Clauses
 model_clauses plant = cleaned (raw_clauses plant)

@@ -1,5 +1,5 @@
 //! The clauses of a model: over booleans that say which value each variable has before and after a step and which move
-//! each part makes, a list of clauses that is true of exactly the values that make a step.
+//! each part makes, a list of clauses.
 //!
 //! The list is a definition that computes, `specs/ModelClauses.antt`; every clause has its place in it, so that a
 //! refutation can name it by number.
