@@ -1,0 +1,4 @@
+pub mod GatherLemmas
+pub mod BooleanLemmas
+pub mod CleaningLemmas
+pub mod FormulaLemmas

@@ -1,0 +1,45 @@
+-- What clauses say of truth values of their booleans, and that a formula's clauses say what the formula says.
+use Rattle.std.specs.Prelude.{◌≡◌, ◌+◌, ◌<◌, ℕ, Bool, true, nat_eq, List, length, Some, slice_get}
+use Rattle.std.specs.List.{list_all, list_any}
+use Rattle.lv_base.specs.declared.ids.Lit.{Lit}
+use Rattle.lv_base.specs.declared.ids.ValId.{ValId}
+use Rattle.lv_clauses.specs.Literals.{same_truth}
+use Rattle.lv_formula.specs.declared.range.Range.{Range}
+use Rattle.lv_formula.specs.Tree.{Tree, truth_of, number_of}
+use Rattle.lv_formula.specs.Fits.{fits, is_same_sort}
+use Rattle.lv_compile.specs.Booleans.{Booleans, value_bool}
+use Rattle.lv_compile.specs.FormulaClauses.{Clauses, size_of, formula_clauses}
+use Rattle.lv_compile.specs.Cleaning.{cleaned}
+
+-- the truth values, one for each boolean, make the literal true
+abbrev pub literal_is_true : (ℕ → Bool) → Lit → Bool
+literal_is_true truth l = same_truth (truth l.var.0) l.sign
+
+abbrev pub clause_is_true : (ℕ → Bool) → List Lit → Bool
+clause_is_true truth c = list_any (literal_is_true truth) c
+
+-- they make each of the clauses true
+abbrev pub are_true : (ℕ → Bool) → Clauses → Bool
+are_true truth cs = list_all (clause_is_true truth) cs
+
+-- of the booleans of each variable exactly the one of its value in the assignment is true
+pub record Encode (truth : ℕ → Bool) (b : Booleans) (a : List ValId) : Type 0 where
+  pub in_range : (x : ℕ) → x < length b.sizes → number_of a x < size_of b x
+  pub values : (x v : ℕ) → x < length b.sizes → v < size_of b x → truth (value_bool b x v) ≡ nat_eq (number_of a x) v
+
+-- the variables from base on have values as the ranges say, and those of one sort equally many
+pub record HaveBooleans (ranges : List Range) (b : Booleans) (base : ℕ) : Type 0 where
+  pub within : (x : ℕ) (r : Range) → slice_get ranges x ≡ Some r → base + x < length b.sizes
+  pub size : (x : ℕ) (r : Range) → slice_get ranges x ≡ Some r → size_of b (base + x) ≡ r.size
+  pub alike : (x y : ℕ) (r s : Range) → slice_get ranges x ≡ Some r → slice_get ranges y ≡ Some s → is_same_sort r.sort s.sort ≡ true → r.size ≡ s.size
+
+-- where truth values encode an assignment, they make the clauses of a formula in a sign true exactly where the formula has
+-- that truth
+abbrev pub FormulaClausesAreExact : Type 0
+FormulaClausesAreExact =
+    (ranges : List Range) (b : Booleans) (base : ℕ) → HaveBooleans ranges b base → (truth : ℕ → Bool) (a : List ValId) → Encode truth b a
+    → (f : Tree) → fits ranges f ≡ true → (sign : Bool) → are_true truth (formula_clauses b base sign f) ≡ same_truth (truth_of a base f) sign
+
+-- cleaning changes nothing that clauses say
+abbrev pub CleaningKeepsMeaning : Type 0
+CleaningKeepsMeaning = (truth : ℕ → Bool) (cs : Clauses) → are_true truth (cleaned cs) ≡ are_true truth cs

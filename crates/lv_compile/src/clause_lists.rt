@@ -1,0 +1,88 @@
+//! Lists of clauses, put behind one another or multiplied: what says that all of two lists hold, and what says that all
+//! of one or all of the other do.
+#![tactic(auto)]
+
+ghost use Rattle.std.specs.Prelude.{◌≡◌, ◌++◌, IfOk, map};
+ghost use Rattle.lv_compile.specs.FormulaClauses.{each_after, product, gather, when_true};
+
+use lv_base::{Lit, Seq};
+use std::alloc::{AllocError, Global};
+
+/// The literals of both.
+fn longer(alloc: Global, front: &Seq<Lit>, back: &Seq<Lit>) -> Result<Seq<Lit>, AllocError>
+    ensures { IfOk result (λ c. c ≡ front.now ++ back.now) }
+{
+    let mut lits = Vec::from_slice(alloc, front.as_slice())?;
+    lits.extend_from_slice(back.as_slice())?;
+    Ok(Seq::from_vec(lits))
+}
+
+/// Adds each clause of the list with the same literals before its own.
+fn push_longer(
+    out: &mut Vec<Seq<Lit>>,
+    alloc: Global,
+    front: &Seq<Lit>,
+    backs: &[Seq<Lit>],
+) -> Result<(), AllocError>
+    ensures { IfOk result (λ _. out.new.items ≡ out.old.items ++ each_after backs.now front.now) }
+{
+    for back in backs {
+        out.push(longer(alloc, front, back)?)?;
+    }
+    Ok(())
+}
+
+/// For each clause of the one list and each of the other the literals of both.
+pub fn product(
+    alloc: Global,
+    fronts: &[Seq<Lit>],
+    backs: &[Seq<Lit>],
+) -> Result<Vec<Seq<Lit>>, AllocError>
+    ensures { IfOk result (λ out. out.items ≡ product fronts.now backs.now) }
+{
+    let mut out = Vec::new(alloc);
+    for front in fronts {
+        push_longer(&mut out, alloc, front, backs)?;
+    }
+    Ok(out)
+}
+
+/// The clauses of the one list, then those of the other.
+pub fn both_lists(
+    mut front: Vec<Seq<Lit>>,
+    back: Vec<Seq<Lit>>,
+) -> Result<Vec<Seq<Lit>>, AllocError>
+    ensures { IfOk result (λ out. out.items ≡ front.items ++ back.items) }
+{
+    for clause in back {
+        front.push(clause)?;
+    }
+    Ok(front)
+}
+
+/// Clauses that are all true, or none can be: no clause, or the empty one.
+pub fn when_true(alloc: Global, is_true: bool) -> Result<Vec<Seq<Lit>>, AllocError>
+    ensures { IfOk result (λ out. out.items ≡ when_true is_true) }
+{
+    let mut out = Vec::new(alloc);
+    if !is_true {
+        out.push(Seq::new(alloc))?;
+    }
+    Ok(out)
+}
+
+/// The clauses that say what both lists say, or what one of them does.
+pub fn gather(
+    alloc: Global,
+    of_all: bool,
+    front: Vec<Seq<Lit>>,
+    back: Vec<Seq<Lit>>,
+) -> Result<Vec<Seq<Lit>>, AllocError>
+    ensures { IfOk result (λ out. out.items ≡ gather of_all front.items back.items) }
+{
+    if of_all {
+        both_lists(front, back)
+    } else {
+        product(alloc, front.as_slice(), back.as_slice())
+    }
+}

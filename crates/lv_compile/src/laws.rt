@@ -1,0 +1,15 @@
+//! What the clauses say. Each function does nothing; its clause is the law.
+#![tactic(auto)]
+
+ghost use Rattle.lv_compile.specs.Laws.{FormulaClausesAreExact, CleaningKeepsMeaning};
+
+/// Truth values that encode an assignment make the clauses of a formula in a sign true exactly where the formula has
+/// that truth.
+pub fn formula_clauses_are_exact()
+    ensures { FormulaClausesAreExact }
+{}
+
+/// Leaving out repeated literals and clauses that are true of everything changes nothing that clauses say.
+pub fn cleaning_keeps_meaning()
+    ensures { CleaningKeepsMeaning }
+{}
