@@ -29,7 +29,7 @@ pub use fault::PhraseFault;
 pub use lv_formula::Path;
 pub use phrase::{Phrase, PhraseNode};
 pub use printer::{print_phrase, write_phrase};
-pub use reader::read_phrase;
+pub use reader::{is_too_deep, read_phrase};
 pub use resolver::{ResolveFault, resolve};
 pub use scope::Scope;
 pub use writer::LineWriter;

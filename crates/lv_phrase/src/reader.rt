@@ -35,8 +35,8 @@ pub fn read_phrase(alloc: Global, line: &TokenLine<'_>, from: usize) -> Result<P
     Ok(Phrase::new(root))
 }
 
-/// Whether parentheses or operators of the line nest deeper than is allowed. Takes no memory.
-fn is_too_deep(line: &TokenLine<'_>) -> bool
+/// Whether parentheses or operators of a line nest deeper than is allowed, whatever else the line holds. Takes no memory.
+pub fn is_too_deep(line: &TokenLine<'_>) -> bool
     ensures { result ≡ is_too_deep line.now }
 {
     is_too_open(line) || nests_too_often(line)

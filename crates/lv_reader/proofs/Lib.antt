@@ -1,1 +1,4 @@
 pub mod WordLists
+pub mod FormLemmas
+pub mod TextLemmas
+pub mod ReadingLemmas

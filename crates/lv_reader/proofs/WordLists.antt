@@ -2,7 +2,7 @@
 use Rattle.std.proofs.Common.{◌≡◌, ℕ, zero, suc, ◌+◌, ◌<◌, ◌≤◌, List, [], ◌∷◌, ◌++◌, length, drop, Option, Some, None, option_map, refl, sym, ap, subst, ◌∙◌, arith, append_assoc}
 use Rattle.std.proofs.lemmas.List.{append-nil, drop_all}
 use Rattle.lv_text.specs.Lexemes.{Lexeme, word_at}
-use Rattle.lv_reader.specs.Equations.{words_of}
+use Rattle.lv_reader.specs.Words.{words_of}
 
 -- words and those after them
 abbrev pub joined_words : List (List ℕ) → Option (List (List ℕ)) → Option (List (List ℕ))

@@ -1,97 +1,92 @@
--- The statement that the lexemes of a line are, by the word that it begins with.
-use Rattle.std.specs.Prelude.{ℕ, List, ◌&&◌, length, drop, nat_eq, nat_le, if◌then◌else◌, Option, Some, None, option_map, codes}
-use Rattle.std.specs.Option.{option_and_then}
-use Rattle.lv_base.specs.declared.limits.TheConstants.{LEAST_FAULT_COST, FAULT_COST}
-use Rattle.lv_base.specs.declared.names.Class.{Class}
-use Rattle.lv_base.specs.declared.names.Class.TheVariants.{Control, Dependent, Observable}
-use Rattle.lv_text.specs.Lexemes.{Lexeme, word_at, number_at, says}
+-- What lexemes are which statement: by cases on the statement, the word that it begins with and the form of the rest.
+use Rattle.std.specs.Prelude.{◌≡◌, List, Bool, true, false, ◌&&◌, length, nat_le, is_some, Some, None, codes}
+use Rattle.lv_base.specs.declared.limits.TheConstants.{LEAST_FAULT_COST, FAULT_COST, PRICE}
+use Rattle.lv_text.specs.Lexemes.{Lexeme, word_at, says}
+use Rattle.lv_phrase.specs.Nesting.{is_too_deep}
+use Rattle.lv_reader.specs.declared.code.ModelCode.{ModelCode}
+use Rattle.lv_reader.specs.declared.code.ModelCode.TheVariants as code
+use Rattle.lv_reader.specs.declared.keyword.Keyword.{Keyword}
+use Rattle.lv_reader.specs.declared.keyword.Keyword.TheVariants.{ModelWord, DomainWord, TypeWord, ClassWord, ModeWord, LawWord, InWord, StepWord, FaultWord, EndWord, PartWord, PriceWord}
 use Rattle.lv_reader.specs.declared.statement.Statement.{Statement}
-use Rattle.lv_reader.specs.declared.statement.Statement.TheVariants.{ModelLine, DomainLine, TypeLine, VariableLine, ModeLine, InLine, StepLine, FaultLine, EndLine, PartLine, LawLine}
-use Rattle.lv_reader.specs.Equations.{is_arrow, free_word_at, has_kind_at, words_of, equation_from}
+use Rattle.lv_reader.specs.declared.statement.Statement.TheVariants.{ModelLine, DomainLine, TypeLine, VariableLine, ModeLine, LawLine, InLine, StepLine, FaultLine, EndLine, PartLine, PriceLine}
+use Rattle.lv_reader.specs.Keywords.{keyword_of}
+use Rattle.lv_reader.specs.Words.{only_name, name_and_names, two_names, three_names, both_ends, priced_names, numeral_at, EndsInFormula, HasGuard}
 
--- `model NAME`
-abbrev pub model_line : List Lexeme → Option Statement
-model_line line = if nat_eq (length line) 2 then option_map ModelLine (word_at line 1) else None
+-- the word that a statement begins with
+abbrev pub word_of : Statement → Keyword
+word_of (ModelLine name) = ModelWord
+word_of (DomainLine name values) = DomainWord
+word_of (TypeLine name) = TypeWord
+word_of (VariableLine class name domain) = ClassWord class
+word_of (ModeLine name) = ModeWord
+word_of (LawLine f) = LawWord
+word_of (InLine mode f) = InWord
+word_of (StepLine source target guard) = StepWord
+word_of (FaultLine source target cost guard) = FaultWord
+word_of EndLine = EndWord
+word_of (PartLine name kind start) = PartWord
+word_of (PriceLine part control value cost) = PriceWord
 
--- `type NAME`
-abbrev pub type_line : List Lexeme → Option Statement
-type_line line = if nat_eq (length line) 2 then option_map TypeLine (word_at line 1) else None
+-- the form of what stands behind that word
+abbrev pub HasShape : List Lexeme → Statement → Type 0
+HasShape line (ModelLine name) = only_name line ≡ Some name
+HasShape line (DomainLine name values) = name_and_names line ≡ Some (record { name = name; others = values })
+HasShape line (TypeLine name) = only_name line ≡ Some name
+HasShape line (VariableLine class name domain) = two_names line ≡ Some (record { first = name; second = domain })
+HasShape line (ModeLine name) = only_name line ≡ Some name
+HasShape line (LawLine f) = EndsInFormula line 1 f
+HasShape line (InLine mode f) = (word_at line 1 ≡ Some mode) × EndsInFormula line 2 f
+HasShape line (StepLine source target guard) = (both_ends line ≡ Some (record { first = source; second = target })) × HasGuard line 4 (Some guard)
+HasShape line (FaultLine source target cost guard) =
+    (both_ends line ≡ Some (record { first = source; second = target })) × (says (codes "cost") line 4 ≡ true) × (numeral_at line 5 ≡ Some cost) × HasGuard line 6 guard
+HasShape line EndLine = length line ≡ 1
+HasShape line (PartLine name kind start) = three_names line ≡ Some (record { first = name; second = kind; third = start })
+HasShape line (PriceLine part control value cost) =
+    (priced_names line ≡ Some (record { first = part; second = control; third = value })) × (numeral_at line 6 ≡ Some cost)
 
--- `mode NAME`
-abbrev pub mode_line : List Lexeme → Option Statement
-mode_line line = if nat_eq (length line) 2 then option_map ModeLine (word_at line 1) else None
+-- the lexemes have the form of the statement
+pub record HasForm (line : List Lexeme) (s : Statement) : Type 0 where
+  pub word : keyword_of line ≡ Some (word_of s)
+  pub shape : HasShape line s
 
--- `end`
-abbrev pub end_line : List Lexeme → Option Statement
-end_line line = if nat_eq (length line) 1 then Some EndLine else None
+-- they have the form of none
+pub record HasNoForm (line : List Lexeme) : Type 0 where
+  pub none : (s : Statement) → HasForm line s → ⊥
 
--- `domain NAME VALUE ..`
-abbrev pub domain_line : List Lexeme → Option Statement
-domain_line line =
-    if nat_le 3 (length line)
-    then option_and_then (λ name. option_map (DomainLine name) (words_of (drop 2 line))) (word_at line 1)
-    else None
+-- the number of a statement, if it has one, is within its limits
+abbrev pub number_fits : Statement → Bool
+number_fits (FaultLine source target cost guard) = nat_le LEAST_FAULT_COST cost && nat_le cost FAULT_COST
+number_fits (PriceLine part control value cost) = nat_le cost PRICE
+number_fits s = true
 
--- `control NAME DOMAIN`, `variable NAME DOMAIN`, `observable NAME DOMAIN`
-abbrev pub variable_line : Class → List Lexeme → Option Statement
-variable_line class line =
-    if nat_eq (length line) 3
-    then option_and_then (λ name. option_map (VariableLine class name) (word_at line 2)) (free_word_at line 1)
-    else None
+-- the lexemes are that statement: they don't nest too deep, have its form, and its number is within its limits
+pub record IsStatement (line : List Lexeme) (s : Statement) : Type 0 where
+  pub shallow : is_too_deep line ≡ false
+  pub form : HasForm line s
+  pub number : number_fits s ≡ true
 
--- `part NAME TYPE MODE`
-abbrev pub part_line : List Lexeme → Option Statement
-part_line line =
-    if nat_eq (length line) 4
-    then option_and_then (λ name. option_and_then (λ kind. option_map (PartLine name kind) (word_at line 3)) (word_at line 2)) (free_word_at line 1)
-    else None
+-- the line begins with a statement's word, and nests too deep
+pub record NestsTooDeep (line : List Lexeme) : Type 0 where
+  pub known : is_some (keyword_of line) ≡ true
+  pub deep : is_too_deep line ≡ true
 
--- `law EQUATION`
-abbrev pub law_line : List Lexeme → Option Statement
-law_line line = option_map LawLine (equation_from line 1)
+-- it begins with a statement's word and doesn't nest too deep, and has the form of no statement
+pub record IsOutOfForm (line : List Lexeme) : Type 0 where
+  pub known : is_some (keyword_of line) ≡ true
+  pub shallow : is_too_deep line ≡ false
+  pub form : HasNoForm line
 
--- `in MODE EQUATION`
-abbrev pub in_line : List Lexeme → Option Statement
-in_line line = option_and_then (λ mode. option_map (InLine mode) (equation_from line 2)) (word_at line 1)
+-- it has the form of a statement whose number is outside its limits
+pub record IsOutOfRange (line : List Lexeme) : Type 0 where
+  pub shallow : is_too_deep line ≡ false
+  pub statement : Statement
+  pub form : HasForm line statement
+  pub number : number_fits statement ≡ false
 
--- `step MODE -> MODE when EQUATION`
-abbrev pub step_line : List Lexeme → Option Statement
-step_line line =
-    if has_kind_at is_arrow line 2 && says (codes "when") line 4
-    then option_and_then (λ source. option_and_then (λ target. option_map (StepLine source target) (equation_from line 5)) (word_at line 3)) (word_at line 1)
-    else None
-
--- a cost that a fault may have
-abbrev pub fault_cost_at : List Lexeme → ℕ → Option ℕ
-fault_cost_at line i =
-    option_and_then (λ cost. if nat_le LEAST_FAULT_COST cost && nat_le cost FAULT_COST then Some cost else None) (number_at line i)
-
--- `fault MODE -> MODE cost N`
-abbrev pub fault_line : List Lexeme → Option Statement
-fault_line line =
-    if nat_eq (length line) 6 && (has_kind_at is_arrow line 2 && says (codes "cost") line 4)
-    then option_and_then (λ source. option_and_then (λ target. option_map (FaultLine source target) (fault_cost_at line 5)) (word_at line 3)) (word_at line 1)
-    else None
-
--- a statement of a type, by its first word
-abbrev pub statement_in_type : List Lexeme → Option Statement
-statement_in_type line =
-    if says (codes "control") line 0 then variable_line Control line
-    else (if says (codes "variable") line 0 then variable_line Dependent line
-    else (if says (codes "observable") line 0 then variable_line Observable line
-    else (if says (codes "mode") line 0 then mode_line line
-    else (if says (codes "in") line 0 then in_line line
-    else (if says (codes "step") line 0 then step_line line
-    else (if says (codes "fault") line 0 then fault_line line
-    else (if says (codes "end") line 0 then end_line line
-    else None)))))))
-
--- the statement that the lexemes of a line are
-abbrev pub statement_of : List Lexeme → Option Statement
-statement_of line =
-    if says (codes "model") line 0 then model_line line
-    else (if says (codes "domain") line 0 then domain_line line
-    else (if says (codes "type") line 0 then type_line line
-    else (if says (codes "part") line 0 then part_line line
-    else (if says (codes "law") line 0 then law_line line
-    else statement_in_type line))))
+-- why lexemes are no statement: the first of these in this order
+abbrev pub IsRefusedBy : List Lexeme → ModelCode → Type 0
+IsRefusedBy line code.UnknownStatement = keyword_of line ≡ None
+IsRefusedBy line code.TooDeep = NestsTooDeep line
+IsRefusedBy line code.Form = IsOutOfForm line
+IsRefusedBy line code.NumberOutOfRange = IsOutOfRange line
+IsRefusedBy line other = ⊥

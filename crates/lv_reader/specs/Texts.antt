@@ -1,40 +1,73 @@
--- The statements of a whole text, line by line.
-use Rattle.std.specs.Prelude.{ℕ, List, [], ◌∷◌, ◌++◌, length, nat_eq, nat_le, if◌then◌else◌, Option, Some, None, option_map}
-use Rattle.std.specs.Option.{option_and_then}
+-- The statements of a whole text with the numbers of their lines, or the first line that is refused.
+use Rattle.std.specs.Prelude.{◌≡◌, ◌+◌, ◌<◌, ◌≤◌, ℕ, List, [], ◌∷◌, ◌++◌, length, Option, Some, None}
 use Rattle.lv_base.specs.declared.limits.TheConstants.{MODEL_BYTES}
-use Rattle.lv_text.specs.Lexemes.{Lexeme, Reading, reads, has_bad_byte, is_too_long, line_reading}
 use Rattle.lv_text.specs.Lines.{lines_of}
+use Rattle.lv_reader.specs.declared.code.ModelCode.{ModelCode}
+use Rattle.lv_reader.specs.declared.code.ModelCode.TheVariants.{TextTooLong}
+use Rattle.lv_reader.specs.declared.fault.ModelFault.{ModelFault}
+use Rattle.lv_reader.specs.declared.fault.ModelFault.TheVariants.{At, Memory}
 use Rattle.lv_reader.specs.declared.statement.Statement.{Statement}
-use Rattle.lv_reader.specs.declared.reader.TheConstants.{MOST_STATEMENTS}
-use Rattle.lv_reader.specs.Statements.{statement_of}
+use Rattle.lv_reader.specs.declared.statement.NumberedStatement.{NumberedStatement}
+use Rattle.lv_reader.specs.declared.statement.ModelText.{ModelText}
+use Rattle.lv_reader.specs.Lines.{Says, IsRefused}
 
--- what lexemes say: nothing, or one statement
-abbrev pub said_by : List Lexeme → Option (List Statement)
-said_by line = if nat_eq (length line) 0 then Some [] else option_map (λ s. s ∷ []) (statement_of line)
+-- what a line says, with the line's number
+abbrev pub numbered : ℕ → Option Statement → List NumberedStatement
+numbered at None = []
+numbered at (Some s) = record { line = at; statement = s } ∷ []
 
--- the same of what a line reads as; a fault of the line refuses it
-abbrev pub said_of : Reading → Option (List Statement)
-said_of (reads line) = said_by line
-said_of (has_bad_byte place) = None
-said_of is_too_long = None
+-- what lines say, behind so many lines
+pub data AreStatements : ℕ → List (List ℕ) → List NumberedStatement → Type 0 where
+  none_left : {before : ℕ} → AreStatements before [] []
+  one_more : {before : ℕ} {line : List ℕ} {lines : List (List ℕ)} {ss more : List NumberedStatement} → (said : Option Statement)
+      → Says line said → AreStatements (before + 1) lines ss → more ≡ numbered (before + 1) said ++ ss → AreStatements before (line ∷ lines) more
 
--- what a line says: nothing, one statement, or it is refused
-abbrev pub said : List ℕ → Option (List Statement)
-said line = said_of (line_reading line)
+-- the first of these lines that is refused, behind so many lines: why, and its number
+pub data IsFirstRefused : ℕ → List (List ℕ) → ModelCode → ℕ → Type 0 where
+  at_once : {before at : ℕ} {line : List ℕ} {lines : List (List ℕ)} {code : ModelCode}
+      → IsRefused line code → at ≡ before + 1 → IsFirstRefused before (line ∷ lines) code at
+  later : {before at : ℕ} {line : List ℕ} {lines : List (List ℕ)} {code : ModelCode} → (said : Option Statement)
+      → Says line said → IsFirstRefused (before + 1) lines code at → IsFirstRefused before (line ∷ lines) code at
 
--- statements and those after them
-abbrev pub before : List Statement → Option (List Statement) → Option (List Statement)
-before front rest = option_map (λ back. front ++ back) rest
+-- the bytes read as that text
+pub record ReadsAs (bytes : List ℕ) (text : ModelText) : Type 0 where
+  pub within : length bytes ≤ MODEL_BYTES
+  pub statements : AreStatements 0 (lines_of bytes) text.statements
+  pub lines : text.lines ≡ length (lines_of bytes)
 
--- what lines say, one after the other
-abbrev pub all_said : List (List ℕ) → Option (List Statement)
-all_said [] = Some []
-all_said (line ∷ more) = option_and_then (λ front. before front (all_said more)) (said line)
+-- they are more than a text may have, which is told on line 0
+pub record IsTooLong (bytes : List ℕ) (code : ModelCode) (line : ℕ) : Type 0 where
+  pub beyond : MODEL_BYTES < length bytes
+  pub code_is : code ≡ TextTooLong
+  pub line_is : line ≡ 0
 
--- not too many of them
-abbrev pub few : List Statement → Option (List Statement)
-few statements = if nat_le (length statements) MOST_STATEMENTS then Some statements else None
+-- they are not too many, and some line of theirs is refused
+pub record HasRefusedLine (bytes : List ℕ) (code : ModelCode) (line : ℕ) : Type 0 where
+  pub within : length bytes ≤ MODEL_BYTES
+  pub first : IsFirstRefused 0 (lines_of bytes) code line
 
--- the statements of a text that is not too long
-unfoldable pub statements_of : List ℕ → Option (List Statement)
-statements_of text = if nat_le (length text) MODEL_BYTES then option_and_then few (all_said (lines_of text)) else None
+-- the first fault of reading: that there are too many bytes, or a line that is refused
+pub data IsReadingFault : List ℕ → ModelCode → ℕ → Type 0 where
+  too_long : {bytes : List ℕ} {code : ModelCode} {line : ℕ} → IsTooLong bytes code line → IsReadingFault bytes code line
+  refused : {bytes : List ℕ} {code : ModelCode} {line : ℕ} → HasRefusedLine bytes code line → IsReadingFault bytes code line
+
+-- a fault tells the first one; want of memory tells nothing
+abbrev pub TellsReading : ModelFault → List ℕ → Type 0
+TellsReading (At code line) bytes = IsReadingFault bytes code line
+TellsReading Memory bytes = Unit {0}
+
+-- the same of lines behind so many others
+abbrev pub TellsLines : ModelFault → ℕ → List (List ℕ) → Type 0
+TellsLines (At code line) before lines = IsFirstRefused before lines code line
+TellsLines Memory before lines = Unit {0}
+
+-- the statements with what one more line says behind them
+pub record AddsLine (at : ℕ) (line : List ℕ) (old new : List NumberedStatement) : Type 0 where
+  pub said : Option Statement
+  pub says : Says line said
+  pub added : new ≡ old ++ numbered at said
+
+-- why that line, of this number, adds nothing
+abbrev pub TellsLine : ModelFault → ℕ → List ℕ → Type 0
+TellsLine (At code number) at line = (number ≡ at) × IsRefused line code
+TellsLine Memory at line = Unit {0}

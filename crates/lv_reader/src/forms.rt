@@ -1,195 +1,155 @@
 //! The forms of statements: the statement that the tokens of a line are, by the word that it begins with.
 #![tactic(auto)]
 
-ghost use Rattle.std.specs.Prelude.{◌≡◌, IfOk, Some, None};
-ghost use Rattle.lv_reader.specs.declared.fault.LineFault.TheVariants.{Refused};
-ghost use Rattle.lv_reader.specs.Statements.{model_line, type_line, mode_line, end_line, domain_line, variable_line, part_line, law_line, in_line, step_line, fault_cost_at, fault_line, statement_in_type, statement_of};
+ghost use Rattle.std.specs.Prelude.{◌≡◌, IfOk, IfErr, Some, false};
+ghost use Rattle.lv_phrase.specs.Nesting.{is_too_deep};
+ghost use Rattle.lv_reader.specs.declared.fault.FormFault.TheVariants.{Form};
+ghost use Rattle.lv_reader.specs.Keywords.{keyword_of};
+ghost use Rattle.lv_reader.specs.Statements.{HasForm, HasNoForm, IsStatement};
+ghost use Rattle.lv_reader.specs.Lines.{TellsBy};
+ghost use Rattle.lv_reader.specs.declared.keyword.Keyword.TheVariants.{DomainWord, ClassWord, InWord, StepWord, FaultWord, EndWord, PartWord, PriceWord};
 
-use crate::fault::LineFault;
+use crate::code::ModelCode;
+use crate::fault::{FormFault, LineFault};
+use crate::keyword::{Keyword, keyword_of};
 use crate::statement::Statement;
-use crate::words::{equation_from, free_name_at, is_arrow_at, name_at, names_from};
+use crate::words::{
+    both_ends, formula_from, guard_from, name_and_names, name_at, numeral_at, only_name,
+    priced_names, three_names, two_names,
+};
 use lv_base::Class;
-use lv_base::limits::{FAULT_COST, LEAST_FAULT_COST};
+use lv_phrase::is_too_deep;
 use lv_text::TokenLine;
 use std::alloc::Global;
 
-fn model_line(alloc: Global, line: &TokenLine) -> Result<Statement, LineFault>
-    ensures ok { IfOk result (λ read. model_line line.now ≡ Some read) }
-    ensures refused { result ≡ Err Refused → model_line line.now ≡ None }
+fn domain_line(alloc: Global, line: &TokenLine<'_>) -> Result<Statement, FormFault>
+    requires { keyword_of line.now ≡ Some DomainWord }
+    ensures ok { IfOk result (HasForm line.now) }
+    ensures refused { result ≡ Err Form → HasNoForm line.now }
 {
-    if line.len() != 2 {
-        return Err(LineFault::Refused);
-    }
-    let name = name_at(alloc, line, 1)?;
-    Ok(Statement::ModelLine(name))
+    let names = name_and_names(alloc, line)?;
+    Ok(Statement::DomainLine(names.name, names.others))
 }
 
-fn type_line(alloc: Global, line: &TokenLine) -> Result<Statement, LineFault>
-    ensures ok { IfOk result (λ read. type_line line.now ≡ Some read) }
-    ensures refused { result ≡ Err Refused → type_line line.now ≡ None }
+fn variable_line(alloc: Global, line: &TokenLine<'_>, class: Class) -> Result<Statement, FormFault>
+    requires { keyword_of line.now ≡ Some (ClassWord class) }
+    ensures ok { IfOk result (HasForm line.now) }
+    ensures refused { result ≡ Err Form → HasNoForm line.now }
 {
-    if line.len() != 2 {
-        return Err(LineFault::Refused);
-    }
-    let name = name_at(alloc, line, 1)?;
-    Ok(Statement::TypeLine(name))
+    let names = two_names(alloc, line)?;
+    Ok(Statement::VariableLine(class, names.first, names.second))
 }
 
-fn mode_line(alloc: Global, line: &TokenLine) -> Result<Statement, LineFault>
-    ensures ok { IfOk result (λ read. mode_line line.now ≡ Some read) }
-    ensures refused { result ≡ Err Refused → mode_line line.now ≡ None }
+fn part_line(alloc: Global, line: &TokenLine<'_>) -> Result<Statement, FormFault>
+    requires { keyword_of line.now ≡ Some PartWord }
+    ensures ok { IfOk result (HasForm line.now) }
+    ensures refused { result ≡ Err Form → HasNoForm line.now }
 {
-    if line.len() != 2 {
-        return Err(LineFault::Refused);
-    }
-    let name = name_at(alloc, line, 1)?;
-    Ok(Statement::ModeLine(name))
+    let names = three_names(alloc, line)?;
+    Ok(Statement::PartLine(names.first, names.second, names.third))
 }
 
-fn end_line(line: &TokenLine) -> Result<Statement, LineFault>
-    ensures ok { IfOk result (λ read. end_line line.now ≡ Some read) }
-    ensures refused { result ≡ Err Refused → end_line line.now ≡ None }
+fn price_line(alloc: Global, line: &TokenLine<'_>) -> Result<Statement, FormFault>
+    requires { keyword_of line.now ≡ Some PriceWord }
+    ensures ok { IfOk result (HasForm line.now) }
+    ensures refused { result ≡ Err Form → HasNoForm line.now }
+{
+    let names = priced_names(alloc, line)?;
+    let cost = numeral_at(line, 6)?;
+    Ok(Statement::PriceLine(names.first, names.second, names.third, cost))
+}
+
+fn end_line(line: &TokenLine<'_>) -> Result<Statement, FormFault>
+    requires { keyword_of line.now ≡ Some EndWord }
+    ensures ok { IfOk result (HasForm line.now) }
+    ensures refused { result ≡ Err Form → HasNoForm line.now }
 {
     if line.len() != 1 {
-        return Err(LineFault::Refused);
+        return Err(FormFault::Form);
     }
     Ok(Statement::EndLine)
 }
 
-fn domain_line(alloc: Global, line: &TokenLine) -> Result<Statement, LineFault>
-    ensures ok { IfOk result (λ read. domain_line line.now ≡ Some read) }
-    ensures refused { result ≡ Err Refused → domain_line line.now ≡ None }
-{
-    if line.len() < 3 {
-        return Err(LineFault::Refused);
-    }
-    let name = name_at(alloc, line, 1)?;
-    let values = names_from(alloc, line, 2)?;
-    Ok(Statement::DomainLine(name, values))
-}
-
-fn variable_line(alloc: Global, class: Class, line: &TokenLine) -> Result<Statement, LineFault>
-    ensures ok { IfOk result (λ read. variable_line class line.now ≡ Some read) }
-    ensures refused { result ≡ Err Refused → variable_line class line.now ≡ None }
-{
-    if line.len() != 3 {
-        return Err(LineFault::Refused);
-    }
-    let name = free_name_at(alloc, line, 1)?;
-    let domain = name_at(alloc, line, 2)?;
-    Ok(Statement::VariableLine(class, name, domain))
-}
-
-fn part_line(alloc: Global, line: &TokenLine) -> Result<Statement, LineFault>
-    ensures ok { IfOk result (λ read. part_line line.now ≡ Some read) }
-    ensures refused { result ≡ Err Refused → part_line line.now ≡ None }
-{
-    if line.len() != 4 {
-        return Err(LineFault::Refused);
-    }
-    let name = free_name_at(alloc, line, 1)?;
-    let kind = name_at(alloc, line, 2)?;
-    let start = name_at(alloc, line, 3)?;
-    Ok(Statement::PartLine(name, kind, start))
-}
-
-fn law_line(alloc: Global, line: &TokenLine) -> Result<Statement, LineFault>
-    ensures ok { IfOk result (λ read. law_line line.now ≡ Some read) }
-    ensures refused { result ≡ Err Refused → law_line line.now ≡ None }
-{
-    let equation = equation_from(alloc, line, 1)?;
-    Ok(Statement::LawLine(equation))
-}
-
-fn in_line(alloc: Global, line: &TokenLine) -> Result<Statement, LineFault>
-    ensures ok { IfOk result (λ read. in_line line.now ≡ Some read) }
-    ensures refused { result ≡ Err Refused → in_line line.now ≡ None }
+fn in_line(alloc: Global, line: &TokenLine<'_>) -> Result<Statement, FormFault>
+    requires word { keyword_of line.now ≡ Some InWord }
+    requires shallow { is_too_deep line.now ≡ false }
+    ensures ok { IfOk result (HasForm line.now) }
+    ensures refused { result ≡ Err Form → HasNoForm line.now }
 {
     let mode = name_at(alloc, line, 1)?;
-    let equation = equation_from(alloc, line, 2)?;
-    Ok(Statement::InLine(mode, equation))
+    let formula = formula_from(alloc, line, 2)?;
+    Ok(Statement::InLine(mode, formula))
 }
 
-fn step_line(alloc: Global, line: &TokenLine) -> Result<Statement, LineFault>
-    ensures ok { IfOk result (λ read. step_line line.now ≡ Some read) }
-    ensures refused { result ≡ Err Refused → step_line line.now ≡ None }
+fn step_line(alloc: Global, line: &TokenLine<'_>) -> Result<Statement, FormFault>
+    requires word { keyword_of line.now ≡ Some StepWord }
+    requires shallow { is_too_deep line.now ≡ false }
+    ensures ok { IfOk result (HasForm line.now) }
+    ensures refused { result ≡ Err Form → HasNoForm line.now }
 {
-    if !is_arrow_at(line, 2) || !line.says(4, b"when") {
-        return Err(LineFault::Refused);
-    }
-    let source = name_at(alloc, line, 1)?;
-    let target = name_at(alloc, line, 3)?;
-    let guard = equation_from(alloc, line, 5)?;
-    Ok(Statement::StepLine(source, target, guard))
-}
-
-/// The number at this place, if a fault may cost it.
-fn fault_cost_at(line: &TokenLine, place: usize) -> Result<u64, LineFault>
-    ensures ok { IfOk result (λ read. fault_cost_at line.now place ≡ Some read) }
-    ensures refused { result ≡ Err Refused → fault_cost_at line.now place ≡ None }
-{
-    let cost = line.number(place).ok_or(LineFault::Refused)?;
-    if cost < u128::from(LEAST_FAULT_COST) || u128::from(FAULT_COST) < cost {
-        return Err(LineFault::Refused);
-    }
-    Ok(cost as u64)
-}
-
-fn fault_line(alloc: Global, line: &TokenLine) -> Result<Statement, LineFault>
-    ensures ok { IfOk result (λ read. fault_line line.now ≡ Some read) }
-    ensures refused { result ≡ Err Refused → fault_line line.now ≡ None }
-{
-    if line.len() != 6 || !is_arrow_at(line, 2) || !line.says(4, b"cost") {
-        return Err(LineFault::Refused);
-    }
-    let source = name_at(alloc, line, 1)?;
-    let target = name_at(alloc, line, 3)?;
-    let cost = fault_cost_at(line, 5)?;
-    Ok(Statement::FaultLine(source, target, cost))
-}
-
-/// A statement of a type.
-fn statement_in_type(alloc: Global, line: &TokenLine) -> Result<Statement, LineFault>
-    ensures ok { IfOk result (λ read. statement_in_type line.now ≡ Some read) }
-    ensures refused { result ≡ Err Refused → statement_in_type line.now ≡ None }
-{
-    if line.says(0, b"control") {
-        variable_line(alloc, Class::Control, line)
-    } else if line.says(0, b"variable") {
-        variable_line(alloc, Class::Dependent, line)
-    } else if line.says(0, b"observable") {
-        variable_line(alloc, Class::Observable, line)
-    } else if line.says(0, b"mode") {
-        mode_line(alloc, line)
-    } else if line.says(0, b"in") {
-        in_line(alloc, line)
-    } else if line.says(0, b"step") {
-        step_line(alloc, line)
-    } else if line.says(0, b"fault") {
-        fault_line(alloc, line)
-    } else if line.says(0, b"end") {
-        end_line(line)
-    } else {
-        Err(LineFault::Refused)
+    let ends = both_ends(alloc, line)?;
+    match guard_from(alloc, line, 4)? {
+        Some(guard) => Ok(Statement::StepLine(ends.first, ends.second, guard)),
+        None => Err(FormFault::Form),
     }
 }
 
-/// The statement that the tokens of a line are.
-pub fn statement_of(alloc: Global, line: &TokenLine) -> Result<Statement, LineFault>
-    ensures ok { IfOk result (λ read. statement_of line.now ≡ Some read) }
-    ensures refused { result ≡ Err Refused → statement_of line.now ≡ None }
+fn fault_line(alloc: Global, line: &TokenLine<'_>) -> Result<Statement, FormFault>
+    requires word { keyword_of line.now ≡ Some FaultWord }
+    requires shallow { is_too_deep line.now ≡ false }
+    ensures ok { IfOk result (HasForm line.now) }
+    ensures refused { result ≡ Err Form → HasNoForm line.now }
 {
-    if line.says(0, b"model") {
-        model_line(alloc, line)
-    } else if line.says(0, b"domain") {
-        domain_line(alloc, line)
-    } else if line.says(0, b"type") {
-        type_line(alloc, line)
-    } else if line.says(0, b"part") {
-        part_line(alloc, line)
-    } else if line.says(0, b"law") {
-        law_line(alloc, line)
-    } else {
-        statement_in_type(alloc, line)
+    let ends = both_ends(alloc, line)?;
+    if !line.says(4, b"cost") {
+        return Err(FormFault::Form);
     }
+    let cost = numeral_at(line, 5)?;
+    let guard = guard_from(alloc, line, 6)?;
+    Ok(Statement::FaultLine(ends.first, ends.second, cost, guard))
+}
+
+/// The statement whose form the line has, by the word that it begins with.
+fn form_of(alloc: Global, line: &TokenLine<'_>, keyword: Keyword) -> Result<Statement, FormFault>
+    requires word { keyword_of line.now ≡ Some keyword }
+    requires shallow { is_too_deep line.now ≡ false }
+    ensures ok { IfOk result (HasForm line.now) }
+    ensures refused { result ≡ Err Form → HasNoForm line.now }
+{
+    match keyword {
+        Keyword::ModelWord => Ok(Statement::ModelLine(only_name(alloc, line)?)),
+        Keyword::DomainWord => domain_line(alloc, line),
+        Keyword::TypeWord => Ok(Statement::TypeLine(only_name(alloc, line)?)),
+        Keyword::ClassWord(class) => variable_line(alloc, line, class),
+        Keyword::ModeWord => Ok(Statement::ModeLine(only_name(alloc, line)?)),
+        Keyword::LawWord => Ok(Statement::LawLine(formula_from(alloc, line, 1)?)),
+        Keyword::InWord => in_line(alloc, line),
+        Keyword::StepWord => step_line(alloc, line),
+        Keyword::FaultWord => fault_line(alloc, line),
+        Keyword::EndWord => end_line(line),
+        Keyword::PartWord => part_line(alloc, line),
+        Keyword::PriceWord => price_line(alloc, line),
+    }
+}
+
+/// The statement that the tokens of a line are, of which there are some.
+pub fn statement_of(alloc: Global, line: &TokenLine<'_>) -> Result<Statement, LineFault>
+    ensures ok { IfOk result (IsStatement line.now) }
+    ensures fault { IfErr result (λ fault. TellsBy fault line.now) }
+{
+    let Some(keyword) = keyword_of(line) else {
+        return Err(LineFault::Refused(ModelCode::UnknownStatement));
+    };
+    if is_too_deep(line) {
+        return Err(LineFault::Refused(ModelCode::TooDeep));
+    }
+    let statement = match form_of(alloc, line, keyword) {
+        Ok(statement) => statement,
+        Err(FormFault::Form) => return Err(LineFault::Refused(ModelCode::Form)),
+        Err(FormFault::Memory) => return Err(LineFault::Memory),
+    };
+    if !statement.number_fits() {
+        return Err(LineFault::Refused(ModelCode::NumberOutOfRange));
+    }
+    Ok(statement)
 }

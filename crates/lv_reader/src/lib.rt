@@ -1,26 +1,28 @@
-//! The statements of a model's text, and the words that they are made of.
+//! The statements of a model's text, each with the number of its line, or the first fault of reading.
 //!
-//! A line says nothing, one statement, or is refused, and so is the whole text then. What is told here depends on no
-//! other line: names stay as they are written, and what they stand for, and whether a statement may follow those
-//! before it, is for the layer above. Lines of a session are read by the same words.
+//! A line says nothing, or one statement, or is refused. What is told here depends on no other line: names stay as they
+//! are written, and what they stand for, and whether a statement may follow those before it, is for the layer above.
 //!
 //! | part | items |
 //! |---|---|
-//! | a text | `statements_of` |
-//! | one statement | `Statement`, `Equation` |
-//! | the end of a line | `equation_from` |
-//! | why not | `LineFault` |
+//! | a text | `read_model`, `ModelText`, `NumberedStatement` |
+//! | one statement | `Statement` |
+//! | why not | `ModelFault`, `ModelCode` |
+//! | what holds of every text | `laws` |
 //!
-//! `forms` makes a statement of the tokens of a line, by the word that it begins with.
+//! Which tokens are which statement stands in `specs/Statements.antt`, by cases on the statement.
 #![tactic(auto)]
 
+pub mod code;
 pub mod fault;
 mod forms;
+pub mod keyword;
+pub mod laws;
 pub mod reader;
 pub mod statement;
-mod words;
+pub mod words;
 
-pub use fault::LineFault;
-pub use reader::statements_of;
-pub use statement::{Equation, Statement};
-pub use words::equation_from;
+pub use code::ModelCode;
+pub use fault::ModelFault;
+pub use reader::read_model;
+pub use statement::{ModelText, NumberedStatement, Statement};

@@ -1,75 +1,96 @@
 //! The statements of a text, line by line.
 #![tactic(auto)]
 
-ghost use Rattle.std.specs.Prelude.{◌≡◌, IfOk, Some, None};
-ghost use Rattle.std.specs.Option.{option_and_then, option_to_list};
+ghost use Rattle.std.specs.Prelude.{◌≡◌, ◌≤◌, length, IfOk, IfErr, OnOk};
+ghost use Rattle.lv_base.specs.declared.limits.TheConstants.{MODEL_BYTES as MOST_BYTES};
 ghost use Rattle.lv_text.specs.Lines.{lines_of};
-ghost use Rattle.lv_reader.specs.declared.fault.LineFault.TheVariants.{Refused};
-ghost use Rattle.lv_reader.specs.Texts.{said, said_by, all_said, few, statements_of};
+ghost use Rattle.lv_reader.specs.Lines.{Says, Tells};
+ghost use Rattle.lv_reader.specs.Texts.{ReadsAs, TellsReading, TellsLines, AddsLine, TellsLine};
 
-use crate::fault::LineFault;
+use crate::code::ModelCode;
+use crate::fault::{LineFault, ModelFault};
 use crate::forms::statement_of;
-use crate::statement::Statement;
-use lv_base::limits;
+use crate::statement::{ModelText, NumberedStatement, Statement};
+use lv_base::Seq;
+use lv_base::limits::MODEL_BYTES;
 use lv_text::{TextFault, TokenLine, next_line};
 use std::alloc::Global;
 
-/// The most lines with tokens that a text may have.
-pub const MOST_STATEMENTS: usize = 200;
-
 /// What a line says, which is given without its end: nothing where it has no tokens.
 fn read_line(alloc: Global, line: &[u8]) -> Result<Option<Statement>, LineFault>
-    ensures ok { IfOk result (λ found. said line.now ≡ Some (option_to_list found)) }
-    ensures refused { result ≡ Err Refused → said line.now ≡ None }
+    ensures ok { IfOk result (Says line.now) }
+    ensures fault { IfErr result (λ fault. Tells fault line.now) }
 {
-    let tokens = read_tokens(alloc, line)?;
+    let tokens = match TokenLine::read(alloc, line) {
+        Ok(tokens) => tokens,
+        Err(TextFault::LongLine) => return Err(LineFault::Refused(ModelCode::LongLine)),
+        Err(TextFault::BadByte(_)) => return Err(LineFault::Refused(ModelCode::BadByte)),
+        Err(TextFault::Memory) => return Err(LineFault::Memory),
+    };
     if tokens.is_empty() {
         return Ok(None);
     }
-    let statement = statement_of(alloc, &tokens)?;
-    Ok(Some(statement))
-}
-
-/// The tokens of a line.
-fn read_tokens<'a>(alloc: Global, line: &'a [u8]) -> Result<TokenLine<'a>, LineFault>
-    ensures ok { IfOk result (λ tokens. said line.now ≡ said_by tokens) }
-    ensures refused { result ≡ Err Refused → said line.now ≡ None }
-{
-    match TokenLine::read(alloc, line) {
-        Ok(tokens) => Ok(tokens),
-        Err(TextFault::LongLine) => Err(LineFault::Refused),
-        Err(TextFault::BadByte(_)) => Err(LineFault::Refused),
-        Err(TextFault::Memory) => Err(LineFault::Memory),
+    match statement_of(alloc, &tokens) {
+        Ok(statement) => Ok(Some(statement)),
+        Err(LineFault::Refused(code)) => Err(LineFault::Refused(code)),
+        Err(LineFault::Memory) => Err(LineFault::Memory),
     }
 }
 
-/// What the lines of a text say, if there are few of them.
-fn all_said(alloc: Global, bytes: &[u8]) -> Result<Vec<Statement>, LineFault>
-    ensures ok { IfOk result (λ found. option_and_then few (all_said (lines_of bytes.now)) ≡ Some found.items) }
-    ensures refused { result ≡ Err Refused → option_and_then few (all_said (lines_of bytes.now)) ≡ None }
+/// Adds what the line of this number says.
+fn add_line(
+    alloc: Global,
+    statements: &mut Vec<NumberedStatement>,
+    at: usize,
+    line: &[u8],
+) -> Result<(), ModelFault>
+    ensures ok { OnOk result (AddsLine at line.now statements.old.items statements.new.items) }
+    ensures fault { IfErr result (λ fault. TellsLine fault at line.now) }
 {
-    let mut found = Vec::new(alloc);
+    match read_line(alloc, line) {
+        Ok(Some(statement)) => {
+            statements.push(NumberedStatement {
+                line: at,
+                statement,
+            })?;
+            Ok(())
+        }
+        Ok(None) => Ok(()),
+        Err(LineFault::Refused(code)) => Err(ModelFault::At { code, line: at }),
+        Err(LineFault::Memory) => Err(ModelFault::Memory),
+    }
+}
+
+/// The statements of a text that is within its limit.
+fn read_lines(alloc: Global, bytes: &[u8]) -> Result<ModelText, ModelFault>
+    requires { length bytes.now ≤ MOST_BYTES }
+    ensures ok { IfOk result (ReadsAs bytes.now) }
+    ensures fault { IfErr result (λ fault. TellsLines fault 0 (lines_of bytes.now)) }
+{
+    let mut statements = Vec::new(alloc);
+    let mut lines: usize = 0;
     let mut rest = bytes;
     while let Some(line) = next_line(rest) {
-        if let Some(statement) = read_line(alloc, &rest[..line.length])? {
-            if found.len() >= MOST_STATEMENTS {
-                return Err(LineFault::Refused);
-            }
-            found.push(statement)?;
-        }
+        lines += 1;
+        add_line(alloc, &mut statements, lines, &rest[..line.length])?;
         rest = &rest[line.whole..];
     }
-    Ok(found)
+    Ok(ModelText {
+        statements: Seq::from_vec(statements),
+        lines,
+    })
 }
 
-/// The statements of a text. It is refused where some line is or a limit is passed.
-#[tactic(auto, unfolding(crate::specs::Texts::statements_of))]
-pub fn statements_of(alloc: Global, bytes: &[u8]) -> Result<Vec<Statement>, LineFault>
-    ensures ok { IfOk result (λ found. statements_of bytes.now ≡ Some found.items) }
-    ensures refused { result ≡ Err Refused → statements_of bytes.now ≡ None }
+/// The statements of a text with the numbers of their lines, or its first fault of reading.
+pub fn read_model(alloc: Global, bytes: &[u8]) -> Result<ModelText, ModelFault>
+    ensures ok { IfOk result (ReadsAs bytes.now) }
+    ensures fault { IfErr result (λ fault. TellsReading fault bytes.now) }
 {
-    if bytes.len() as u64 > limits::MODEL_BYTES {
-        return Err(LineFault::Refused);
+    if bytes.len() as u64 > MODEL_BYTES {
+        return Err(ModelFault::At {
+            code: ModelCode::TextTooLong,
+            line: 0,
+        });
     }
-    all_said(alloc, bytes)
+    read_lines(alloc, bytes)
 }

@@ -1,36 +1,67 @@
-//! The words of a line, by the places of their tokens, and the equation that a line ends with.
+//! The words, numbers and formulas of a line, by the places of their tokens.
 #![tactic(auto)]
 
-ghost use Rattle.std.specs.Prelude.{◌≡◌, ◌≤◌, IfOk, Some, None, drop};
+ghost use Rattle.std.specs.Prelude.{◌≡◌, IfOk, Some, None, false, drop};
 ghost use Rattle.lv_base.specs.Names.{is_named};
-ghost use Rattle.lv_text.specs.Lexemes.{word_at};
-ghost use Rattle.lv_reader.specs.declared.fault.LineFault.TheVariants.{Refused};
-ghost use Rattle.lv_reader.specs.Equations.{is_arrow, is_equals, is_dot, has_kind_at, is_truth, is_reserved, free_word_at, words_of, path_width, path_at, truth_at, has_sides, equation_from};
+ghost use Rattle.lv_phrase.specs.Nesting.{is_too_deep};
+ghost use Rattle.lv_text.specs.Lexemes.{word_at, is_number};
+ghost use Rattle.lv_reader.specs.declared.fault.FormFault.TheVariants.{Form};
+ghost use Rattle.lv_reader.specs.Words.{is_arrow, is_equals, is_dot, has_kind_at, is_reserved, free_word_at, words_of, capped, numeral_at, only_name, name_and_names, two_names, three_names, both_ends, priced_names, EndsInFormula, EndsInNone, HasGuard, HasNoGuard};
 
-use crate::fault::LineFault;
-use crate::statement::Equation;
+use crate::fault::FormFault;
 use lv_base::{Name, Seq};
-use lv_formula::Path;
+use lv_phrase::{Phrase, PhraseFault, read_phrase};
 use lv_text::{TokenKind, TokenLine};
 use std::alloc::Global;
 
+/// A number that is over every limit of a number in a model's text.
+pub const OVER_EVERY_LIMIT: u64 = 1_000_001;
+
+/// A name, and others behind it.
+#[derive(Debug, Drop)]
+pub struct NameAndNames {
+    pub name: Name,
+    pub others: Seq<Name>,
+}
+
+/// Two names of a line.
+#[derive(Debug, Drop)]
+pub struct TwoNames {
+    pub first: Name,
+    pub second: Name,
+}
+
+/// Three names of a line.
+#[derive(Debug, Drop)]
+pub struct ThreeNames {
+    pub first: Name,
+    pub second: Name,
+    pub third: Name,
+}
+
 /// Whether the token at this place, counted from 0, is `->`.
-pub fn is_arrow_at(line: &TokenLine, place: usize) -> bool
+fn is_arrow_at(line: &TokenLine<'_>, place: usize) -> bool
     ensures { result ≡ has_kind_at is_arrow line.now place }
 {
     matches!(line.kind(place), Some(TokenKind::Arrow))
 }
 
-fn is_equals_at(line: &TokenLine, place: usize) -> bool
+fn is_equals_at(line: &TokenLine<'_>, place: usize) -> bool
     ensures { result ≡ has_kind_at is_equals line.now place }
 {
     matches!(line.kind(place), Some(TokenKind::Equals))
 }
 
-fn is_dot_at(line: &TokenLine, place: usize) -> bool
+fn is_dot_at(line: &TokenLine<'_>, place: usize) -> bool
     ensures { result ≡ has_kind_at is_dot line.now place }
 {
     matches!(line.kind(place), Some(TokenKind::Dot))
+}
+
+fn is_number_at(line: &TokenLine<'_>, place: usize) -> bool
+    ensures { result ≡ has_kind_at is_number line.now place }
+{
+    matches!(line.kind(place), Some(TokenKind::Number))
 }
 
 fn is_text(word: &[u8], text: &[u8]) -> bool
@@ -39,43 +70,37 @@ fn is_text(word: &[u8], text: &[u8]) -> bool
     word == text
 }
 
-fn is_truth(word: &[u8]) -> bool
-    ensures { result ≡ is_truth word.now }
-{
-    is_text(word, b"true") || is_text(word, b"false")
-}
-
 fn is_reserved(word: &[u8]) -> bool
     ensures { result ≡ is_reserved word.now }
 {
-    is_truth(word) || is_text(word, b"mode")
+    is_text(word, b"true") || is_text(word, b"false") || is_text(word, b"mode")
 }
 
 /// The word at this place, as a name.
-pub fn name_at(alloc: Global, line: &TokenLine, place: usize) -> Result<Name, LineFault>
+pub fn name_at(alloc: Global, line: &TokenLine<'_>, place: usize) -> Result<Name, FormFault>
     ensures ok { IfOk result (λ name. word_at line.now place ≡ Some name) }
-    ensures refused { result ≡ Err Refused → word_at line.now place ≡ None }
+    ensures refused { result ≡ Err Form → word_at line.now place ≡ None }
 {
-    let word = line.word(place).ok_or(LineFault::Refused)?;
+    let word = line.word(place).ok_or(FormFault::Form)?;
     Ok(Seq::from_slice(alloc, word)?)
 }
 
 /// The word at this place, as the name of a part or a variable, which `true`, `false` and `mode` can't be.
-pub fn free_name_at(alloc: Global, line: &TokenLine, place: usize) -> Result<Name, LineFault>
+fn free_name_at(alloc: Global, line: &TokenLine<'_>, place: usize) -> Result<Name, FormFault>
     ensures ok { IfOk result (λ name. free_word_at line.now place ≡ Some name) }
-    ensures refused { result ≡ Err Refused → free_word_at line.now place ≡ None }
+    ensures refused { result ≡ Err Form → free_word_at line.now place ≡ None }
 {
-    let word = line.word(place).ok_or(LineFault::Refused)?;
+    let word = line.word(place).ok_or(FormFault::Form)?;
     if is_reserved(word) {
-        return Err(LineFault::Refused);
+        return Err(FormFault::Form);
     }
     Ok(Seq::from_slice(alloc, word)?)
 }
 
 /// The words from this place to the end, where nothing else stands there.
-pub fn names_from(alloc: Global, line: &TokenLine, place: usize) -> Result<Seq<Name>, LineFault>
+fn names_from(alloc: Global, line: &TokenLine<'_>, place: usize) -> Result<Seq<Name>, FormFault>
     ensures ok { IfOk result (λ names. words_of (drop place line.now) ≡ Some names) }
-    ensures refused { result ≡ Err Refused → words_of (drop place line.now) ≡ None }
+    ensures refused { result ≡ Err Form → words_of (drop place line.now) ≡ None }
 {
     let mut names = Vec::new(alloc);
     for at in place..line.len() {
@@ -84,58 +109,142 @@ pub fn names_from(alloc: Global, line: &TokenLine, place: usize) -> Result<Seq<N
     Ok(Seq::from_vec(names))
 }
 
-/// How many tokens the path at this place has.
-fn path_width(line: &TokenLine, place: usize) -> usize
-    requires { place ≤ 16 }
-    ensures { result ≡ path_width line.now place }
+/// The line's only name behind its first word.
+pub fn only_name(alloc: Global, line: &TokenLine<'_>) -> Result<Name, FormFault>
+    ensures ok { IfOk result (λ name. only_name line.now ≡ Some name) }
+    ensures refused { result ≡ Err Form → only_name line.now ≡ None }
 {
-    if is_dot_at(line, place + 1) { 3 } else { 1 }
-}
-
-/// The path at this place.
-fn path_at(alloc: Global, line: &TokenLine, place: usize) -> Result<Path, LineFault>
-    requires { place ≤ 16 }
-    ensures ok { IfOk result (λ path. path_at line.now place ≡ Some path) }
-    ensures refused { result ≡ Err Refused → path_at line.now place ≡ None }
-{
-    let first = name_at(alloc, line, place)?;
-    if !is_dot_at(line, place + 1) {
-        return Ok(Path::Own(first));
+    if line.len() != 2 {
+        return Err(FormFault::Form);
     }
-    let second = name_at(alloc, line, place + 2)?;
-    Ok(Path::OfPart(first, second))
+    name_at(alloc, line, 1)
 }
 
-fn is_truth_at(line: &TokenLine, place: usize) -> bool
-    ensures { result ≡ truth_at line.now place }
+/// A name and one or more behind it.
+pub fn name_and_names(alloc: Global, line: &TokenLine<'_>) -> Result<NameAndNames, FormFault>
+    ensures ok { IfOk result (λ names. name_and_names line.now ≡ Some names) }
+    ensures refused { result ≡ Err Form → name_and_names line.now ≡ None }
 {
-    match line.word(place) {
-        Some(word) => is_truth(word),
-        None => false,
+    if line.len() < 3 {
+        return Err(FormFault::Form);
+    }
+    let name = name_at(alloc, line, 1)?;
+    let others = names_from(alloc, line, 2)?;
+    Ok(NameAndNames { name, others })
+}
+
+/// The name of a variable, and one more.
+pub fn two_names(alloc: Global, line: &TokenLine<'_>) -> Result<TwoNames, FormFault>
+    ensures ok { IfOk result (λ names. two_names line.now ≡ Some names) }
+    ensures refused { result ≡ Err Form → two_names line.now ≡ None }
+{
+    if line.len() != 3 {
+        return Err(FormFault::Form);
+    }
+    let first = free_name_at(alloc, line, 1)?;
+    let second = name_at(alloc, line, 2)?;
+    Ok(TwoNames { first, second })
+}
+
+/// The name of a part, and two more.
+pub fn three_names(alloc: Global, line: &TokenLine<'_>) -> Result<ThreeNames, FormFault>
+    ensures ok { IfOk result (λ names. three_names line.now ≡ Some names) }
+    ensures refused { result ≡ Err Form → three_names line.now ≡ None }
+{
+    if line.len() != 4 {
+        return Err(FormFault::Form);
+    }
+    let first = free_name_at(alloc, line, 1)?;
+    let second = name_at(alloc, line, 2)?;
+    let third = name_at(alloc, line, 3)?;
+    Ok(ThreeNames {
+        first,
+        second,
+        third,
+    })
+}
+
+/// The names before and behind an arrow.
+pub fn both_ends(alloc: Global, line: &TokenLine<'_>) -> Result<TwoNames, FormFault>
+    ensures ok { IfOk result (λ names. both_ends line.now ≡ Some names) }
+    ensures refused { result ≡ Err Form → both_ends line.now ≡ None }
+{
+    if !is_arrow_at(line, 2) {
+        return Err(FormFault::Form);
+    }
+    let first = name_at(alloc, line, 1)?;
+    let second = name_at(alloc, line, 3)?;
+    Ok(TwoNames { first, second })
+}
+
+/// The names of a part, a control and a value, with a price behind them.
+pub fn priced_names(alloc: Global, line: &TokenLine<'_>) -> Result<ThreeNames, FormFault>
+    ensures ok { IfOk result (λ names. priced_names line.now ≡ Some names) }
+    ensures refused { result ≡ Err Form → priced_names line.now ≡ None }
+{
+    if line.len() != 7 || !is_dot_at(line, 2) || !is_equals_at(line, 4) {
+        return Err(FormFault::Form);
+    }
+    let first = name_at(alloc, line, 1)?;
+    let second = name_at(alloc, line, 3)?;
+    let third = name_at(alloc, line, 5)?;
+    Ok(ThreeNames {
+        first,
+        second,
+        third,
+    })
+}
+
+/// The number, or the least over every limit where it is greater.
+fn capped(number: Option<u128>) -> u64
+    ensures { result ≡ capped number }
+{
+    match number {
+        Some(n) if n < u128::from(OVER_EVERY_LIMIT) => n as u64,
+        _ => OVER_EVERY_LIMIT,
     }
 }
 
-/// Whether two paths with `=` between them would just fill the tokens from this place on.
-fn has_sides(line: &TokenLine, place: usize) -> bool
-    requires { place ≤ 8 }
-    ensures { result ≡ has_sides line.now place }
+/// The number at this place.
+pub fn numeral_at(line: &TokenLine<'_>, place: usize) -> Result<u64, FormFault>
+    ensures ok { IfOk result (λ n. numeral_at line.now place ≡ Some n) }
+    ensures refused { result ≡ Err Form → numeral_at line.now place ≡ None }
 {
-    let middle = place + path_width(line, place);
-    !is_truth_at(line, place)
-        && is_equals_at(line, middle)
-        && line.len() == middle + 1 + path_width(line, middle + 1)
+    if !is_number_at(line, place) {
+        return Err(FormFault::Form);
+    }
+    Ok(capped(line.number(place)))
 }
 
-/// The equation that the tokens from this place to the end are. What its names stand for is not asked.
-pub fn equation_from(alloc: Global, line: &TokenLine, place: usize) -> Result<Equation, LineFault>
-    requires { place ≤ 8 }
-    ensures ok { IfOk result (λ equation. equation_from line.now place ≡ Some equation) }
-    ensures refused { result ≡ Err Refused → equation_from line.now place ≡ None }
+/// The formula that the tokens from this place to the end are.
+pub fn formula_from(alloc: Global, line: &TokenLine<'_>, place: usize) -> Result<Phrase, FormFault>
+    requires { is_too_deep line.now ≡ false }
+    ensures ok { IfOk result (λ f. EndsInFormula line.now place f) }
+    ensures refused { result ≡ Err Form → EndsInNone line.now place }
 {
-    if !has_sides(line, place) {
-        return Err(LineFault::Refused);
+    match read_phrase(alloc, line, place) {
+        Ok(phrase) => Ok(phrase),
+        Err(PhraseFault::Form) => Err(FormFault::Form),
+        Err(PhraseFault::TooDeep) => Err(FormFault::Form),
+        Err(PhraseFault::Memory) => Err(FormFault::Memory),
     }
-    let left = path_at(alloc, line, place)?;
-    let right = path_at(alloc, line, place + path_width(line, place) + 1)?;
-    Ok(Equation { left, right })
+}
+
+/// The guard that the tokens from this place to the end are, if there are any.
+pub fn guard_from(
+    alloc: Global,
+    line: &TokenLine<'_>,
+    place: usize,
+) -> Result<Option<Phrase>, FormFault>
+    requires { is_too_deep line.now ≡ false }
+    ensures ok { IfOk result (λ guard. HasGuard line.now place guard) }
+    ensures refused { result ≡ Err Form → HasNoGuard line.now place }
+{
+    if line.len() == place {
+        return Ok(None);
+    }
+    if !line.says(place, b"when") {
+        return Err(FormFault::Form);
+    }
+    Ok(Some(formula_from(alloc, line, place + 1)?))
 }

@@ -1,5 +1,5 @@
 use Rattle.std.proofs.Common.{◌≡◌, drop}
-use Rattle.lv_reader.specs.Equations.{words_of}
+use Rattle.lv_reader.specs.Words.{words_of}
 use Rattle.lv_reader.proofs.WordLists.{joined_words}
 use Rattle.lv_reader.proofs.words.names_from.Given as goal
 
