@@ -5,6 +5,7 @@
 
 model="$root/examples/valve.lv"
 session="$root/examples/first.ses"
+canonical="$root/tests/valve.canonical"
 usage='usage: livingstone run MODEL SESSION, check MODEL CERT, print MODEL, generate KIND N, drive N'
 cd "$work" || exit 1
 : >empty
@@ -13,6 +14,12 @@ echo 'no model' >refused.lv
 # 0: done.
 run run "$model" empty </dev/null
 expect 'an empty session' 0 '' ''
+
+run print "$model" </dev/null
+expect_files 'a model printed' 0 "$canonical" empty
+
+run print -- "$model" </dev/null
+expect_files 'a model printed behind --' 0 "$canonical" empty
 
 # 2: the words are refused.
 run </dev/null
@@ -27,18 +34,40 @@ expect 'too many words' 2 '' "$usage"
 run walk "$model" "$session" </dev/null
 expect 'a first word that names nothing' 2 '' "$usage"
 
+run check "$model" "$session" </dev/null
+expect 'a command that is to come' 2 '' "$usage"
+
+run print "$model" "$session" </dev/null
+expect 'too many words to print' 2 '' "$usage"
+
+run -- run "$model" "$session" </dev/null
+expect '-- as the command' 2 '' "$usage"
+
 run run -v "$session" </dev/null
 expect 'a word that begins with -' 2 '' "$usage"
+
+run run "$model" - </dev/null
+expect 'a lone -' 2 '' "$usage"
 
 run run "$model" $'\xff' </dev/null
 expect 'a word that is no UTF-8' 2 '' "$usage"
 
 # 3: the model is refused.
 run run refused.lv "$session" </dev/null
-expect 'a text that is no model' 3 '' 'model 0 M00'
+expect 'a text that is no model' 3 '' 'model 1 M04'
 
 run run refused.lv absent.ses </dev/null
-expect 'a text that is no model, whose session is not opened' 3 '' 'model 0 M00'
+expect 'a text that is no model, whose session is not opened' 3 '' 'model 1 M04'
+
+run run empty "$session" </dev/null
+expect 'an empty model' 3 '' 'model 1 M15'
+
+run print refused.lv </dev/null
+expect 'a text that is no model, printed' 3 '' 'model 1 M04'
+
+head -c 4194305 /dev/zero | tr '\0' '#' >long.lv
+run print long.lv </dev/null
+expect 'a model of 4194305 bytes' 3 '' 'model 0 M01'
 
 # 4: the model is not read.
 run run absent.lv "$session" </dev/null
@@ -46,6 +75,9 @@ expect 'an absent model' 4 '' 'cannot read model'
 
 run run / "$session" </dev/null
 expect 'a folder as model' 4 '' 'cannot read model'
+
+run print absent.lv </dev/null
+expect 'an absent model to print' 4 '' 'cannot read model'
 
 # 5: the session is not read.
 run run "$model" absent.ses </dev/null
@@ -56,6 +88,9 @@ expect 'a folder as session' 5 '' 'cannot read session'
 
 run run stdin stdin <"$model"
 expect 'standard input twice' 5 '' 'cannot read session'
+
+run run -- "$model" -absent.ses </dev/null
+expect 'a name that begins with - behind --' 5 '' 'cannot read session'
 
 # 6: what was to be written was not.
 : >out

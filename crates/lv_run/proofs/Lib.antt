@@ -1,3 +1,4 @@
+pub mod VerdictLemmas
 pub mod ExpectedLemmas
 pub mod OpenLemmas
 pub mod TopLemmas

@@ -1,14 +1,11 @@
 -- The opens of a run, by how it ended.
-use Rattle.std.proofs.Common.{◌≡◌, ◌≢◌, ◌⊎◌, inl, inr, ℕ, zero, suc, List, [], ◌∷◌, ◌++◌, take, Option, Some, Result, Ok, Err, refl, sym, ◌∙◌, ap, subst, append_assoc, length, arith}
+use Rattle.std.proofs.Common.{◌≡◌, ◌≢◌, ◌⊎◌, inl, inr, ℕ, zero, suc, List, [], ◌∷◌, ◌++◌, take, Result, Ok, Err, refl, sym, ◌∙◌, ap, subst, append_assoc, length, arith}
 use Rattle.std.proofs.lemmas.List.{append-nil, take_all}
-use Rattle.std.specs.Option.{option_map_or}
 use Rattle.std.specs.Prelude.{IsErrAnd}
 use Rattle.lv_io.specs.Outside.{Opened}
 use Rattle.lv_io.specs.declared.IoFault.{IoFault}
 use Rattle.lv_io.specs.declared.IoFault.TheVariants.{Failed, Memory}
-use Rattle.lv_run.specs.Inputs.{AddsOpens, model_open, session_open}
-use Rattle.lv_run.specs.Arguments.{RunWords, run_words}
-use Rattle.lv_run.specs.Expected.{opens_of}
+use Rattle.lv_run.specs.Inputs.{AddsOpens}
 use Rattle.lv_run.specs.Opens.{HasOpened}
 use Rattle.lv_run.specs.Faults.{EndsModel, EndsSession, status_of, ended_status, fault_of_sink}
 use Rattle.lv_run.specs.declared.status.Status.{Status}
@@ -20,13 +17,13 @@ none_taken : (n : ℕ) → take {A = Opened} n [] ≡ []
 none_taken zero = refl
 none_taken (suc n) = refl
 
-first_at_most : (a b : Opened) (old new : List Opened) (n : ℕ)
+first_at_most : (a : Opened) (more old new : List Opened) (n : ℕ)
     → new ≡ old ++ take n (a ∷ [])
-    → AddsOpens old (a ∷ b ∷ []) new
-first_at_most a b old new zero added = record { count = 0; added = added }
-first_at_most a b old new (suc n) added = record {
+    → AddsOpens old (a ∷ more) new
+first_at_most a more old new zero added = record { count = 0; added = added }
+first_at_most a more old new (suc n) added = record {
   count = 1;
-  added = added ∙ ap (λ (more : List Opened). old ++ a ∷ more) (none_taken n);
+  added = added ∙ ap (λ (rest : List Opened). old ++ a ∷ rest) (none_taken n);
 }
 
 first_and_more : (a b : Opened) (old middle new : List Opened) (n : ℕ)
@@ -45,26 +42,18 @@ both : (a b : Opened) (old middle new : List Opened)
 both a b old middle new first second =
     second ∙ ap (λ (m : List Opened). m ++ b ∷ []) first ∙ append_assoc old (a ∷ []) (b ∷ [])
 
-asked : (words : List (List ℕ)) (run : RunWords) (old new : List Opened) (status : Status)
-    → run_words words ≡ Some run
-    → HasOpened (model_open run.model ∷ session_open run.session ∷ []) old new status
-    → HasOpened (opens_of words) old new status
-asked words run old new status is opened =
-    subst (λ (o : Option RunWords). HasOpened (option_map_or (λ (r : RunWords). model_open r.model ∷ session_open r.session ∷ []) o []) old new status)
-    (sym is) opened
-
-at_model : (a b : Opened) (old new : List Opened) (fault : RunFault)
+at_model : (a : Opened) (more old new : List Opened) (fault : RunFault)
     → EndsModel fault
     → AddsOpens old (a ∷ []) new
     → (fault ≢ NoMemory → new ≡ old ++ a ∷ [])
-    → HasOpened (a ∷ b ∷ []) old new (status_of fault)
-at_model a b old new BadWords ends adds opened = absurd ends
-at_model a b old new (BadModel code line) ends adds opened = opened (λ e. cc)
-at_model a b old new NoModel ends adds opened = opened (λ e. cc)
-at_model a b old new NoSession ends adds opened = absurd ends
-at_model a b old new NoOutput ends adds opened = absurd ends
-at_model a b old new LongSession ends adds opened = absurd ends
-at_model a b old new NoMemory ends adds opened = first_at_most a b old new adds.count adds.added
+    → HasOpened (a ∷ more) old new (status_of fault)
+at_model a more old new BadWords ends adds opened = absurd ends
+at_model a more old new (BadModel code line) ends adds opened = opened (λ e. cc)
+at_model a more old new NoModel ends adds opened = opened (λ e. cc)
+at_model a more old new NoSession ends adds opened = absurd ends
+at_model a more old new NoOutput ends adds opened = absurd ends
+at_model a more old new LongSession ends adds opened = absurd ends
+at_model a more old new NoMemory ends adds opened = first_at_most a more old new adds.count adds.added
 
 at_session : (a b : Opened) (old middle new : List Opened) (fault : RunFault)
     → EndsSession fault
@@ -84,31 +73,26 @@ handed : (result : Result (Unit {0}) RunFault) (fault : RunFault) → IsErrAnd r
 handed (Ok x) fault is = absurd is
 handed (Err e) fault is = ap status_of is
 
--- where the run ended at the model's file
-pub opened_at_model : (words : List (List ℕ)) (run : RunWords) (old new : List Opened) (fault : RunFault) (result : Result (Unit {0}) RunFault)
-    → run_words words ≡ Some run
+-- where the call ended at the model's file
+pub opened_at_model : (a : Opened) (more old new : List Opened) (fault : RunFault) (result : Result (Unit {0}) RunFault)
     → EndsModel fault
     → IsErrAnd result (λ e. e ≡ fault)
-    → AddsOpens old (model_open run.model ∷ []) new
-    → (fault ≢ NoMemory → new ≡ old ++ model_open run.model ∷ [])
-    → HasOpened (opens_of words) old new (ended_status result)
-opened_at_model words run old new fault result is ends err adds opened =
-    subst (HasOpened (opens_of words) old new) (sym (handed result fault err))
-    (asked words run old new (status_of fault) is (at_model (model_open run.model) (session_open run.session) old new fault ends adds opened))
+    → AddsOpens old (a ∷ []) new
+    → (fault ≢ NoMemory → new ≡ old ++ a ∷ [])
+    → HasOpened (a ∷ more) old new (ended_status result)
+opened_at_model a more old new fault result ends err adds opened =
+    subst (HasOpened (a ∷ more) old new) (sym (handed result fault err)) (at_model a more old new fault ends adds opened)
 
 -- where it ended at the session's
-pub opened_at_session : (words : List (List ℕ)) (run : RunWords) (old middle new : List Opened) (fault : RunFault) (result : Result (Unit {0}) RunFault)
-    → run_words words ≡ Some run
+pub opened_at_session : (a b : Opened) (old middle new : List Opened) (fault : RunFault) (result : Result (Unit {0}) RunFault)
     → EndsSession fault
     → IsErrAnd result (λ e. e ≡ fault)
-    → middle ≡ old ++ model_open run.model ∷ []
-    → AddsOpens middle (session_open run.session ∷ []) new
-    → (fault ≢ NoMemory → new ≡ middle ++ session_open run.session ∷ [])
-    → HasOpened (opens_of words) old new (ended_status result)
-opened_at_session words run old middle new fault result is ends err first adds opened =
-    subst (HasOpened (opens_of words) old new) (sym (handed result fault err))
-    (asked words run old new (status_of fault) is
-    (at_session (model_open run.model) (session_open run.session) old middle new fault ends first adds opened))
+    → middle ≡ old ++ a ∷ []
+    → AddsOpens middle (b ∷ []) new
+    → (fault ≢ NoMemory → new ≡ middle ++ b ∷ [])
+    → HasOpened (a ∷ b ∷ []) old new (ended_status result)
+opened_at_session a b old middle new fault result ends err first adds opened =
+    subst (HasOpened (a ∷ b ∷ []) old new) (sym (handed result fault err)) (at_session a b old middle new fault ends first adds opened)
 
 front_of_both : (a b : Opened) (old middle new : List Opened)
     → middle ≡ old ++ a ∷ []
@@ -116,28 +100,16 @@ front_of_both : (a b : Opened) (old middle new : List Opened)
     → AddsOpens old (a ∷ b ∷ []) new
 front_of_both a b old middle new first second = record { count = 2; added = both a b old middle new first second }
 
--- where both were opened
-pub opened_both : (words : List (List ℕ)) (run : RunWords) (old middle new : List Opened)
-    → run_words words ≡ Some run
-    → middle ≡ old ++ model_open run.model ∷ []
-    → new ≡ middle ++ session_open run.session ∷ []
-    → HasOpened (opens_of words) old new Done
-opened_both words run old middle new is first second =
-    asked words run old new Done is (both (model_open run.model) (session_open run.session) old middle new first second)
-
--- and where writing failed then
-pub opened_at_output : (words : List (List ℕ)) (run : RunWords) (old middle new : List Opened) (status : Status)
-    → run_words words ≡ Some run
-    → middle ≡ old ++ model_open run.model ∷ []
-    → new ≡ middle ++ session_open run.session ∷ []
+-- where writing failed behind both
+pub opened_at_output : (a b : Opened) (old middle new : List Opened) (status : Status)
+    → middle ≡ old ++ a ∷ []
+    → new ≡ middle ++ b ∷ []
     → (status ≡ OutputFailed) ⊎ (status ≡ OutOfMemory)
-    → HasOpened (opens_of words) old new status
-opened_at_output words run old middle new status is first second (inl failed) =
-    subst (HasOpened (opens_of words) old new) (sym failed)
-    (asked words run old new OutputFailed is (front_of_both (model_open run.model) (session_open run.session) old middle new first second))
-opened_at_output words run old middle new status is first second (inr memory) =
-    subst (HasOpened (opens_of words) old new) (sym memory)
-    (asked words run old new OutOfMemory is (front_of_both (model_open run.model) (session_open run.session) old middle new first second))
+    → HasOpened (a ∷ b ∷ []) old new status
+opened_at_output a b old middle new status first second (inl failed) =
+    subst (HasOpened (a ∷ b ∷ []) old new) (sym failed) (front_of_both a b old middle new first second)
+opened_at_output a b old middle new status first second (inr memory) =
+    subst (HasOpened (a ∷ b ∷ []) old new) (sym memory) (front_of_both a b old middle new first second)
 
 -- whatever the status, a front of what was asked for was opened
 pub front_opened : (asks old new : List Opened) (status : Status) → HasOpened asks old new status → AddsOpens old asks new

@@ -1,27 +1,21 @@
 -- From what the parts of a call promise to what the whole does.
-use Rattle.std.proofs.Common.{◌≡◌, ◌≢◌, ◌⊎◌, ℕ, Bool, true, List, length, nat_le, Option, None, Some, refl, sym, ◌∙◌, ap, ap₂, inl, inr, subst, arith}
-use Rattle.std.specs.Prelude.{IfSome, IsTrue, Result, Ok, Err, if◌then◌else◌}
-use Rattle.std.specs.Option.{option_map_or}
-use Rattle.std.specs.Io.KnownBytes.{append_known}
-use Rattle.std.proofs.lemmas.Bool.Decides.{nat_tests}
-use Rattle.lv_base.specs.declared.limits.TheConstants.{SESSION_BYTES}
+use Rattle.std.proofs.Common.{◌≡◌, ◌≢◌, ◌⊎◌, ℕ, List, Option, refl, sym, ◌∙◌, inl, inr, subst}
+use Rattle.std.specs.Prelude.{IsTrue, Result, Ok, Err}
 use Rattle.lv_io.specs.Outside.{Rose}
-use Rattle.lv_io.specs.Whole.{AddsFront}
 use Rattle.lv_io.specs.declared.Role.{Role}
 use Rattle.lv_io.specs.declared.Role.TheVariants.{Model, Second}
 use Rattle.lv_model.specs.declared.plant.Plant.{Plant}
-use Rattle.lv_session.specs.Transcript.{AddsTranscript, AddsTranscriptFrom, AddsTranscriptFront}
 use Rattle.lv_session.proofs.Writing.{whole_front}
-use Rattle.lv_run.specs.Arguments.{RunWords}
+use Rattle.lv_words.specs.Words.{Said, command_of}
 use Rattle.lv_run.specs.Faults.{status_of, ended_status}
 use Rattle.lv_run.specs.Telling.{Tells}
-use Rattle.lv_run.specs.Expected.{Expected, serves, fails, expected, expected_of_texts, expected_of_model, status_expected, AddsAll, AddsSome, Meets, is_silent}
-use Rattle.lv_run.specs.Top.{Asks, HasNoFault}
+use Rattle.lv_run.specs.Expected.{Expected, serves, shows, fails, Expects, session_served, model_printed, status_expected, AddsAll, AddsSome, Meets, is_silent}
+use Rattle.lv_run.specs.Top.{Asks, AsksToPrint, HasNoFault}
 use Rattle.lv_run.specs.declared.status.Status.{Status}
 use Rattle.lv_run.specs.declared.status.Status.TheVariants.{Done, WordsRefused, ModelRefused, ModelUnread, SessionUnread, OutputFailed, SessionTooLong, OutOfMemory}
 use Rattle.lv_run.specs.declared.fault.RunFault.{RunFault}
 use Rattle.lv_run.specs.declared.fault.RunFault.TheVariants.{WordsRefused as BadWords, ModelRefused as BadModel, ModelUnread as NoModel, SessionUnread as NoSession, OutputFailed as NoOutput, SessionTooLong as LongSession, OutOfMemory as NoMemory}
-use Rattle.lv_run.proofs.ExpectedLemmas.{some_weaker, adds_none}
+use Rattle.lv_run.proofs.ExpectedLemmas.{adds_none}
 
 silent_front : (e : Expected) (before after : Option (List ℕ)) → after ≡ before → AddsSome e before after
 silent_front e before after same = subst (AddsSome e before) (sym same) (adds_none e before)
@@ -33,6 +27,7 @@ all_front (serves plant session) before after all = record {
   is_transcript = all.is_transcript;
   front = whole_front all.written before after all.added;
 }
+all_front (shows text) before after added = whole_front text before after added
 all_front (fails fault) before after same = same
 
 -- whatever the status, a front of what was expected was written
@@ -50,7 +45,7 @@ front_expected e before after SessionTooLong same meets = silent_front e before 
 front_expected e before after OutOfMemory same meets = meets
 
 -- a status that another may only stand for where a write failed or memory was wanting
-reported_meets : (d : Expected) (before after : Option (List ℕ)) (status result : Status)
+pub reported_meets : (d : Expected) (before after : Option (List ℕ)) (status result : Status)
     → (result ≢ OutputFailed → result ≢ OutOfMemory → result ≡ status)
     → (IsTrue (is_silent status) → after ≡ before)
     → Meets d before after status
@@ -64,16 +59,9 @@ reported_meets d before after status OutputFailed kept same meets = front_expect
 reported_meets d before after status SessionTooLong kept same meets = subst (Meets d before after) (sym (kept (λ e. cc) (λ e. cc))) meets
 reported_meets d before after status OutOfMemory kept same meets = front_expected d before after status same meets
 
-pub all_met : (o : Option Expected) (before after : Option (List ℕ)) (status result : Status)
-    → (result ≢ OutputFailed → result ≢ OutOfMemory → result ≡ status)
-    → (IsTrue (is_silent status) → after ≡ before)
-    → IfSome o (λ d. Meets d before after status)
-    → IfSome o (λ d. Meets d before after result)
-all_met o before after status result kept same meets =
-    some_weaker o (λ (d : Expected) m. reported_meets d before after status result kept same m) meets
-
 module _ {A : Type 0} (shelf shelf_after : Role → ℕ) (out out_after err err_after : ℕ) (before after : Option (List ℕ)) where
-  status_due : (d : Expected) (result : Status)
+  -- with no fault the status is the one that is due, or memory was wanting
+  pub status_due : (d : Expected) (result : Status)
       → (result ≡ ModelUnread → Rose (shelf Model) (shelf_after Model))
       → (result ≡ SessionUnread → Rose (shelf Second) (shelf_after Second))
       → (result ≡ OutputFailed → (Rose out out_after × A) ⊎ Rose err err_after)
@@ -93,17 +81,8 @@ module _ {A : Type 0} (shelf shelf_after : Role → ℕ) (out out_after err err_
   status_due d SessionTooLong model session output meets none = inl (sym meets)
   status_due d OutOfMemory model session output meets none = inr refl
 
-  -- with no fault the status is the one that is due, or memory was wanting
-  pub all_due : (o : Option Expected) (result : Status)
-      → (result ≡ ModelUnread → Rose (shelf Model) (shelf_after Model))
-      → (result ≡ SessionUnread → Rose (shelf Second) (shelf_after Second))
-      → (result ≡ OutputFailed → (Rose out out_after × A) ⊎ Rose err err_after)
-      → IfSome o (λ d. Meets d before after result)
-      → IfSome o (λ d. HasNoFault shelf shelf_after out out_after err err_after → (result ≡ status_expected d) ⊎ (result ≡ OutOfMemory))
-  all_due o result model session output meets =
-      some_weaker o (λ (d : Expected) m. status_due d result model session output m) meets
-
-refusal_due : (old new : ℕ) (d : Expected) (before after : Option (List ℕ)) (result : Status)
+-- where the model was read without a fault and is refused, so is the call
+pub refusal_due : (old new : ℕ) (d : Expected) (before after : Option (List ℕ)) (result : Status)
     → (result ≡ ModelUnread → Rose old new)
     → Meets d before after result
     → status_expected d ≡ ModelRefused
@@ -120,24 +99,20 @@ refusal_due old new d before after OutputFailed model meets is none output memor
 refusal_due old new d before after SessionTooLong model meets is none output memory = sym meets ∙ is
 refusal_due old new d before after OutOfMemory model meets is none output memory = absurd (memory refl)
 
--- where the model was read without a fault and is refused, so is the call
-pub refusal_told : (old new : ℕ) (o : Option Expected) (before after : Option (List ℕ)) (result : Status)
-    → (result ≡ ModelUnread → Rose old new)
-    → IfSome o (λ d. Meets d before after result)
-    → IfSome o (λ d. status_expected d ≡ ModelRefused → ¬ Rose old new → result ≢ OutputFailed → result ≢ OutOfMemory → result ≡ ModelRefused)
-refusal_told old new o before after result model meets =
-    some_weaker o (λ (d : Expected) m. refusal_due old new d before after result model m) meets
-
--- what is expected of a run that is asked for
-pub expected_asked : (file : List ℕ → Option (List ℕ)) (words : List (List ℕ)) (plant : Plant) (session : List ℕ)
+-- what is expected of a run that is asked for, and of a model to be printed
+pub expected_run : (file : List ℕ → Option (List ℕ)) (words : List (List ℕ)) (plant : Plant) (session : List ℕ)
     → Asks file words plant session
-    → expected file words ≡ Some (serves plant session)
-expected_asked file words plant session asks =
-    let fits : nat_le (length session) SESSION_BYTES ≡ true = let within = asks.within in grind (arith, nat_tests) in
-    ap (λ (o : Option RunWords). option_map_or (λ (r : RunWords). expected_of_texts (file r.model) (file r.session)) o (Some (fails BadWords))) asks.asked
-    ∙ ap₂ expected_of_texts asks.model_told asks.session_told
-    ∙ ap (expected_of_model (Some session)) asks.accepted
-    ∙ ap (λ (b : Bool). Some (if b then serves plant session else fails LongSession)) fits
+    → Expects file (command_of words) (serves plant session)
+expected_run file words plant session asks =
+    subst (λ (o : Option Said). Expects file o (serves plant session)) (sym asks.asked)
+    (session_served asks.text asks.model_told asks.verdict asks.session_told asks.within)
+
+pub expected_print : (file : List ℕ → Option (List ℕ)) (words : List (List ℕ)) (canonical : List ℕ)
+    → AsksToPrint file words canonical
+    → Expects file (command_of words) (shows canonical)
+expected_print file words canonical asks =
+    subst (λ (o : Option Said). Expects file o (shows canonical)) (sym asks.asked)
+    (model_printed asks.text asks.model_told asks.verdict asks.canonical_is)
 
 no_done : (fault : RunFault) → status_of fault ≡ Done → ⊥
 no_done BadWords e = absurd (cc)
@@ -148,7 +123,8 @@ no_done NoOutput e = absurd (cc)
 no_done LongSession e = absurd (cc)
 no_done NoMemory e = absurd (cc)
 
-ended_done : (ended : Result (Unit {0}) RunFault) (err err_after : Option (List ℕ)) (result : Status)
+-- a call that is done tells nothing
+pub ended_done : (ended : Result (Unit {0}) RunFault) (err err_after : Option (List ℕ)) (result : Status)
     → (result ≢ OutputFailed → result ≢ OutOfMemory → result ≡ ended_status ended)
     → Tells ended err err_after result
     → result ≡ Done
@@ -156,21 +132,6 @@ ended_done : (ended : Result (Unit {0}) RunFault) (err err_after : Option (List 
 ended_done (Ok x) err err_after result kept tells done = tells.0
 ended_done (Err fault) err err_after result kept tells done =
     absurd (no_done fault (sym (kept (λ e. let d : result ≡ Done = done in cc) (λ e. let d : result ≡ Done = done in cc)) ∙ done))
-
--- a call that is done wrote a transcript, and told nothing
-pub transcript_written : (file : List ℕ → Option (List ℕ)) (words : List (List ℕ)) (plant : Plant) (session : List ℕ)
-    (before after err err_after : Option (List ℕ)) (ended : Result (Unit {0}) RunFault) (result : Status)
-    → Asks file words plant session
-    → result ≡ Done
-    → IfSome (expected file words) (λ d. Meets d before after result)
-    → (result ≢ OutputFailed → result ≢ OutOfMemory → result ≡ ended_status ended)
-    → Tells ended err err_after result
-    → AddsTranscript plant session before after × (err_after ≡ err)
-transcript_written file words plant session before after err err_after ended result asks done meets kept tells = (
-  (subst (λ (s : Status). Meets (serves plant session) before after s) done
-      (subst (λ (o : Option Expected). IfSome o (λ d. Meets d before after result)) (expected_asked file words plant session asks) meets)).1,
-  ended_done ended err err_after result kept tells done,
-)
 
 -- a failure of the output is one of writing the transcript, or else one of telling the status
 pub output_cause : {A B : Type 0} (status result : Status)

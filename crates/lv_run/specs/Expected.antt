@@ -1,58 +1,59 @@
--- What a call of the program comes to where nothing fails: a session that is served, or a fault.
-use Rattle.std.specs.Prelude.{◌≡◌, ◌≢◌, ℕ, Bool, true, false, List, [], ◌∷◌, length, nat_le, Option, None, Some, Result, Ok, Err, if◌then◌else◌}
-use Rattle.std.specs.Option.{option_map, option_map_or, option_and_then}
+-- What a call of the program comes to where nothing fails: a session that is served, a model that is printed, or a fault.
+use Rattle.std.specs.Prelude.{◌≡◌, ◌≢◌, ℕ, ◌<◌, ◌≤◌, Bool, true, false, List, length, Option, None, Some, Result, Ok, Err, IfSome}
+use Rattle.std.specs.Io.KnownBytes.{append_known}
 use Rattle.lv_base.specs.declared.limits.TheConstants.{SESSION_BYTES}
-use Rattle.lv_io.specs.Outside.{Opened}
+use Rattle.lv_io.specs.Whole.{AddsFront}
 use Rattle.lv_model.specs.declared.plant.Plant.{Plant}
+use Rattle.lv_reader.specs.declared.code.ModelCode.{ModelCode}
+use Rattle.lv_checker.specs.Verdicts.{Verdict, accepted, refused, IsVerdict}
 use Rattle.lv_session.specs.Transcript.{AddsTranscript, AddsFrontOfTranscript}
-use Rattle.lv_run.specs.Arguments.{RunWords, run_words}
-use Rattle.lv_run.specs.Inputs.{accepted_model, model_open, session_open}
-use Rattle.lv_run.specs.Faults.{status_of, model_refusal}
+use Rattle.lv_words.specs.Words.{Said, runs, prints}
+use Rattle.lv_run.specs.Inputs.{model_name, IsCanonical}
+use Rattle.lv_run.specs.Faults.{status_of}
 use Rattle.lv_run.specs.declared.status.Status.{Status}
 use Rattle.lv_run.specs.declared.status.Status.TheVariants.{Done, WordsRefused, ModelRefused, ModelUnread, SessionUnread, OutputFailed, SessionTooLong, OutOfMemory}
 use Rattle.lv_run.specs.declared.fault.RunFault.{RunFault}
 use Rattle.lv_run.specs.declared.fault.RunFault.TheVariants.{WordsRefused as BadWords, ModelRefused as BadModel, ModelUnread as NoModel, SessionUnread as NoSession, OutputFailed as NoOutput, SessionTooLong as LongSession, OutOfMemory as NoMemory}
 
--- a session over an accepted model is served, or the call ends with a fault before that
+-- a session over an accepted model is served, a canonical text is shown, or the call ends with a fault before that
 pub data Expected : Type 0 where
   serves : Plant → List ℕ → Expected
+  shows : List ℕ → Expected
   fails : RunFault → Expected
+
+-- what is expected of a command, or of words that say none, over files by their names
+pub data Expects (file : List ℕ → Option (List ℕ)) : Option Said → Expected → Type 0 where
+  words_refused : Expects file None (fails BadWords)
+  model_refused : {command : Said} {code : ModelCode} {line : ℕ} → (text : List ℕ)
+      → file (model_name command) ≡ Some text → IsVerdict text (refused code line)
+      → Expects file (Some command) (fails (BadModel code line))
+  session_served : {model session served : List ℕ} {plant : Plant} → (text : List ℕ)
+      → file model ≡ Some text → IsVerdict text (accepted plant) → file session ≡ Some served → length served ≤ SESSION_BYTES
+      → Expects file (Some (runs model session)) (serves plant served)
+  session_too_long : {model session long : List ℕ} {plant : Plant} → (text : List ℕ)
+      → file model ≡ Some text → IsVerdict text (accepted plant) → file session ≡ Some long → SESSION_BYTES < length long
+      → Expects file (Some (runs model session)) (fails LongSession)
+  model_printed : {model canonical : List ℕ} {plant : Plant} → (text : List ℕ)
+      → file model ≡ Some text → IsVerdict text (accepted plant) → IsCanonical text canonical
+      → Expects file (Some (prints model)) (shows canonical)
 
 -- the status of a call in which nothing fails
 abbrev pub status_expected : Expected → Status
 status_expected (serves plant session) = Done
+status_expected (shows text) = Done
 status_expected (fails fault) = status_of fault
 
--- a transcript was added to the output, or nothing where no session is served
+-- a transcript or the text was added to the output, or nothing
 abbrev pub AddsAll : Expected → Option (List ℕ) → Option (List ℕ) → Type 0
 AddsAll (serves plant session) before after = AddsTranscript plant session before after
+AddsAll (shows text) before after = after ≡ append_known before text
 AddsAll (fails fault) before after = after ≡ before
 
--- a front of a transcript was
+-- a front of it was
 abbrev pub AddsSome : Expected → Option (List ℕ) → Option (List ℕ) → Type 0
 AddsSome (serves plant session) before after = AddsFrontOfTranscript plant session before after
+AddsSome (shows text) before after = AddsFront text before after
 AddsSome (fails fault) before after = after ≡ before
-
--- of a session of an accepted model
-abbrev pub expected_of_session : Plant → List ℕ → Expected
-expected_of_session plant session = if nat_le (length session) SESSION_BYTES then serves plant session else fails LongSession
-
--- of a session of the model that was found, if one was
-abbrev pub expected_of_model : Option (List ℕ) → Option Plant → Option Expected
-expected_of_model session None = Some (fails model_refusal)
-expected_of_model session (Some plant) = option_map (expected_of_session plant) session
-
--- of a model's text and a session's, as far as they are told
-abbrev pub expected_of_texts : Option (List ℕ) → Option (List ℕ) → Option Expected
-expected_of_texts model session = option_and_then (λ text. expected_of_model session (accepted_model text)) model
-
--- of the words, over files by their names; nothing where a file that is read is not told
-abbrev pub expected : (List ℕ → Option (List ℕ)) → List (List ℕ) → Option Expected
-expected file words = option_map_or (λ (run : RunWords). expected_of_texts (file run.model) (file run.session)) (run_words words) (Some (fails BadWords))
-
--- the opens that the words ask for, in order
-abbrev pub opens_of : List (List ℕ) → List Opened
-opens_of words = option_map_or (λ (run : RunWords). model_open run.model ∷ session_open run.session ∷ []) (run_words words) []
 
 -- a call that ended with this status kept to what was expected: with a status that no fault of shelf or sink brings, it is
 -- the one expected; the words are judged before the model is opened, and the model before the session; where a write failed
@@ -67,19 +68,48 @@ Meets e before after OutputFailed = AddsSome e before after
 Meets e before after SessionTooLong = status_expected e ≡ SessionTooLong
 Meets e before after OutOfMemory = AddsSome e before after
 
--- the fault is the one expected, where the model is refused: its code and its line too
-abbrev pub IsRefusal : Expected → RunFault → Type 0
-IsRefusal e BadWords = Unit {0}
-IsRefusal e (BadModel code line) = e ≡ fails (BadModel code line)
-IsRefusal e NoModel = Unit {0}
-IsRefusal e NoSession = Unit {0}
-IsRefusal e NoOutput = Unit {0}
-IsRefusal e LongSession = Unit {0}
-IsRefusal e NoMemory = Unit {0}
+-- the words say a command, and the text of its model has this verdict, where the shelf tells it
+pub record HasVerdict (file : List ℕ → Option (List ℕ)) (said : Option Said) (verdict : Verdict) : Type 0 where
+  pub command : Said
+  pub asked : said ≡ Some command
+  pub is : IfSome (file (model_name command)) (λ text. IsVerdict text verdict)
 
-abbrev pub EndsAs : Expected → Result (Unit {0}) RunFault → Type 0
-EndsAs e (Ok _) = Unit {0}
-EndsAs e (Err fault) = IsRefusal e fault
+pub record IsRefused (file : List ℕ → Option (List ℕ)) (said : Option Said) : Type 0 where
+  pub code : ModelCode
+  pub line : ℕ
+  pub verdict : HasVerdict file said (refused code line)
+
+-- the words say a command, and the text of its model gives one, where the shelf tells it
+pub record HasModel (bytes : List ℕ) : Type 0 where
+  pub plant : Plant
+  pub verdict : IsVerdict bytes (accepted plant)
+
+pub record IsAccepted (file : List ℕ → Option (List ℕ)) (said : Option Said) : Type 0 where
+  pub command : Said
+  pub asked : said ≡ Some command
+  pub is : IfSome (file (model_name command)) HasModel
+
+-- what is known of the words and the model from the status alone: the model was accepted where the session was opened
+abbrev pub Follows : (List ℕ → Option (List ℕ)) → Option Said → Status → Type 0
+Follows file said Done = IsAccepted file said
+Follows file said WordsRefused = said ≡ None
+Follows file said ModelRefused = IsRefused file said
+Follows file said ModelUnread = said ≢ None
+Follows file said SessionUnread = IsAccepted file said
+Follows file said OutputFailed = Unit {0}
+Follows file said SessionTooLong = IsAccepted file said
+Follows file said OutOfMemory = Unit {0}
+
+-- a run that ended with a refused model did so by the code and the line of its text's verdict
+abbrev pub TellsVerdict : (List ℕ → Option (List ℕ)) → Option Said → Result (Unit {0}) RunFault → Type 0
+TellsVerdict file said (Ok _) = Unit {0}
+TellsVerdict file said (Err BadWords) = Unit {0}
+TellsVerdict file said (Err (BadModel code line)) = HasVerdict file said (refused code line)
+TellsVerdict file said (Err NoModel) = Unit {0}
+TellsVerdict file said (Err NoSession) = Unit {0}
+TellsVerdict file said (Err NoOutput) = Unit {0}
+TellsVerdict file said (Err LongSession) = Unit {0}
+TellsVerdict file said (Err NoMemory) = Unit {0}
 
 -- with this status nothing was written to the output
 abbrev pub is_silent : Status → Bool

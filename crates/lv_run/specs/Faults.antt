@@ -1,7 +1,12 @@
 -- What ends a run before it is done: the status that it comes to, and its line on standard error.
-use Rattle.std.specs.Prelude.{◌≡◌, ℕ, Bool, true, false, nat_lt, List, [], ◌∷◌, ◌++◌, Option, None, IfSome, Result, Ok, Err, codes, decimal, if◌then◌else◌}
+use Rattle.std.specs.Prelude.{ℕ, nat_lt, List, [], ◌∷◌, ◌++◌, Option, IfSome, Result, Ok, Err, codes, decimal, if◌then◌else◌}
 use Rattle.lv_io.specs.declared.IoFault.{IoFault}
 use Rattle.lv_io.specs.declared.IoFault.TheVariants.{Failed, Memory}
+use Rattle.lv_reader.specs.Codes.{number_of}
+use Rattle.lv_reader.specs.declared.code.ModelCode.{ModelCode}
+use Rattle.lv_checker.specs.Verdicts.{IsVerdict, refused}
+use Rattle.lv_words.specs.declared.WordsFault.{WordsFault}
+use Rattle.lv_words.specs.declared.WordsFault.TheVariants.{Refused, Memory as NoRoom}
 use Rattle.lv_run.specs.declared.status.Status.{Status}
 use Rattle.lv_run.specs.declared.status.Status.TheVariants.{Done, WordsRefused, ModelRefused, ModelUnread, SessionUnread, OutputFailed, SessionTooLong, OutOfMemory}
 use Rattle.lv_run.specs.declared.fault.RunFault.{RunFault}
@@ -31,8 +36,8 @@ abbrev pub two_digits : ℕ → List ℕ
 two_digits n = if nat_lt n 10 then codes "0" ++ decimal n else decimal n
 
 -- `model LINE Mnn`
-abbrev pub model_line : ℕ → ℕ → List ℕ
-model_line code line = codes "model " ++ decimal line ++ codes " M" ++ two_digits code ++ codes "\n"
+abbrev pub model_line : ModelCode → ℕ → List ℕ
+model_line code line = codes "model " ++ decimal line ++ codes " M" ++ two_digits (number_of code) ++ codes "\n"
 
 -- the line that tells the fault on standard error; a failure of the output has none
 unfoldable pub line_of : RunFault → List ℕ
@@ -49,14 +54,15 @@ abbrev pub fault_of_sink : IoFault → RunFault
 fault_of_sink Failed = NoOutput
 fault_of_sink Memory = NoMemory
 
--- the refusal of a model, one for all so long as its text is not told why
-abbrev pub model_refusal : RunFault
-model_refusal = BadModel 0 0
+-- what a fault of the words ends a run with
+abbrev pub fault_of_words : WordsFault → RunFault
+fault_of_words Refused = BadWords
+fault_of_words NoRoom = NoMemory
 
 -- a run ends so before the session's file is opened
 abbrev pub EndsModel : RunFault → Type 0
 EndsModel BadWords = ⊥
-EndsModel (BadModel code at) = (code ≡ 0) × (at ≡ 0)
+EndsModel (BadModel code at) = Unit {0}
 EndsModel NoModel = Unit {0}
 EndsModel NoSession = ⊥
 EndsModel NoOutput = ⊥
@@ -73,12 +79,12 @@ EndsSession NoOutput = ⊥
 EndsSession LongSession = Unit {0}
 EndsSession NoMemory = Unit {0}
 
--- where the model is refused its text gives none
-abbrev pub RefusesOnly : RunFault → Option (List ℕ) → (List ℕ → Type 0) → Type 0
-RefusesOnly BadWords text none = Unit {0}
-RefusesOnly (BadModel code at) text none = IfSome text none
-RefusesOnly NoModel text none = Unit {0}
-RefusesOnly NoSession text none = Unit {0}
-RefusesOnly NoOutput text none = Unit {0}
-RefusesOnly LongSession text none = Unit {0}
-RefusesOnly NoMemory text none = Unit {0}
+-- where the model is refused, that is the verdict of its text
+abbrev pub RefusesBy : RunFault → Option (List ℕ) → Type 0
+RefusesBy BadWords text = Unit {0}
+RefusesBy (BadModel code at) text = IfSome text (λ bytes. IsVerdict bytes (refused code at))
+RefusesBy NoModel text = Unit {0}
+RefusesBy NoSession text = Unit {0}
+RefusesBy NoOutput text = Unit {0}
+RefusesBy LongSession text = Unit {0}
+RefusesBy NoMemory text = Unit {0}

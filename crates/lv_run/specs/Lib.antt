@@ -1,4 +1,3 @@
-pub mod Arguments
 pub mod Expected
 pub mod Faults
 pub mod Inputs

@@ -1,13 +1,14 @@
 -- The premises of the top call's promises, and what it tells.
-use Rattle.std.specs.Prelude.{◌≡◌, ℕ, ◌≤◌, List, length, Option, Some, Result, IfSome}
+use Rattle.std.specs.Prelude.{◌≡◌, ℕ, ◌≤◌, List, length, Option, Some, Result}
 use Rattle.lv_io.specs.Outside.{Rose}
 use Rattle.lv_io.specs.declared.Role.{Role}
 use Rattle.lv_base.specs.declared.limits.TheConstants.{SESSION_BYTES}
 use Rattle.lv_model.specs.declared.plant.Plant.{Plant}
-use Rattle.lv_run.specs.Arguments.{run_words}
-use Rattle.lv_run.specs.Expected.{Expected, Meets, EndsAs}
+use Rattle.lv_checker.specs.Verdicts.{IsVerdict, accepted}
+use Rattle.lv_words.specs.Words.{Said, runs, prints, command_of}
+use Rattle.lv_run.specs.Expected.{Expected, Expects, Meets, TellsVerdict}
+use Rattle.lv_run.specs.Inputs.{IsCanonical}
 use Rattle.lv_run.specs.Faults.{ended_status}
-use Rattle.lv_run.specs.Inputs.{accepted_model}
 use Rattle.lv_run.specs.Telling.{Tells}
 use Rattle.lv_run.specs.declared.fault.RunFault.{RunFault}
 use Rattle.lv_run.specs.declared.status.Status.{Status}
@@ -17,12 +18,22 @@ use Rattle.lv_run.specs.declared.status.Status.{Status}
 pub record Asks (file : List ℕ → Option (List ℕ)) (words : List (List ℕ)) (plant : Plant) (session : List ℕ) : Type 0 where
   pub model_name : List ℕ
   pub session_name : List ℕ
-  pub model : List ℕ
-  pub asked : run_words words ≡ Some (record { model = model_name; session = session_name })
-  pub model_told : file model_name ≡ Some model
-  pub accepted : accepted_model model ≡ Some plant
+  pub text : List ℕ
+  pub asked : command_of words ≡ Some (runs model_name session_name)
+  pub model_told : file model_name ≡ Some text
+  pub verdict : IsVerdict text (accepted plant)
   pub session_told : file session_name ≡ Some session
   pub within : length session ≤ SESSION_BYTES
+
+-- the words ask for this canonical text of a model that the files hold, whose text is accepted
+pub record AsksToPrint (file : List ℕ → Option (List ℕ)) (words : List (List ℕ)) (canonical : List ℕ) : Type 0 where
+  pub plant : Plant
+  pub model_name : List ℕ
+  pub text : List ℕ
+  pub asked : command_of words ≡ Some (prints model_name)
+  pub model_told : file model_name ≡ Some text
+  pub verdict : IsVerdict text (accepted plant)
+  pub canonical_is : IsCanonical text canonical
 
 -- no count of the shelf, of the output and of standard error rose
 pub record HasNoFault (shelf shelf_after : Role → ℕ) (out out_after err err_after : ℕ) : Type 0 where
@@ -30,9 +41,10 @@ pub record HasNoFault (shelf shelf_after : Role → ℕ) (out out_after err err_
   pub of_output : ¬ Rose out out_after
   pub of_error : ¬ Rose err err_after
 
--- what the run came to before it was told, which kept to what was expected, and how that was told
-pub record TellsOwnEnd (expects : Option Expected) (out out_after err err_after : Option (List ℕ)) (result : Status) : Type 0 where
+-- what the run came to before it was told, which kept to what was expected, and how that was told: a refused model by the
+-- code and the line of its text's verdict
+pub record TellsOwnEnd (file : List ℕ → Option (List ℕ)) (said : Option Said) (out out_after err err_after : Option (List ℕ)) (result : Status) : Type 0 where
   pub ended : Result (Unit {0}) RunFault
-  pub meets : IfSome expects (λ e. Meets e out out_after (ended_status ended))
-  pub refusal : IfSome expects (λ e. EndsAs e ended)
+  pub meets : (e : Expected) → Expects file said e → Meets e out out_after (ended_status ended)
+  pub verdict : TellsVerdict file said ended
   pub told : Tells ended err err_after result

@@ -2,11 +2,13 @@
 //! why, and where.
 
 ghost use Rattle.std.specs.Prelude.{◌≡◌, ◌++◌, IfOk, decimal};
-ghost use Rattle.lv_run.specs.Faults.{status_of, line_of, model_line, two_digits, fault_of_sink};
+ghost use Rattle.lv_run.specs.Faults.{status_of, line_of, model_line, two_digits, fault_of_sink, fault_of_words};
 
 use crate::status::Status;
 use itoa::Buffer;
 use lv_io::IoFault;
+use lv_reader::ModelCode;
+use lv_words::WordsFault;
 use std::alloc::{AllocError, Global};
 
 /// The line that tells which words are taken, those of commands to come included.
@@ -20,8 +22,8 @@ pub const OUT_OF_MEMORY: &str = "out of memory\n";
 #[derive(Clone, Copy, Debug, PartialEq, Eq)]
 pub enum RunFault {
     WordsRefused,
-    /// The code of the refusal and the line of the model's text, counted from 1.
-    ModelRefused { code: u32, line: usize },
+    /// Why the model's text is refused, and on which line.
+    ModelRefused { code: ModelCode, line: usize },
     ModelUnread,
     SessionUnread,
     OutputFailed,
@@ -51,13 +53,13 @@ fn push_two_digits(out: &mut Vec<u8>, n: u32) -> Result<(), AllocError>
 }
 
 /// The line that tells a refused model.
-fn model_line(alloc: Global, code: u32, line: usize) -> Result<Vec<u8>, AllocError>
+fn model_line(alloc: Global, code: ModelCode, line: usize) -> Result<Vec<u8>, AllocError>
     ensures { IfOk result (λ text. text.items ≡ model_line code line) }
 {
     let mut text = Vec::from_slice(alloc, b"model ")?;
     push_number(&mut text, line as u64)?;
     text.extend_from_slice(b" M")?;
-    push_two_digits(&mut text, code)?;
+    push_two_digits(&mut text, code.number())?;
     text.extend_from_slice(b"\n")?;
     Ok(text)
 }
@@ -104,6 +106,18 @@ impl From<IoFault> for RunFault {
         match fault {
             IoFault::Failed => RunFault::OutputFailed,
             IoFault::Memory => RunFault::OutOfMemory,
+        }
+    }
+}
+
+/// What a fault of the words ends a run with.
+impl From<WordsFault> for RunFault {
+    ghost from_gives = { λ fault ended. ended ≡ fault_of_words fault };
+
+    fn from(fault: WordsFault) -> RunFault {
+        match fault {
+            WordsFault::Refused => RunFault::WordsRefused,
+            WordsFault::Memory => RunFault::OutOfMemory,
         }
     }
 }

@@ -1,26 +1,27 @@
-//! What the program reads: the model, and the session.
+//! What the program reads: the model's text, the model that it gives or its canonical text, and the session.
 
 ghost use Rattle.std.specs.Prelude.{◌≡◌, ◌≢◌, ◌++◌, ◌∷◌, ◌<◌, ◌≤◌, [], None, Some, length, IfOk, OnOk, IfErr, IfSome, IsTrue};
 ghost use Rattle.lv_io.specs.Outside.{Rose};
 ghost use Rattle.lv_io.specs.declared.Role.{Role};
 ghost use Rattle.lv_io.specs.declared.Role.TheVariants.{Model as OfModel, Second as OfSecond};
-ghost use Rattle.lv_run.specs.Inputs.{accepted_model, model_open, session_open, AddsOpens};
-ghost use Rattle.lv_run.specs.Faults.{EndsModel, EndsSession, RefusesOnly};
+ghost use Rattle.lv_checker.specs.Verdicts.{IsVerdict, accepted};
+ghost use Rattle.lv_run.specs.Inputs.{IsCanonical, IsPrinted, model_open, session_open, AddsOpens};
+ghost use Rattle.lv_run.specs.Faults.{EndsModel, EndsSession, RefusesBy};
 
 use crate::fault::RunFault;
 use lv_base::limits::{MODEL_BYTES, SESSION_BYTES};
-use lv_checker::{ModelFault, read_model};
+use lv_checker::model_of;
 use lv_io::{ReadFault, Role, Shelf, read_file};
 use lv_model::Model;
+use lv_print::print_model;
+use lv_reader::{ModelCode, ModelFault, read_model};
 use std::alloc::Global;
 
-/// Opens the model's file, reads it to its end and checks it. A text over its limit is refused, as any
-/// other that is no model.
-#[tactic(auto, unfolding(crate::specs::Inputs::accepted_model))]
-pub fn load_model<F: Shelf>(alloc: Global, shelf: &mut F, name: &str) -> Result<Model, RunFault>
+/// Opens the model's file and reads it to its end. A text over its limit is refused.
+fn load_text<F: Shelf>(alloc: Global, shelf: &mut F, name: &str) -> Result<Vec<u8>, RunFault>
     // What was read.
-    ensures model { IfOk result (λ model. IfSome (F.file shelf.old name.now) (λ text. accepted_model text ≡ Some model)) }
-    ensures refused { IfErr result (λ fault. RefusesOnly fault (F.file shelf.old name.now) (λ text. accepted_model text ≡ None)) }
+    ensures text { IfOk result (λ bytes. IfSome (F.file shelf.old name.now) (λ text. text ≡ bytes.items)) }
+    ensures refused { IfErr result (λ fault. RefusesBy fault (F.file shelf.old name.now)) }
     ensures ends { IfErr result EndsModel }
 
     // What is recorded, and what stays.
@@ -32,17 +33,100 @@ pub fn load_model<F: Shelf>(alloc: Global, shelf: &mut F, name: &str) -> Result<
     ensures failed { result ≡ Err RunFault.ModelUnread → Rose (F.faults shelf.old OfModel) (F.faults shelf.new OfModel) }
     ensures as_before { result ≢ Err RunFault.ModelUnread → (r : Role) → F.faults shelf.new r ≡ F.faults shelf.old r }
 {
-    let text = match read_file(alloc, shelf, Role::Model, name, MODEL_BYTES) {
-        Ok(text) => text,
-        Err(ReadFault::Failed) => return Err(RunFault::ModelUnread),
-        Err(ReadFault::TooLong) => return Err(RunFault::ModelRefused { code: 0, line: 0 }),
-        Err(ReadFault::Memory) => return Err(RunFault::OutOfMemory),
-    };
-    match read_model(alloc, text.as_slice()) {
+    match read_file(alloc, shelf, Role::Model, name, MODEL_BYTES) {
+        Ok(text) => Ok(text),
+        Err(ReadFault::Failed) => Err(RunFault::ModelUnread),
+        Err(ReadFault::TooLong) => Err(RunFault::ModelRefused {
+            code: ModelCode::TextTooLong,
+            line: 0,
+        }),
+        Err(ReadFault::Memory) => Err(RunFault::OutOfMemory),
+    }
+}
+
+/// The model that the bytes give.
+fn accepted_model(alloc: Global, bytes: &[u8]) -> Result<Model, RunFault>
+    ensures model { IfOk result (λ model. IsVerdict bytes.now (accepted model)) }
+    ensures refused { IfErr result (λ fault. RefusesBy fault (Some bytes.now)) }
+    ensures ends { IfErr result EndsModel }
+    ensures read { result ≢ Err RunFault.ModelUnread }
+{
+    match model_of(alloc, bytes) {
         Ok(model) => Ok(model),
         Err(ModelFault::At { code, line }) => Err(RunFault::ModelRefused { code, line }),
         Err(ModelFault::Memory) => Err(RunFault::OutOfMemory),
     }
+}
+
+/// The canonical text of what the bytes read as.
+fn canonical_text(alloc: Global, bytes: &[u8]) -> Result<Vec<u8>, RunFault>
+    ensures text { IfOk result (λ canonical. IsCanonical bytes.now canonical.items) }
+    ensures refused { IfErr result (λ fault. RefusesBy fault (Some bytes.now)) }
+    ensures ends { IfErr result EndsModel }
+    ensures read { result ≢ Err RunFault.ModelUnread }
+{
+    match read_model(alloc, bytes) {
+        Ok(text) => match print_model(alloc, &text) {
+            Ok(canonical) => Ok(canonical),
+            Err(_) => Err(RunFault::OutOfMemory),
+        },
+        Err(ModelFault::At { code, line }) => Err(RunFault::ModelRefused { code, line }),
+        Err(ModelFault::Memory) => Err(RunFault::OutOfMemory),
+    }
+}
+
+/// The canonical text of the model that the bytes give.
+fn printed_model(alloc: Global, bytes: &[u8]) -> Result<Vec<u8>, RunFault>
+    ensures text { IfOk result (λ canonical. IsPrinted bytes.now canonical.items) }
+    ensures refused { IfErr result (λ fault. RefusesBy fault (Some bytes.now)) }
+    ensures ends { IfErr result EndsModel }
+    ensures read { result ≢ Err RunFault.ModelUnread }
+{
+    accepted_model(alloc, bytes)?;
+    canonical_text(alloc, bytes)
+}
+
+/// Opens the model's file, reads it to its end and checks it.
+pub fn load_model<F: Shelf>(alloc: Global, shelf: &mut F, name: &str) -> Result<Model, RunFault>
+    // What was read.
+    ensures model { IfOk result (λ model. IfSome (F.file shelf.old name.now) (λ text. IsVerdict text (accepted model))) }
+    ensures refused { IfErr result (λ fault. RefusesBy fault (F.file shelf.old name.now)) }
+    ensures ends { IfErr result EndsModel }
+
+    // What is recorded, and what stays.
+    ensures opens { AddsOpens (F.opens shelf.old) (model_open name.now ∷ []) (F.opens shelf.new) }
+    ensures opened { result ≢ Err RunFault.OutOfMemory → F.opens shelf.new ≡ F.opens shelf.old ++ model_open name.now ∷ [] }
+    ensures files { F.file shelf.new ≡ F.file shelf.old }
+
+    // Whose fault it was.
+    ensures failed { result ≡ Err RunFault.ModelUnread → Rose (F.faults shelf.old OfModel) (F.faults shelf.new OfModel) }
+    ensures as_before { result ≢ Err RunFault.ModelUnread → (r : Role) → F.faults shelf.new r ≡ F.faults shelf.old r }
+{
+    let text = load_text(alloc, shelf, name)?;
+    accepted_model(alloc, text.as_slice())
+}
+
+/// Opens the model's file, reads it to its end and checks it, and makes its canonical text.
+pub fn load_canonical<F: Shelf>(
+    alloc: Global,
+    shelf: &mut F,
+    name: &str,
+) -> Result<Vec<u8>, RunFault>
+    // What was read.
+    ensures model { IfOk result (λ canonical. IfSome (F.file shelf.old name.now) (λ text. IsPrinted text canonical.items)) }
+    ensures refused { IfErr result (λ fault. RefusesBy fault (F.file shelf.old name.now)) }
+    ensures ends { IfErr result EndsModel }
+
+    // What is recorded.
+    ensures opens { AddsOpens (F.opens shelf.old) (model_open name.now ∷ []) (F.opens shelf.new) }
+    ensures opened { result ≢ Err RunFault.OutOfMemory → F.opens shelf.new ≡ F.opens shelf.old ++ model_open name.now ∷ [] }
+
+    // Whose fault it was.
+    ensures failed { result ≡ Err RunFault.ModelUnread → Rose (F.faults shelf.old OfModel) (F.faults shelf.new OfModel) }
+    ensures as_before { result ≢ Err RunFault.ModelUnread → (r : Role) → F.faults shelf.new r ≡ F.faults shelf.old r }
+{
+    let text = load_text(alloc, shelf, name)?;
+    printed_model(alloc, text.as_slice())
 }
 
 /// Opens the session's file and reads it to its end.

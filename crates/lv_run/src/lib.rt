@@ -1,6 +1,6 @@
 //! A whole call of the program, over any shelf of files and any two sinks.
 //!
-//! - `arguments`: the words that the program is called with, and the run that they ask for.
+//! - `commands`: a session served, a model printed.
 //! - `inputs`: the model and the session, opened and read.
 //! - `fault`: what ends a run before it is done, and its line on standard error.
 //! - `status`: how a call ends, and its number.
@@ -8,7 +8,7 @@
 //! - `top`: the whole of a call.
 #![tactic(auto)]
 
-mod arguments;
+mod commands;
 pub mod fault;
 mod inputs;
 pub mod status;

@@ -1,25 +1,26 @@
-//! The whole of a call: the words, the model, the session, and the status that it ends with.
+//! The whole of a call: the words, the command that they say, and the status that it ends with.
 
 ghost use Rattle.std.specs.Prelude.{◌≡◌, ◌≢◌, ◌++◌, ◌∷◌, ◌⊎◌, [], None, Some, List, ℕ, map, string_bytes, true, IfSome, IsTrue};
+ghost use Rattle.std.specs.Io.KnownBytes.{append_known};
 ghost use Rattle.lv_io.specs.Outside.{Rose};
 ghost use Rattle.lv_io.specs.declared.Role.{Role};
 ghost use Rattle.lv_io.specs.declared.Role.TheVariants.{Model as OfModel, Second as OfSecond};
-ghost use Rattle.lv_run.specs.Arguments.{run_words};
+ghost use Rattle.lv_words.specs.Words.{command_of};
 ghost use Rattle.lv_run.specs.Faults.{ended_status};
-ghost use Rattle.lv_run.specs.Expected.{expected, status_expected, opens_of, Meets, EndsAs, is_silent, keeps_shelf};
+ghost use Rattle.lv_run.specs.Inputs.{opens_of};
+ghost use Rattle.lv_run.specs.Expected.{Expected, Expects, status_expected, Meets, Follows, TellsVerdict, is_silent, keeps_shelf};
 ghost use Rattle.lv_run.specs.Opens.{HasOpened};
 ghost use Rattle.lv_run.specs.Telling.{Tells};
 ghost use Rattle.lv_session.specs.Transcript.{AddsTranscript};
-ghost use Rattle.lv_run.specs.Top.{Asks, HasNoFault, TellsOwnEnd};
+ghost use Rattle.lv_run.specs.Top.{Asks, AsksToPrint, HasNoFault, TellsOwnEnd};
 ghost use Rattle.lv_model.specs.declared.plant.Plant.{Plant};
 
-use crate::arguments::accepted;
+use crate::commands::{print, run};
 use crate::fault::RunFault;
-use crate::inputs::{load_model, load_session};
 use crate::status::Status;
 use crate::telling::report;
 use lv_io::{Shelf, Sink};
-use lv_session::write_transcript;
+use lv_words::{Command, read_words};
 use std::alloc::Global;
 
 /// A whole call of the program: `words` are those of the process, its own name first. What is written
@@ -41,25 +42,33 @@ pub fn livingstone<F: Shelf, O: Sink, E: Sink>(
         → HasNoFault (F.faults shelf.old) (F.faults shelf.new) (O.faults out.old) (O.faults out.new) (E.faults err.old) (E.faults err.new)
         → (result ≡ Status.Done) ⊎ (result ≡ Status.OutOfMemory) }
 
-    // Which status, where the shelf tells the files: with no fault the one that is expected.
-    ensures exact { IfSome (expected (F.file shelf.old) (map string_bytes words.items)) (λ e.
-        HasNoFault (F.faults shelf.old) (F.faults shelf.new) (O.faults out.old) (O.faults out.new) (E.faults err.old) (E.faults err.new)
-        → (result ≡ status_expected e) ⊎ (result ≡ Status.OutOfMemory)) }
-    ensures meets { IfSome (expected (F.file shelf.old) (map string_bytes words.items)) (λ e. Meets e (O.text out.old) (O.text out.new) result) }
-    ensures words { result ≡ Status.WordsRefused → run_words (map string_bytes words.items) ≡ None }
-    ensures refused { run_words (map string_bytes words.items) ≡ None → result ≢ Status.OutputFailed → result ≢ Status.OutOfMemory → result ≡ Status.WordsRefused }
-    ensures model_refused { IfSome (expected (F.file shelf.old) (map string_bytes words.items)) (λ e.
-        status_expected e ≡ Status.ModelRefused → ¬ Rose (F.faults shelf.old OfModel) (F.faults shelf.new OfModel)
-        → result ≢ Status.OutputFailed → result ≢ Status.OutOfMemory → result ≡ Status.ModelRefused) }
+    // The same of a model that is printed: what is written is its canonical text.
+    ensures printed { (canonical : List ℕ) → AsksToPrint (F.file shelf.old) (map string_bytes words.items) canonical → result ≡ Status.Done
+        → (O.text out.new ≡ append_known (O.text out.old) canonical) × (E.text err.new ≡ E.text err.old) }
+    ensures prints { (canonical : List ℕ) → AsksToPrint (F.file shelf.old) (map string_bytes words.items) canonical
+        → HasNoFault (F.faults shelf.old) (F.faults shelf.new) (O.faults out.old) (O.faults out.new) (E.faults err.old) (E.faults err.new)
+        → (result ≡ Status.Done) ⊎ (result ≡ Status.OutOfMemory) }
+
+    // Which status: with no fault the one that is expected, and none without its cause in the words and the model.
+    ensures exact { (e : Expected) → Expects (F.file shelf.old) (command_of (map string_bytes words.items)) e
+        → HasNoFault (F.faults shelf.old) (F.faults shelf.new) (O.faults out.old) (O.faults out.new) (E.faults err.old) (E.faults err.new)
+        → (result ≡ status_expected e) ⊎ (result ≡ Status.OutOfMemory) }
+    ensures meets { (e : Expected) → Expects (F.file shelf.old) (command_of (map string_bytes words.items)) e → Meets e (O.text out.old) (O.text out.new) result }
+    ensures follows { Follows (F.file shelf.old) (command_of (map string_bytes words.items)) result }
+    ensures words { result ≡ Status.WordsRefused → command_of (map string_bytes words.items) ≡ None }
+    ensures refused { command_of (map string_bytes words.items) ≡ None → result ≢ Status.OutputFailed → result ≢ Status.OutOfMemory → result ≡ Status.WordsRefused }
+    ensures model_refused { (e : Expected) → Expects (F.file shelf.old) (command_of (map string_bytes words.items)) e
+        → status_expected e ≡ Status.ModelRefused → ¬ Rose (F.faults shelf.old OfModel) (F.faults shelf.new OfModel)
+        → result ≢ Status.OutputFailed → result ≢ Status.OutOfMemory → result ≡ Status.ModelRefused }
 
     // What was written otherwise, and flushed. The line on standard error is of what this call came to.
     ensures silent { IsTrue (is_silent result) → O.text out.new ≡ O.text out.old }
-    ensures told { TellsOwnEnd (expected (F.file shelf.old) (map string_bytes words.items)) (O.text out.old) (O.text out.new) (E.text err.old) (E.text err.new) result }
+    ensures told { TellsOwnEnd (F.file shelf.old) (command_of (map string_bytes words.items)) (O.text out.old) (O.text out.new) (E.text err.old) (E.text err.new) result }
     ensures out_flushed { result ≢ Status.OutputFailed → result ≢ Status.OutOfMemory → O.is_flushed out.old ≡ true → O.is_flushed out.new ≡ true }
     ensures err_flushed { result ≢ Status.OutputFailed → result ≢ Status.OutOfMemory → E.is_flushed err.old ≡ true → E.is_flushed err.new ≡ true }
 
     // What was opened.
-    ensures opens { HasOpened (opens_of (map string_bytes words.items)) (F.opens shelf.old) (F.opens shelf.new) result }
+    ensures opens { HasOpened (opens_of (command_of (map string_bytes words.items))) (F.opens shelf.old) (F.opens shelf.new) result }
 
     // Whose fault it was.
     ensures model_unread { result ≡ Status.ModelUnread → Rose (F.faults shelf.old OfModel) (F.faults shelf.new OfModel) }
@@ -95,7 +104,7 @@ fn tell_end<E: Sink>(alloc: Global, ended: Result<(), RunFault>, err: &mut E) ->
     }
 }
 
-/// Reads the model and then the session that the words ask for, and writes the session's transcript.
+/// Carries out the command that the words say.
 fn carry_out<F: Shelf, O: Sink>(
     alloc: Global,
     words: &[String],
@@ -103,14 +112,14 @@ fn carry_out<F: Shelf, O: Sink>(
     out: &mut O,
 ) -> Result<(), RunFault>
     // What is expected.
-    ensures words { ended_status result ≡ Status.WordsRefused → run_words (map string_bytes words.now) ≡ None }
-    ensures meets { IfSome (expected (F.file shelf.old) (map string_bytes words.now)) (λ e. Meets e (O.text out.old) (O.text out.new) (ended_status result)) }
-    ensures refusal { IfSome (expected (F.file shelf.old) (map string_bytes words.now)) (λ e. EndsAs e result) }
+    ensures meets { (e : Expected) → Expects (F.file shelf.old) (command_of (map string_bytes words.now)) e → Meets e (O.text out.old) (O.text out.new) (ended_status result) }
+    ensures follows { Follows (F.file shelf.old) (command_of (map string_bytes words.now)) (ended_status result) }
+    ensures verdict { TellsVerdict (F.file shelf.old) (command_of (map string_bytes words.now)) result }
     ensures silent { IsTrue (is_silent (ended_status result)) → O.text out.new ≡ O.text out.old }
     ensures flushed { ended_status result ≢ Status.OutputFailed → ended_status result ≢ Status.OutOfMemory → O.is_flushed out.old ≡ true → O.is_flushed out.new ≡ true }
 
     // What is recorded.
-    ensures opens { HasOpened (opens_of (map string_bytes words.now)) (F.opens shelf.old) (F.opens shelf.new) (ended_status result) }
+    ensures opens { HasOpened (opens_of (command_of (map string_bytes words.now))) (F.opens shelf.old) (F.opens shelf.new) (ended_status result) }
 
     // Whose fault it was.
     ensures model_unread { ended_status result ≡ Status.ModelUnread → Rose (F.faults shelf.old OfModel) (F.faults shelf.new OfModel) }
@@ -119,11 +128,10 @@ fn carry_out<F: Shelf, O: Sink>(
     ensures output_failed { ended_status result ≡ Status.OutputFailed → Rose (O.faults out.old) (O.faults out.new) }
     ensures out_as_before { ended_status result ≢ Status.OutputFailed → O.faults out.new ≡ O.faults out.old }
 {
-    let Some(run) = accepted(words) else {
-        return Err(RunFault::WordsRefused);
-    };
-    let model = load_model(alloc, shelf, run.model)?;
-    let session = load_session(alloc, shelf, run.session)?;
-    write_transcript(alloc, &model, session.as_slice(), out)?;
-    Ok(())
+    match read_words(alloc, words)? {
+        Command::Run { model, session } => {
+            run(alloc, model.as_str(), session.as_str(), shelf, out)
+        }
+        Command::Print { model } => print(alloc, model.as_str(), shelf, out),
+    }
 }

@@ -33,6 +33,33 @@ part v valve closed
 law v.inn = some
 ";
 
+/// The valve's canonical text.
+const CANONICAL: &str = "model valve
+domain flow zero some
+domain order none open close
+type valve
+control cmd order
+variable inn flow
+observable out flow
+mode closed
+mode open
+mode stuck_closed
+mode stuck_open
+in closed out=zero
+in open out=inn
+in stuck_closed out=zero
+in stuck_open out=inn
+step closed->open when cmd=open
+step open->closed when cmd=close
+fault closed->stuck_closed cost 3
+fault open->stuck_open cost 5
+fault open->stuck_closed cost 4
+fault closed->stuck_open cost 8
+end
+part v valve closed
+law v.inn=some
+";
+
 const COMMANDED: &str = "ok
 settled 3
 1 cost 0 from 1: v closed>open #1
@@ -170,10 +197,55 @@ fn file_word_of_a_dash(rt: HostRuntime) -> Result<(), AllocError> {
     Ok(())
 }
 
+/// Behind `--` a word that begins with `-` is the name of a file.
+#[test]
+fn names_behind_dashes(rt: HostRuntime) -> Result<(), AllocError> {
+    let call = faultless(&["livingstone", "run", "valve.lv", "--", "-a.ses"], FIRST);
+    assert!(rt;
+        ends_so(
+            rt.alloc(),
+            &call,
+            Status::SessionUnread,
+            "",
+            "cannot read session\n"
+        )?
+    );
+    Ok(())
+}
+
+#[test]
+fn printed_model(rt: HostRuntime) -> Result<(), AllocError> {
+    let call = faultless(&["livingstone", "print", "valve.lv"], "");
+    assert!(rt; ends_so(rt.alloc(), &call, Status::Done, CANONICAL, "")?);
+    Ok(())
+}
+
+#[test]
+fn printed_model_that_is_not_there(rt: HostRuntime) -> Result<(), AllocError> {
+    let call = faultless(&["livingstone", "print", "absent"], "");
+    assert!(rt;
+        ends_so(
+            rt.alloc(),
+            &call,
+            Status::ModelUnread,
+            "",
+            "cannot read model\n"
+        )?
+    );
+    Ok(())
+}
+
+#[test]
+fn refused_model_is_not_printed(rt: HostRuntime) -> Result<(), AllocError> {
+    let call = faultless(&["livingstone", "print", "bad.lv"], "");
+    assert!(rt; ends_so(rt.alloc(), &call, Status::ModelRefused, "", "model 1 M04\n")?);
+    Ok(())
+}
+
 #[test]
 fn refused_model(rt: HostRuntime) -> Result<(), AllocError> {
     let call = faultless(&["livingstone", "run", "bad.lv", "a.ses"], FIRST);
-    assert!(rt; ends_so(rt.alloc(), &call, Status::ModelRefused, "", "model 0 M00\n")?);
+    assert!(rt; ends_so(rt.alloc(), &call, Status::ModelRefused, "", "model 1 M04\n")?);
     Ok(())
 }
 
@@ -270,6 +342,6 @@ fn failed_write_of_a_line(rt: HostRuntime) -> Result<(), AllocError> {
         err_fails: &[2],
         ..faultless(&["livingstone", "run", "bad.lv", "a.ses"], FIRST)
     };
-    assert!(rt; ends_so(rt.alloc(), &call, Status::OutputFailed, "", "model 0")?);
+    assert!(rt; ends_so(rt.alloc(), &call, Status::OutputFailed, "", "model 1")?);
     Ok(())
 }

@@ -1,0 +1,92 @@
+//! The commands of the program, each over the names of its files.
+#![tactic(auto)]
+
+ghost use Rattle.std.specs.Prelude.{◌≡◌, ◌≢◌, ◌++◌, ◌∷◌, ◌⊎◌, [], Ok, Err, OnOk, None, Some, List, ℕ, true, IfSome, IsTrue};
+ghost use Rattle.std.specs.Io.KnownBytes.{append_known};
+ghost use Rattle.lv_io.specs.Outside.{HasCause, Rose};
+ghost use Rattle.lv_io.specs.Whole.{AddsFront};
+ghost use Rattle.lv_io.specs.declared.Role.{Role};
+ghost use Rattle.lv_io.specs.declared.Role.TheVariants.{Model as OfModel, Second as OfSecond};
+ghost use Rattle.lv_words.specs.Words.{runs, prints};
+ghost use Rattle.lv_run.specs.Faults.{ended_status};
+ghost use Rattle.lv_run.specs.Inputs.{opens_of};
+ghost use Rattle.lv_run.specs.Expected.{Expected, Expects, Meets, Follows, TellsVerdict, is_silent};
+ghost use Rattle.lv_run.specs.Opens.{HasOpened};
+
+use crate::fault::RunFault;
+use crate::inputs::{load_canonical, load_model, load_session};
+use crate::status::Status;
+use lv_io::{IoFault, Shelf, Sink, write_all};
+use lv_session::{flush_after, write_transcript};
+use std::alloc::Global;
+
+/// Reads a model and then a session, and writes the session's transcript.
+pub fn run<F: Shelf, O: Sink>(
+    alloc: Global,
+    model: &str,
+    session: &str,
+    shelf: &mut F,
+    out: &mut O,
+) -> Result<(), RunFault>
+    // What is expected.
+    ensures meets { (e : Expected) → Expects (F.file shelf.old) (Some (runs model.now session.now)) e → Meets e (O.text out.old) (O.text out.new) (ended_status result) }
+    ensures follows { Follows (F.file shelf.old) (Some (runs model.now session.now)) (ended_status result) }
+    ensures verdict { TellsVerdict (F.file shelf.old) (Some (runs model.now session.now)) result }
+    ensures silent { IsTrue (is_silent (ended_status result)) → O.text out.new ≡ O.text out.old }
+    ensures flushed { ended_status result ≢ Status.OutputFailed → ended_status result ≢ Status.OutOfMemory → O.is_flushed out.old ≡ true → O.is_flushed out.new ≡ true }
+
+    // What is recorded.
+    ensures opens { HasOpened (opens_of (Some (runs model.now session.now))) (F.opens shelf.old) (F.opens shelf.new) (ended_status result) }
+
+    // Whose fault it was.
+    ensures model_unread { ended_status result ≡ Status.ModelUnread → Rose (F.faults shelf.old OfModel) (F.faults shelf.new OfModel) }
+    ensures session_unread { ended_status result ≡ Status.SessionUnread → Rose (F.faults shelf.old OfSecond) (F.faults shelf.new OfSecond) }
+    ensures shelf_as_before { ended_status result ≢ Status.ModelUnread → ended_status result ≢ Status.SessionUnread → (r : Role) → F.faults shelf.new r ≡ F.faults shelf.old r }
+    ensures output_failed { ended_status result ≡ Status.OutputFailed → Rose (O.faults out.old) (O.faults out.new) }
+    ensures out_as_before { ended_status result ≢ Status.OutputFailed → O.faults out.new ≡ O.faults out.old }
+{
+    let model = load_model(alloc, shelf, model)?;
+    let session = load_session(alloc, shelf, session)?;
+    write_transcript(alloc, &model, session.as_slice(), out)?;
+    Ok(())
+}
+
+/// Reads a model and writes its canonical text.
+pub fn print<F: Shelf, O: Sink>(
+    alloc: Global,
+    model: &str,
+    shelf: &mut F,
+    out: &mut O,
+) -> Result<(), RunFault>
+    // What is expected.
+    ensures meets { (e : Expected) → Expects (F.file shelf.old) (Some (prints model.now)) e → Meets e (O.text out.old) (O.text out.new) (ended_status result) }
+    ensures follows { Follows (F.file shelf.old) (Some (prints model.now)) (ended_status result) }
+    ensures verdict { TellsVerdict (F.file shelf.old) (Some (prints model.now)) result }
+    ensures silent { IsTrue (is_silent (ended_status result)) → O.text out.new ≡ O.text out.old }
+    ensures flushed { ended_status result ≢ Status.OutputFailed → ended_status result ≢ Status.OutOfMemory → O.is_flushed out.old ≡ true → O.is_flushed out.new ≡ true }
+
+    // What is recorded.
+    ensures opens { HasOpened (opens_of (Some (prints model.now))) (F.opens shelf.old) (F.opens shelf.new) (ended_status result) }
+
+    // Whose fault it was.
+    ensures model_unread { ended_status result ≡ Status.ModelUnread → Rose (F.faults shelf.old OfModel) (F.faults shelf.new OfModel) }
+    ensures session_unread { ended_status result ≡ Status.SessionUnread → Rose (F.faults shelf.old OfSecond) (F.faults shelf.new OfSecond) }
+    ensures shelf_as_before { ended_status result ≢ Status.ModelUnread → ended_status result ≢ Status.SessionUnread → (r : Role) → F.faults shelf.new r ≡ F.faults shelf.old r }
+    ensures output_failed { ended_status result ≡ Status.OutputFailed → Rose (O.faults out.old) (O.faults out.new) }
+    ensures out_as_before { ended_status result ≢ Status.OutputFailed → O.faults out.new ≡ O.faults out.old }
+{
+    let canonical = load_canonical(alloc, shelf, model)?;
+    write_text(canonical.as_slice(), out)?;
+    Ok(())
+}
+
+/// Writes a text and flushes what was written.
+fn write_text<O: Sink>(text: &[u8], out: &mut O) -> Result<(), IoFault>
+    ensures text { OnOk result (O.text out.new ≡ append_known (O.text out.old) text.now) }
+    ensures front { AddsFront text.now (O.text out.old) (O.text out.new) }
+    ensures flushed { OnOk result (O.is_flushed out.new ≡ true) }
+    ensures cause { HasCause (O.faults out.old) (O.faults out.new) result }
+{
+    let written = write_all(out, text);
+    flush_after(out, written)
+}
