@@ -7,7 +7,7 @@ use Rattle.lv_reader.specs.declared.code.ModelCode.TheVariants.{TextTooLong}
 use Rattle.lv_reader.specs.Texts.{IsReadingFault, too_long}
 use Rattle.lv_reader.proofs.ReadingLemmas.{text_one}
 use Rattle.lv_checker.specs.Verdicts.{IsVerdict, accepted, refused, not_read}
-use Rattle.lv_checker.proofs.Verdicts.{verdict_one}
+use Rattle.lv_checker.proofs.VerdictLemmas.{verdict_one}
 use Rattle.lv_print.specs.Texts.{canonical_model}
 use Rattle.lv_run.specs.Inputs.{IsCanonical}
 use Rattle.lv_run.specs.Expected.{fails}
