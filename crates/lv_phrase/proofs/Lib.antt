@@ -9,3 +9,4 @@ pub mod ReadLemmas
 pub mod SpacingLemmas
 pub mod PrinterLemmas
 pub mod ResolverLemmas
+pub mod FittingLemmas
