@@ -1,3 +1,4 @@
 pub mod FoldLemmas
 pub mod FitLemmas
 pub mod WidenLemmas
+pub mod CountLemmas
