@@ -37,7 +37,7 @@ fn with_one_of(total: u32, booleans: usize) -> u32
 }
 
 /// How many values the variable has.
-fn variable_size(domains: &[Domain], v: &Variable) -> u32
+pub fn variable_size(domains: &[Domain], v: &Variable) -> u32
     ensures { result ≡ variable_size domains.now v.now }
 {
     limited(size_of_domain(domains, v.domain))

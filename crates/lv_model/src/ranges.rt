@@ -54,7 +54,7 @@ fn push_type(
 }
 
 /// Adds what the part's variables range over; nothing where it has no type.
-fn push_part(
+pub fn push_part(
     out: &mut Vec<Range>,
     domains: &[Domain],
     types: &[ComponentType],

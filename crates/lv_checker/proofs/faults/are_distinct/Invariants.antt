@@ -1,6 +1,6 @@
 use Rattle.std.proofs.Common.{◌≡◌, length}
-use Rattle.lv_checker.specs.Checking.{are_distinct}
-use Rattle.lv_checker.proofs.checker.are_distinct.Given as goal
+use Rattle.lv_checker.specs.Faults.{are_distinct}
+use Rattle.lv_checker.proofs.faults.are_distinct.Given as goal
 
 -- whether all are distinct is whether those that are left are
 abbrev pub invariant-loop-name : goal.invariant-loop-name
