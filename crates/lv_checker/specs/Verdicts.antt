@@ -1,6 +1,9 @@
 -- What becomes of the bytes of a model's text: a plant, or the code and the line for which they are refused. A fault of reading
 -- comes before every fault of checking.
-use Rattle.std.specs.Prelude.{◌≡◌, ℕ, List}
+use Rattle.std.specs.Prelude.{◌≡◌, ◌≤◌, ℕ, List, length, map}
+use Rattle.lv_base.specs.declared.limits.TheConstants.{MODEL_BYTES}
+use Rattle.lv_text.specs.Lexemes.{line_reading}
+use Rattle.lv_text.specs.Lines.{lines_of}
 use Rattle.lv_model.specs.declared.plant.Plant.{Plant}
 use Rattle.lv_reader.specs.declared.code.ModelCode.{ModelCode}
 use Rattle.lv_reader.specs.declared.fault.ModelFault.{ModelFault}
@@ -31,3 +34,9 @@ Tells Memory bytes = Unit {0}
 -- bytes have at most one verdict
 abbrev pub VerdictIsOne : Type 0
 VerdictIsOne = (bytes : List ℕ) (v w : Verdict) → IsVerdict bytes v → IsVerdict bytes w → v ≡ w
+
+-- texts within the limit whose lines read alike have the same verdict
+abbrev pub ReadingsGiveVerdict : Type 0
+ReadingsGiveVerdict =
+    (a b : List ℕ) (v : Verdict) → length a ≤ MODEL_BYTES → length b ≤ MODEL_BYTES → map line_reading (lines_of a) ≡ map line_reading (lines_of b)
+    → IsVerdict a v → IsVerdict b v

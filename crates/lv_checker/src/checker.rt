@@ -1,7 +1,7 @@
 //! The model that statements give, or the first of them that is refused.
 #![tactic(auto)]
 
-ghost use Rattle.std.specs.Prelude.{◌≡◌, ◌<◌, ◌^◌, ◌++◌, IfOk, IfErr, OnOk, length, map, None, Some};
+ghost use Rattle.std.specs.Prelude.{◌≡◌, ◌<◌, ◌^◌, [], ◌∷◌, ◌++◌, IfOk, IfErr, OnOk, length, map, None, Some};
 ghost use Rattle.lv_model.specs.Ranges.{part_ranges};
 ghost use Rattle.lv_checker.specs.declared.draft.Entry.TheVariants.{NewDomain, NewPrice};
 ghost use Rattle.lv_checker.specs.Entries.{TellsEntry};
@@ -18,7 +18,7 @@ use lv_formula::{Condition, Range};
 use lv_model::counts::{law_count, type_count};
 use lv_model::ranges::push_part;
 use lv_model::totals::{limited, with};
-use lv_model::{Domain, Model, Part, Plant, Price};
+use lv_model::{ComponentType, Domain, Model, Part, Plant, Price};
 use lv_reader::{ModelCode, ModelFault, ModelText, NumberedStatement, Statement, read_model};
 use std::alloc::{AllocError, Global};
 
@@ -50,15 +50,35 @@ fn empty(alloc: Global) -> Result<Draft, AllocError>
     })
 }
 
-/// A type that ends, behind those before it.
-fn with_type(alloc: Global, mut draft: Draft, ended: TypeDraft) -> Result<Draft, AllocError>
+/// One more type behind the others.
+fn with_ended(mut plant: Plant, of: ComponentType) -> Result<Plant, AllocError>
+    ensures { IfOk result (λ p. p ≡ record plant { types = plant.types ++ of ∷ [] }) }
+{
+    plant.types.push(of)?;
+    Ok(plant)
+}
+
+fn with_share(mut shares: Seq<u32>, share: u32) -> Result<Seq<u32>, AllocError>
+    ensures { IfOk result (λ more. more ≡ shares ++ share ∷ []) }
+{
+    shares.push(share)?;
+    Ok(shares)
+}
+
+/// A type that ends, behind those before it, with the share of a part of it.
+fn with_type(alloc: Global, draft: Draft, ended: TypeDraft) -> Result<Draft, AllocError>
     ensures { IfOk result (λ d. d ≡ with_type draft ended) }
 {
     let share = type_count(alloc, draft.plant.domains.as_slice(), &ended.lists)?;
-    draft.shares.push(share)?;
-    draft.plant.types.push(ended.lists)?;
-    draft.current = None;
-    Ok(draft)
+    Ok(Draft {
+        plant: with_ended(draft.plant, ended.lists)?,
+        ranges: draft.ranges,
+        sizes: draft.sizes,
+        shares: with_share(draft.shares, share)?,
+        clauses: draft.clauses,
+        current: None,
+        has_begun: draft.has_begun,
+    })
 }
 
 fn is_end(entry: &Entry) -> bool

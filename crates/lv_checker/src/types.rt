@@ -1,7 +1,7 @@
 //! A type, line by line.
 #![tactic(auto)]
 
-ghost use Rattle.std.specs.Prelude.{◌≡◌, ◌<◌, ◌≤◌, OnOk, IfOk, IfSome, length, position};
+ghost use Rattle.std.specs.Prelude.{◌≡◌, [], ◌∷◌, ◌++◌, ◌<◌, ◌≤◌, OnOk, IfOk, IfSome, length, position};
 ghost use Rattle.lv_model.specs.WellFormed.{kind_place};
 ghost use Rattle.lv_checker.specs.Drafts.{begun, stay_in, stands_before, place_among, with_move_in_place, with_variable, with_mode, with_type_law, with_mode_law, with_move, type_with};
 
@@ -112,13 +112,29 @@ fn with_variable(
     Ok(draft)
 }
 
+fn with_mode_name(mut lists: ComponentType, name: Name) -> Result<ComponentType, AllocError>
+    ensures { IfOk result (λ t. t ≡ record lists { modes = lists.modes ++ name ∷ [] }) }
+{
+    lists.modes.push(name)?;
+    Ok(lists)
+}
+
+fn with_lists_move(mut lists: ComponentType, m: Move) -> Result<ComponentType, AllocError>
+    ensures { IfOk result (λ t. t ≡ record lists { moves = with_move_in_place m lists.moves }) }
+{
+    lists.moves = with_move_in_place(lists.moves, m)?;
+    Ok(lists)
+}
+
 /// A mode with its stay.
-fn with_mode(mut draft: TypeDraft, name: Name, mode: u32) -> Result<TypeDraft, AllocError>
+fn with_mode(draft: TypeDraft, name: Name, mode: u32) -> Result<TypeDraft, AllocError>
     ensures { IfOk result (λ t. t ≡ with_mode draft name mode) }
 {
-    draft.lists.moves = with_move_in_place(draft.lists.moves, stay_in(mode))?;
-    draft.lists.modes.push(name)?;
-    Ok(draft)
+    let lists = with_lists_move(draft.lists, stay_in(mode))?;
+    Ok(TypeDraft {
+        lists: with_mode_name(lists, name)?,
+        sizes: draft.sizes,
+    })
 }
 
 fn with_type_law(mut draft: TypeDraft, law: Condition) -> Result<TypeDraft, AllocError>
@@ -135,11 +151,13 @@ fn with_mode_law(mut draft: TypeDraft, law: ModeFormula) -> Result<TypeDraft, Al
     Ok(draft)
 }
 
-fn with_move(mut draft: TypeDraft, m: Move) -> Result<TypeDraft, AllocError>
+fn with_move(draft: TypeDraft, m: Move) -> Result<TypeDraft, AllocError>
     ensures { IfOk result (λ t. t ≡ with_move draft m) }
 {
-    draft.lists.moves = with_move_in_place(draft.lists.moves, m)?;
-    Ok(draft)
+    Ok(TypeDraft {
+        lists: with_lists_move(draft.lists, m)?,
+        sizes: draft.sizes,
+    })
 }
 
 /// A type that goes on with one more entry.
