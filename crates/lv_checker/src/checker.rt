@@ -223,11 +223,7 @@ fn all_added(
 }
 
 /// A draft with one more statement.
-fn one_added(
-    alloc: Global,
-    draft: Draft,
-    numbered: &NumberedStatement,
-) -> Result<Draft, ModelFault>
+fn one_added(alloc: Global, draft: Draft, numbered: &NumberedStatement) -> Result<Draft, ModelFault>
     ensures ok { IfOk result (λ d. one_added draft numbered.now ≡ fine d) }
     ensures fault { IfErr result (λ fault. Finds fault (one_added draft numbered.now)) }
 {

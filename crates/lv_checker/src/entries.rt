@@ -14,9 +14,7 @@ use crate::places::{
 use crate::scope::{system_formula, type_formula, value_of_system, variable_of_part};
 use lv_base::{Class, Cost, Name, Seq, ValId, VarId};
 use lv_formula::Condition;
-use lv_model::{
-    ComponentType, Domain, ModeFormula, Move, MoveKind, Part, Price, Variable,
-};
+use lv_model::{ComponentType, Domain, ModeFormula, Move, MoveKind, Part, Price, Variable};
 use lv_phrase::Phrase;
 use lv_reader::{ModelCode, Statement};
 use std::alloc::{AllocError, Global};
@@ -308,11 +306,7 @@ fn price_entry(
 
 /// What a statement adds outside types.
 #[tactic(auto, unfolding(crate::specs::Entries::outside_entry))]
-fn outside_entry(
-    alloc: Global,
-    draft: &Draft,
-    statement: &Statement,
-) -> Result<Entry, CheckFault>
+fn outside_entry(alloc: Global, draft: &Draft, statement: &Statement) -> Result<Entry, CheckFault>
     ensures ok { IfOk result (λ e. outside_entry draft.now statement.now ≡ Ok e) }
     ensures fault { IfErr result (λ fault. TellsEntry fault (outside_entry draft.now statement.now)) }
 {
@@ -335,11 +329,7 @@ fn outside_entry(
 }
 
 /// What a statement adds to those before it.
-pub fn entry_of(
-    alloc: Global,
-    draft: &Draft,
-    statement: &Statement,
-) -> Result<Entry, CheckFault>
+pub fn entry_of(alloc: Global, draft: &Draft, statement: &Statement) -> Result<Entry, CheckFault>
     ensures ok { IfOk result (λ e. entry_of draft.now statement.now ≡ Ok e) }
     ensures fault { IfErr result (λ fault. TellsEntry fault (entry_of draft.now statement.now)) }
 {

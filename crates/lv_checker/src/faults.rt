@@ -56,7 +56,10 @@ fn is_in_use_inside(current: &TypeDraft, entry: &Entry) -> bool
 {
     let of = &current.lists;
     match entry {
-        Entry::NewVariable(v) => find_variable(of.variables.as_slice(), v.name.as_slice()).is_some(),
+        Entry::NewVariable(v) => find_variable(
+            of.variables.as_slice(),
+            v.name.as_slice(),
+        ).is_some(),
         Entry::NewMode(name, _) => find_name(of.modes.as_slice(), name.as_slice()).is_some(),
         _ => false,
     }
@@ -66,9 +69,7 @@ fn is_in_use_inside(current: &TypeDraft, entry: &Entry) -> bool
 fn is_priced(prices: &[Price], price: &Price) -> bool
     ensures { result ≡ list_any (is_price_of price.now.control.0 price.now.value.0) prices.now }
 {
-    prices
-        .iter()
-        .any(|p| p.control.0 == price.control.0 && p.value.0 == price.value.0)
+    prices.iter().any(|p| p.control.0 == price.control.0 && p.value.0 == price.value.0)
 }
 
 /// Whether a name of the model is in use, a value stands twice in its domain, or a value is priced twice.
@@ -236,11 +237,7 @@ fn fault_of_entry(draft: &Draft, entry: &Entry) -> Option<ModelCode>
 }
 
 /// What a statement adds, or the first code for which it is refused.
-pub fn judged(
-    alloc: Global,
-    draft: &Draft,
-    statement: &Statement,
-) -> Result<Entry, CheckFault>
+pub fn judged(alloc: Global, draft: &Draft, statement: &Statement) -> Result<Entry, CheckFault>
     ensures ok { IfOk result (λ e. judged draft.now statement.now ≡ Ok e) }
     ensures fault { IfErr result (λ fault. TellsEntry fault (judged draft.now statement.now)) }
 {

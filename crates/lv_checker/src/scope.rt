@@ -46,12 +46,7 @@ fn sort_in_type(of: &ComponentType, number: u32) -> Option<Sort>
     Some(Sort::Values(variable.domain as usize))
 }
 
-fn value_by_sort(
-    domains: &[Domain],
-    of: &ComponentType,
-    sort: Sort,
-    word: &[u8],
-) -> Option<ValId>
+fn value_by_sort(domains: &[Domain], of: &ComponentType, sort: Sort, word: &[u8]) -> Option<ValId>
     ensures { result ≡ value_by_sort domains.now of.now sort word.now }
 {
     match sort {

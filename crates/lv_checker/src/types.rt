@@ -59,8 +59,7 @@ fn kind_place(kind: MoveKind) -> u32
 fn stands_before(m: &Move, x: &Move) -> bool
     ensures { result ≡ stands_before m.now x.now }
 {
-    m.source.0 < x.source.0
-        || (m.source.0 == x.source.0 && kind_place(m.kind) < kind_place(x.kind))
+    m.source.0 < x.source.0 || (m.source.0 == x.source.0 && kind_place(m.kind) < kind_place(x.kind))
 }
 
 /// The first move that a new one stands before.

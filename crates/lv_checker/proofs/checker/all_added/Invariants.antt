@@ -4,4 +4,4 @@ use Rattle.lv_checker.proofs.checker.all_added.Given as goal
 
 -- what is left, added to what is there, gives the whole
 abbrev pub invariant-loop-numbered : goal.invariant-loop-numbered
-invariant-loop-numbered l = all_added l.draft (drop l.numbered-index l.statements) ≡ all_added l.start l.statements
+invariant-loop-numbered l = all_added l.draft (drop l.numbered-index l.statements) ≡ all_added l.fn.start l.statements
