@@ -7,3 +7,4 @@ pub mod Forms
 pub mod Statements
 pub mod Lines
 pub mod Texts
+pub mod Lengths

@@ -1,5 +1,5 @@
 -- What holds of the canonical text of every model's text.
-use Rattle.std.specs.Prelude.{◌≡◌, ◌≤◌, ℕ, List, length, Some}
+use Rattle.std.specs.Prelude.{◌≡◌, ◌≤◌, ◌+◌, ℕ, List, length, Some}
 use Rattle.lv_base.specs.declared.limits.TheConstants.{MODEL_BYTES}
 use Rattle.lv_reader.specs.declared.statement.Statement.{Statement}
 use Rattle.lv_reader.specs.declared.statement.ModelText.{ModelText}
@@ -24,3 +24,7 @@ TextReadsBack = (bytes : List ℕ) (text : ModelText) → ReadsAs bytes text →
 -- what the canonical text reads as has that same canonical text
 abbrev pub PrintedTwiceIsTheSame : Type 0
 PrintedTwiceIsTheSame = (bytes : List ℕ) (text again : ModelText) → ReadsAs bytes text → ReadsAs (canonical_model text) again → canonical_model again ≡ canonical_model text
+
+-- it is longer than its source by no more than the added name and the end of a last line
+abbrev pub TextIsLittleLonger : Type 0
+TextIsLittleLonger = (bytes : List ℕ) (text : ModelText) → ReadsAs bytes text → length (canonical_model text) ≤ length bytes + 13
