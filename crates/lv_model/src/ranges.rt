@@ -11,7 +11,7 @@ use lv_formula::{Range, Sort};
 use std::alloc::{AllocError, Global};
 
 /// How many values the domain of this place has; none where there is no such domain.
-fn size_of_domain(domains: &[Domain], domain: u32) -> usize
+pub fn size_of_domain(domains: &[Domain], domain: u32) -> usize
     ensures { result ≡ domain_size domains.now domain }
 {
     match domains.get(domain as usize) {
