@@ -9,4 +9,8 @@ pub mod ReadLemmas
 pub mod SpacingLemmas
 pub mod PrinterLemmas
 pub mod ResolverLemmas
+pub mod Standing
+pub mod Omissions
+pub mod Canonicals
+pub mod SpacedLines
 pub mod FittingLemmas

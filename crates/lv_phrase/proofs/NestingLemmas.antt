@@ -28,7 +28,7 @@ how_many_step test ts place bit inside is =
     let counted : bit ≡ one_if (test found.0.kind) = is ∙ ap (λ k. one_if (option_map_or test k false)) found.2 in
     ap (how_many test) found.1 ∙ ap (λ n. n + how_many test (drop (place + 1) ts)) (sym counted)
 
-some_same : (p q : List Lexeme → Bool) (ts : List Lexeme) → ((front : List Lexeme) → p front ≡ q front) → some_front p ts ≡ some_front q ts
+pub some_same : (p q : List Lexeme → Bool) (ts : List Lexeme) → ((front : List Lexeme) → p front ≡ q front) → some_front p ts ≡ some_front q ts
 some_same p q [] same = same []
 some_same p q (t ∷ ts) same = ap₂ (λ (x y : Bool). x || y) (same []) (some_same (λ front. p (t ∷ front)) (λ front. q (t ∷ front)) ts (λ front. same (t ∷ front)))
 

@@ -3,7 +3,7 @@ use Rattle.std.proofs.Common.{◌≡◌, ℕ, Bool, ◌&&◌, List, [], ◌∷�
 use Rattle.lv_text.specs.Lexemes.{Lexeme}
 use Rattle.lv_phrase.specs.Spacing.{is_wordlike, spaced, ends_in_word, written}
 
-spaced_more : (after : Bool) (ts us : List Lexeme) → spaced after (ts ++ us) ≡ spaced after ts ++ spaced (ends_in_word after ts) us
+pub spaced_more : (after : Bool) (ts us : List Lexeme) → spaced after (ts ++ us) ≡ spaced after ts ++ spaced (ends_in_word after ts) us
 spaced_more after [] us = refl
 spaced_more after (t ∷ ts) us =
     let gap = if after && is_wordlike t.kind then codes " " else [] in
@@ -11,7 +11,7 @@ spaced_more after (t ∷ ts) us =
     ∙ ap (λ xs. gap ++ xs) (sym (append_assoc t.text (spaced (is_wordlike t.kind) ts) (spaced (ends_in_word (is_wordlike t.kind) ts) us)))
     ∙ sym (append_assoc gap (t.text ++ spaced (is_wordlike t.kind) ts) (spaced (ends_in_word (is_wordlike t.kind) ts) us))
 
-ends_more : (after : Bool) (ts us : List Lexeme) → ends_in_word after (ts ++ us) ≡ ends_in_word (ends_in_word after ts) us
+pub ends_more : (after : Bool) (ts us : List Lexeme) → ends_in_word after (ts ++ us) ≡ ends_in_word (ends_in_word after ts) us
 ends_more after [] us = refl
 ends_more after (t ∷ ts) us = ends_more (is_wordlike t.kind) ts us
 

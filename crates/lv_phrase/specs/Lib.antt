@@ -3,6 +3,7 @@ pub mod PhraseCode
 pub mod Connectives
 pub mod Cursors
 pub mod Grammar
+pub mod Omission
 pub mod Laws
 pub mod Reading
 pub mod Nesting
