@@ -1,6 +1,6 @@
 use Rattle.std.proofs.Common.{◌≡◌, ◌++◌, drop}
-use Rattle.lv_reply.specs.Diagnosis.{after_commas}
-use Rattle.lv_reply.proofs.diagnosis.push_after_commas.Given as goal
+use Rattle.lv_reply.specs.Pieces.{after_commas}
+use Rattle.lv_reply.proofs.pieces.push_after_commas.Given as goal
 
 -- what was added, with the texts that are left, is all
 abbrev pub invariant-loop-text : goal.invariant-loop-text
