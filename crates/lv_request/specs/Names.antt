@@ -45,8 +45,8 @@ abbrev pub part_of_name : Plant → List ℕ → Option Part
 part_of_name plant name = option_and_then (slice_get plant.parts) (position (part_named name) plant.parts)
 
 -- what the names of a part and of its variable stand for; both have to be known
-abbrev pub named : Plant → List ℕ → List ℕ → Result Named Refusal
-named plant part name = ok_or (option_and_then (named_in plant.types name) (part_of_name plant part)) UnknownName
+abbrev pub looked_up : Plant → List ℕ → List ℕ → Result Named Refusal
+looked_up plant part name = ok_or (option_and_then (named_in plant.types name) (part_of_name plant part)) UnknownName
 
 -- the value of this name in the domain at this place
 abbrev pub value_of : List Domain → List ℕ → ℕ → Option ℕ
@@ -75,11 +75,11 @@ observable_among (Of x) = if is_observable x.class then Ok x else Err NoObservab
 
 -- the control of these names
 abbrev pub control_of : Plant → List VarId → List ℕ → List ℕ → Result Commanded Refusal
-control_of plant controls part name = and_then (named plant part name) (control_among controls)
+control_of plant controls part name = and_then (looked_up plant part name) (control_among controls)
 
 -- the observable of these names
 abbrev pub observable_of : Plant → List ℕ → List ℕ → Result Found Refusal
-observable_of plant part name = and_then (named plant part name) observable_among
+observable_of plant part name = and_then (looked_up plant part name) observable_among
 
 -- a variable of the plant
 pub record IsFoundIn (count : ℕ) (x : Found) : Type 0 where

@@ -124,5 +124,6 @@ pub record IsSightingIn (count : ℕ) (s : Sighting) : Type 0 where
 -- the numbers in a request are in range
 abbrev pub IsRequestOf : Plant → Request → Type 0
 IsRequestOf plant (ToTrack n) = n ≤ TRACKED
+IsRequestOf plant (ToGoOn n) = n ≤ BUDGET
 IsRequestOf plant (ToObserve s) = IsSightingIn (variable_count plant) s
 IsRequestOf plant request = Unit {0}

@@ -50,7 +50,8 @@ pub fn has_observe_signs(line: &TokenLine<'_>) -> bool
     line.len() == 7 && is_dot_at(line, 3) && is_equals_at(line, 5)
 }
 
-fn is_text(word: &[u8], text: &[u8]) -> bool
+/// Whether a word is this one.
+pub fn is_text(word: &[u8], text: &[u8]) -> bool
     ensures { result ≡ is_named text.now word.now }
 {
     word == text

@@ -9,8 +9,9 @@ ghost use Rattle.lv_base.specs.Names.{is_named};
 ghost use Rattle.lv_model.specs.Lists.{is_variable, part_width, variable_count};
 ghost use Rattle.lv_model.specs.Names.{variable_named};
 ghost use Rattle.lv_model.specs.WellFormed.{PartEnds};
-ghost use Rattle.lv_request.specs.Names.{numbered, variable_of_type, variable_of_part, named_in, part_of_name, named, value_of, value_in, control_among, is_observable, observable_among, control_of, observable_of, IsFoundIn, IsNamedIn};
+ghost use Rattle.lv_request.specs.Names.{numbered, variable_of_type, variable_of_part, named_in, part_of_name, looked_up, value_of, value_in, control_among, is_observable, observable_among, control_of, observable_of, IsFoundIn, IsNamedIn};
 
+use crate::forms::is_text;
 use lv_base::limits::VARIABLES;
 use lv_base::{Class, VarId, find_name};
 use lv_model::names::{find_part, find_variable};
@@ -76,12 +77,6 @@ fn variable_of_part(types: &[ComponentType], name: &[u8], part: &Part) -> Option
     variable_at(of.variables.as_slice(), part.first, place)
 }
 
-fn is_mode(name: &[u8]) -> bool
-    ensures { result ≡ is_named (codes "mode") name.now }
-{
-    name == b"mode"
-}
-
 /// The value of this name in the domain at this place.
 fn value_of(domains: &[Domain], domain: u32, name: &[u8]) -> Option<u32>
     ensures { result ≡ value_of domains.now name.now domain }
@@ -103,7 +98,7 @@ fn named_in(types: &[ComponentType], name: &[u8], part: &Part) -> Option<Named>
     ensures named { result ≡ named_in types.now name.now part.now }
     ensures within { IfSome result (IsNamedIn (part.now.first.0 + part_width types.now part.now)) }
 {
-    if is_mode(name) {
+    if is_text(name, b"mode") {
         return Some(Named::Mode);
     }
     Some(Named::Of(variable_of_part(types, name, part)?))
@@ -119,8 +114,8 @@ fn part_of_name<'a>(plant: &'a Plant, name: &[u8]) -> Option<&'a Part>
 }
 
 /// What the names of a part and of its variable stand for; both have to be known.
-fn named(model: &Model, part: &[u8], name: &[u8]) -> Result<Named, Refusal>
-    ensures named { result ≡ named model.now part.now name.now }
+fn looked_up(model: &Model, part: &[u8], name: &[u8]) -> Result<Named, Refusal>
+    ensures named { result ≡ looked_up model.now part.now name.now }
     ensures within { IfOk result (IsNamedIn (variable_count model.now)) }
 {
     let plant = model.plant();
@@ -189,7 +184,7 @@ pub fn control_of(
 ) -> Result<Commanded, Refusal>
     ensures { result ≡ control_of model.now controls.now part.now name.now }
 {
-    control_among(controls, named(model, part, name)?)
+    control_among(controls, looked_up(model, part, name)?)
 }
 
 /// The observable of these names.
@@ -197,5 +192,5 @@ pub fn observable_of(model: &Model, part: &[u8], name: &[u8]) -> Result<Found, R
     ensures found { result ≡ observable_of model.now part.now name.now }
     ensures within { IfOk result (IsFoundIn (variable_count model.now)) }
 {
-    observable_among(named(model, part, name)?)
+    observable_among(looked_up(model, part, name)?)
 }

@@ -93,7 +93,8 @@ fn budget_of(line: &TokenLine<'_>) -> Result<Request, Refusal>
 
 /// `more B`
 fn more_of(line: &TokenLine<'_>) -> Result<Request, Refusal>
-    ensures { result ≡ more_of line.now }
+    ensures request { result ≡ more_of line.now }
+    ensures within { (plant : Plant) → IfOk result (IsRequestOf plant) }
 {
     Ok(Request::More(number_to(BUDGET, line)?))
 }

@@ -1,3 +1,6 @@
 pub mod Transcripts
 pub mod Serving
 pub mod Writing
+pub mod Listed
+pub mod Keeping
+pub mod StepLaws
