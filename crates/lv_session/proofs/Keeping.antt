@@ -1,5 +1,5 @@
 -- The state of a session over a plant stays one, whatever is asked for.
-use Rattle.std.proofs.Common.{◌≡◌, ℕ, ◌+◌, ◌*◌, ◌≤◌, Bool, true, false, cond, nat_eq, nat_le, slice_set, List, [], ◌∷◌, ◌++◌, length, map, filter, Option, Some, None, Result, Ok, Err, refl, sym, ◌∙◌, ap, subst, arith, All}
+use Rattle.std.proofs.Common.{◌≡◌, ℕ, ◌+◌, ◌*◌, ◌≤◌, Bool, true, false, cond, nat_eq, nat_le, slice_set, List, [], ◌∷◌, ◌++◌, length, map, filter, Option, Some, None, Result, Ok, Err, IfOk, OnErr, refl, sym, ◌∙◌, ap, subst, arith, All}
 use Rattle.std.proofs.lemmas.Bool.{leb-false}
 use Rattle.std.proofs.lemmas.List.{length-map, length-set}
 use Rattle.std.proofs.lemmas.List.Elements.{All-cons, All-append, All-nil, All-head, All-tail, All-filter}
@@ -19,6 +19,7 @@ use Rattle.lv_tracker.specs.Targets.{target_state, HasMoves}
 use Rattle.lv_tracker.specs.Tracked.{start_state, advanced, HasModes}
 use Rattle.lv_tracker.proofs.ListLemmas.{first_all, targets_have_modes}
 use Rattle.lv_reply.specs.declared.reply.Refusal.TheVariants.{NameHeld, NameNotHeld, NothingListed, TooManyHeld, TooManyCommits}
+use Rattle.lv_reply.specs.declared.reply.Reply.{Reply}
 use Rattle.lv_reply.specs.declared.reply.Reply.TheVariants.{Refused, Committed}
 use Rattle.lv_request.specs.declared.request.Sighting.{Sighting}
 use Rattle.lv_request.specs.declared.request.Request.{Request}
@@ -113,7 +114,7 @@ module _ (plant : Plant) (state : SessionState) (h : is_well_formed plant ≡ tr
 
   advanced_kept : (listed : List Rank) → IsListOf plant state listed → nat_le COMMITS state.time ≡ false → IsStateOf plant (advanced_to plant state listed)
   advanced_kept listed l early =
-      let before : state.time + 1 ≤ COMMITS = leb-false COMMITS state.time early in
+      let before : state.time + 1 ≤ COMMITS = omega (arith, leb-false COMMITS state.time early) in
       record {
         controls_whole = rest_whole (controls plant);
         modes = targets_have_modes plant listed l.moves;
@@ -157,3 +158,10 @@ module _ (plant : Plant) (state : SessionState) (h : is_well_formed plant ≡ tr
   request_kept States within = is
   request_kept Reset within = start_kept plant
   request_kept Quit within = numbers_kept state.k state.budget state.query true is.k
+
+-- whether a request was carried out or memory was wanting
+pub state_kept : {E : Type 0} (plant : Plant) (old new : SessionState) (request : Request) (result : Result Reply E) → is_well_formed plant ≡ true → IsStateOf plant old → IsRequestOf plant request
+    → IfOk result (λ reply. ◌≡◌ {A = Stepped} (record { state = new; reply = reply }) (carried_out plant old request)) → OnErr result (new ≡ old) → IsStateOf plant new
+state_kept plant old new request (Ok reply) h is within done same =
+    subst (IsStateOf plant) (sym (ap (λ (s : Stepped). s.state) done)) (request_kept plant old h is request within)
+state_kept plant old new request (Err fault) h is within done same = subst (IsStateOf plant) (sym same) is

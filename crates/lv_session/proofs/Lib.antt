@@ -4,3 +4,4 @@ pub mod Writing
 pub mod Listed
 pub mod Keeping
 pub mod StepLaws
+pub mod Asking

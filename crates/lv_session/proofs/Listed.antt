@@ -88,13 +88,13 @@ module _ (plant : Plant) (state : SessionState) (h : is_well_formed plant ≡ tr
   all_ready i d below = ready _ (is_candidate plant state.tracked _ (Contains-get_or (candidates plant state.tracked) i d below))
 
   each_ready : (n : ℕ) → All (IsReady plant (state.time + 1)) (walked plant state n).listed
-    unfolding walked
+  unfolding walked
   each_ready n =
       listed_all (IsReady plant (state.time + 1)) (is_possible_candidate plant (facts_of state)) (reason_of plant (facts_of state)) state.k n
       (candidates plant state.tracked) [] [] (All-nil (IsReady plant (state.time + 1))) all_ready
 
   few_listed : (n : ℕ) → length (walked plant state n).listed ≤ state.k
-    unfolding walked
+  unfolding walked
   few_listed n =
       at_most (is_possible_candidate plant (facts_of state)) (reason_of plant (facts_of state)) state.k n (candidates plant state.tracked) [] [] (omega arith)
 
@@ -111,6 +111,6 @@ module _ (plant : Plant) (state : SessionState) (h : is_well_formed plant ≡ tr
 
 -- a walk that isn't settled made as many trials as it may
 pub all_trials : (plant : Plant) (state : SessionState) (n : ℕ) → (walked plant state n).outcome ≡ Unsettled → trials (walked plant state n) ≡ n
-  unfolding walked
+unfolding walked
 all_trials plant state n =
     used_up_unsettled (is_possible_candidate plant (facts_of state)) (reason_of plant (facts_of state)) state.k n (candidates plant state.tracked) [] []

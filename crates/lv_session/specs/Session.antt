@@ -197,6 +197,14 @@ abbrev pub commit : Query → Plant → SessionState → Stepped
 commit Absent plant state = unchanged state (Refused NoQuery)
 commit (Diagnosis sum) plant state = commit_by (walked plant state sum).outcome plant state (walked plant state sum).listed
 
+-- `reset`
+abbrev pub reset : Plant → Stepped
+reset plant = record { state = start plant; reply = Accepted }
+
+-- `quit`
+abbrev pub quit : SessionState → Stepped
+quit state = record { state = record state { is_ended = true }; reply = Accepted }
+
 -- what a request does, and the reply to it
 abbrev pub carried_out : Plant → SessionState → Request → Stepped
 carried_out plant state Nothing = unchanged state Silence
@@ -211,8 +219,8 @@ carried_out plant state (More n) = more state.query plant state n
 carried_out plant state Commit = commit state.query plant state
 carried_out plant state Conflicts = conflicts state.query plant state
 carried_out plant state States = unchanged state (StatesReply state.time state.tracked)
-carried_out plant state Reset = record { state = start plant; reply = Accepted }
-carried_out plant state Quit = record { state = record state { is_ended = true }; reply = Accepted }
+carried_out plant state Reset = reset plant
+carried_out plant state Quit = quit state
 
 -- a refused line leaves the whole state
 abbrev pub answered : Plant → SessionState → Result Request Refusal → Stepped

@@ -6,9 +6,6 @@
 
 ghost use Rattle.std.specs.Prelude.{◌≡◌, ◌≤◌, ◌+◌, ◌<◌, ◌^◌, IfOk, OnErr, length};
 ghost use Rattle.lv_base.specs.declared.limits.TheConstants.{TRACKED, BUDGET};
-ghost use Rattle.lv_walk.specs.declared.outcome.Outcome.TheVariants.{Unsettled};
-ghost use Rattle.lv_model.specs.WellFormed.{is_well_formed};
-ghost use Rattle.lv_meaning.specs.Facts.{FactsFit};
 ghost use Rattle.lv_meaning.specs.Diagnosis.{told};
 ghost use Rattle.lv_session.specs.Session.{facts_of, walked, trials, diagnosis_reply, diagnosed, more, conflicts, taken_over, commit};
 ghost use Rattle.lv_session.specs.States.{IsStateOf, IsListOf};
@@ -52,27 +49,26 @@ fn reply_of(walked: Diagnosis) -> Reply
 
 impl State {
     /// The facts of a diagnosis.
-    fn facts(&self, alloc: Global, model: &Model) -> Result<Facts, AllocError>
-        requires { IsStateOf model.now self.now }
-        ensures facts { IfOk result (λ facts. facts ≡ facts_of self.now) }
-        ensures fit { IfOk result (FactsFit model.now) }
+    fn facts(&self, alloc: Global) -> Result<Facts, AllocError>
+        ensures { IfOk result (λ facts. facts ≡ facts_of self.now) }
     {
         Ok(Facts {
             controls: Seq::from_slice(alloc, self.controls.as_slice())?,
-            present: observations_of(alloc, self.present.as_slice())?,
-            next: observations_of(alloc, self.next.as_slice())?,
+            present: Seq::from_vec(observations_of(alloc, self.present.as_slice())?),
+            next: Seq::from_vec(observations_of(alloc, self.next.as_slice())?),
         })
     }
 
     /// The walk of a diagnosis with so many trials.
+    #[tactic(auto, unfolding(crate::specs::Session::walked))]
     fn walked(&self, alloc: Global, model: &Model, n: u64) -> Result<Diagnosis, AllocError>
         requires { IsStateOf model.now self.now }
         ensures walked { IfOk result (λ d. told d ≡ walked model.now self.now n) }
         ensures listed { IfOk result (λ d. IsListOf model.now self.now d.listed) }
     {
-        let facts = self.facts(alloc, model)?;
-        let tracked = self.tracked.as_slice();
-        walk(alloc, model, &facts, tracked, self.k, n)
+        let _plant = model.plant();
+        let facts = self.facts(alloc)?;
+        walk(alloc, model, &facts, self.tracked.as_slice(), self.k, n)
     }
 
     /// A diagnosis with so many trials, which becomes the current query.
@@ -92,12 +88,7 @@ impl State {
     }
 
     /// The current query with more trials, if it isn't settled.
-    pub(crate) fn more(
-        &mut self,
-        alloc: Global,
-        model: &Model,
-        n: u64,
-    ) -> Result<Reply, AllocError>
+    pub(crate) fn more(&mut self, alloc: Global, model: &Model, n: u64) -> Result<Reply, AllocError>
         requires state { IsStateOf model.now self.old }
         requires few { n ≤ BUDGET }
         ensures ok { IfOk result (λ reply. record { state = self.new; reply = reply } ≡ more self.old.query model.now self.old n) }

@@ -6,10 +6,9 @@ ghost use Rattle.std.specs.List.{list_any};
 ghost use Rattle.lv_base.specs.Names.{is_named};
 ghost use Rattle.lv_session.specs.Session.{observation_of, has_name as has_name_of, lacks_name, is_held, has_no_room, observe, retract};
 
-use crate::query::Query;
 use crate::state::State;
+use lv_base::has_name;
 use lv_base::limits::{NAME_BYTES, OBSERVATIONS};
-use lv_base::{Seq, has_name};
 use lv_meaning::Observation;
 use lv_reply::{Refusal, Reply};
 use lv_request::Sighting;
@@ -33,17 +32,16 @@ fn take_out(sightings: &mut Vec<Sighting>, name: &[u8])
 pub(crate) fn observations_of(
     alloc: Global,
     sightings: &[Sighting],
-) -> Result<Seq<Observation>, AllocError>
-    ensures { IfOk result (λ out. out ≡ map observation_of sightings.now) }
+) -> Result<Vec<Observation>, AllocError>
+    ensures { IfOk result (λ out. out.items ≡ map observation_of sightings.now) }
 {
-    let mut out = Seq::new(alloc);
-    for s in sightings {
-        out.push(Observation {
+    sightings
+        .iter()
+        .map(|s| Observation {
             var: s.var,
             val: s.val,
-        })?;
-    }
-    Ok(out)
+        })
+        .collect(alloc)
 }
 
 impl State {
@@ -74,8 +72,7 @@ impl State {
             return Ok(Reply::Refused(Refusal::TooManyHeld));
         }
         self.next.push(sighting)?;
-        self.query = Query::Absent;
-        Ok(Reply::Accepted)
+        Ok(self.cleared())
     }
 
     /// Takes out the observation of this name.
@@ -87,7 +84,6 @@ impl State {
         }
         take_out(&mut self.present, name);
         take_out(&mut self.next, name);
-        self.query = Query::Absent;
-        Reply::Accepted
+        self.cleared()
     }
 }

@@ -87,6 +87,7 @@ impl<'a> Session<'a> {
         if self.state.is_ended() {
             return Ok(Reply::Nothing);
         }
+        let _plant = self.model.plant();
         let controls = self.controls.as_slice();
         match request_of(self.alloc, self.model, controls, &mut self.room, line) {
             Ok(request) => self.state.carry_out(self.alloc, self.model, request),

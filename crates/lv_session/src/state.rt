@@ -1,10 +1,10 @@
 //! The state of a session, and what a request does to it.
 #![tactic(auto)]
 
-ghost use Rattle.std.specs.Prelude.{◌≡◌, IfOk, OnErr, true};
+ghost use Rattle.std.specs.Prelude.{◌≡◌, IfOk, OnErr};
 ghost use Rattle.lv_request.specs.Requests.{IsRequestOf};
-ghost use Rattle.lv_session.specs.Session.{start, resting, track, set_budget, set_control, release, commanded, carried_out};
-ghost use Rattle.lv_reply.specs.declared.reply.Reply.TheVariants.{Accepted, States};
+ghost use Rattle.lv_session.specs.Session.{start, resting, cleared, track, set_budget, set_control, release, commanded, reset, quit, carried_out};
+ghost use Rattle.lv_reply.specs.declared.reply.Reply.TheVariants.{States};
 ghost use Rattle.lv_session.specs.States.{IsStateOf};
 
 use crate::query::Query;
@@ -104,12 +104,19 @@ impl State {
         }
     }
 
+    /// The reply to what was carried out, where no query is current any more.
+    pub(crate) fn cleared(&mut self) -> Reply
+        ensures { record { state = self.new; reply = result } ≡ cleared self.old }
+    {
+        self.query = Query::Absent;
+        Reply::Accepted
+    }
+
     fn track(&mut self, n: u32) -> Reply
         ensures { record { state = self.new; reply = result } ≡ track self.old n }
     {
         self.k = n;
-        self.query = Query::Absent;
-        Reply::Accepted
+        self.cleared()
     }
 
     fn set_budget(&mut self, n: u64) -> Reply
@@ -126,8 +133,7 @@ impl State {
         if place < self.controls.len() {
             self.controls[place] = value;
         }
-        self.query = Query::Absent;
-        Reply::Accepted
+        self.cleared()
     }
 
     fn set_control(&mut self, command: Command) -> Reply
@@ -143,7 +149,7 @@ impl State {
     }
 
     fn reset(&mut self, alloc: Global, model: &Model) -> Result<Reply, AllocError>
-        ensures ok { IfOk result (λ reply. record { state = self.new; reply = reply } ≡ record { state = start model.now; reply = Accepted }) }
+        ensures ok { IfOk result (λ reply. record { state = self.new; reply = reply } ≡ reset model.now) }
         ensures err { OnErr result (self.new ≡ self.old) }
     {
         *self = State::start(alloc, model)?;
@@ -151,7 +157,7 @@ impl State {
     }
 
     fn quit(&mut self) -> Reply
-        ensures { record { state = self.new; reply = result } ≡ record { state = record self.old { is_ended = true }; reply = Accepted } }
+        ensures { record { state = self.new; reply = result } ≡ quit self.old }
     {
         self.is_ended = true;
         Reply::Accepted
