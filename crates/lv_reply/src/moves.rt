@@ -42,12 +42,7 @@ pub fn text_of_move(
 }
 
 /// A stay of a part.
-fn text_of_stay(
-    alloc: Global,
-    part: &Part,
-    modes: &[Name],
-    m: &Move,
-) -> Result<Vec<u8>, AllocError>
+fn text_of_stay(alloc: Global, part: &Part, modes: &[Name], m: &Move) -> Result<Vec<u8>, AllocError>
     ensures { IfOk result (λ out. out.items ≡ stay_text part.now modes.now m.now) }
 {
     let mut out = Vec::from_slice(alloc, part.name.as_slice())?;
