@@ -8,9 +8,8 @@ use lv_model::Model;
 use lv_session::{Session, write_transcript};
 use std::alloc::{AllocError, Global};
 
-/// A valve that follows its command or is stuck, with its inflow present.
-const VALVE: &str = "model valve
-domain flow zero some
+/// A valve that follows its command or is stuck.
+const TYPE: &str = "domain flow zero some
 domain order none open close
 type valve
 control cmd order
@@ -31,8 +30,18 @@ fault open -> stuck_open cost 5
 fault open -> stuck_closed cost 4
 fault closed -> stuck_open cost 8
 end
-part v valve closed
+";
+
+/// One valve, with its inflow present.
+const ONE: &str = "part v valve closed
 law v.inn = some
+";
+
+/// Two valves, of which the second has the outflow of the first for its inflow.
+const SERIES: &str = "part v1 valve closed
+part v2 valve closed
+law v1.inn = some
+law v2.inn = v1.out
 ";
 
 /// A session and its transcript.
@@ -93,7 +102,7 @@ const ROWS: [Row; 16] = [
     // A diagnosis from before an observation can't be taken over, nor one that isn't settled.
     Row {
         session: "diagnose\nobserve o v.out = zero\ncommit\nbudget 1\ndiagnose\ncommit\nstates\n",
-        wanted: "settled 3\n1 cost 0 from 1: -\n2 cost 3 from 1: v closed>stuck_closed #3\n3 cost 8 from 1: v closed>stuck_open #6\nok\nerror S10\nok\nunsettled 1 trials 1\n1 cost 0 from 1: -\nerror S10\ntime 0 tracked 1\n1 cost 0: v=closed\n",
+        wanted: "settled 3\n1 cost 0 from 1: -\n2 cost 3 from 1: v closed>stuck_closed #3\n3 cost 8 from 1: v closed>stuck_open #6\nok\nerror S10\nok\nunsettled 0 trials 1\nerror S10\ntime 0 tracked 1\n1 cost 0: v=closed\n",
     },
     // Equal states are kept once; what was next is present.
     Row {
@@ -114,6 +123,12 @@ const ROWS: [Row; 16] = [
     },
 ];
 
+/// Two commands to open, and no flow: ties in cost stand in written order, and conflicts speak of both valves.
+const OF_SERIES: Row = Row {
+    session: "command v1.cmd = open\ncommand v2.cmd = open\nobserve o v2.out = zero\ndiagnose\nconflicts\n",
+    wanted: "ok\nok\nok\nsettled 4\n1 cost 3 from 1: v1 closed>open #1, v2 closed>stuck_closed #3\n2 cost 3 from 1: v1 closed>stuck_closed #3, v2 closed>open #1\n3 cost 6 from 1: v1 closed>stuck_closed #3, v2 closed>stuck_closed #3\n4 cost 11 from 1: v1 closed>stuck_closed #3, v2 closed>stuck_open #6\nconflicts 5 trials 9\n1: v1 closed>open #1, v2 closed>open #1\n2: v2 closed stay\n3: v1 closed stay\n4: v1 closed>open #1, v2 closed>stuck_open #6\n5: v1 closed>stuck_open #6, v2 closed>open #1\n",
+};
+
 /// Lines that are refused, each with its code, in a session in which no query is current.
 const REFUSALS: [(&str, &str); 41] = [
     ("jump", "error S01\n"),
@@ -126,7 +141,10 @@ const REFUSALS: [(&str, &str); 41] = [
     ("track 4 distinct", "error S02\n"),
     ("track 0", "error S09\n"),
     ("track 65", "error S09\n"),
-    ("track 340282366920938463463374607431768211456", "error S09\n"),
+    (
+        "track 340282366920938463463374607431768211456",
+        "error S09\n",
+    ),
     ("budget 0", "error S09\n"),
     ("budget 1000001", "error S09\n"),
     ("budget 1 1", "error S02\n"),
@@ -148,7 +166,10 @@ const REFUSALS: [(&str, &str); 41] = [
     ("observe o v.inn = some", "error S05\n"),
     ("observe o v.mode = closed", "error S05\n"),
     ("observe o v.out = red", "error S06\n"),
-    ("observe a234567890123456789012345678901234567890123456789012345678901234x v.out = zero", "error S14\n"),
+    (
+        "observe a234567890123456789012345678901234567890123456789012345678901234x v.out = zero",
+        "error S14\n",
+    ),
     ("retract false", "error S02\n"),
     ("retract q", "error S08\n"),
     ("more 0", "error S09\n"),
@@ -159,8 +180,10 @@ const REFUSALS: [(&str, &str); 41] = [
     ("track $", "error S16\n"),
 ];
 
-fn valve(alloc: Global) -> Result<Model, AllocError> {
-    match read_model(alloc, VALVE.as_bytes()) {
+/// The model of these parts.
+fn plant_of(alloc: Global, parts: &str) -> Result<Model, AllocError> {
+    let text = format!(in alloc; "{TYPE}{parts}")?;
+    match read_model(alloc, text.as_bytes()) {
         Ok(model) => Ok(model),
         Err(_) => Err(AllocError),
     }
@@ -173,23 +196,29 @@ fn replies(session: &mut Session<'_>, line: &[u8], wanted: &str) -> Result<bool,
     Ok(text.as_slice() == wanted.as_bytes())
 }
 
+/// Whether the row's session has the row's transcript over a model.
+fn is_written(alloc: Global, model: &Model, row: &Row) -> bool {
+    let mut out = MemSink::new(alloc, 4096, Vec::new(alloc));
+    let written = write_transcript(alloc, model, row.session.as_bytes(), &mut out);
+    written.is_ok() && out.text() == row.wanted.as_bytes()
+}
+
 #[test]
 fn whole_sessions(rt: HostRuntime) -> Result<(), AllocError> {
     let alloc = rt.alloc();
-    let model = valve(alloc)?;
+    let one = plant_of(alloc, ONE)?;
     for row in &ROWS {
-        let mut out = MemSink::new(alloc, 4096, Vec::new(alloc));
-        let written = write_transcript(alloc, &model, row.session.as_bytes(), &mut out);
-        assert!(rt; written.is_ok(), "{}", row.session);
-        assert!(rt; out.text() == row.wanted.as_bytes(), "{}", row.session);
+        assert!(rt; is_written(alloc, &one, row), "{}", row.session);
     }
+    let series = plant_of(alloc, SERIES)?;
+    assert!(rt; is_written(alloc, &series, &OF_SERIES));
     Ok(())
 }
 
 #[test]
 fn refused_lines(rt: HostRuntime) -> Result<(), AllocError> {
     let alloc = rt.alloc();
-    let model = valve(alloc)?;
+    let model = plant_of(alloc, ONE)?;
     let mut session = Session::new(alloc, &model)?;
     for (line, wanted) in &REFUSALS {
         assert!(rt; replies(&mut session, line.as_bytes(), wanted)?, "{line}");
@@ -203,7 +232,14 @@ fn refused_lines(rt: HostRuntime) -> Result<(), AllocError> {
         if *line != "commit" {
             session.step(line.as_bytes())?;
         }
-        assert!(rt; replies(&mut session, b"conflicts", "conflicts 1 trials 2\n1: v closed>open #1\n")?, "{line}");
+        assert!(rt;
+            replies(
+                &mut session,
+                b"conflicts",
+                "conflicts 1 trials 2\n1: v closed>open #1\n"
+            )?,
+            "{line}"
+        );
     }
     Ok(())
 }
@@ -211,7 +247,7 @@ fn refused_lines(rt: HostRuntime) -> Result<(), AllocError> {
 #[test]
 fn many_observations(rt: HostRuntime) -> Result<(), AllocError> {
     let alloc = rt.alloc();
-    let model = valve(alloc)?;
+    let model = plant_of(alloc, ONE)?;
     let mut session = Session::new(alloc, &model)?;
     for n in 0..1024u32 {
         let line = format!(in alloc; "observe o{n} v.out = zero")?;
