@@ -4,7 +4,7 @@ use Rattle.std.specs.Option.{ok_or}
 use Rattle.lv_reply.specs.declared.reply.Refusal.{Refusal}
 use Rattle.lv_request.specs.declared.names.Named.{Named}
 use Rattle.lv_request.specs.declared.names.Named.TheVariants.{Mode, Of}
-use Rattle.lv_request.specs.Names.{IsFoundIn, IsNamedIn}
+use Rattle.lv_request.specs.Names.{IsNamedIn}
 
 named_among_more : (few many : ℕ) (n : Named) → few ≤ many → IsNamedIn few n → IsNamedIn many n
 named_among_more few many Mode le is = tt

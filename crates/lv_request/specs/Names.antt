@@ -1,6 +1,6 @@
 -- What the names in a line stand for.
-use Rattle.std.specs.Prelude.{ℕ, ◌+◌, ◌<◌, Bool, true, false, nat_eq, nat_lt, List, position, slice_get, Option, Some, None, option_map, if◌then◌else◌, codes, Result, Ok, Err}
-use Rattle.std.specs.Option.{option_and_then, option_map_or, ok_or}
+use Rattle.std.specs.Prelude.{ℕ, ◌+◌, ◌<◌, Bool, true, false, nat_lt, List, position, slice_get, Option, Some, None, option_map, if◌then◌else◌, codes, Result, Ok, Err}
+use Rattle.std.specs.Option.{option_and_then, ok_or}
 use Rattle.lv_base.specs.declared.ids.VarId.{VarId}
 use Rattle.lv_base.specs.declared.limits.TheConstants.{VARIABLES}
 use Rattle.lv_base.specs.declared.names.Class.{Class}

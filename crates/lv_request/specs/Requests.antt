@@ -1,5 +1,5 @@
 -- What a line of a session asks for, or the refusal that is due.
-use Rattle.std.specs.Prelude.{ℕ, ◌≤◌, ◌<◌, ◌≡◌, Bool, nat_eq, List, length, Option, Some, None, if◌then◌else◌, Result, Ok, Err}
+use Rattle.std.specs.Prelude.{ℕ, ◌≤◌, ◌<◌, ◌≡◌, nat_eq, List, length, if◌then◌else◌, Result, Ok, Err}
 use Rattle.std.specs.Option.{option_map_or, ok_or}
 use Rattle.lv_base.specs.declared.ids.VarId.{VarId}
 use Rattle.lv_base.specs.declared.limits.TheConstants.{TRACKED, BUDGET}
