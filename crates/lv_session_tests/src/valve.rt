@@ -2,7 +2,7 @@
 //! the lines. The replies were worked out by hand.
 #![tactic(auto)]
 
-use lv_checker::read_model;
+use lv_checker::model_of;
 use lv_io::MemSink;
 use lv_model::Model;
 use lv_session::{Session, write_transcript};
@@ -183,7 +183,7 @@ const REFUSALS: [(&str, &str); 41] = [
 /// The model of these parts.
 fn plant_of(alloc: Global, parts: &str) -> Result<Model, AllocError> {
     let text = format!(in alloc; "{TYPE}{parts}")?;
-    match read_model(alloc, text.as_bytes()) {
+    match model_of(alloc, text.as_bytes()) {
         Ok(model) => Ok(model),
         Err(_) => Err(AllocError),
     }
