@@ -5,7 +5,7 @@
 # shellcheck source-path=SCRIPTDIR source=common.sh
 . "$(dirname "$(readlink -f "${BASH_SOURCE[0]}")")/common.sh"
 
-for model in "$root"/tests/random/[0-9][0-9].lv; do
+for model in "$root"/tests/random/[0-9]*.lv; do
     pair="${model%.lv}"
     wanted=0
     error=/dev/null

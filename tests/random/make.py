@@ -1,5 +1,6 @@
 #!/usr/bin/env python3
-"""Writes the random models and sessions NN.lv and NN.ses beside this file, from the fixed seeds 1 to 64.
+"""Writes the random models and sessions NN.lv and NN.ses beside this file, from the fixed seeds 1 to 144. The sessions of
+the seeds from 65 on have lines of every word, and tracked states, budgets and observations that come and go.
 
 The files NN.out hold what an independent reference program, which is not part of this repository,
 answers to them; NN.err stands beside a model that is to be refused. A model that is changed here
@@ -9,10 +10,14 @@ needs new ones.
 import os
 import random
 
-SEEDS = range(1, 65)
+SEEDS = range(1, 145)
+
+# The first seed whose session has lines of every word.
+FIRST_WIDE = 65
 
 # The most assignments of values to all variables that a model may have, so that a search over them is quick.
 MOST_ASSIGNMENTS = 4096
+MOST_WIDE_ASSIGNMENTS = 600
 
 DOMAINS = [("level", ["low", "high", "full"]), ("flow", ["zero", "some", "much"]), ("order", ["none", "start", "halt"]),
            ("power", ["off", "on", "mode"])]
@@ -98,11 +103,11 @@ def fill_type(rng, t, held):
 def make_model(rng, number):
     """The lines of a model, and its parts as (name, type)."""
     while True:
-        most = rng.choice([1, 2, 2, 2, 3, 3]) if number % 11 else 4
+        most = rng.choice([1, 2, 2, 2, 3, 3]) if number % 11 or number >= FIRST_WIDE else 4
         domains = []
         for name, values in rng.sample(DOMAINS, rng.choice([1, 2, 2, 3])):
             domains.append((name, values[:rng.choice([2, 2, 3])]))
-        tiny = most == 4 or rng.random() < 0.2
+        tiny = most == 4 or rng.random() < (0.2 if number < FIRST_WIDE else 0.6)
         names = rng.sample(TYPES, 1 if tiny and most == 4 else rng.choice([1, 2, 2]))
         types = [make_type(rng, n, domains, tiny) for n in names]
         size = 1
@@ -111,7 +116,7 @@ def make_model(rng, number):
             t = rng.choice(types)
             parts.append((name, t, rng.choice(t.modes)))
             size *= t.size()
-        if size <= MOST_ASSIGNMENTS:
+        if size <= (MOST_ASSIGNMENTS if number < FIRST_WIDE else MOST_WIDE_ASSIGNMENTS):
             break
     # One assignment that the laws and the formulas of the starting modes hold in: the controls rest.
     held = {}
@@ -212,6 +217,62 @@ def make_session(rng, parts):
     return lines
 
 
+def wrong_line(rng, controls, others):
+    """A line that is refused in most states, each kind of refusal in its turn."""
+    p, v, values = rng.choice(controls)
+    q, w, seen = rng.choice(others)
+    return rng.choice([
+        "jump", "= track", "track", "track 0", "track 65", "track x", "budget 0", "budget 1000001", "budget",
+        "more 0", "more 1000001", "more", "track %d" % 10 ** 40, "diagnose 1", "commit 1", "states states", "quit x",
+        "command nobody.%s = %s" % (v, values[0]), "command %s.absent = %s" % (p, values[0]),
+        "command %s.mode = %s" % (p, values[0]), "command %s.%s = absent" % (p, v), "command %s.%s" % (p, v),
+        "command %s.%s = 1" % (p, v), "command true.%s = %s" % (v, values[0]), "command %s.%s = %s" % (q, w, seen[0]),
+        "release %s" % p, "release nobody.%s" % v, "release %s.mode" % p, "release %s.%s" % (q, w),
+        "observe true %s.%s = %s" % (q, w, seen[0]), "observe a %s.%s = absent" % (q, w),
+        "observe a %s.%s = %s" % (p, v, values[0]), "observe a %s.mode = idle" % p, "observe a %s.absent = x" % q,
+        "observe %s %s.%s = %s" % ("n" * 65, q, w, seen[0]), "observe a %s.%s" % (q, w), "observe a b %s = x" % w,
+        "retract nothing_of_that_name", "retract mode", "retract", "retract a b", "retract " + "n" * 65,
+        "diagnose;", "\xe9", "commit\r", "#" + "x" * 4096, "track 1 # " + "x" * 4090, "conflicts conflicts", "release"])
+
+
+def make_wide_session(rng, parts):
+    controls = [(name, v[1], v[2][1]) for name, t in parts for v in t.variables if v[0] == "control"]
+    others = [(name, v[1], v[2][1]) for name, t in parts for v in t.variables if v[0] != "control"]
+    observables = [(name, v[1], v[2][1]) for name, t in parts for v in t.variables if v[0] == "observable"]
+    lines = []
+    for _ in range(rng.choice([14, 18, 24, 30])):
+        throw = rng.random()
+        p, v, values = rng.choice(controls)
+        if throw < 0.14:
+            lines.append("command %s.%s = %s" % (p, v, rng.choice(values)))
+        elif throw < 0.18:
+            lines.append("release %s.%s" % (p, v))
+        elif throw < 0.34 and observables:
+            q, w, seen = rng.choice(observables)
+            lines.append("observe %s %s.%s = %s" % (rng.choice("abcde"), q, w, rng.choice(seen)))
+        elif throw < 0.42:
+            lines.append("retract " + rng.choice("abcde"))
+        elif throw < 0.56:
+            lines.append("diagnose")
+        elif throw < 0.62:
+            lines.append("more %d" % rng.choice([1, 1, 2, 3, 10000]))
+        elif throw < 0.74:
+            lines += ["diagnose", rng.choice(["commit", "commit", "conflicts"]), "states"]
+        elif throw < 0.78:
+            lines.append("conflicts")
+        elif throw < 0.82:
+            lines.append("track %d" % rng.choice([1, 2, 3, 4, 6]))
+        elif throw < 0.87:
+            lines.append("budget %d" % rng.choice([1, 1, 2, 3, 5, 10000]))
+        elif throw < 0.89:
+            lines.append(rng.choice(["reset", "states", "commit", "states"]))
+        elif throw < 0.9:
+            lines.append("quit")
+        else:
+            lines.append(wrong_line(rng, controls, others))
+    return lines
+
+
 def layout(rng, lines, plain):
     """The bytes of the lines: some have comments, tabs, empty lines between them, CR ends or no last LF."""
     out = []
@@ -235,8 +296,8 @@ def main():
     for seed in SEEDS:
         rng = random.Random(seed)
         lines, parts = make_model(rng, seed)
-        session = make_session(rng, parts)
-        if seed % 16 == 7:
+        session = make_session(rng, parts) if seed < FIRST_WIDE else make_wide_session(rng, parts)
+        if seed % 16 == 7 and seed < FIRST_WIDE:
             lines = spoil(rng, lines)
         for kind, text in (("lv", layout(rng, lines, seed % 3 == 0)), ("ses", layout(rng, session, False))):
             with open(os.path.join(here, "%02d.%s" % (seed, kind)), "wb") as f:

@@ -1,5 +1,7 @@
-pub mod Checking
-pub mod Example
-pub mod Laws
+pub mod Places
 pub mod Scopes
-pub mod Types
+pub mod Entries
+pub mod Faults
+pub mod Drafts
+pub mod Checking
+pub mod Verdicts

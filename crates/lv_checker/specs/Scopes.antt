@@ -1,113 +1,97 @@
--- What names stand for: places in lists, variables in scope, and what an equation compares.
-use Rattle.std.specs.Prelude.{ℕ, ◌+◌, ◌^◌, List, position, slice_get, nat_lt, if◌then◌else◌, Option, Some, None, option_map, codes}
-use Rattle.std.specs.Option.{option_and_then}
-use Rattle.lv_formula.specs.Tree.{Tree, is, same}
-use Rattle.lv_model.specs.declared.plant.Plant.{Plant}
-use Rattle.lv_model.specs.declared.plant.Domain.{Domain}
-use Rattle.lv_model.specs.declared.plant.ComponentType.{ComponentType}
-use Rattle.lv_model.specs.declared.plant.Variable.{Variable}
-use Rattle.lv_model.specs.declared.plant.Part.{Part}
-use Rattle.lv_base.specs.Names.{is_named}
-use Rattle.lv_model.specs.Names.{domain_named, type_named, variable_named, part_named}
+-- Which variables and values a formula may name: in a type its own, by a word alone; in a law of the system those of the parts
+-- so far, by the part's name and the variable's.
+use Rattle.std.specs.Prelude.{◌≡◌, ℕ, ◌+◌, ◌-◌, List, Bool, false, nat_eq, slice_get, if◌then◌else◌, Option, Some, None, option_map, Result, Ok, Err}
+use Rattle.std.specs.Option.{option_and_then, option_map_or}
+use Rattle.lv_base.specs.declared.ids.ValId.{ValId}
+use Rattle.lv_base.specs.declared.ids.VarId.{VarId}
+use Rattle.lv_formula.specs.Tree.{Tree}
 use Rattle.lv_formula.specs.declared.path.Path.{Path}
 use Rattle.lv_formula.specs.declared.path.Path.TheVariants.{Own, OfPart}
-use Rattle.lv_reader.specs.declared.statement.Equation.{Equation}
-use Rattle.lv_checker.specs.declared.draft.TypeDraft.{TypeDraft}
-use Rattle.lv_checker.specs.declared.draft.Comparison.{Comparison}
-use Rattle.lv_checker.specs.declared.draft.Comparison.TheVariants.{WithValue, WithVariable}
+use Rattle.lv_formula.specs.declared.range.Range.{Range}
 use Rattle.lv_formula.specs.declared.range.Sort.{Sort}
 use Rattle.lv_formula.specs.declared.range.Sort.TheVariants.{Modes, Values}
 use Rattle.lv_formula.specs.Fits.{is_same_sort}
-use Rattle.lv_checker.specs.declared.draft.Found.{Found}
+use Rattle.lv_model.specs.declared.plant.Domain.{Domain}
+use Rattle.lv_model.specs.declared.plant.ComponentType.{ComponentType}
+use Rattle.lv_model.specs.declared.plant.Part.{Part}
+use Rattle.lv_model.specs.declared.plant.Variable.{Variable}
+use Rattle.lv_phrase.specs.Resolving.{Names, resolved}
+use Rattle.lv_phrase.specs.PhraseTree.{PhraseTree}
+use Rattle.lv_phrase.specs.declared.resolver.NameFault.{NameFault}
+use Rattle.lv_phrase.specs.declared.resolver.NameFault.TheVariants as name_fault
+use Rattle.lv_reader.specs.declared.code.ModelCode.{ModelCode}
+use Rattle.lv_reader.specs.declared.code.ModelCode.TheVariants.{UnknownName, NoFit}
+use Rattle.lv_checker.specs.declared.draft.Draft.{Draft}
+use Rattle.lv_checker.specs.declared.draft.CheckFault.{CheckFault}
+use Rattle.lv_checker.specs.declared.draft.CheckFault.TheVariants.{Refused, Memory}
+use Rattle.lv_checker.specs.Places.{variable_numbered, variable_place, part_of_name, mode_place, value_of_domain, value_of_sort}
 
--- a place in a list, or a number counted from one, as a number of 32 bits; the lists of a text within its limit are far shorter
-abbrev pub placed : ℕ → Option ℕ
-placed n = if nat_lt n (2 ^ 32) then Some n else None
+-- both are there, and are of one sort
+abbrev pub are_one_sort : Option Sort → Option Sort → Bool
+are_one_sort None s = false
+are_one_sort (Some r) None = false
+are_one_sort (Some r) (Some s) = is_same_sort r s
 
-abbrev pub domain_place : List Domain → List ℕ → Option ℕ
-domain_place domains word = option_and_then placed (position (domain_named word) domains)
+-- in a type that has not ended; its modes are those of place 0, since no other type's can be named
 
-abbrev pub type_place : List ComponentType → List ℕ → Option ℕ
-type_place types word = option_and_then placed (position (type_named word) types)
+abbrev pub variable_of_type : ComponentType → Path → Option VarId
+variable_of_type t (Own word) = option_and_then variable_numbered (variable_place t.variables word)
+variable_of_type t (OfPart part word) = None
 
-abbrev pub part_place : List Part → List ℕ → Option ℕ
-part_place parts word = option_and_then placed (position (part_named word) parts)
+abbrev pub sort_in_type : ComponentType → ℕ → Option Sort
+sort_in_type t x = if nat_eq x 0 then Some (Modes 0) else option_map (λ (v : Variable). Values v.domain) (slice_get t.variables (x - 1))
 
--- of a name among names
-abbrev pub name_place : List (List ℕ) → List ℕ → Option ℕ
-name_place names word = option_and_then placed (position (is_named word) names)
+abbrev pub value_by_sort : List Domain → ComponentType → Sort → List ℕ → Option ValId
+value_by_sort domains t (Modes kind) word = mode_place t word
+value_by_sort domains t (Values d) word = value_of_domain domains d word
 
--- of a mode of a type that has ended
-abbrev pub mode_place : ComponentType → List ℕ → Option ℕ
-mode_place t word = option_and_then placed (position (is_named word) t.modes)
+abbrev pub value_of_type : List Domain → ComponentType → VarId → List ℕ → Option ValId
+value_of_type domains t x word = option_and_then (λ (s : Sort). value_by_sort domains t s word) (sort_in_type t x.0)
 
--- the variable after the mode that stands at this place of a type's list
-abbrev pub numbered : List Variable → ℕ → Option Found
-numbered variables n =
-    option_and_then (λ (v : Variable). option_map (λ k. record { number = k; sort = Values v.domain }) (placed (n + 1))) (slice_get variables n)
+abbrev pub share_in_type : ComponentType → VarId → VarId → Bool
+share_in_type t x y = are_one_sort (sort_in_type t x.0) (sort_in_type t y.0)
 
--- the variable of a type that a word names; `kind` is the type's place
-abbrev pub variable_of : ℕ → List Variable → List ℕ → Option Found
-variable_of kind variables word =
-    if is_named (codes "mode") word
-    then Some (record { number = 0; sort = Modes kind })
-    else option_and_then (numbered variables) (position (variable_named word) variables)
+abbrev pub type_names : List Domain → ComponentType → Names
+type_names domains t = record { variable = variable_of_type t; value = value_of_type domains t; share_domain = share_in_type t }
 
--- a variable of a type, as that of a part
-abbrev pub shifted : ℕ → Found → Option Found
-shifted first x = option_map (λ n. record { number = n; sort = x.sort }) (placed (first + x.number))
+-- in a law of the system
 
-abbrev pub variable_of_part : List ComponentType → List ℕ → Part → Option Found
+-- the variable of the part that a word names
+abbrev pub variable_of_part : List ComponentType → List ℕ → Part → Option VarId
 variable_of_part types word p =
-    option_and_then (shifted p.first.0) (option_and_then (λ (t : ComponentType). variable_of p.kind t.variables word) (slice_get types p.kind))
+    option_and_then (λ (t : ComponentType). option_and_then (λ n. variable_numbered (p.first.0 + n)) (variable_place t.variables word)) (slice_get types p.kind)
 
--- the variable that a path names in a type that has not ended: a single word
-abbrev pub in_type : TypeDraft → Path → Option Found
-in_type t (Own word) = variable_of 0 t.variables word
-in_type t (OfPart part word) = None
+abbrev pub variable_of_system : Draft → Path → Option VarId
+variable_of_system d (Own word) = None
+variable_of_system d (OfPart part word) = option_and_then (variable_of_part d.plant.types word) (part_of_name d.plant.parts part)
 
--- the variable that a path names in a law of the system: a part and its variable
-abbrev pub in_system : Plant → Path → Option Found
-in_system plant (Own word) = None
-in_system plant (OfPart part word) =
-    option_and_then (variable_of_part plant.types word) (option_and_then (slice_get plant.parts) (part_place plant.parts part))
+abbrev pub sort_in_system : Draft → ℕ → Option Sort
+sort_in_system d x = option_map (λ (r : Range). r.sort) (slice_get d.ranges x)
 
--- the value of a domain that a word names
-abbrev pub value_of_domain : List Domain → ℕ → List ℕ → Option ℕ
-value_of_domain domains d word = option_and_then (λ (x : Domain). name_place x.values word) (slice_get domains d)
+abbrev pub value_of_system : Draft → VarId → List ℕ → Option ValId
+value_of_system d x word = option_and_then (λ (s : Sort). value_of_sort d.plant.domains d.plant.types s word) (sort_in_system d x.0)
 
--- the value that a word names, of a variable in a type that has not ended
-abbrev pub value_in_type : List Domain → TypeDraft → Sort → List ℕ → Option ℕ
-value_in_type domains t (Modes kind) word = name_place t.modes word
-value_in_type domains t (Values d) word = value_of_domain domains d word
+abbrev pub share_in_system : Draft → VarId → VarId → Bool
+share_in_system d x y = are_one_sort (sort_in_system d x.0) (sort_in_system d y.0)
 
--- the same in a law of the system
-abbrev pub value_in_system : Plant → Sort → List ℕ → Option ℕ
-value_in_system plant (Modes kind) word = option_and_then (λ (t : ComponentType). mode_place t word) (slice_get plant.types kind)
-value_in_system plant (Values d) word = value_of_domain plant.domains d word
+abbrev pub system_names : Draft → Names
+system_names d = record { variable = variable_of_system d; value = value_of_system d; share_domain = share_in_system d }
 
--- a variable compared with a value, if the right side is one; else with a variable of its sort
-abbrev pub compared : Found → Option ℕ → Option Found → Option Comparison
-compared x (Some v) y = Some (WithValue x.number v)
-compared x None None = None
-compared x None (Some y) = if is_same_sort x.sort y.sort then Some (WithVariable x.number y.number) else None
+-- the code of a name that stands for nothing fitting
+abbrev pub code_of_name : NameFault → ModelCode
+code_of_name name_fault.UnknownName = UnknownName
+code_of_name name_fault.NoFit = NoFit
 
--- the word that a path is, if it is a word alone
-abbrev pub alone : Path → Option (List ℕ)
-alone (Own word) = Some word
-alone (OfPart part word) = None
+-- the same of a result
+abbrev pub with_code : {A : Type 0} → Result A NameFault → Result A ModelCode
+with_code (Ok x) = Ok x
+with_code (Err fault) = Err (code_of_name fault)
 
--- what an equation in a type compares
-unfoldable pub type_comparison : List Domain → TypeDraft → Equation → Option Comparison
-type_comparison domains t e =
-    option_and_then (λ (x : Found). compared x (option_and_then (value_in_type domains t x.sort) (alone e.right)) (in_type t e.right)) (in_type t e.left)
+-- the formula that a phrase is in a scope, or the code of the first side that stands for nothing fitting
+abbrev pub formula_in : Names → PhraseTree → Result Tree ModelCode
+formula_in names phrase = with_code (resolved names phrase)
 
--- what an equation in a law of the system compares
-unfoldable pub system_comparison : Plant → Equation → Option Comparison
-system_comparison plant e =
-    option_and_then (λ (x : Found). compared x (option_and_then (value_in_system plant x.sort) (alone e.right)) (in_system plant e.right)) (in_system plant e.left)
-
--- the formula that says so
-abbrev pub tree_of_comparison : Comparison → Tree
-tree_of_comparison (WithValue x v) = is x v
-tree_of_comparison (WithVariable x y) = same x y
+-- a fault tells the code of the formula's; want of memory tells nothing
+abbrev pub TellsFormula : CheckFault → Result Tree ModelCode → Type 0
+TellsFormula (Refused code) found = found ≡ Err code
+TellsFormula Memory found = Unit {0}

@@ -1,49 +1,26 @@
-//! The model that statements give, and the model of a text.
+//! The model that statements give, or the first of them that is refused.
 #![tactic(auto)]
 
-ghost use Rattle.std.specs.Prelude.{◌≡◌, ◌<◌, ◌≤◌, ◌++◌, IfOk, IfErr, Some, drop, slice_get};
-ghost use Rattle.std.specs.List.{list_any};
-ghost use Rattle.std.specs.Option.{option_and_then};
-ghost use Rattle.lv_reader.specs.Forms.{is_model};
-ghost use Rattle.lv_model.specs.declared.plant.ComponentType.{ComponentType};
-ghost use Rattle.lv_checker.specs.Checking.{bare, resting, are_distinct, with_name, with_domain, with_type, next_after, part_numbers, with_part_of, with_part, with_law, added_outside, with_ended, type_ends, going_on, type_goes_on, added_inside, added, added_all, finished, plant_of, model_of, Tells};
+ghost use Rattle.std.specs.Prelude.{◌≡◌, ◌<◌, ◌^◌, [], ◌∷◌, ◌++◌, IfOk, IfErr, OnOk, length, map, None, Some};
+ghost use Rattle.lv_model.specs.Ranges.{part_ranges};
+ghost use Rattle.lv_checker.specs.declared.draft.Entry.TheVariants.{NewDomain, NewPrice};
+ghost use Rattle.lv_checker.specs.Entries.{TellsEntry};
+ghost use Rattle.lv_checker.specs.Faults.{fault_of_entry, judged};
+ghost use Rattle.lv_checker.specs.Drafts.{bare, empty, limited_size, is_end, with_type, with_inside, with_part, with_law, with_outside, with_entry};
+ghost use Rattle.lv_checker.specs.Checking.{fine, one_added, all_added, finished, checked, Finds};
+ghost use Rattle.lv_checker.specs.Verdicts.{IsVerdict, accepted, Tells};
 
-use crate::draft::{Comparison, Draft, TypeDraft};
-use crate::scope::{condition_of, mode_place, system_comparison, type_place};
-use crate::types::{begun, ended, type_added};
-use lv_base::{Name, Seq, ValId, VarId, find_name};
-use lv_model::names::{find_domain, find_part, find_type};
-use lv_model::{ComponentType, Domain, Model, Part, Plant};
-use lv_reader::{LineFault, Statement, statements_of};
+use crate::draft::{CheckFault, Draft, Entry, TypeDraft};
+use crate::faults::{judged, share_of};
+use crate::types::{begun, type_with};
+use lv_base::Seq;
+use lv_formula::{Condition, Range};
+use lv_model::counts::{law_count, type_count};
+use lv_model::ranges::push_part;
+use lv_model::totals::{limited, with};
+use lv_model::{ComponentType, Domain, Model, Part, Plant, Price};
+use lv_reader::{ModelCode, ModelFault, ModelText, NumberedStatement, Statement, read_model};
 use std::alloc::{AllocError, Global};
-use thiserror::Error;
-
-/// The most parts that a model may have for now.
-pub const MOST_PARTS: usize = 4;
-
-/// The most variables that a model may have for now, modes included.
-pub const MOST_VARIABLES: usize = 64;
-
-/// Why a text gives no model.
-#[derive(Clone, Copy, Debug, PartialEq, Eq, Error)]
-pub enum ModelFault {
-    /// The text is refused. The code and the line, counted from 1, are both 0 as long as one refusal stands for all.
-    #[error("model {line} M{code:02}")]
-    At { code: u32, line: usize },
-    /// Memory ran out. No clause says when.
-    #[error("out of memory")]
-    Memory,
-}
-
-impl From<AllocError> for ModelFault {
-    ghost use Rattle.lv_checker.specs.declared.checker.ModelFault.TheVariants.{Memory};
-
-    ghost from_gives = { λ _ fault. fault ≡ Memory };
-
-    fn from(_failed: AllocError) -> ModelFault {
-        ModelFault::Memory
-    }
-}
 
 /// A plant before any statement; the model's name is `model` until a statement gives one.
 fn bare(alloc: Global) -> Result<Plant, AllocError>
@@ -59,324 +36,251 @@ fn bare(alloc: Global) -> Result<Plant, AllocError>
     })
 }
 
-/// A draft in which no type has begun, or each has ended.
-fn resting(plant: Plant, next: u32) -> Draft
-    ensures { result ≡ resting plant next }
+fn empty(alloc: Global) -> Result<Draft, AllocError>
+    ensures { IfOk result (λ draft. draft ≡ empty) }
 {
-    Draft {
-        plant,
-        next: VarId(next),
+    Ok(Draft {
+        plant: bare(alloc)?,
+        ranges: Seq::new(alloc),
+        sizes: Seq::new(alloc),
+        shares: Seq::new(alloc),
+        clauses: 0,
         current: None,
-    }
+        has_begun: false,
+    })
 }
 
-/// Whether no name stands twice.
-fn are_distinct(names: &[Name]) -> bool
-    ensures { result ≡ are_distinct names.now }
-{
-    let mut rest = names;
-    while let Some((name, more)) = rest.split_first() {
-        if find_name(more, name.as_slice()).is_some() {
-            return false;
-        }
-        rest = more;
-    }
-    true
-}
-
-fn with_name(mut plant: Plant, name: Name) -> Plant
-    ensures { result ≡ with_name plant name }
-{
-    plant.name = name;
-    plant
-}
-
-fn with_domain(mut plant: Plant, name: Name, values: Seq<Name>) -> Result<Option<Plant>, AllocError>
-    ensures { IfOk result (λ read. read ≡ with_domain plant name values) }
-{
-    if find_domain(plant.domains.as_slice(), name.as_slice()).is_some() {
-        return Ok(None);
-    }
-    if !are_distinct(values.as_slice()) {
-        return Ok(None);
-    }
-    plant.domains.push(Domain { name, values })?;
-    Ok(Some(plant))
-}
-
-fn with_type(alloc: Global, plant: Plant, next: u32, name: Name) -> Option<Draft>
-    ensures { result ≡ with_type plant next name }
-{
-    if find_type(plant.types.as_slice(), name.as_slice()).is_some() {
-        return None;
-    }
-    Some(going_on(plant, next, begun(alloc, name)))
-}
-
-/// The first variable behind those of a part that has so many after its mode.
-fn next_after(first: u32, own: usize) -> Option<u32>
-    ensures { result ≡ next_after first own }
-{
-    if own < MOST_VARIABLES && first as usize + own + 1 <= MOST_VARIABLES {
-        Some((first as usize + own + 1) as u32)
-    } else {
-        None
-    }
-}
-
-/// The number of a new part's starting mode, and the first variable behind the part's own.
-fn part_numbers(of: &ComponentType, first: u32, start: &[u8]) -> Option<(u32, u32)>
-    ensures { result ≡ part_numbers of.now first start.now }
-{
-    let start = mode_place(of, start)?;
-    let next = next_after(first, of.variables.len())?;
-    Some((start, next))
-}
-
-/// The same of the type at place `kind`.
-fn numbers_of_kind(
-    types: &[ComponentType],
-    kind: u32,
-    first: u32,
-    start: &[u8],
-) -> Option<(u32, u32)>
-    ensures { result ≡ option_and_then (λ (t : ComponentType). part_numbers t first start.now) (slice_get types.now kind) }
-{
-    let of = types.get(kind as usize)?;
-    part_numbers(of, first, start)
-}
-
-fn with_part_of(
-    mut plant: Plant,
-    next: u32,
-    name: Name,
-    kind: u32,
-    start: &[u8],
-) -> Result<Option<Draft>, AllocError>
-    ensures { IfOk result (λ read. read ≡ with_part_of plant next name kind start.now) }
-{
-    let Some(numbers) = numbers_of_kind(plant.types.as_slice(), kind, next, start) else {
-        return Ok(None);
-    };
-    plant.parts.push(Part {
-        name,
-        kind,
-        start: ValId(numbers.0),
-        first: VarId(next),
-    })?;
-    Ok(Some(resting(plant, numbers.1)))
-}
-
-fn with_part(
-    plant: Plant,
-    next: u32,
-    name: Name,
-    kind: Name,
-    start: Name,
-) -> Result<Option<Draft>, AllocError>
-    ensures { IfOk result (λ read. read ≡ with_part plant next name kind start) }
-{
-    if find_part(plant.parts.as_slice(), name.as_slice()).is_some() {
-        return Ok(None);
-    }
-    if plant.parts.len() >= MOST_PARTS {
-        return Ok(None);
-    }
-    match type_place(plant.types.as_slice(), kind.as_slice()) {
-        Some(kind) => with_part_of(plant, next, name, kind, start.as_slice()),
-        None => Ok(None),
-    }
-}
-
-fn with_law(mut plant: Plant, law: Comparison) -> Result<Plant, AllocError>
-    ensures { IfOk result (λ read. read ≡ with_law plant law) }
-{
-    plant.laws.push(condition_of(law))?;
-    Ok(plant)
-}
-
-/// The draft of a plant and a statement that stands outside types.
-#[tactic(auto, unfolding(crate::specs::Checking::added_outside))]
-fn added_outside(
-    alloc: Global,
-    plant: Plant,
-    next: u32,
-    statement: Statement,
-) -> Result<Option<Draft>, AllocError>
-    ensures { IfOk result (λ read. read ≡ added_outside plant next statement) }
-{
-    match statement {
-        Statement::ModelLine(name) => Ok(Some(resting(with_name(plant, name), next))),
-        Statement::DomainLine(name, values) => match with_domain(plant, name, values)? {
-            Some(plant) => Ok(Some(resting(plant, next))),
-            None => Ok(None),
-        },
-        Statement::TypeLine(name) => Ok(with_type(alloc, plant, next, name)),
-        Statement::PartLine(name, kind, start) => with_part(plant, next, name, kind, start),
-        Statement::LawLine(equation) => match system_comparison(&plant, &equation) {
-            Some(law) => Ok(Some(resting(with_law(plant, law)?, next))),
-            None => Ok(None),
-        },
-        _ => Ok(None),
-    }
-}
-
+/// One more type behind the others.
 fn with_ended(mut plant: Plant, of: ComponentType) -> Result<Plant, AllocError>
-    ensures { IfOk result (λ read. read ≡ with_ended plant of) }
+    ensures { IfOk result (λ p. p ≡ record plant { types = plant.types ++ of ∷ [] }) }
 {
     plant.types.push(of)?;
     Ok(plant)
 }
 
-/// The draft where the `end` of a type stands.
-fn type_ends(
+fn with_share(mut shares: Seq<u32>, share: u32) -> Result<Seq<u32>, AllocError>
+    ensures { IfOk result (λ more. more ≡ shares ++ share ∷ []) }
+{
+    shares.push(share)?;
+    Ok(shares)
+}
+
+/// A type that ends, behind those before it, with the share of a part of it.
+fn with_type(alloc: Global, draft: Draft, ended: TypeDraft) -> Result<Draft, AllocError>
+    ensures { IfOk result (λ d. d ≡ with_type draft ended) }
+{
+    let share = type_count(alloc, draft.plant.domains.as_slice(), &ended.lists)?;
+    Ok(Draft {
+        plant: with_ended(draft.plant, ended.lists)?,
+        ranges: draft.ranges,
+        sizes: draft.sizes,
+        shares: with_share(draft.shares, share)?,
+        clauses: draft.clauses,
+        current: None,
+        has_begun: draft.has_begun,
+    })
+}
+
+fn is_end(entry: &Entry) -> bool
+    ensures { result ≡ is_end entry.now }
+{
+    matches!(entry, Entry::TypeEnds)
+}
+
+/// One more entry of a type that has not ended, which was taken out of the draft.
+fn with_inside(
     alloc: Global,
-    plant: Plant,
-    next: u32,
+    mut draft: Draft,
     current: TypeDraft,
-) -> Result<Option<Draft>, AllocError>
-    ensures { IfOk result (λ read. read ≡ type_ends plant next current) }
+    entry: Entry,
+) -> Result<Draft, AllocError>
+    ensures { IfOk result (λ d. d ≡ with_inside draft current entry) }
 {
-    match ended(alloc, current)? {
-        Some(of) => Ok(Some(resting(with_ended(plant, of)?, next))),
-        None => Ok(None),
+    if is_end(&entry) {
+        return with_type(alloc, draft, current);
+    }
+    let current = type_with(current, draft.plant.domains.as_slice(), entry)?;
+    draft.current = Some(current);
+    Ok(draft)
+}
+
+/// What the variables of a part range over.
+fn ranges_of(alloc: Global, plant: &Plant, part: &Part) -> Result<Vec<Range>, AllocError>
+    ensures { IfOk result (λ out. out.items ≡ part_ranges plant.now.domains plant.now.types part.now) }
+{
+    let mut out = Vec::new(alloc);
+    push_part(
+        &mut out,
+        plant.domains.as_slice(),
+        plant.types.as_slice(),
+        part,
+    )?;
+    Ok(out)
+}
+
+/// Adds how many values the variables have, where clauses are counted.
+fn push_sizes(sizes: &mut Seq<u32>, ranges: &[Range]) -> Result<(), AllocError>
+    ensures { OnOk result (sizes.new ≡ sizes.old ++ map limited_size ranges.now) }
+{
+    for range in ranges {
+        sizes.push(limited(range.size))?;
+    }
+    Ok(())
+}
+
+fn push_ranges(all: &mut Seq<Range>, ranges: &[Range]) -> Result<(), AllocError>
+    ensures { OnOk result (all.new ≡ all.old ++ ranges.now) }
+{
+    for range in ranges {
+        all.push(*range)?;
+    }
+    Ok(())
+}
+
+/// A part with its variables and its share of clauses.
+fn with_part(alloc: Global, mut draft: Draft, part: Part) -> Result<Draft, AllocError>
+    ensures { IfOk result (λ d. d ≡ with_part draft part) }
+{
+    let ranges = ranges_of(alloc, &draft.plant, &part)?;
+    draft.clauses = with(draft.clauses, share_of(&draft, &part) as usize);
+    push_sizes(&mut draft.sizes, ranges.as_slice())?;
+    push_ranges(&mut draft.ranges, ranges.as_slice())?;
+    draft.plant.parts.push(part)?;
+    Ok(draft)
+}
+
+fn with_law(mut draft: Draft, law: Condition) -> Result<Draft, AllocError>
+    ensures { IfOk result (λ d. d ≡ with_law draft law) }
+{
+    draft.clauses = with(
+        draft.clauses,
+        law_count(&law, draft.sizes.as_slice()) as usize,
+    );
+    draft.plant.laws.push(law)?;
+    Ok(draft)
+}
+
+fn with_domain(mut draft: Draft, domain: Domain) -> Result<Draft, AllocError>
+    ensures { IfOk result (λ d. d ≡ with_outside draft (NewDomain domain)) }
+{
+    draft.plant.domains.push(domain)?;
+    Ok(draft)
+}
+
+fn with_price(mut draft: Draft, price: Price) -> Result<Draft, AllocError>
+    ensures { IfOk result (λ d. d ≡ with_outside draft (NewPrice price)) }
+{
+    draft.plant.prices.push(price)?;
+    Ok(draft)
+}
+
+/// One more entry outside types.
+fn with_outside(alloc: Global, mut draft: Draft, entry: Entry) -> Result<Draft, AllocError>
+    ensures { IfOk result (λ d. d ≡ with_outside draft entry) }
+{
+    match entry {
+        Entry::Named(name) => {
+            draft.plant.name = name;
+            Ok(draft)
+        }
+        Entry::NewDomain(domain) => with_domain(draft, domain),
+        Entry::TypeBegins(name) => {
+            draft.current = Some(begun(alloc, name)?);
+            Ok(draft)
+        }
+        Entry::NewPart(part) => with_part(alloc, draft, part),
+        Entry::SystemLaw(law) => with_law(draft, law),
+        Entry::NewPrice(price) => with_price(draft, price),
+        _ => Ok(draft),
     }
 }
 
-/// A draft in which a type has not ended.
-fn going_on(plant: Plant, next: u32, current: TypeDraft) -> Draft
-    ensures { result ≡ going_on plant next current }
+/// One more entry, against which nothing speaks.
+fn with_entry(alloc: Global, mut draft: Draft, entry: Entry) -> Result<Draft, AllocError>
+    ensures { IfOk result (λ d. d ≡ with_entry draft entry) }
 {
-    Draft {
-        plant,
-        next: VarId(next),
-        current: Some(current),
+    draft.has_begun = true;
+    match draft.current.take() {
+        Some(current) => with_inside(alloc, draft, current, entry),
+        None => with_outside(alloc, draft, entry),
     }
 }
 
-/// The draft where another statement of a type stands.
-fn type_goes_on(
-    plant: Plant,
-    next: u32,
-    current: TypeDraft,
-    statement: Statement,
-) -> Result<Option<Draft>, AllocError>
-    ensures { IfOk result (λ read. read ≡ type_goes_on plant next current statement) }
-{
-    match type_added(plant.domains.as_slice(), current, statement)? {
-        Some(current) => Ok(Some(going_on(plant, next, current))),
-        None => Ok(None),
-    }
-}
-
-/// The draft of a plant and a type that has not ended, and a statement of the type.
-#[tactic(auto, unfolding(crate::specs::Checking::added_inside))]
-fn added_inside(
-    alloc: Global,
-    plant: Plant,
-    next: u32,
-    current: TypeDraft,
-    statement: Statement,
-) -> Result<Option<Draft>, AllocError>
-    ensures { IfOk result (λ read. read ≡ added_inside plant next current statement) }
-{
-    if statement.is_end() {
-        type_ends(alloc, plant, next, current)
-    } else {
-        type_goes_on(plant, next, current, statement)
-    }
-}
-
-/// The draft and one more statement, or `None` where the statement can't stand there.
-fn added(alloc: Global, draft: Draft, statement: Statement) -> Result<Option<Draft>, AllocError>
-    ensures { IfOk result (λ read. read ≡ added draft statement) }
-{
-    let Draft {
-        plant,
-        next,
-        current,
-    } = draft;
-    match current {
-        None => added_outside(alloc, plant, next.0, statement),
-        Some(current) => added_inside(alloc, plant, next.0, current, statement),
-    }
-}
-
-/// The draft of all these statements, in order.
-fn added_all(
+/// A draft with these statements, one after the other.
+fn all_added(
     alloc: Global,
     start: Draft,
-    statements: Vec<Statement>,
-) -> Result<Option<Draft>, AllocError>
-    ensures { IfOk result (λ read. read ≡ added_all start statements.items) }
+    statements: &[NumberedStatement],
+) -> Result<Draft, ModelFault>
+    ensures ok { IfOk result (λ d. all_added start statements.now ≡ fine d) }
+    ensures fault { IfErr result (λ fault. Finds fault (all_added start statements.now)) }
 {
     let mut draft = start;
-    for statement in statements {
-        match added(alloc, draft, statement)? {
-            Some(more) => draft = more,
-            None => return Ok(None),
-        }
+    for numbered in statements {
+        draft = one_added(alloc, draft, numbered)?;
     }
-    Ok(Some(draft))
+    Ok(draft)
 }
 
-/// Whether a statement behind the first gives the model's name.
-fn names_model_late(statements: &[Statement]) -> bool
-    ensures { result ≡ list_any is_model (drop 1 statements.now) }
+/// A draft with one more statement.
+fn one_added(alloc: Global, draft: Draft, numbered: &NumberedStatement) -> Result<Draft, ModelFault>
+    ensures ok { IfOk result (λ d. one_added draft numbered.now ≡ fine d) }
+    ensures fault { IfErr result (λ fault. Finds fault (one_added draft numbered.now)) }
 {
-    match statements.split_first() {
-        Some((_, more)) => more.iter().any(|statement| statement.is_model()),
-        None => false,
+    match judged(alloc, &draft, &numbered.statement) {
+        Ok(entry) => Ok(with_entry(alloc, draft, entry)?),
+        Err(CheckFault::Refused(code)) => Err(ModelFault::At {
+            code,
+            line: numbered.line,
+        }),
+        Err(CheckFault::Memory) => Err(ModelFault::Memory),
     }
 }
 
-/// The model that a draft comes to where the text ends.
-#[tactic(auto, unfolding(crate::specs::Checking::finished))]
-fn finished(alloc: Global, draft: Draft) -> Result<Option<Model>, AllocError>
-    ensures { IfOk result (λ read. read ≡ finished draft) }
+/// What a draft comes to where the text ends, behind so many lines.
+fn finished(alloc: Global, draft: Draft, lines: usize) -> Result<Model, ModelFault>
+    requires { lines < 2 ^ 63 }
+    ensures ok { IfOk result (λ m. finished lines draft ≡ fine m) }
+    ensures fault { IfErr result (λ fault. Finds fault (finished lines draft)) }
 {
+    let line = lines.saturating_add(1);
     if draft.current.is_some() {
-        return Ok(None);
+        return Err(ModelFault::At {
+            code: ModelCode::NotEnded,
+            line,
+        });
     }
-    Model::new(alloc, draft.plant)
-}
-
-/// The model of these statements.
-#[tactic(auto, unfolding(crate::specs::Checking::plant_of))]
-fn model_of_statements(
-    alloc: Global,
-    statements: Vec<Statement>,
-) -> Result<Option<Model>, AllocError>
-    ensures { IfOk result (λ read. read ≡ plant_of statements.items) }
-{
-    if names_model_late(statements.as_slice()) {
-        return Ok(None);
+    if draft.plant.parts.is_empty() {
+        return Err(ModelFault::At {
+            code: ModelCode::NoPart,
+            line,
+        });
     }
-    let start = resting(bare(alloc)?, 0);
-    match added_all(alloc, start, statements)? {
-        Some(draft) => finished(alloc, draft),
-        None => Ok(None),
-    }
-}
-
-/// The model of a text.
-fn model_of_text(alloc: Global, bytes: &[u8]) -> Result<Option<Model>, AllocError>
-    ensures { IfOk result (λ read. read ≡ model_of bytes.now) }
-{
-    match statements_of(alloc, bytes) {
-        Ok(statements) => model_of_statements(alloc, statements),
-        Err(LineFault::Refused) => Ok(None),
-        Err(LineFault::Memory) => Err(AllocError),
-    }
-}
-
-/// The model of a whole text, which is of at most 4,194,304 bytes and 200 lines with tokens.
-pub fn read_model(alloc: Global, bytes: &[u8]) -> Result<Model, ModelFault>
-    ensures ok { IfOk result (λ m. model_of bytes.now ≡ Some m) }
-    ensures fault { IfErr result (λ fault. Tells fault (model_of bytes.now)) }
-{
-    match model_of_text(alloc, bytes)? {
+    match Model::new(alloc, draft.plant)? {
         Some(model) => Ok(model),
-        None => Err(ModelFault::At { code: 0, line: 0 }),
+        None => Err(ModelFault::At {
+            code: ModelCode::LimitPassed,
+            line,
+        }),
     }
+}
+
+/// The model of a text, or its first fault of checking.
+#[tactic(auto, unfolding(crate::specs::Checking::checked))]
+pub fn check_model(alloc: Global, text: &ModelText) -> Result<Model, ModelFault>
+    requires { text.now.lines < 2 ^ 63 }
+    ensures ok { IfOk result (λ m. checked text.now ≡ fine m) }
+    ensures fault { IfErr result (λ fault. Finds fault (checked text.now)) }
+{
+    let draft = all_added(alloc, empty(alloc)?, text.statements.as_slice())?;
+    finished(alloc, draft, text.lines)
+}
+
+/// The model of a text's bytes, or its first fault: those of reading come first.
+pub fn model_of(alloc: Global, bytes: &[u8]) -> Result<Model, ModelFault>
+    ensures ok { IfOk result (λ m. IsVerdict bytes.now (accepted m)) }
+    ensures fault { IfErr result (λ fault. Tells fault bytes.now) }
+{
+    let text = read_model(alloc, bytes)?;
+    check_model(alloc, &text)
 }

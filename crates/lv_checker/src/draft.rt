@@ -1,55 +1,86 @@
-//! A model as far as its statements go, and a type that has not ended yet.
+//! A model as far as its statements go, and what one more statement adds to it.
 #![tactic(auto)]
 
-use lv_base::{Name, Seq, VarId};
-use lv_formula::Sort;
-use lv_model::{ModeFormula, MoveKind, Plant, Variable};
+ghost use Rattle.std.specs.Prelude.{◌≡◌};
 
-/// A model as far as its statements go.
+use lv_base::{Name, Seq};
+use lv_formula::{Condition, Range};
+use lv_model::{ComponentType, Domain, ModeFormula, Move, Part, Plant, Price, Variable};
+use lv_reader::ModelCode;
+use std::alloc::{AllocError, AllocFailed};
+
+/// A model as far as its statements go. What its lists say of the parts' variables and of clauses is kept beside them,
+/// so that no statement goes over the lists again.
 #[derive(Debug, Drop)]
 pub struct Draft {
     /// The lists so far.
     pub plant: Plant,
-    /// The first variable of the next part.
-    pub next: VarId,
+    /// What the variables of the parts range over.
+    pub ranges: Seq<Range>,
+    /// How many values they have, where clauses are counted.
+    pub sizes: Seq<u32>,
+    /// How many clauses a part of each type adds.
+    pub shares: Seq<u32>,
+    /// How many clauses the parts and the laws of the system come to.
+    pub clauses: u32,
     /// The type that has begun and not ended.
     pub current: Option<TypeDraft>,
+    /// Whether a statement stands already.
+    pub has_begun: bool,
 }
 
-/// A type that has not ended, with its lines as written.
+/// A type as far as its lines go. Its moves stand in their order, the stay of each mode among them.
 #[derive(Debug, Drop)]
 pub struct TypeDraft {
-    pub name: Name,
-    pub variables: Seq<Variable>,
-    pub modes: Seq<Name>,
-    pub formulas: Seq<ModeFormula>,
-    pub lines: Seq<MoveLine>,
+    pub lists: ComponentType,
+    /// How many values the variables of its formulas have, where clauses are counted: the mode first.
+    pub sizes: Seq<u32>,
 }
 
-/// What an equation compares: variables by their numbers, in the type or in the system that the equation stands in,
-/// and a value by its place in the domain.
-#[derive(Clone, Copy, Debug)]
-pub enum Comparison {
-    /// A variable with a value of its domain.
-    WithValue(u32, u32),
-    /// Two variables of one domain.
-    WithVariable(u32, u32),
+/// What a statement adds, its names given what they stand for.
+#[derive(Debug, Drop)]
+pub enum Entry {
+    /// The model's name.
+    Named(Name),
+    NewDomain(Domain),
+    /// A type of that name begins.
+    TypeBegins(Name),
+    NewVariable(Variable),
+    /// A mode's name and its number.
+    NewMode(Name, u32),
+    TypeLaw(Condition),
+    ModeLaw(ModeFormula),
+    NewMove(Move),
+    TypeEnds,
+    NewPart(Part),
+    SystemLaw(Condition),
+    NewPrice(Price),
 }
 
-/// A step or a fault as written. `line` counts the steps and faults of the type from 1.
-#[derive(Clone, Copy, Debug)]
-pub struct MoveLine {
-    pub kind: MoveKind,
-    pub source: u32,
-    pub target: u32,
-    pub guard: Option<Comparison>,
-    pub cost: u64,
-    pub line: u32,
+/// Why a statement adds nothing.
+#[derive(Clone, Copy, Debug, PartialEq, Eq)]
+pub enum CheckFault {
+    Refused(ModelCode),
+    /// Memory ran out. No clause says when.
+    Memory,
 }
 
-/// A variable that a path names. The modes of a type that has not ended are those of place 0.
-#[derive(Clone, Copy, Debug)]
-pub struct Found {
-    pub number: u32,
-    pub sort: Sort,
+impl From<AllocError> for CheckFault {
+    ghost use Rattle.lv_checker.specs.declared.draft.CheckFault.TheVariants.{Memory};
+
+    ghost from_gives = { λ _ fault. fault ≡ Memory };
+
+    fn from(_failed: AllocError) -> CheckFault {
+        CheckFault::Memory
+    }
+}
+
+impl<T: Drop> From<AllocFailed<T>> for CheckFault {
+    ghost use Rattle.lv_checker.specs.declared.draft.CheckFault.TheVariants.{Memory};
+
+    ghost from_gives = { λ _ fault. fault ≡ Memory };
+
+    fn from(_failed: AllocFailed<T>) -> CheckFault {
+        CheckFault::Memory
+    }
 }

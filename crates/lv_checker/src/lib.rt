@@ -1,29 +1,27 @@
-//! The model that statements give: what their names stand for, statement after statement, and the plant in the end.
+//! The model that the statements of a text give, or its first fault of checking.
 //!
-//! The names of domains, types and parts are known from their statements on, those of a type's variables and modes
-//! inside it. A draft holds what has been said so far; where a statement can't stand behind the others, the whole text
-//! is refused. Which plants are well formed is not told here: `lv_model::Model::new` is asked at the end.
+//! A statement is judged over those before it: its place, its names from left to right, whether a new name is in use,
+//! whether a formula gives too many clauses, whether a limit is passed. The first of these that speaks against it is the
+//! text's fault, with the statement's line; else what it adds goes behind what is there.
 //!
 //! | part | items |
 //! |---|---|
-//! | the model of a text | `read_model`, `ModelFault` |
-//! | what an equation of the system compares | `system_comparison`, `Comparison` |
-//! | a model as far as its statements go | `draft` |
-//! | laws of texts and their models | `one_model`, `lines_give_model`, `line_without_tokens_changes_nothing`, `tokens_give_model`, `comment_gives_same_model` |
-//!
-//! `scope` finds what names stand for, `types` adds statements to a type and ends it, `checker` does so for the whole.
+//! | the model of a text | `model_of`, `check_model` |
+//! | statements so far, and what one more adds | `Draft`, `TypeDraft`, `Entry` |
+//! | what names stand for | `places`, `scope` |
+//! | what a statement adds, or why its place or names are wrong | `entries` |
+//! | what else speaks against it | `faults` |
+//! | what holds of every text | `laws` |
 #![tactic(auto)]
 
 pub mod checker;
 pub mod draft;
+mod entries;
+mod faults;
 pub mod laws;
+mod places;
 mod scope;
 mod types;
 
-pub use checker::{ModelFault, read_model};
-pub use draft::Comparison;
-pub use laws::{
-    comment_gives_same_model, line_without_tokens_changes_nothing, lines_give_model, one_model,
-    tokens_give_model,
-};
-pub use scope::system_comparison;
+pub use checker::{check_model, model_of};
+pub use draft::{Draft, Entry, TypeDraft};

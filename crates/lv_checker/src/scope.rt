@@ -1,239 +1,194 @@
-//! What names stand for: places in lists, variables in scope, and what an equation compares.
+//! Which variables and values a formula may name: in a type its own, by a word alone; in a law of the system those of
+//! the parts so far, by the part's name and the variable's.
 #![tactic(auto)]
 
-ghost use Rattle.std.specs.Prelude.{◌≡◌, slice_get};
-ghost use Rattle.std.specs.Option.{option_and_then};
-ghost use Rattle.lv_formula.specs.Tree.{tree_of};
-ghost use Rattle.lv_model.specs.declared.plant.ComponentType.{ComponentType};
-ghost use Rattle.lv_checker.specs.Scopes.{placed, domain_place, type_place, part_place, name_place, mode_place, numbered, variable_of, shifted, variable_of_part, in_type, in_system, value_of_domain, value_in_type, value_in_system, compared, alone, type_comparison, system_comparison, tree_of_comparison};
+ghost use Rattle.std.specs.Prelude.{◌≡◌, IfOk, IfErr, Ok};
+ghost use Rattle.lv_checker.specs.Scopes.{are_one_sort, variable_of_type, sort_in_type, value_by_sort, value_of_type, share_in_type, variable_of_part, variable_of_system, sort_in_system, value_of_system, share_in_system, TellsFormula};
+ghost use Rattle.lv_checker.specs.Entries.{type_formula, system_formula};
 
-use crate::draft::{Comparison, Found, TypeDraft};
-use lv_base::{Name, ValId, VarId, find_name};
+use crate::draft::{CheckFault, Draft};
+use crate::places::{
+    mode_place, part_of_name, value_of_domain, value_of_sort, variable_numbered, variable_place,
+};
+use lv_base::{ValId, VarId};
 use lv_formula::range::is_same_sort;
-use lv_formula::{Condition, Formula, Path, Sort};
-use lv_model::names::{find_domain, find_part, find_type, find_variable};
-use lv_model::{ComponentType, Domain, Part, Plant, Variable};
-use lv_reader::Equation;
+use lv_formula::{Condition, Path, Sort};
+use lv_model::{ComponentType, Domain, Part};
+use lv_phrase::{Phrase, ResolveFault, Scope, resolve};
+use lv_reader::ModelCode;
+use std::alloc::Global;
 
-/// A place in a list, or a number counted from one, as a number of 32 bits.
-pub fn placed(place: usize) -> Option<u32>
-    ensures { result ≡ placed place }
+/// Whether both are there, and are of one sort.
+fn are_one_sort(left: Option<Sort>, right: Option<Sort>) -> bool
+    ensures { result ≡ are_one_sort left right }
 {
-    u32::try_from(place).ok()
-}
-
-pub fn domain_place(domains: &[Domain], word: &[u8]) -> Option<u32>
-    ensures { result ≡ domain_place domains.now word.now }
-{
-    placed(find_domain(domains, word)?)
-}
-
-pub fn type_place(types: &[ComponentType], word: &[u8]) -> Option<u32>
-    ensures { result ≡ type_place types.now word.now }
-{
-    placed(find_type(types, word)?)
-}
-
-fn part_place(parts: &[Part], word: &[u8]) -> Option<u32>
-    ensures { result ≡ part_place parts.now word.now }
-{
-    placed(find_part(parts, word)?)
-}
-
-/// The place of a name among names.
-pub fn name_place(names: &[Name], word: &[u8]) -> Option<u32>
-    ensures { result ≡ name_place names.now word.now }
-{
-    placed(find_name(names, word)?)
-}
-
-pub fn mode_place(of: &ComponentType, word: &[u8]) -> Option<u32>
-    ensures { result ≡ mode_place of.now word.now }
-{
-    placed(find_name(of.modes.as_slice(), word)?)
-}
-
-/// The variable at this place of a type's list, which the mode stands before.
-fn numbered(variables: &[Variable], place: usize) -> Option<Found>
-    ensures { result ≡ numbered variables.now place }
-{
-    let variable = variables.get(place)?;
-    let number = placed(place + 1)?;
-    Some(Found {
-        number,
-        sort: Sort::Values(variable.domain as usize),
-    })
-}
-
-/// The variable that a word names in the type at place `kind`.
-fn variable_of(kind: u32, variables: &[Variable], word: &[u8]) -> Option<Found>
-    ensures { result ≡ variable_of kind variables.now word.now }
-{
-    if word == b"mode".as_slice() {
-        return Some(Found {
-            number: 0,
-            sort: Sort::Modes(kind as usize),
-        });
-    }
-    let place = find_variable(variables, word)?;
-    numbered(variables, place)
-}
-
-/// The variable, as one of the part whose variables begin at `first`.
-fn shifted(first: VarId, found: Found) -> Option<Found>
-    ensures { result ≡ shifted first.0 found }
-{
-    let number = placed(first.0 as usize + found.number as usize)?;
-    Some(Found {
-        number,
-        sort: found.sort,
-    })
-}
-
-fn variable_of_part(types: &[ComponentType], word: &[u8], part: &Part) -> Option<Found>
-    ensures { result ≡ variable_of_part types.now word.now part.now }
-{
-    let of = types.get(part.kind as usize)?;
-    let found = variable_of(part.kind, of.variables.as_slice(), word)?;
-    shifted(part.first, found)
-}
-
-/// The variable that a path names in a type that has not ended.
-fn in_type(of: &TypeDraft, path: &Path) -> Option<Found>
-    ensures { result ≡ in_type of.now path.now }
-{
-    match path {
-        Path::Own(word) => variable_of(0, of.variables.as_slice(), word.as_slice()),
-        Path::OfPart(_, _) => None,
+    match (left, right) {
+        (Some(left), Some(right)) => is_same_sort(left, right),
+        _ => false,
     }
 }
 
-/// The variable of this name, of the part of that name.
-fn of_named_part(plant: &Plant, part: &[u8], word: &[u8]) -> Option<Found>
-    ensures { result ≡ option_and_then (variable_of_part plant.now.types word.now) (option_and_then (slice_get plant.now.parts) (part_place plant.now.parts part.now)) }
-{
-    let place = part_place(plant.parts.as_slice(), part)?;
-    let part = plant.parts.as_slice().get(place as usize)?;
-    variable_of_part(plant.types.as_slice(), word, part)
+/// The scope of a type's formulas: what it has so far, over the model's domains.
+#[derive(Clone, Copy)]
+struct TypeScope<'a> {
+    domains: &'a [Domain],
+    lists: &'a ComponentType,
 }
 
-/// The variable that a path names in a law of the system.
-fn in_system(plant: &Plant, path: &Path) -> Option<Found>
-    ensures { result ≡ in_system plant.now path.now }
+/// What the values of a type's variable are, counted from its mode.
+fn sort_in_type(of: &ComponentType, number: u32) -> Option<Sort>
+    ensures { result ≡ sort_in_type of.now number }
 {
-    match path {
-        Path::Own(_) => None,
-        Path::OfPart(part, word) => of_named_part(plant, part.as_slice(), word.as_slice()),
+    if number == 0 {
+        return Some(Sort::Modes(0));
     }
+    let variable = of.variables.as_slice().get(number as usize - 1)?;
+    Some(Sort::Values(variable.domain as usize))
 }
 
-fn value_of_domain(domains: &[Domain], domain: usize, word: &[u8]) -> Option<u32>
-    ensures { result ≡ value_of_domain domains.now domain word.now }
-{
-    let domain = domains.get(domain)?;
-    name_place(domain.values.as_slice(), word)
-}
-
-fn mode_of_type(types: &[ComponentType], kind: usize, word: &[u8]) -> Option<u32>
-    ensures { result ≡ option_and_then (λ (t : ComponentType). mode_place t word.now) (slice_get types.now kind) }
-{
-    let of = types.get(kind)?;
-    mode_place(of, word)
-}
-
-/// The value of this sort that a word names in a type that has not ended.
-fn value_in_type(domains: &[Domain], of: &TypeDraft, sort: Sort, word: &[u8]) -> Option<u32>
-    ensures { result ≡ value_in_type domains.now of.now sort word.now }
+fn value_by_sort(domains: &[Domain], of: &ComponentType, sort: Sort, word: &[u8]) -> Option<ValId>
+    ensures { result ≡ value_by_sort domains.now of.now sort word.now }
 {
     match sort {
-        Sort::Modes(_) => name_place(of.modes.as_slice(), word),
+        Sort::Modes(_) => mode_place(of, word),
         Sort::Values(domain) => value_of_domain(domains, domain, word),
     }
 }
 
-/// The value of this sort that a word names in a law of the system.
-fn value_in_system(plant: &Plant, sort: Sort, word: &[u8]) -> Option<u32>
-    ensures { result ≡ value_in_system plant.now sort word.now }
-{
-    match sort {
-        Sort::Modes(kind) => mode_of_type(plant.types.as_slice(), kind, word),
-        Sort::Values(domain) => value_of_domain(plant.domains.as_slice(), domain, word),
+impl<'a> Scope for TypeScope<'a> {
+    ghost use Rattle.lv_checker.specs.Scopes.{variable_of_type, value_of_type, share_in_type};
+
+    ghost named_variable = { λ s path. variable_of_type s.lists.now path };
+
+    ghost named_value = { λ s x word. value_of_type s.domains.now s.lists.now x word };
+
+    ghost share_domain = { λ s x y. share_in_type s.lists.now x y };
+
+    fn variable(&self, path: &Path) -> Option<VarId> {
+        match path {
+            Path::Own(word) => variable_numbered(variable_place(
+                self.lists.variables.as_slice(),
+                word.as_slice(),
+            )?),
+            Path::OfPart(_, _) => None,
+        }
+    }
+
+    fn value(&self, variable: VarId, name: &[u8]) -> Option<ValId> {
+        let sort = sort_in_type(self.lists, variable.0)?;
+        value_by_sort(self.domains, self.lists, sort, name)
+    }
+
+    fn same_domain(&self, left: VarId, right: VarId) -> bool {
+        are_one_sort(
+            sort_in_type(self.lists, left.0),
+            sort_in_type(self.lists, right.0),
+        )
     }
 }
 
-/// The variable compared with the right side, which is a value if it can be, else a variable.
-fn compared(left: Found, value: Option<u32>, right: Option<Found>) -> Option<Comparison>
-    ensures { result ≡ compared left value right }
-{
-    if let Some(value) = value {
-        return Some(Comparison::WithValue(left.number, value));
-    }
-    let right = right?;
-    if is_same_sort(left.sort, right.sort) {
-        Some(Comparison::WithVariable(left.number, right.number))
-    } else {
-        None
-    }
+/// The scope of the system's laws: what the model has so far.
+#[derive(Clone, Copy)]
+struct SystemScope<'a> {
+    draft: &'a Draft,
 }
 
-/// The value that a path is in a type, where it is one of this sort.
-fn path_value_in_type(domains: &[Domain], of: &TypeDraft, sort: Sort, path: &Path) -> Option<u32>
-    ensures { result ≡ option_and_then (value_in_type domains.now of.now sort) (alone path.now) }
+/// The variable of the part that a word names.
+pub fn variable_of_part(types: &[ComponentType], word: &[u8], part: &Part) -> Option<VarId>
+    ensures { result ≡ variable_of_part types.now word.now part.now }
+{
+    let of = types.get(part.kind as usize)?;
+    let place = variable_place(of.variables.as_slice(), word)?;
+    variable_numbered((part.first.0 as usize).saturating_add(place))
+}
+
+fn variable_of_system(draft: &Draft, path: &Path) -> Option<VarId>
+    ensures { result ≡ variable_of_system draft.now path.now }
 {
     match path {
-        Path::Own(word) => value_in_type(domains, of, sort, word.as_slice()),
-        Path::OfPart(_, _) => None,
+        Path::Own(_) => None,
+        Path::OfPart(part, word) => {
+            let part = part_of_name(draft.plant.parts.as_slice(), part.as_slice())?;
+            variable_of_part(draft.plant.types.as_slice(), word.as_slice(), part)
+        }
     }
 }
 
-/// The value that a path is in a law of the system, where it is one of this sort.
-fn path_value_in_system(plant: &Plant, sort: Sort, path: &Path) -> Option<u32>
-    ensures { result ≡ option_and_then (value_in_system plant.now sort) (alone path.now) }
+fn sort_in_system(draft: &Draft, number: u32) -> Option<Sort>
+    ensures { result ≡ sort_in_system draft.now number }
 {
-    match path {
-        Path::Own(word) => value_in_system(plant, sort, word.as_slice()),
-        Path::OfPart(_, _) => None,
+    Some(draft.ranges.as_slice().get(number as usize)?.sort)
+}
+
+/// The value of this name of the variable of a part.
+pub fn value_of_system(draft: &Draft, variable: VarId, word: &[u8]) -> Option<ValId>
+    ensures { result ≡ value_of_system draft.now variable word.now }
+{
+    let sort = sort_in_system(draft, variable.0)?;
+    value_of_sort(
+        draft.plant.domains.as_slice(),
+        draft.plant.types.as_slice(),
+        sort,
+        word,
+    )
+}
+
+impl<'a> Scope for SystemScope<'a> {
+    ghost use Rattle.lv_checker.specs.Scopes.{variable_of_system, value_of_system, share_in_system};
+
+    ghost named_variable = { λ s path. variable_of_system s.draft.now path };
+
+    ghost named_value = { λ s x word. value_of_system s.draft.now x word };
+
+    ghost share_domain = { λ s x y. share_in_system s.draft.now x y };
+
+    fn variable(&self, path: &Path) -> Option<VarId> {
+        variable_of_system(self.draft, path)
+    }
+
+    fn value(&self, variable: VarId, name: &[u8]) -> Option<ValId> {
+        value_of_system(self.draft, variable, name)
+    }
+
+    fn same_domain(&self, left: VarId, right: VarId) -> bool {
+        are_one_sort(
+            sort_in_system(self.draft, left.0),
+            sort_in_system(self.draft, right.0),
+        )
     }
 }
 
-/// What an equation in a type compares, or `None` where a name is not known or the right side does not fit.
-#[tactic(auto, unfolding(crate::specs::Scopes::type_comparison))]
-pub fn type_comparison(
+/// The formula that a phrase is in a type.
+pub fn type_formula(
+    alloc: Global,
     domains: &[Domain],
-    of: &TypeDraft,
-    equation: &Equation,
-) -> Option<Comparison>
-    ensures { result ≡ type_comparison domains.now of.now equation.now }
+    lists: &ComponentType,
+    phrase: &Phrase,
+) -> Result<Condition, CheckFault>
+    ensures ok { IfOk result (λ f. type_formula domains.now lists.now phrase.now ≡ Ok f) }
+    ensures fault { IfErr result (λ fault. TellsFormula fault (type_formula domains.now lists.now phrase.now)) }
 {
-    let left = in_type(of, &equation.left)?;
-    let value = path_value_in_type(domains, of, left.sort, &equation.right);
-    compared(left, value, in_type(of, &equation.right))
-}
-
-/// What an equation of the system compares, as a law or a command has it, or `None` where a name is not known or the
-/// right side does not fit. Takes no memory.
-#[tactic(auto, unfolding(crate::specs::Scopes::system_comparison))]
-pub fn system_comparison(plant: &Plant, equation: &Equation) -> Option<Comparison>
-    ensures { result ≡ system_comparison plant.now equation.now }
-{
-    let left = in_system(plant, &equation.left)?;
-    let value = path_value_in_system(plant, left.sort, &equation.right);
-    compared(left, value, in_system(plant, &equation.right))
-}
-
-/// The formula that says so.
-fn formula_of(comparison: Comparison) -> Formula
-    ensures { tree_of result ≡ tree_of_comparison comparison }
-{
-    match comparison {
-        Comparison::WithValue(variable, value) => Formula::Is(VarId(variable), ValId(value)),
-        Comparison::WithVariable(left, right) => Formula::Same(VarId(left), VarId(right)),
+    match resolve(alloc, phrase, &TypeScope { domains, lists }) {
+        Ok(formula) => Ok(Condition::new(formula)),
+        Err(ResolveFault::UnknownName) => Err(CheckFault::Refused(ModelCode::UnknownName)),
+        Err(ResolveFault::NoFit) => Err(CheckFault::Refused(ModelCode::NoFit)),
+        Err(ResolveFault::Memory) => Err(CheckFault::Memory),
     }
 }
 
-/// The condition that says so.
-pub fn condition_of(comparison: Comparison) -> Condition
-    ensures { result ≡ tree_of_comparison comparison }
+/// The formula that a phrase is in a law of the system.
+pub fn system_formula(
+    alloc: Global,
+    draft: &Draft,
+    phrase: &Phrase,
+) -> Result<Condition, CheckFault>
+    ensures ok { IfOk result (λ f. system_formula draft.now phrase.now ≡ Ok f) }
+    ensures fault { IfErr result (λ fault. TellsFormula fault (system_formula draft.now phrase.now)) }
 {
-    Condition::new(formula_of(comparison))
+    match resolve(alloc, phrase, &SystemScope { draft }) {
+        Ok(formula) => Ok(Condition::new(formula)),
+        Err(ResolveFault::UnknownName) => Err(CheckFault::Refused(ModelCode::UnknownName)),
+        Err(ResolveFault::NoFit) => Err(CheckFault::Refused(ModelCode::NoFit)),
+        Err(ResolveFault::Memory) => Err(CheckFault::Memory),
+    }
 }

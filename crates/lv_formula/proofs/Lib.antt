@@ -1,2 +1,4 @@
 pub mod FoldLemmas
 pub mod FitLemmas
+pub mod WidenLemmas
+pub mod CountLemmas

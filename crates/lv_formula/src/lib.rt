@@ -5,11 +5,14 @@
 //! a value that clauses do compare whole, and is seen there as its tree.
 #![tactic(auto)]
 
-ghost use Rattle.std.specs.Prelude.{◌≡◌, ◌+◌, ◌<◌, IsTrue, length};
+ghost use Rattle.std.specs.Prelude.{◌≡◌, ◌+◌, ◌<◌, ◌≤◌, IsTrue, IfSome, length};
+ghost use Rattle.lv_base.specs.declared.limits.TheConstants.{FORMULA_CLAUSES};
 ghost use Rattle.lv_formula.specs.Tree.{tree_of, truth_of, reads_below, value_of};
 ghost use Rattle.lv_formula.specs.Fits.{fits};
+ghost use Rattle.lv_formula.specs.Counts.{clause_count};
 ghost use Rattle.lv_formula.specs.Fold.{is_true_in, reads_in, fits_in};
 
+pub mod counts;
 pub mod laws;
 pub mod path;
 pub mod range;
@@ -155,6 +158,14 @@ impl Condition {
         ensures { result ≡ fits ranges.now self.now }
     {
         self.formula.fits(ranges)
+    }
+
+    /// How many clauses the formula comes to in a sign, as `Formula::clause_count` tells it. Takes no memory.
+    pub fn clause_count(&self, sign: bool, sizes: &[u32]) -> Option<u32>
+        ensures is { result ≡ clause_count sizes.now sign self.now }
+        ensures few { IfSome result (λ n. n ≤ FORMULA_CLAUSES) }
+    {
+        self.formula.clause_count(sign, sizes)
     }
 
     /// The formula's truth, as `Formula::holds` tells it. Takes no memory.

@@ -20,6 +20,7 @@ use Rattle.lv_model.specs.declared.plant.ModeFormula.{ModeFormula}
 use Rattle.lv_model.specs.declared.plant.Move.{Move}
 use Rattle.lv_model.specs.Ranges.{type_ranges, part_ranges, plant_ranges}
 use Rattle.lv_model.specs.Lists.{variable_count, part_width}
+use Rattle.lv_model.specs.Counts.{clauses_fit}
 use Rattle.lv_model.specs.WellFormed.{is_within, name_fits, domain_fits, names_fit, counts_fit, formulas_fit, moves_fit, mode_formula_fits, kind_fits, guard_fits, move_fits, type_fits, types_fit, part_fits, parts_fit, firsts_follow, variables_fit, laws_fit, prices_fit, lists_fit, is_well_formed, Reads, FormulaReads, GuardReads, TypeReads, PartReads, PartEnds}
 
 -- a test of all elements as a fact of each
@@ -141,8 +142,12 @@ module _ (plant : Plant) (h : is_well_formed plant ≡ true) where
   parts_pass : (is_within 1 (length plant.parts) PARTS ≡ true) × (list_all (part_fits plant.types) plant.parts ≡ true)
   parts_pass = and_parts (is_within 1 (length plant.parts) PARTS) (list_all (part_fits plant.types) plant.parts) (and_parts (types_fit plant.domains 0 plant.types) (parts_fit plant) lists.1).1
 
-  rest : ((variables_fit plant) ≡ true) × ((laws_fit plant && prices_fit plant) ≡ true)
-  rest = and_parts (variables_fit plant) (laws_fit plant && prices_fit plant) (and_parts (lists_fit plant) _ h).1
+  rest : ((variables_fit plant) ≡ true) × ((laws_fit plant && prices_fit plant && clauses_fit plant) ≡ true)
+  rest = and_parts (variables_fit plant) (laws_fit plant && prices_fit plant && clauses_fit plant) (and_parts (lists_fit plant) _ h).1
+
+  -- no formula of it comes to too many clauses, nor does all of it
+  pub counts_pass : clauses_fit plant ≡ true
+  counts_pass = (and_parts (laws_fit plant && prices_fit plant) (clauses_fit plant) rest.1).1
 
   -- and there are few parts
   pub few-parts : length plant.parts ≤ PARTS
@@ -169,4 +174,4 @@ module _ (plant : Plant) (h : is_well_formed plant ≡ true) where
   pub laws-of_well_formed : All (Reads (variable_count plant) 0) plant.laws
   laws-of_well_formed =
       let count : length (plant_ranges plant) ≡ variable_count plant = length-plant_ranges plant in
-      laws_read (plant_ranges plant) (variable_count plant) 0 (omega arith) plant.laws (and_parts (laws_fit plant) (prices_fit plant) rest.1).0
+      laws_read (plant_ranges plant) (variable_count plant) 0 (omega arith) plant.laws (and_parts (laws_fit plant) (prices_fit plant) (and_parts (laws_fit plant && prices_fit plant) (clauses_fit plant) rest.1).0).0

@@ -3,6 +3,8 @@ pub mod Lists
 pub mod Moves
 pub mod Names
 pub mod Prices
-pub mod WellFormed
 pub mod Meaning
+pub mod Counts
+pub mod Denials
+pub mod WellFormed
 pub mod Laws

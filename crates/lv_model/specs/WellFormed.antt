@@ -20,6 +20,7 @@ use Rattle.lv_model.specs.declared.plant.Price.{Price}
 use Rattle.lv_base.specs.declared.ids.VarId.{VarId}
 use Rattle.lv_model.specs.Lists.{part_width, variable_count, controls, is_variable}
 use Rattle.lv_model.specs.Prices.{is_price_of}
+use Rattle.lv_model.specs.Counts.{clauses_fit}
 use Rattle.lv_model.specs.Ranges.{type_ranges, plant_ranges}
 
 abbrev pub is_within : ℕ → ℕ → ℕ → Bool
@@ -133,7 +134,7 @@ abbrev pub lists_fit : Plant → Bool
 lists_fit plant = (name_fits plant.name && list_all domain_fits plant.domains) && (types_fit plant.domains 0 plant.types && parts_fit plant)
 
 abbrev pub is_well_formed : Plant → Bool
-is_well_formed plant = lists_fit plant && (variables_fit plant && (laws_fit plant && prices_fit plant))
+is_well_formed plant = lists_fit plant && (variables_fit plant && ((laws_fit plant && prices_fit plant) && clauses_fit plant))
 
 -- the same facts as the code hands them on
 

@@ -10,6 +10,7 @@ ghost use Rattle.lv_model.specs.Lists.{part_width, variable_count, is_variable};
 ghost use Rattle.lv_model.specs.Prices.{is_price_of};
 ghost use Rattle.lv_model.specs.WellFormed.{is_within, name_fits, domain_fits, variable_fits, mode_formula_fits, kind_fits, guard_fits, move_fits, kind_place, moves_rise, is_stay, is_stay_of, stays_once, names_fit, counts_fit, formulas_fit, moves_fit, type_fits, types_fit, part_fits, firsts_follow, parts_fit, variables_fit, price_fits, are_priced_once, laws_fit, prices_fit, lists_fit, is_well_formed, PartEnds};
 
+use crate::count_checks::clauses_are_kept;
 use crate::lookup::type_of;
 use crate::plant::{
     ComponentType, Domain, ModeFormula, Move, MoveKind, Part, Plant, Price, Variable,
@@ -384,5 +385,8 @@ pub fn is_in_range(alloc: Global, plant: &Plant) -> Result<bool, AllocError>
     if !variables_are_kept(plant) {
         return Ok(false);
     }
-    laws_and_prices_are_kept(alloc, plant)
+    if !laws_and_prices_are_kept(alloc, plant)? {
+        return Ok(false);
+    }
+    clauses_are_kept(alloc, plant)
 }

@@ -7,11 +7,14 @@
 //! | the model | `Model`: a plant that is well formed |
 //! | its meaning | `Model::is_feasible`, `takes`, `is_step`, `is_nominal`, `moves_from`, `price` |
 //! | its lists of numbers | `Model::sizes`, `controls`, `move_counts` |
+//! | how many clauses it comes to | `counts`: the share of a type's part, of a law |
 //! | its names | `names`: the first item of a list with a name |
 //! | its laws | `laws` |
 #![tactic(auto)]
 
 mod check;
+mod count_checks;
+pub mod counts;
 pub mod laws;
 pub mod lookup;
 pub mod meaning;
@@ -19,8 +22,9 @@ pub mod model;
 pub mod names;
 pub mod plant;
 mod prices;
-mod ranges;
+pub mod ranges;
 pub mod state;
+pub mod totals;
 pub mod variables;
 
 pub use lv_base::{Class, Name};

@@ -11,7 +11,7 @@ use lv_formula::{Range, Sort};
 use std::alloc::{AllocError, Global};
 
 /// How many values the domain of this place has; none where there is no such domain.
-fn size_of_domain(domains: &[Domain], domain: u32) -> usize
+pub fn size_of_domain(domains: &[Domain], domain: u32) -> usize
     ensures { result ≡ domain_size domains.now domain }
 {
     match domains.get(domain as usize) {
@@ -54,7 +54,7 @@ fn push_type(
 }
 
 /// Adds what the part's variables range over; nothing where it has no type.
-fn push_part(
+pub fn push_part(
     out: &mut Vec<Range>,
     domains: &[Domain],
     types: &[ComponentType],

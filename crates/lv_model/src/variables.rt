@@ -62,7 +62,7 @@ fn count_of_moves(types: &[ComponentType], part: &Part) -> usize
 }
 
 /// How many values each variable has, part by part, the mode of each part first.
-fn all_sizes(alloc: Global, plant: &Plant) -> Result<Vec<usize>, AllocError>
+pub fn all_sizes(alloc: Global, plant: &Plant) -> Result<Vec<usize>, AllocError>
     ensures { IfOk result (λ out. out.items ≡ sizes plant.now) }
 {
     let ranges = plant_ranges(alloc, plant)?;

@@ -13,3 +13,4 @@ pub mod Standing
 pub mod Omissions
 pub mod Canonicals
 pub mod SpacedLines
+pub mod FittingLemmas

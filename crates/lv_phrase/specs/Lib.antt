@@ -12,3 +12,4 @@ pub mod Spacing
 pub mod Canonical
 pub mod Resolving
 pub mod ResolveFaults
+pub mod Fitting

@@ -4,6 +4,7 @@
 #![tactic(auto)]
 
 ghost use Rattle.lv_phrase.specs.Laws.{FormulaIsOne, CanonicalReadsBack, CanonicalOmits, CanonicalIsText, CanonicalIsShallow, CanonicalIsNoLonger, SpacedIsNoLonger, SpacedIsReadAgain};
+ghost use Rattle.lv_phrase.specs.Fitting.{ResolvedFits};
 
 /// Tokens have at most one tree.
 pub fn formula_is_one()
@@ -32,4 +33,9 @@ pub fn spaced_is_no_longer()
 /// The text of tokens, with no more spaces than they need, is read again as these tokens.
 pub fn spaced_is_read_again()
     ensures { SpacedIsReadAgain }
+{}
+
+/// A formula that is resolved in a scope whose answers keep to ranges fits them.
+pub fn resolved_fits()
+    ensures { ResolvedFits }
 {}

@@ -1,1 +1,10 @@
 pub mod Writing
+pub mod Numerals
+pub mod Places
+pub mod Keywords
+pub mod Reprinting
+pub mod Forms
+pub mod Statements
+pub mod Lines
+pub mod Texts
+pub mod Lengths

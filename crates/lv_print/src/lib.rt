@@ -5,8 +5,10 @@
 //! |---|---|
 //! | a model's text | `print_model` |
 //! | one statement | `write_statement` |
+//! | what holds of every text | `laws` |
 #![tactic(auto)]
 
+pub mod laws;
 pub mod statement;
 pub mod text;
 

@@ -1,4 +1,4 @@
--- The text of a settled diagnosis.
+-- The text of a diagnosis.
 use Rattle.std.specs.Prelude.{ℕ, ◌+◌, List, [], ◌∷◌, ◌++◌, length, slice_get, codes, decimal}
 use Rattle.std.specs.Option.{option_map_or}
 use Rattle.lv_base.specs.declared.rank.Rank.{Rank}
@@ -8,15 +8,8 @@ use Rattle.lv_model.specs.declared.plant.Move.{Move}
 use Rattle.lv_model.specs.declared.plant.MoveKind.{MoveKind}
 use Rattle.lv_model.specs.declared.plant.MoveKind.TheVariants.{Step, Stay, Fault}
 use Rattle.lv_model.specs.declared.plant.Part.{Part}
-
--- the name of a mode; nothing where there is no such mode
-abbrev pub mode_name : List (List ℕ) → ℕ → List ℕ
-mode_name modes n = option_map_or (λ (name : List ℕ). name) (slice_get modes n) []
-
--- a step or a fault, as `v closed>open #1`
-abbrev pub move_text : Part → List (List ℕ) → Move → List ℕ
-move_text p modes m =
-    p.name ++ codes " " ++ mode_name modes m.source.0 ++ codes ">" ++ mode_name modes m.target.0 ++ codes " #" ++ decimal m.line
+use Rattle.lv_reply.specs.Pieces.{joined}
+use Rattle.lv_reply.specs.Moves.{move_text}
 
 -- what a move of its kind shows: a stay nothing
 abbrev pub shown : MoveKind → List ℕ → List (List ℕ)
@@ -35,16 +28,6 @@ shown_moves types [] choices = []
 shown_moves types (p ∷ ps) [] = []
 shown_moves types (p ∷ ps) (c ∷ cs) = shown_move types p c ++ shown_moves types ps cs
 
--- texts behind the first, each after a comma
-abbrev pub after_commas : List (List ℕ) → List ℕ
-after_commas [] = []
-after_commas (x ∷ xs) = codes ", " ++ x ++ after_commas xs
-
--- texts with commas between them, or `-` where there are none
-abbrev pub joined : List (List ℕ) → List ℕ
-joined [] = codes "-"
-joined (x ∷ xs) = x ++ after_commas xs
-
 abbrev pub moves_text : Plant → List ℕ → List ℕ
 moves_text plant choices = joined (shown_moves plant.types plant.parts choices)
 
@@ -59,5 +42,10 @@ listed_lines plant n [] = []
 listed_lines plant n (r ∷ rs) = listed_line plant n r ++ listed_lines plant (n + 1) rs
 
 -- `settled N` and the listed candidates
-unfoldable pub diagnosis_text : Plant → List Rank → List ℕ
-diagnosis_text plant ranks = codes "settled " ++ decimal (length ranks) ++ codes "\n" ++ listed_lines plant 1 ranks
+unfoldable pub settled_text : Plant → List Rank → List ℕ
+settled_text plant ranks = codes "settled " ++ decimal (length ranks) ++ codes "\n" ++ listed_lines plant 1 ranks
+
+-- `unsettled N trials T` and the candidates listed so far
+unfoldable pub unsettled_text : Plant → List Rank → ℕ → List ℕ
+unsettled_text plant ranks trials =
+    codes "unsettled " ++ decimal (length ranks) ++ codes " trials " ++ decimal trials ++ codes "\n" ++ listed_lines plant 1 ranks

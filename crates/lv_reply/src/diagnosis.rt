@@ -4,49 +4,15 @@
 
 ghost use Rattle.std.specs.Prelude.{◌≡◌, ◌+◌, ◌<◌, ◌^◌, ◌++◌, [], ◌∷◌, IfOk, All, length, drop, decimal, codes, map};
 ghost use Rattle.std.specs.Option.{option_copied};
-ghost use Rattle.lv_reply.specs.Diagnosis.{mode_name, move_text, shown, shown_move, shown_moves, after_commas, joined, moves_text, listed_line, listed_lines, diagnosis_text};
+ghost use Rattle.lv_reply.specs.Moves.{move_text};
+ghost use Rattle.lv_reply.specs.Diagnosis.{shown, shown_move, shown_moves, moves_text, listed_line, listed_lines, settled_text, unsettled_text};
 
-use itoa::Buffer;
-use lv_base::{MoveId, Rank, Seq, ValId};
+use crate::moves::text_of_move;
+use crate::pieces::{push_joined, push_number};
+use lv_base::{MoveId, Rank, Seq};
 use lv_model::lookup::{move_of, type_of};
 use lv_model::{ComponentType, Move, MoveKind, Name, Part, Plant};
 use std::alloc::{AllocError, Global};
-
-/// Adds a number.
-fn push_number(out: &mut Vec<u8>, n: u64) -> Result<(), AllocError>
-    ensures { IfOk result (λ _. out.new.items ≡ out.old.items ++ decimal n) }
-{
-    let mut buffer = Buffer::new();
-    out.extend_from_slice(buffer.format(n).as_bytes())?;
-    Ok(())
-}
-
-/// Adds the name of a mode; nothing where there is no such mode.
-fn push_mode(out: &mut Vec<u8>, modes: &[Name], mode: ValId) -> Result<(), AllocError>
-    ensures { IfOk result (λ _. out.new.items ≡ out.old.items ++ mode_name modes.now mode.0) }
-{
-    match modes.get(mode.0 as usize) {
-        Some(name) => {
-            out.extend_from_slice(name.as_slice())?;
-            Ok(())
-        }
-        None => Ok(()),
-    }
-}
-
-/// A step or a fault of a part.
-fn text_of_move(alloc: Global, part: &Part, modes: &[Name], m: &Move) -> Result<Vec<u8>, AllocError>
-    ensures { IfOk result (λ out. out.items ≡ move_text part.now modes.now m.now) }
-{
-    let mut out = Vec::from_slice(alloc, part.name.as_slice())?;
-    out.extend_from_slice(b" ")?;
-    push_mode(&mut out, modes, m.source)?;
-    out.extend_from_slice(b">")?;
-    push_mode(&mut out, modes, m.target)?;
-    out.extend_from_slice(b" #")?;
-    push_number(&mut out, m.line as u64)?;
-    Ok(out)
-}
 
 /// Adds what a move shows: a stay nothing.
 fn push_shown(
@@ -109,33 +75,6 @@ fn shown_moves(
     Ok(out)
 }
 
-/// Adds texts, each after a comma.
-fn push_after_commas(out: &mut Vec<u8>, texts: &[Name]) -> Result<(), AllocError>
-    ensures { IfOk result (λ _. out.new.items ≡ out.old.items ++ after_commas texts.now) }
-{
-    for text in texts {
-        out.extend_from_slice(b", ")?;
-        out.extend_from_slice(text.as_slice())?;
-    }
-    Ok(())
-}
-
-/// Adds texts with commas between them, or `-` where there are none.
-fn push_joined(out: &mut Vec<u8>, texts: &[Name]) -> Result<(), AllocError>
-    ensures { IfOk result (λ _. out.new.items ≡ out.old.items ++ joined texts.now) }
-{
-    match texts {
-        [] => {
-            out.extend_from_slice(b"-")?;
-            Ok(())
-        }
-        [first, rest @ ..] => {
-            out.extend_from_slice(first.as_slice())?;
-            push_after_commas(out, rest)
-        }
-    }
-}
-
 /// Adds the line of a listed candidate.
 fn push_line(
     alloc: Global,
@@ -178,13 +117,32 @@ fn push_lines(
     Ok(())
 }
 
-/// The text of a diagnosis that lists these candidates.
-#[tactic(auto, unfolding(crate::specs::Diagnosis::diagnosis_text))]
-pub fn diagnosis_text(alloc: Global, plant: &Plant, ranks: &[Rank]) -> Result<Vec<u8>, AllocError>
-    ensures { IfOk result (λ out. out.items ≡ diagnosis_text plant.now ranks.now) }
+/// The text of a settled diagnosis that lists these candidates.
+#[tactic(auto, unfolding(crate::specs::Diagnosis::settled_text))]
+pub fn settled_text(alloc: Global, plant: &Plant, ranks: &[Rank]) -> Result<Vec<u8>, AllocError>
+    ensures { IfOk result (λ out. out.items ≡ settled_text plant.now ranks.now) }
 {
     let mut out = Vec::from_slice(alloc, b"settled ")?;
     push_number(&mut out, ranks.len() as u64)?;
+    out.extend_from_slice(b"\n")?;
+    push_lines(alloc, &mut out, plant, ranks)?;
+    Ok(out)
+}
+
+/// The text of a diagnosis that listed these candidates in so many trials and isn't settled.
+#[tactic(auto, unfolding(crate::specs::Diagnosis::unsettled_text))]
+pub fn unsettled_text(
+    alloc: Global,
+    plant: &Plant,
+    ranks: &[Rank],
+    trials: u64,
+) -> Result<Vec<u8>, AllocError>
+    ensures { IfOk result (λ out. out.items ≡ unsettled_text plant.now ranks.now trials) }
+{
+    let mut out = Vec::from_slice(alloc, b"unsettled ")?;
+    push_number(&mut out, ranks.len() as u64)?;
+    out.extend_from_slice(b" trials ")?;
+    push_number(&mut out, trials)?;
     out.extend_from_slice(b"\n")?;
     push_lines(alloc, &mut out, plant, ranks)?;
     Ok(out)

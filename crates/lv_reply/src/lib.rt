@@ -5,11 +5,20 @@
 //! | what a reply says | `Reply`, `Refusal` |
 //! | its text | `reply_text` |
 //!
-//! `diagnosis` is the text of a settled diagnosis, in which a move is shown by the names of the plant.
+//! | file | the text of |
+//! |---|---|
+//! | `diagnosis` | the candidates that a diagnosis lists, settled or not |
+//! | `conflicts` | the conflicts that it kept |
+//! | `states` | the tracked states |
+//! | `moves`, `pieces` | moves and modes by the names of the plant; numbers and commas |
 #![tactic(auto)]
 
+mod conflicts;
 mod diagnosis;
+mod moves;
+mod pieces;
 pub mod reply;
+mod states;
 mod text;
 
 pub use reply::{Refusal, Reply};

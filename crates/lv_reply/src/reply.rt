@@ -5,13 +5,44 @@
 ghost use Rattle.std.specs.Prelude.{◌≡◌};
 ghost use Rattle.lv_reply.specs.Texts.{code_of};
 
-use lv_base::{Rank, Seq};
+use lv_base::{Pair, Rank, Seq};
+use lv_model::TrackedState;
 
 /// Why a line was refused. A refused line leaves the session as it was.
 #[derive(Clone, Copy, Debug, PartialEq, Eq)]
 pub enum Refusal {
-    /// It is no line of a session, or its names stand for nothing.
+    /// Its first token is no word of a session.
     UnknownWord,
+    /// It has not the form of its word.
+    Form,
+    /// The plant has no such part, or the part no such variable.
+    UnknownName,
+    /// The variable is no control.
+    NoControl,
+    /// The variable is no observable.
+    NoObservable,
+    /// The variable has no such value.
+    NoValue,
+    /// An observation of that name is held.
+    NameHeld,
+    /// No observation of that name is held.
+    NameNotHeld,
+    /// The number is outside its limits.
+    OutOfLimits,
+    /// No query is current that could answer.
+    NoQuery,
+    /// No unsettled query is current.
+    NotUnsettled,
+    /// The settled diagnosis lists nothing.
+    NothingListed,
+    /// As many observations are held as may be, or the name is too long for one.
+    TooManyHeld,
+    /// The line has too many bytes.
+    LineTooLong,
+    /// A byte of the line begins no token.
+    ByteNotAllowed,
+    /// As many commits were made as may be.
+    TooManyCommits,
 }
 
 impl Refusal {
@@ -21,6 +52,21 @@ impl Refusal {
     {
         match self {
             Refusal::UnknownWord => "S01",
+            Refusal::Form => "S02",
+            Refusal::UnknownName => "S03",
+            Refusal::NoControl => "S04",
+            Refusal::NoObservable => "S05",
+            Refusal::NoValue => "S06",
+            Refusal::NameHeld => "S07",
+            Refusal::NameNotHeld => "S08",
+            Refusal::OutOfLimits => "S09",
+            Refusal::NoQuery => "S10",
+            Refusal::NotUnsettled => "S11",
+            Refusal::NothingListed => "S12",
+            Refusal::TooManyHeld => "S14",
+            Refusal::LineTooLong => "S15",
+            Refusal::ByteNotAllowed => "S16",
+            Refusal::TooManyCommits => "S18",
         }
     }
 }
@@ -35,4 +81,12 @@ pub enum Reply {
     Refused(Refusal),
     /// A diagnosis that is settled: the candidates that it lists, in the order of their ranks.
     Settled(Seq<Rank>),
+    /// A diagnosis whose budget was used up before: the candidates listed so far, and the number of trials.
+    Unsettled(Seq<Rank>, u64),
+    /// The conflicts that a diagnosis kept, in the order of their trials, and the number of all trials.
+    Conflicts(Seq<Seq<Pair>>, u64),
+    /// A diagnosis became the tracked states: the time now, and how many they are.
+    Committed(u64, u64),
+    /// The time, and the tracked states.
+    States(u64, Seq<TrackedState>),
 }

@@ -4,8 +4,10 @@
 ghost use Rattle.std.specs.Prelude.{◌≡◌, IfOk};
 ghost use Rattle.lv_reply.specs.Texts.{refusal_text, reply_text};
 
-use crate::diagnosis::diagnosis_text;
+use crate::conflicts::conflicts_text;
+use crate::diagnosis::{settled_text, unsettled_text};
 use crate::reply::{Refusal, Reply};
+use crate::states::{committed_text, states_text};
 use lv_model::Model;
 use std::alloc::{AllocError, Global};
 
@@ -22,10 +24,17 @@ fn refusal_text(alloc: Global, refusal: Refusal) -> Result<Vec<u8>, AllocError>
 pub fn reply_text(alloc: Global, model: &Model, reply: &Reply) -> Result<Vec<u8>, AllocError>
     ensures { IfOk result (λ text. text.items ≡ reply_text model.now reply.now) }
 {
+    let plant = model.plant();
     match reply {
         Reply::Nothing => Ok(Vec::new(alloc)),
         Reply::Accepted => Vec::from_slice(alloc, b"ok\n"),
         Reply::Refused(refusal) => refusal_text(alloc, *refusal),
-        Reply::Settled(listed) => diagnosis_text(alloc, model.plant(), listed.as_slice()),
+        Reply::Settled(listed) => settled_text(alloc, plant, listed.as_slice()),
+        Reply::Unsettled(listed, trials) => {
+            unsettled_text(alloc, plant, listed.as_slice(), *trials)
+        }
+        Reply::Conflicts(kept, trials) => conflicts_text(alloc, plant, kept.as_slice(), *trials),
+        Reply::Committed(time, tracked) => committed_text(alloc, *time, *tracked),
+        Reply::States(time, tracked) => states_text(alloc, plant, *time, tracked.as_slice()),
     }
 }

@@ -1,9 +1,15 @@
--- As long as each reply has one text, a session has exactly one transcript.
-use Rattle.std.specs.Prelude.{◌≡◌, ℕ, List, [], ◌∷◌, ◌++◌}
+-- What holds of every step of a session; and as long as each reply has one text, a session has exactly one transcript.
+use Rattle.std.specs.Prelude.{◌≡◌, ℕ, ◌+◌, Bool, true, false, List, [], ◌∷◌, ◌++◌}
 use Rattle.lv_text.specs.Lines.{lines_of}
 use Rattle.lv_model.specs.declared.plant.Plant.{Plant}
+use Rattle.lv_walk.specs.declared.outcome.Outcome.TheVariants.{Unsettled}
+use Rattle.lv_reply.specs.declared.reply.Reply.{Reply}
+use Rattle.lv_reply.specs.declared.reply.Reply.TheVariants.{Nothing, Refused}
 use Rattle.lv_reply.specs.Texts.{reply_text}
-use Rattle.lv_session.specs.Session.{SessionState, start, stepped}
+use Rattle.lv_request.specs.declared.request.Request.{Request}
+use Rattle.lv_request.specs.declared.request.Request.TheVariants.{Track, SetControl, Release, Observe, Retract, More, Commit, Reset}
+use Rattle.lv_session.specs.declared.query.Query.TheVariants.{Absent, Diagnosis}
+use Rattle.lv_session.specs.Session.{SessionState, start, walked, diagnosis_reply, carried_out, stepped}
 use Rattle.lv_session.specs.Transcript.{IsTranscript}
 
 -- the texts of the replies to lines, one behind the other
@@ -19,3 +25,38 @@ transcript plant session = replies plant (start plant) (lines_of session)
 pub record TranscriptIsOne : Type 0 where
   pub some : (plant : Plant) (session : List ℕ) → IsTranscript plant session (transcript plant session)
   pub one : (plant : Plant) (session text : List ℕ) → IsTranscript plant session text → text ≡ transcript plant session
+
+abbrev pub is_refused : Reply → Bool
+is_refused (Refused refusal) = true
+is_refused reply = false
+
+-- a refused line leaves the whole state as it was
+abbrev pub RefusedLineChangesNothing : Type 0
+RefusedLineChangesNothing = (plant : Plant) (state : SessionState) (line : List ℕ)
+    → is_refused (stepped plant state line).reply ≡ true → (stepped plant state line).state ≡ state
+
+-- the requests that change what a query would come to
+abbrev pub clears : Request → Bool
+clears (Track n) = true
+clears (SetControl c) = true
+clears (Release place) = true
+clears (Observe s) = true
+clears (Retract name) = true
+clears Commit = true
+clears Reset = true
+clears request = false
+
+-- where such a request is carried out no query is current
+abbrev pub NoQuerySurvivesAChange : Type 0
+NoQuerySurvivesAChange = (plant : Plant) (state : SessionState) (request : Request) → clears request ≡ true
+    → is_refused (carried_out plant state request).reply ≡ false → (carried_out plant state request).state.query ≡ Absent
+
+-- a diagnosis that isn't settled goes on as if it had been asked for with the sum of all its trials
+abbrev pub MoreIsTheSum : Type 0
+MoreIsTheSum = (plant : Plant) (state : SessionState) (sum n : ℕ) → state.query ≡ Diagnosis sum → (walked plant state sum).outcome ≡ Unsettled
+    → (carried_out plant state (More n)).reply ≡ diagnosis_reply (walked plant state (sum + n))
+
+-- in an ended session a line does nothing
+pub record EndedIsSilent : Type 0 where
+  pub stays : (plant : Plant) (state : SessionState) (line : List ℕ) → state.is_ended ≡ true → (stepped plant state line).state ≡ state
+  pub silent : (plant : Plant) (state : SessionState) (line : List ℕ) → state.is_ended ≡ true → (stepped plant state line).reply ≡ Nothing

@@ -1,4 +1,4 @@
-pub mod Laws
-pub mod Requests
 pub mod Session
+pub mod States
 pub mod Transcript
+pub mod Laws

@@ -1,9 +1,29 @@
-//! What holds of transcripts. The functions do nothing; their clauses are the laws.
+//! What holds of steps and transcripts. The functions do nothing; their clauses are the laws.
 #![tactic(auto)]
 
-ghost use Rattle.lv_session.specs.Laws.{TranscriptIsOne};
+ghost use Rattle.lv_session.specs.Laws.{TranscriptIsOne, RefusedLineChangesNothing, NoQuerySurvivesAChange, MoreIsTheSum, EndedIsSilent};
 
 /// As long as each reply has one text, a session has exactly one transcript.
 pub fn transcript_is_one()
     ensures { TranscriptIsOne }
+{}
+
+/// A refused line leaves the whole state as it was, the current query included.
+pub fn refused_line_changes_nothing()
+    ensures { RefusedLineChangesNothing }
+{}
+
+/// What would change the answer of a query takes the query away.
+pub fn no_query_survives_a_change()
+    ensures { NoQuerySurvivesAChange }
+{}
+
+/// A diagnosis that goes on is the diagnosis with the sum of all its trials.
+pub fn more_is_the_sum()
+    ensures { MoreIsTheSum }
+{}
+
+/// In an ended session a line gets no reply and changes nothing.
+pub fn ended_is_silent()
+    ensures { EndedIsSilent }
 {}

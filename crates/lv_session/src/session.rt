@@ -1,38 +1,34 @@
-//! A session over a model: the values that its controls are commanded to, and what each line does.
+//! A session over a model: its state, and what each line does.
 #![tactic(auto)]
 
-ghost use Rattle.std.specs.Prelude.{◌≡◌, [], ◌∷◌, IfOk, OnOk, OnErr, IsErr, All, length, map, slice_set, true, false};
-ghost use Rattle.lv_base.specs.declared.ids.VarId.{VarId};
-ghost use Rattle.lv_session.specs.Session.{start, stepped, diagnosis};
+ghost use Rattle.std.specs.Prelude.{◌≡◌, IfOk, OnOk, OnErr, IsErr, true, false};
+ghost use Rattle.lv_session.specs.Session.{start, stepped};
 ghost use Rattle.lv_reply.specs.Texts.{reply_text};
-ghost use Rattle.lv_reply.specs.declared.reply.Reply.TheVariants.{Settled, Accepted};
-ghost use Rattle.lv_model.specs.declared.plant.Part.{Part};
-ghost use Rattle.lv_meaning.specs.Facts.{FactsFit};
-ghost use Rattle.lv_meaning.specs.Candidates.{IsTracked};
-ghost use Rattle.lv_model.specs.Lists.{controls};
 
-use crate::request::{Command, Request, request_of};
-use lv_base::limits::LISTED;
-use lv_base::{Cost, Rank, Seq, ValId};
-use lv_meaning::{Facts, candidates};
-use lv_model::{Model, Part, State, TrackedState};
+use crate::state::State;
+use lv_base::VarId;
+use lv_model::Model;
 use lv_reply::{Reply, reply_text};
+use lv_request::{Unread, request_of};
+use lv_text::Token;
 use std::alloc::{AllocError, Global};
 use std::marker;
 
-/// A session over a model.
+/// A session over a model. The controls of the model are kept beside the state, and the room of a line's tokens, so that
+/// a line needs neither anew.
 #[derive(Drop)]
 pub struct Session<'a> {
     model: &'a Model,
     alloc: Global,
-    controls: Vec<ValId>,
+    controls: Vec<VarId>,
+    room: Vec<Token>,
+    state: State,
     is_out_of_memory: bool,
 }
 
 impl<'a> marker::Model for Session<'a> {
-    ghost use Rattle.std.specs.Prelude.{◌≡◌, length};
     ghost use Rattle.lv_session.specs.Session.{RunningSession};
-    ghost use Rattle.lv_model.specs.Lists.{controls as control_list};
+    ghost use Rattle.lv_session.specs.States.{IsSession};
     ghost use Rattle.std.specs.Coded.{codes};
     ghost use Rattle.lv_formula.specs.contracts.Condition as condition;
 
@@ -40,58 +36,24 @@ impl<'a> marker::Model for Session<'a> {
 
     ghost coded = { Prim.hlevel (codes, condition.the_row.coded) };
 
-    ghost view = { λ s. record { plant = s.model.now; state = record { controls = s.controls.items }; is_out_of_memory = s.is_out_of_memory } };
+    ghost view = { λ s. record { plant = s.model.now; state = s.state; is_out_of_memory = s.is_out_of_memory } };
 
-    ghost invariant = { λ s. length s.controls.items ≡ length (control_list s.model.now) };
-}
-
-/// The modes that parts start in.
-fn starting_modes(alloc: Global, parts: &[Part]) -> Result<Vec<ValId>, AllocError>
-    ensures { IfOk result (λ modes. modes.items ≡ map (λ (p : Part). p.start) parts.now) }
-{
-    parts.iter().map(|p| p.start).collect(alloc)
-}
-
-/// The first value for each control.
-fn resting_values(alloc: Global, model: &Model) -> Result<Vec<ValId>, AllocError>
-    ensures { IfOk result (λ values. values.items ≡ map (λ (c : VarId). record { 0 = 0 }) (controls model.now)) }
-{
-    let controls = model.controls(alloc)?;
-    controls.as_slice().iter().map(|_| ValId(0)).collect(alloc)
-}
-
-/// The candidates that a diagnosis lists, with these values of the controls.
-#[tactic(auto, unfolding(crate::specs::Session::diagnosis))]
-fn diagnosis(alloc: Global, model: &Model, values: &[ValId]) -> Result<Vec<Rank>, AllocError>
-    requires { length values.now ≡ length (controls model.now) }
-    ensures { IfOk result (λ listed. listed.items ≡ diagnosis model.now (record { controls = values.now })) }
-{
-    let facts = Facts {
-        controls: Seq::from_slice(alloc, values)?,
-        present: Seq::new(alloc),
-        next: Seq::new(alloc),
-    };
-    let modes = starting_modes(alloc, model.plant().parts.as_slice())?;
-    let state = State {
-        modes: Seq::from_vec(modes),
-    };
-    let tracked = TrackedState {
-        state,
-        cost: Cost(0),
-    };
-    candidates::diagnose(alloc, model, &facts, &[tracked], LISTED as usize)
+    ghost invariant = { λ s. IsSession s.model.now s.controls.items s.state };
 }
 
 impl<'a> Session<'a> {
-    /// A session at its start: every control rests.
+    /// A session at its start.
     pub fn new(alloc: Global, model: &'a Model) -> Result<Session<'a>, AllocError>
         ensures { IfOk result (λ session. session ≡ record { plant = model.now; state = start model.now; is_out_of_memory = false }) }
     {
-        let controls = resting_values(alloc, model)?;
+        let controls = model.controls(alloc)?;
+        let state = State::start(alloc, model)?;
         Ok(Session {
             model,
             alloc,
             controls,
+            room: Vec::new(alloc),
+            state,
             is_out_of_memory: false,
         })
     }
@@ -122,31 +84,23 @@ impl<'a> Session<'a> {
         ensures state { OnOk result (self.new ≡ record self.old { state = (stepped self.old.plant self.old.state line.now).state }) }
         ensures err { OnErr result (self.new ≡ self.old) }
     {
-        match request_of(self.alloc, self.model, line)? {
-            Request::Nothing => Ok(Reply::Nothing),
-            Request::Diagnose => self.diagnose(),
-            Request::SetControl(command) => Ok(self.set_control(command)),
-            Request::Refused(refusal) => Ok(Reply::Refused(refusal)),
+        if self.state.is_ended() {
+            return Ok(Reply::Nothing);
+        }
+        let _plant = self.model.plant();
+        let controls = self.controls.as_slice();
+        match request_of(self.alloc, self.model, controls, &mut self.room, line) {
+            Ok(request) => self.state.carry_out(self.alloc, self.model, request),
+            Err(Unread::Refused(refusal)) => Ok(Reply::Refused(refusal)),
+            Err(Unread::Memory) => Err(AllocError),
         }
     }
 
-    /// The reply to `diagnose`.
-    fn diagnose(&self) -> Result<Reply, AllocError>
-        ensures { IfOk result (λ reply. reply ≡ Settled (diagnosis self.now.plant self.now.state)) }
+    /// Whether the session has ended: exactly where a `quit` was accepted. Takes no memory.
+    pub fn ended(&self) -> bool
+        ensures { result ≡ self.now.state.is_ended }
     {
-        let listed = diagnosis(self.alloc, self.model, self.controls.as_slice())?;
-        Ok(Reply::Settled(Seq::from_vec(listed)))
-    }
-
-    /// Commands a control. Takes no memory.
-    fn set_control(&mut self, command: Command) -> Reply
-        ensures reply { result ≡ Accepted }
-        ensures state { self.new ≡ record self.old { state = record { controls = slice_set self.old.state.controls command.place (record { 0 = command.value }) } } }
-    {
-        if command.place < self.controls.len() {
-            self.controls[command.place] = ValId(command.value);
-        }
-        Reply::Accepted
+        self.state.is_ended()
     }
 
     /// The text of a reply of this session.

@@ -1,9 +1,7 @@
-//! Small texts, with the verdict that the rules of a model's text give.
+//! Small texts, with the verdict that an independent reference program gives.
 
-use lv_base::Seq;
-use lv_checker::{Comparison, ModelFault, read_model, system_comparison};
-use lv_formula::Path;
-use lv_reader::Equation;
+use lv_checker::model_of;
+use lv_reader::ModelFault;
 use std::alloc::AllocError;
 
 const VALVE: &[u8] = b"model valve
@@ -34,7 +32,7 @@ law v.inn = some
 
 #[test]
 fn reads_a_valve(rt: HostRuntime) -> Result<(), AllocError> {
-    let read = read_model(rt.alloc(), VALVE);
+    let read = model_of(rt.alloc(), VALVE);
     assert!(rt; read.is_ok());
     let Ok(model) = read else {
         return Ok(());
@@ -52,65 +50,69 @@ fn reads_a_valve(rt: HostRuntime) -> Result<(), AllocError> {
     Ok(())
 }
 
-#[test]
-fn compares_a_control(rt: HostRuntime) -> Result<(), AllocError> {
-    let read = read_model(rt.alloc(), VALVE);
-    assert!(rt; read.is_ok());
-    let Ok(model) = read else {
-        return Ok(());
-    };
-    let part = Seq::from_slice(rt.alloc(), b"v")?;
-    let control = Seq::from_slice(rt.alloc(), b"cmd")?;
-    let equation = Equation {
-        left: Path::OfPart(part, control),
-        right: Path::Own(Seq::from_slice(rt.alloc(), b"close")?),
-    };
-    let found = system_comparison(model.plant(), &equation);
-    assert!(rt; matches!(found, Some(Comparison::WithValue(1, 2))));
-    Ok(())
+/// A text that is refused, the number of the code, and the line.
+struct Row {
+    text: &'static [u8],
+    code: u32,
+    line: usize,
 }
 
-#[test]
-fn accepts(rt: HostRuntime) {
-    let table: [&[u8]; 7] = [
-        b"type t\nmode m\nend\npart p t m",
-        b"# first\n\n\ttype t # \xff\r\nmode m\r\nend\npart p t m\r",
-        b"model type\ntype type\nmode mode\nin mode mode=mode\nend\npart end type mode\n",
-        b"domain d true x\ntype t\ncontrol c d\nmode m\nin m c = true\nend\npart p t m\n",
-        b"type t\nmode m\nfault m -> m cost 01000000\nend\npart p t m\n",
-        b"domain x x\ntype x\nvariable x x\nmode x\nend\npart x x x\nlaw x . x = x\n",
-        b"type t\nmode m\nend\npart p t m\npart q t m\nlaw p.mode = q.mode\n",
-    ];
-    for text in table {
-        assert!(rt; read_model(rt.alloc(), text).is_ok());
-    }
-}
+const ROWS: [Row; 9] = [
+    Row {
+        text: b"",
+        code: 15,
+        line: 1,
+    },
+    Row {
+        text: b"domain d a a\n",
+        code: 7,
+        line: 1,
+    },
+    Row {
+        text: b"type t\nend\n",
+        code: 11,
+        line: 2,
+    },
+    Row {
+        text: b"type t\nmode m\n",
+        code: 11,
+        line: 3,
+    },
+    Row {
+        text: b"domain d a\nmodel m\n",
+        code: 10,
+        line: 2,
+    },
+    Row {
+        text: b"type t\nmode m\nend\npart p t n\n",
+        code: 8,
+        line: 4,
+    },
+    Row {
+        text: b"type t\nmode m\nend\npart p t m\nlaw p.mode = n\n",
+        code: 9,
+        line: 5,
+    },
+    Row {
+        text: b"type t\nmode m\nlaw mode = mode <=> (mode = mode <=> mode = mode)\nend\npart p t m\n",
+        code: 14,
+        line: 3,
+    },
+    Row {
+        text: b"domain d a b\ntype t\ncontrol c d\nmode m\nend\npart p t m\nprice p.c = a 3\n",
+        code: 9,
+        line: 7,
+    },
+];
 
 #[test]
-fn refuses(rt: HostRuntime) {
-    let table: [&[u8]; 16] = [
-        b"",
-        b"\r",
-        b"type t\nmode m\n",
-        b"type t\nend\npart p t m\n",
-        b"type t\nmode m\nend\npart mode t m\n",
-        b"type t\nmode m\nend\nmodel late\npart p t m\n",
-        b"part p t m\ntype t\nmode m\nend\n",
-        b"domain d a a\ntype t\nmode m\nend\npart p t m\n",
-        b"domain d a\ntype t\nmode m\nin m x = a\nvariable x d\nend\npart p t m\n",
-        b"domain d a\ntype t\nvariable x d\nmode m\nin m true = a\nend\npart p t m\n",
-        b"type t\nmode m\nfault m -> m cost 0\nend\npart p t m\n",
-        b"type t\nmode m\nfault m -> m cost 1000001\nend\npart p t m\n",
-        b"type t\nmode m\nmode m\nend\npart p t m\n",
-        b"type t\nmode m\nlaw mode = m\nend\npart p t m\n",
-        b"type t\nmode m\nend\npart p t m\npart p t m\n",
-        b"type t\nmode m\nend\npart p t m\n\rlaw p.mode = m\n",
-    ];
-    for text in table {
-        let told = matches!(
-            read_model(rt.alloc(), text),
-            Err(ModelFault::At { code: 0, line: 0 })
-        );
-        assert!(rt; told);
+fn refuses_other_texts(rt: HostRuntime) {
+    for row in &ROWS {
+        match model_of(rt.alloc(), row.text) {
+            Err(ModelFault::At { code, line }) => {
+                assert!(rt; code.number() == row.code && line == row.line);
+            }
+            _ => assert!(rt; false),
+        }
     }
 }

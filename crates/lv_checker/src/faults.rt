@@ -1,0 +1,249 @@
+//! Why a statement is refused whose place and names are right: a new name is in use, a formula gives too many clauses, a
+//! limit is passed.
+#![tactic(auto)]
+
+ghost use Rattle.lv_base.specs.declared.limits.TheConstants.{VARIABLES as MOST_VARIABLES};
+ghost use Rattle.std.specs.Prelude.{◌≡◌, ◌+◌, nat_lt, IfOk, IfErr, Ok};
+ghost use Rattle.std.specs.List.{list_any};
+ghost use Rattle.lv_formula.specs.Tree.{Tree};
+ghost use Rattle.lv_model.specs.Counts.{has_count, guard_has_counts};
+ghost use Rattle.lv_model.specs.Prices.{is_price_of};
+ghost use Rattle.lv_model.specs.Lists.{part_width};
+ghost use Rattle.lv_checker.specs.Faults.{are_distinct, in_use_inside, in_use_outside, is_too_long_inside, is_too_long_outside, is_long_name, passes_inside, share_of, passes_outside, first_of, fault_where, fault_of_entry, unless_faulty, judged};
+ghost use Rattle.lv_checker.specs.Entries.{TellsEntry};
+ghost use Rattle.lv_checker.specs.declared.draft.Entry.TheVariants.{NewPart, SystemLaw};
+
+use crate::draft::{CheckFault, Draft, Entry, TypeDraft};
+use crate::entries::entry_of;
+use lv_base::{Name, find_name, limits};
+use lv_formula::Condition;
+use lv_model::counts::law_count;
+use lv_model::lookup::type_of;
+use lv_model::names::{find_domain, find_part, find_type, find_variable};
+use lv_model::{ComponentType, Move, MoveKind, Part, Price};
+use lv_reader::{ModelCode, Statement};
+use std::alloc::Global;
+
+/// Whether no name stands twice.
+fn are_distinct(names: &[Name]) -> bool
+    ensures { result ≡ are_distinct names.now }
+{
+    let mut rest = names;
+    while let Some((name, more)) = rest.split_first() {
+        if find_name(more, name.as_slice()).is_some() {
+            return false;
+        }
+        rest = more;
+    }
+    true
+}
+
+fn is_long_name(name: &Name) -> bool
+    ensures { result ≡ is_long_name name.now }
+{
+    name.len() > limits::NAME_BYTES
+}
+
+fn has_long_name(names: &[Name]) -> bool
+    ensures { result ≡ list_any is_long_name names.now }
+{
+    names.iter().any(|name| is_long_name(name))
+}
+
+/// Whether a variable's or a mode's name is in use in the type.
+fn is_in_use_inside(current: &TypeDraft, entry: &Entry) -> bool
+    ensures { result ≡ in_use_inside current.now entry.now }
+{
+    let of = &current.lists;
+    match entry {
+        Entry::NewVariable(v) => find_variable(
+            of.variables.as_slice(),
+            v.name.as_slice(),
+        ).is_some(),
+        Entry::NewMode(name, _) => find_name(of.modes.as_slice(), name.as_slice()).is_some(),
+        _ => false,
+    }
+}
+
+/// Whether the same value of the same control has a price.
+fn is_priced(prices: &[Price], price: &Price) -> bool
+    ensures { result ≡ list_any (is_price_of price.now.control.0 price.now.value.0) prices.now }
+{
+    prices.iter().any(|p| p.control.0 == price.control.0 && p.value.0 == price.value.0)
+}
+
+/// Whether a name of the model is in use, a value stands twice in its domain, or a value is priced twice.
+fn is_in_use_outside(draft: &Draft, entry: &Entry) -> bool
+    ensures { result ≡ in_use_outside draft.now entry.now }
+{
+    let plant = &draft.plant;
+    match entry {
+        Entry::NewDomain(x) => {
+            find_domain(plant.domains.as_slice(), x.name.as_slice()).is_some()
+                || !are_distinct(x.values.as_slice())
+        }
+        Entry::TypeBegins(name) => find_type(plant.types.as_slice(), name.as_slice()).is_some(),
+        Entry::NewPart(p) => find_part(plant.parts.as_slice(), p.name.as_slice()).is_some(),
+        Entry::NewPrice(p) => is_priced(plant.prices.as_slice(), p),
+        _ => false,
+    }
+}
+
+/// Whether the condition gives few enough clauses in the sign.
+fn has_count(condition: &Condition, sign: bool, sizes: &[u32]) -> bool
+    ensures { result ≡ has_count sizes.now sign condition.now }
+{
+    condition.clause_count(sign, sizes).is_some()
+}
+
+/// Whether a guard does: that of a step is also denied.
+fn guard_has_counts(m: &Move, sizes: &[u32]) -> bool
+    ensures { result ≡ guard_has_counts sizes.now m.now }
+{
+    match &m.guard {
+        Some(guard) => {
+            has_count(guard, true, sizes)
+                && (m.kind != MoveKind::Step || has_count(guard, false, sizes))
+        }
+        None => true,
+    }
+}
+
+fn is_too_long_inside(current: &TypeDraft, entry: &Entry) -> bool
+    ensures { result ≡ is_too_long_inside current.now entry.now }
+{
+    let sizes = current.sizes.as_slice();
+    match entry {
+        Entry::TypeLaw(f) => !has_count(f, true, sizes),
+        Entry::ModeLaw(f) => !has_count(&f.condition, true, sizes),
+        Entry::NewMove(m) => !guard_has_counts(m, sizes),
+        _ => false,
+    }
+}
+
+fn is_too_long_outside(draft: &Draft, entry: &Entry) -> bool
+    ensures { result ≡ is_too_long_outside draft.now entry.now }
+{
+    match entry {
+        Entry::SystemLaw(f) => !has_count(f, true, draft.sizes.as_slice()),
+        _ => false,
+    }
+}
+
+/// Whether a type would have too many modes or moves, or a name is too long. A mode brings its stay.
+fn passes_inside(current: &TypeDraft, entry: &Entry) -> bool
+    ensures { result ≡ passes_inside current.now entry.now }
+{
+    let of = &current.lists;
+    match entry {
+        Entry::NewVariable(v) => is_long_name(&v.name),
+        Entry::NewMode(name, _) => {
+            of.modes.len() >= limits::MODES as usize
+                || of.moves.len() >= limits::MOVES as usize
+                || is_long_name(name)
+        }
+        Entry::NewMove(_) => of.moves.len() >= limits::MOVES as usize,
+        _ => false,
+    }
+}
+
+/// The share of a part in the clauses of the model.
+pub fn share_of(draft: &Draft, part: &Part) -> u32
+    ensures { result ≡ share_of draft.now part.now }
+{
+    match draft.shares.as_slice().get(part.kind as usize) {
+        Some(share) => *share,
+        None => 0,
+    }
+}
+
+/// Whether the part's variables, behind so many others, are too many.
+fn are_many_variables(types: &[ComponentType], part: &Part, others: usize) -> bool
+    ensures { result ≡ nat_lt MOST_VARIABLES (others + part_width types.now part.now) }
+{
+    match type_of(types, part) {
+        Some(of) => others.saturating_add(of.variables.len()) >= limits::VARIABLES as usize,
+        None => others > limits::VARIABLES as usize,
+    }
+}
+
+fn part_passes(draft: &Draft, part: &Part) -> bool
+    ensures { result ≡ passes_outside draft.now (NewPart part.now) }
+{
+    draft.plant.parts.len() >= limits::PARTS as usize
+        || are_many_variables(draft.plant.types.as_slice(), part, draft.ranges.len())
+        || u64::from(draft.clauses) + u64::from(share_of(draft, part))
+            > u64::from(limits::MODEL_CLAUSES)
+        || is_long_name(&part.name)
+}
+
+fn law_passes(draft: &Draft, law: &Condition) -> bool
+    ensures { result ≡ passes_outside draft.now (SystemLaw law.now) }
+{
+    u64::from(draft.clauses) + u64::from(law_count(law, draft.sizes.as_slice()))
+        > u64::from(limits::MODEL_CLAUSES)
+}
+
+/// Whether a limit on values, parts, variables, names or the clauses of the model is passed.
+fn passes_outside(draft: &Draft, entry: &Entry) -> bool
+    ensures { result ≡ passes_outside draft.now entry.now }
+{
+    match entry {
+        Entry::Named(name) => is_long_name(name),
+        Entry::NewDomain(x) => {
+            x.values.len() > limits::VALUES as usize
+                || is_long_name(&x.name)
+                || has_long_name(x.values.as_slice())
+        }
+        Entry::TypeBegins(name) => is_long_name(name),
+        Entry::NewPart(part) => part_passes(draft, part),
+        Entry::SystemLaw(law) => law_passes(draft, law),
+        _ => false,
+    }
+}
+
+/// The first of the three, if one is true.
+fn first_of(in_use: bool, too_long: bool, passes: bool) -> Option<ModelCode>
+    ensures { result ≡ first_of in_use too_long passes }
+{
+    if in_use {
+        Some(ModelCode::NameInUse)
+    } else if too_long {
+        Some(ModelCode::TooManyClauses)
+    } else if passes {
+        Some(ModelCode::LimitPassed)
+    } else {
+        None
+    }
+}
+
+/// Why the entry is refused, if it is.
+#[tactic(auto, unfolding(crate::specs::Faults::fault_of_entry))]
+fn fault_of_entry(draft: &Draft, entry: &Entry) -> Option<ModelCode>
+    ensures { result ≡ fault_of_entry draft.now entry.now }
+{
+    match &draft.current {
+        Some(current) => first_of(
+            is_in_use_inside(current, entry),
+            is_too_long_inside(current, entry),
+            passes_inside(current, entry),
+        ),
+        None => first_of(
+            is_in_use_outside(draft, entry),
+            is_too_long_outside(draft, entry),
+            passes_outside(draft, entry),
+        ),
+    }
+}
+
+/// What a statement adds, or the first code for which it is refused.
+pub fn judged(alloc: Global, draft: &Draft, statement: &Statement) -> Result<Entry, CheckFault>
+    ensures ok { IfOk result (λ e. judged draft.now statement.now ≡ Ok e) }
+    ensures fault { IfErr result (λ fault. TellsEntry fault (judged draft.now statement.now)) }
+{
+    let entry = entry_of(alloc, draft, statement)?;
+    match fault_of_entry(draft, &entry) {
+        Some(code) => Err(CheckFault::Refused(code)),
+        None => Ok(entry),
+    }
+}

@@ -1,0 +1,5 @@
+//! Tests of `lv_names`, of what no clause says: that names are kept with ample memory, and found.
+#![tactic(auto)]
+
+#[cfg(test)]
+mod tests;

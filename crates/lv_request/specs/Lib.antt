@@ -1,0 +1,4 @@
+pub mod Chain
+pub mod Names
+pub mod Forms
+pub mod Requests

@@ -1,0 +1,23 @@
+//! A line of a session as a request: its word, its form, and the names and numbers in it. Nothing above a request knows
+//! the text of a line.
+//!
+//! | file | what it answers |
+//! |---|---|
+//! | `request` | `Request`, and `request_of`: what a line asks for |
+//! | `words` | which word a line begins with |
+//! | `forms` | how many tokens and which signs it has, its numbers and names |
+//! | `names` | which controls, observables and values names stand for |
+//! | `unread` | why a line asks for nothing: a refusal, or want of memory |
+//!
+//! The order of refusals is that of the tests: a line too long, a byte not allowed, an unknown word, another form than the
+//! word's, and then what the line names, from left to right.
+#![tactic(auto)]
+
+pub mod forms;
+pub mod names;
+pub mod request;
+pub mod unread;
+pub mod words;
+
+pub use request::{Command, Request, Sighting, request_of};
+pub use unread::Unread;

@@ -1,0 +1,284 @@
+//! What a line of a session asks for.
+//!
+//! A line is read by the form of its word alone, and the names and numbers in it are looked at afterwards, from left to
+//! right: the first that is wrong is told. What depends on the state of the session is not judged here.
+#![tactic(auto)]
+
+ghost use Rattle.std.specs.Prelude.{◌≡◌, ◌≤◌, ◌<◌, ◌&&◌, List, IfOk, IfErr, nat_eq, length, Ok};
+ghost use Rattle.lv_base.specs.declared.limits.TheConstants.{TRACKED as MOST_TRACKED};
+ghost use Rattle.lv_text.specs.Lexemes.{line_reading};
+ghost use Rattle.lv_model.specs.declared.plant.Plant.{Plant};
+ghost use Rattle.lv_base.specs.declared.ids.VarId.{VarId};
+ghost use Rattle.lv_model.specs.Lists.{controls as control_list, variable_count};
+ghost use Rattle.lv_request.specs.declared.request.Request.TheVariants.{Nothing};
+ghost use Rattle.lv_request.specs.Requests.{alone, track_of, budget_of, more_of, command_to, command_of, release_of, seen_as, sighting_of, retracted_of, request_by, asked, asked_by, request_of, Explains, IsSightingIn, IsRequestOf};
+
+use crate::forms::{has_command_signs, has_observe_signs, has_release_signs, name_at, number_to};
+use crate::names::{control_of, observable_of, value_in};
+use crate::unread::Unread;
+use crate::words::{Word, first_word};
+use lv_base::limits::{BUDGET, TRACKED};
+use lv_base::{Name, Seq, ValId, VarId};
+use lv_model::Model;
+use lv_reply::Refusal;
+use lv_text::lexer::Token;
+use lv_text::{TextFault, TokenLine};
+use std::alloc::Global;
+
+/// A control, by its place among the controls in written order, and the value that it is commanded to.
+#[derive(Clone, Copy, Debug, PartialEq, Eq)]
+pub struct Command {
+    pub place: usize,
+    pub value: u32,
+}
+
+/// An observation by its name: the variable, and the value that it was seen to have.
+#[derive(Debug, Drop)]
+pub struct Sighting {
+    pub name: Name,
+    pub var: VarId,
+    pub val: ValId,
+}
+
+/// What a line asks for.
+#[derive(Debug, Drop)]
+pub enum Request {
+    /// It has no tokens.
+    Nothing,
+    /// That diagnoses list so many candidates.
+    Track(u32),
+    /// That queries have so many trials.
+    SetBudget(u64),
+    SetControl(Command),
+    /// That the control of this place rests.
+    Release(usize),
+    Observe(Sighting),
+    /// That the observation of this name is taken out.
+    Retract(Name),
+    Diagnose,
+    /// That the current query goes on with so many more trials.
+    More(u64),
+    Commit,
+    Conflicts,
+    States,
+    Reset,
+    Quit,
+}
+
+/// The request of a word that stands alone.
+fn alone(request: Request, line: &TokenLine<'_>) -> Result<Request, Refusal>
+    ensures { result ≡ alone request line.now }
+{
+    if line.len() == 1 {
+        Ok(request)
+    } else {
+        Err(Refusal::Form)
+    }
+}
+
+/// `track K`
+fn track_of(line: &TokenLine<'_>) -> Result<Request, Refusal>
+    ensures request { result ≡ track_of line.now }
+    ensures within { (plant : Plant) → IfOk result (IsRequestOf plant) }
+{
+    Ok(Request::Track(number_to(TRACKED as u64, line)? as u32))
+}
+
+/// `budget B`
+fn budget_of(line: &TokenLine<'_>) -> Result<Request, Refusal>
+    ensures { result ≡ budget_of line.now }
+{
+    Ok(Request::SetBudget(number_to(BUDGET, line)?))
+}
+
+/// `more B`
+fn more_of(line: &TokenLine<'_>) -> Result<Request, Refusal>
+    ensures request { result ≡ more_of line.now }
+    ensures within { (plant : Plant) → IfOk result (IsRequestOf plant) }
+{
+    Ok(Request::More(number_to(BUDGET, line)?))
+}
+
+/// The command of a control, by its names, to a value of its domain.
+fn command_to(
+    model: &Model,
+    controls: &[VarId],
+    part: &[u8],
+    name: &[u8],
+    value: &[u8],
+) -> Result<Command, Refusal>
+    ensures { result ≡ command_to model.now controls.now part.now name.now value.now }
+{
+    let control = control_of(model, controls, part, name)?;
+    let value = value_in(model.plant(), control.domain, value)?;
+    Ok(Command {
+        place: control.place,
+        value,
+    })
+}
+
+/// `command P.C = V`
+#[tactic(auto, unfolding(crate::specs::Requests::command_of))]
+fn command_of(model: &Model, controls: &[VarId], line: &TokenLine<'_>) -> Result<Command, Refusal>
+    ensures { result ≡ command_of model.now controls.now line.now }
+{
+    if !has_command_signs(line) {
+        return Err(Refusal::Form);
+    }
+    let part = line.word(1).ok_or(Refusal::Form)?;
+    let name = line.word(3).ok_or(Refusal::Form)?;
+    let value = line.word(5).ok_or(Refusal::Form)?;
+    command_to(model, controls, part, name, value)
+}
+
+/// `release P.C`: the control's place.
+#[tactic(auto, unfolding(crate::specs::Requests::release_of))]
+fn release_of(model: &Model, controls: &[VarId], line: &TokenLine<'_>) -> Result<usize, Refusal>
+    ensures { result ≡ release_of model.now controls.now line.now }
+{
+    if !has_release_signs(line) {
+        return Err(Refusal::Form);
+    }
+    let part = line.word(1).ok_or(Refusal::Form)?;
+    let name = line.word(3).ok_or(Refusal::Form)?;
+    Ok(control_of(model, controls, part, name)?.place)
+}
+
+/// An observable, by its names, seen to have a value of its domain, under a name.
+fn seen_as(
+    alloc: Global,
+    model: &Model,
+    name: &[u8],
+    part: &[u8],
+    variable: &[u8],
+    value: &[u8],
+) -> Result<Sighting, Unread>
+    ensures ok { IfOk result (λ s. seen_as model.now name.now part.now variable.now value.now ≡ Ok s) }
+    ensures fault { IfErr result (λ fault. Explains fault (seen_as model.now name.now part.now variable.now value.now)) }
+    ensures within { IfOk result (IsSightingIn (variable_count model.now)) }
+{
+    let found = observable_of(model, part, variable)?;
+    let value = value_in(model.plant(), found.domain, value)?;
+    Ok(Sighting {
+        name: Seq::from_slice(alloc, name)?,
+        var: VarId(found.number),
+        val: ValId(value),
+    })
+}
+
+/// `observe NAME P.O = V`
+#[tactic(auto, unfolding(crate::specs::Requests::sighting_of))]
+fn sighting_of(alloc: Global, model: &Model, line: &TokenLine<'_>) -> Result<Sighting, Unread>
+    ensures ok { IfOk result (λ s. sighting_of model.now line.now ≡ Ok s) }
+    ensures fault { IfErr result (λ fault. Explains fault (sighting_of model.now line.now)) }
+    ensures within { IfOk result (IsSightingIn (variable_count model.now)) }
+{
+    if !has_observe_signs(line) {
+        return Err(Unread::Refused(Refusal::Form));
+    }
+    let name = name_at(line, 1).ok_or(Refusal::Form)?;
+    let part = line.word(2).ok_or(Refusal::Form)?;
+    let variable = line.word(4).ok_or(Refusal::Form)?;
+    let value = line.word(6).ok_or(Refusal::Form)?;
+    seen_as(alloc, model, name, part, variable, value)
+}
+
+/// `retract NAME`
+#[tactic(auto, unfolding(crate::specs::Requests::retracted_of))]
+fn retracted_of(alloc: Global, line: &TokenLine<'_>) -> Result<Name, Unread>
+    ensures ok { IfOk result (λ name. retracted_of line.now ≡ Ok name) }
+    ensures fault { IfErr result (λ fault. Explains fault (retracted_of line.now)) }
+{
+    if line.len() != 2 {
+        return Err(Unread::Refused(Refusal::Form));
+    }
+    let name = name_at(line, 1).ok_or(Refusal::Form)?;
+    Ok(Seq::from_slice(alloc, name)?)
+}
+
+/// What a line that begins with this word asks for.
+fn request_by(
+    alloc: Global,
+    model: &Model,
+    controls: &[VarId],
+    word: Word,
+    line: &TokenLine<'_>,
+) -> Result<Request, Unread>
+    ensures ok { IfOk result (λ request. request_by model.now controls.now word line.now ≡ Ok request) }
+    ensures fault { IfErr result (λ fault. Explains fault (request_by model.now controls.now word line.now)) }
+    ensures within { IfOk result (IsRequestOf model.now) }
+{
+    match word {
+        Word::Track => Ok(track_of(line)?),
+        Word::Budget => Ok(budget_of(line)?),
+        Word::Command => Ok(Request::SetControl(command_of(model, controls, line)?)),
+        Word::Release => Ok(Request::Release(release_of(model, controls, line)?)),
+        Word::Observe => Ok(Request::Observe(sighting_of(alloc, model, line)?)),
+        Word::Retract => Ok(Request::Retract(retracted_of(alloc, line)?)),
+        Word::Diagnose => Ok(alone(Request::Diagnose, line)?),
+        Word::More => Ok(more_of(line)?),
+        Word::Commit => Ok(alone(Request::Commit, line)?),
+        Word::Conflicts => Ok(alone(Request::Conflicts, line)?),
+        Word::States => Ok(alone(Request::States, line)?),
+        Word::Reset => Ok(alone(Request::Reset, line)?),
+        Word::Quit => Ok(alone(Request::Quit, line)?),
+    }
+}
+
+/// What the tokens of a line ask for.
+fn asked(
+    alloc: Global,
+    model: &Model,
+    controls: &[VarId],
+    line: &TokenLine<'_>,
+) -> Result<Request, Unread>
+    ensures ok { IfOk result (λ request. asked model.now controls.now line.now ≡ Ok request) }
+    ensures fault { IfErr result (λ fault. Explains fault (asked model.now controls.now line.now)) }
+    ensures within { IfOk result (IsRequestOf model.now) }
+{
+    if line.is_empty() {
+        return Ok(Request::Nothing);
+    }
+    match first_word(line) {
+        Some(word) => request_by(alloc, model, controls, word, line),
+        None => Err(Unread::Refused(Refusal::UnknownWord)),
+    }
+}
+
+/// The tokens of a line, in the room that is given.
+fn tokens_in<'a>(
+    alloc: Global,
+    room: &mut Vec<Token>,
+    line: &'a [u8],
+) -> Result<TokenLine<'a>, Unread>
+    ensures ok { (plant : Plant) (controls : List VarId) → IfOk result (λ found. asked_by plant controls (line_reading line.now) ≡ asked plant controls found) }
+    ensures fault { (plant : Plant) (controls : List VarId) → IfErr result (λ fault. Explains fault (asked_by plant controls (line_reading line.now))) }
+{
+    match TokenLine::read_into(alloc, room, line) {
+        Ok(found) => Ok(found),
+        Err(TextFault::LongLine) => Err(Unread::Refused(Refusal::LineTooLong)),
+        Err(TextFault::BadByte(_)) => Err(Unread::Refused(Refusal::ByteNotAllowed)),
+        Err(TextFault::Memory) => Err(Unread::Memory),
+    }
+}
+
+/// What a line, which is given without its end, asks for, where these are the controls of the model. The tokens are read
+/// into the room that is given, which can be used again.
+#[tactic(auto, unfolding(crate::specs::Requests::request_of))]
+pub fn request_of(
+    alloc: Global,
+    model: &Model,
+    controls: &[VarId],
+    room: &mut Vec<Token>,
+    line: &[u8],
+) -> Result<Request, Unread>
+    requires { controls.now ≡ control_list model.now }
+    ensures ok { IfOk result (λ request. request_of model.now line.now ≡ Ok request) }
+    ensures fault { IfErr result (λ fault. Explains fault (request_of model.now line.now)) }
+    ensures within { IfOk result (IsRequestOf model.now) }
+{
+    let found = tokens_in(alloc, room, line)?;
+    let request = asked(alloc, model, controls, &found);
+    *room = found.into_room();
+    request
+}

@@ -1,0 +1,167 @@
+-- The state of a session over a plant stays one, whatever is asked for.
+use Rattle.std.proofs.Common.{◌≡◌, ℕ, ◌+◌, ◌*◌, ◌≤◌, Bool, true, false, cond, nat_eq, nat_le, slice_set, List, [], ◌∷◌, ◌++◌, length, map, filter, Option, Some, None, Result, Ok, Err, IfOk, OnErr, refl, sym, ◌∙◌, ap, subst, arith, All}
+use Rattle.std.proofs.lemmas.Bool.{leb-false}
+use Rattle.std.proofs.lemmas.List.{length-map, length-set}
+use Rattle.std.proofs.lemmas.List.Elements.{All-cons, All-append, All-nil, All-head, All-tail, All-filter}
+use Rattle.lv_base.specs.declared.ids.ValId.{ValId}
+use Rattle.lv_base.specs.declared.ids.VarId.{VarId}
+use Rattle.lv_base.specs.declared.rank.Rank.{Rank}
+use Rattle.lv_base.specs.declared.limits.TheConstants.{COMMITS, TRACKED}
+use Rattle.lv_model.specs.declared.plant.Plant.{Plant}
+use Rattle.lv_model.specs.declared.plant.Part.{Part}
+use Rattle.lv_model.specs.declared.state.TrackedState.{TrackedState}
+use Rattle.lv_model.specs.Lists.{controls, variable_count}
+use Rattle.lv_model.specs.WellFormed.{is_well_formed}
+use Rattle.lv_walk.specs.declared.outcome.Outcome.{Outcome}
+use Rattle.lv_walk.specs.declared.outcome.Outcome.TheVariants.{Settled, Unsettled}
+use Rattle.lv_tracker.specs.Distinct.{first_of_each}
+use Rattle.lv_tracker.specs.Targets.{target_state, HasMoves}
+use Rattle.lv_tracker.specs.Tracked.{start_state, advanced, HasModes}
+use Rattle.lv_tracker.proofs.ListLemmas.{first_all, targets_have_modes}
+use Rattle.lv_reply.specs.declared.reply.Refusal.TheVariants.{NameHeld, NameNotHeld, NothingListed, TooManyHeld, TooManyCommits}
+use Rattle.lv_reply.specs.declared.reply.Reply.{Reply}
+use Rattle.lv_reply.specs.declared.reply.Reply.TheVariants.{Refused, Committed}
+use Rattle.lv_request.specs.declared.request.Sighting.{Sighting}
+use Rattle.lv_request.specs.declared.request.Request.{Request}
+use Rattle.lv_request.specs.declared.request.Request.TheVariants.{Nothing, Track, SetBudget, SetControl, Release, Observe, Retract, Diagnose, More, Commit, Conflicts, States, Reset, Quit}
+use Rattle.lv_request.specs.Requests.{IsSightingIn, IsRequestOf}
+use Rattle.lv_session.specs.declared.query.Query.{Query}
+use Rattle.lv_session.specs.declared.query.Query.TheVariants.{Absent, Diagnosis}
+use Rattle.lv_session.specs.Session.{SessionState, Stepped, start, rest, unchanged, cleared, resting, walked, is_held, has_no_room, lacks_name, observe, retract, more, more_by, commit, commit_by, conflicts, taken_over, advanced_to, carried_out, answered}
+use Rattle.lv_session.specs.States.{StateCosts, RankCosts, IsStateOf, IsListOf}
+use Rattle.lv_session.proofs.Listed.{list_of}
+
+-- every control rests
+pub rest_whole : (cs : List VarId) → length (map (λ (c : VarId). rest) cs) ≡ length cs
+rest_whole cs = length-map cs (λ (c : VarId). rest)
+
+mode_for_each : (ps : List Part) → length (map (λ (p : Part). p.start) ps) ≡ length ps
+mode_for_each ps = length-map ps (λ (p : Part). p.start)
+
+pub start_kept : (plant : Plant) → IsStateOf plant (start plant)
+start_kept plant = record {
+  controls_whole = rest_whole (controls plant);
+  modes = All-cons (HasModes (length plant.parts)) (start_state plant) [] (record { modes = mode_for_each plant.parts }) (All-nil (HasModes (length plant.parts)));
+  costs = All-cons (StateCosts 0) (start_state plant) [] (record { most = omega arith }) (All-nil (StateCosts 0));
+  time = omega arith;
+  k = omega arith;
+  present = All-nil (IsSightingIn (variable_count plant));
+  next = All-nil (IsSightingIn (variable_count plant));
+}
+
+costs_map : (plant : Plant) (time : ℕ) (listed : List Rank) → All (RankCosts time) listed → All (StateCosts time) (map (target_state plant) listed)
+costs_map plant time [] all = All-nil (StateCosts time)
+costs_map plant time (r ∷ rs) all =
+    All-cons (StateCosts time) (target_state plant r) (map (target_state plant) rs)
+    (record { most = (All-head (RankCosts time) r rs all).most }) (costs_map plant time rs (All-tail (RankCosts time) r rs all))
+
+module _ (plant : Plant) (state : SessionState) (h : is_well_formed plant ≡ true) (is : IsStateOf plant state) where
+  -- what no other field is about may change
+  numbers_kept : (k budget : ℕ) (query : Query) (ended : Bool) → k ≤ TRACKED → IsStateOf plant (record state { k = k; budget = budget; query = query; is_ended = ended })
+  numbers_kept k budget query ended few =
+      record { controls_whole = is.controls_whole; modes = is.modes; costs = is.costs; time = is.time; k = few; present = is.present; next = is.next }
+
+  control_kept : (place : ℕ) (value : ValId) → IsStateOf plant (record state { controls = slice_set state.controls place value; query = Absent })
+  control_kept place value = record {
+    controls_whole = length-set state.controls place value ∙ is.controls_whole;
+    modes = is.modes;
+    costs = is.costs;
+    time = is.time;
+    k = is.k;
+    present = is.present;
+    next = is.next;
+  }
+
+  held_kept : (present next : List Sighting) → All (IsSightingIn (variable_count plant)) present → All (IsSightingIn (variable_count plant)) next
+      → IsStateOf plant (record state { present = present; next = next; query = Absent })
+  held_kept present next in_present in_next =
+      record { controls_whole = is.controls_whole; modes = is.modes; costs = is.costs; time = is.time; k = is.k; present = in_present; next = in_next }
+
+  observe_kept : (s : Sighting) → IsSightingIn (variable_count plant) s → IsStateOf plant (observe state s).state
+  observe_kept s within = by (is_held state s.name) (has_no_room state s.name)
+    where
+      by : (a b : Bool)
+          → IsStateOf plant (cond a (unchanged state (Refused NameHeld)) (cond b (unchanged state (Refused TooManyHeld)) (cleared (record state { next = state.next ++ (s ∷ []) })))).state
+      by true b = is
+      by false true = is
+      by false false =
+          held_kept state.present (state.next ++ (s ∷ [])) is.present
+          (All-append (IsSightingIn (variable_count plant)) state.next (s ∷ []) is.next
+          (All-cons (IsSightingIn (variable_count plant)) s [] within (All-nil (IsSightingIn (variable_count plant)))))
+
+  retract_kept : (name : List ℕ) → IsStateOf plant (retract state name).state
+  retract_kept name = by (is_held state name)
+    where
+      by : (b : Bool)
+          → IsStateOf plant (cond b (cleared (record state { present = filter (lacks_name name) state.present; next = filter (lacks_name name) state.next })) (unchanged state (Refused NameNotHeld))).state
+      by true =
+          held_kept (filter (lacks_name name) state.present) (filter (lacks_name name) state.next)
+          (All-filter (lacks_name name) (IsSightingIn (variable_count plant)) state.present is.present)
+          (All-filter (lacks_name name) (IsSightingIn (variable_count plant)) state.next is.next)
+      by false = is
+
+  more_kept : (q : Query) (n : ℕ) → IsStateOf plant (more q plant state n).state
+  more_kept Absent n = is
+  more_kept (Diagnosis sum) n = by (walked plant state sum).outcome
+    where
+      by : (o : Outcome) → IsStateOf plant (more_by o plant state (sum + n)).state
+      by Settled = is
+      by Unsettled = numbers_kept state.k state.budget (Diagnosis (sum + n)) state.is_ended is.k
+
+  conflicts_kept : (q : Query) → IsStateOf plant (conflicts q plant state).state
+  conflicts_kept Absent = is
+  conflicts_kept (Diagnosis sum) = is
+
+  advanced_kept : (listed : List Rank) → IsListOf plant state listed → nat_le COMMITS state.time ≡ false → IsStateOf plant (advanced_to plant state listed)
+  advanced_kept listed l early =
+      let before : state.time + 1 ≤ COMMITS = omega (arith, leb-false COMMITS state.time early) in
+      record {
+        controls_whole = rest_whole (controls plant);
+        modes = targets_have_modes plant listed l.moves;
+        costs = first_all (StateCosts (state.time + 1)) (map (target_state plant) listed) (costs_map plant (state.time + 1) listed l.costs);
+        time = before;
+        k = is.k;
+        present = is.next;
+        next = All-nil (IsSightingIn (variable_count plant));
+      }
+
+  taken_kept : (listed : List Rank) → IsListOf plant state listed → IsStateOf plant (taken_over plant state listed).state
+  taken_kept listed l = by (nat_eq (length listed) 0) (nat_le COMMITS state.time) refl
+    where
+      by : (a b : Bool) → nat_le COMMITS state.time ≡ b
+          → IsStateOf plant (cond a (unchanged state (Refused NothingListed)) (cond b (unchanged state (Refused TooManyCommits))
+          (record { state = advanced_to plant state listed; reply = Committed (state.time + 1) (length (advanced plant listed)) }))).state
+      by true b e = is
+      by false true e = is
+      by false false e = advanced_kept listed l e
+
+  commit_kept : (q : Query) → IsStateOf plant (commit q plant state).state
+  commit_kept Absent = is
+  commit_kept (Diagnosis sum) = by (walked plant state sum).outcome
+    where
+      by : (o : Outcome) → IsStateOf plant (commit_by o plant state (walked plant state sum).listed).state
+      by Settled = taken_kept (walked plant state sum).listed (list_of plant state h is sum)
+      by Unsettled = is
+
+  pub request_kept : (request : Request) → IsRequestOf plant request → IsStateOf plant (carried_out plant state request).state
+  request_kept Nothing within = is
+  request_kept (Track n) within = numbers_kept n state.budget Absent state.is_ended within
+  request_kept (SetBudget n) within = numbers_kept state.k n state.query state.is_ended is.k
+  request_kept (SetControl c) within = control_kept c.place (record { 0 = c.value })
+  request_kept (Release place) within = control_kept place rest
+  request_kept (Observe s) within = observe_kept s within
+  request_kept (Retract name) within = retract_kept name
+  request_kept Diagnose within = numbers_kept state.k state.budget (Diagnosis state.budget) state.is_ended is.k
+  request_kept (More n) within = more_kept state.query n
+  request_kept Commit within = commit_kept state.query
+  request_kept Conflicts within = conflicts_kept state.query
+  request_kept States within = is
+  request_kept Reset within = start_kept plant
+  request_kept Quit within = numbers_kept state.k state.budget state.query true is.k
+
+-- whether a request was carried out or memory was wanting
+pub state_kept : {E : Type 0} (plant : Plant) (old new : SessionState) (request : Request) (result : Result Reply E) → is_well_formed plant ≡ true → IsStateOf plant old → IsRequestOf plant request
+    → IfOk result (λ reply. ◌≡◌ {A = Stepped} (record { state = new; reply = reply }) (carried_out plant old request)) → OnErr result (new ≡ old) → IsStateOf plant new
+state_kept plant old new request (Ok reply) h is within done same =
+    subst (IsStateOf plant) (sym (ap (λ (s : Stepped). s.state) done)) (request_kept plant old h is request within)
+state_kept plant old new request (Err fault) h is within done same = subst (IsStateOf plant) (sym same) is

@@ -1,0 +1,46 @@
+-- What holds of the state of a session over a plant, whatever lines came.
+use Rattle.std.specs.Prelude.{ℕ, ◌+◌, ◌≤◌, ◌*◌, ◌≡◌, List, length, All}
+use Rattle.lv_base.specs.declared.limits.TheConstants.{TRACKED, COMMITS, PARTS, FAULT_COST}
+use Rattle.lv_base.specs.declared.ids.VarId.{VarId}
+use Rattle.lv_base.specs.declared.rank.Rank.{Rank}
+use Rattle.lv_model.specs.declared.plant.Plant.{Plant}
+use Rattle.lv_model.specs.declared.state.TrackedState.{TrackedState}
+use Rattle.lv_model.specs.Lists.{controls, variable_count}
+use Rattle.lv_tracker.specs.Targets.{HasMoves}
+use Rattle.lv_tracker.specs.Tracked.{HasModes}
+use Rattle.lv_request.specs.Requests.{IsSightingIn}
+use Rattle.lv_session.specs.Session.{SessionState}
+
+-- what the faults of all parts cost at most in so many steps
+abbrev pub most_cost : ℕ → ℕ
+most_cost time = PARTS * FAULT_COST * time
+
+-- the state costs no more than so many steps can
+pub record StateCosts (time : ℕ) (s : TrackedState) : Type 0 where
+  pub most : s.cost.0 ≤ most_cost time
+
+-- the same of a candidate
+pub record RankCosts (time : ℕ) (r : Rank) : Type 0 where
+  pub most : r.cost.0 ≤ most_cost time
+
+-- there is a value for each control, and a mode for each part in each tracked state, which costs no more than the steps so far can;
+-- what was observed are variables of the plant; k and the number of commits are within their limits
+pub record IsStateOf (plant : Plant) (state : SessionState) : Type 0 where
+  pub controls_whole : length state.controls ≡ length (controls plant)
+  pub modes : All (HasModes (length plant.parts)) state.tracked
+  pub costs : All (StateCosts state.time) state.tracked
+  pub time : state.time ≤ COMMITS
+  pub k : state.k ≤ TRACKED
+  pub present : All (IsSightingIn (variable_count plant)) state.present
+  pub next : All (IsSightingIn (variable_count plant)) state.next
+
+-- what a walk lists in the state: few candidates, each with a move for every part, and none dearer than one more step can make it
+pub record IsListOf (plant : Plant) (state : SessionState) (listed : List Rank) : Type 0 where
+  pub few : length listed ≤ TRACKED
+  pub moves : All (HasMoves (length plant.parts)) listed
+  pub costs : All (RankCosts (state.time + 1)) listed
+
+-- the state is one of the plant, whose controls these are
+pub record IsSession (plant : Plant) (numbers : List VarId) (now : SessionState) : Type 0 where
+  pub controls_are : numbers ≡ controls plant
+  pub is_state : IsStateOf plant now

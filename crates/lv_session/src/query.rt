@@ -1,0 +1,11 @@
+//! What was asked last, and can be gone on with.
+#![tactic(auto)]
+
+/// The current query of a session. What it came to is determined by the session's state: whatever would change that
+/// takes the query away.
+#[derive(Clone, Copy, Debug, PartialEq, Eq)]
+pub enum Query {
+    Absent,
+    /// A diagnosis, with the trials that it may make, those that were added to it included.
+    Diagnosis(u64),
+}

@@ -1,0 +1,196 @@
+//! The state of a session, and what a request does to it.
+#![tactic(auto)]
+
+ghost use Rattle.std.specs.Prelude.{◌≡◌, IfOk, OnErr};
+ghost use Rattle.lv_request.specs.Requests.{IsRequestOf};
+ghost use Rattle.lv_session.specs.Session.{start, resting, cleared, track, set_budget, set_control, release, commanded, reset, quit, carried_out};
+ghost use Rattle.lv_reply.specs.declared.reply.Reply.TheVariants.{States};
+ghost use Rattle.lv_session.specs.States.{IsStateOf};
+
+use crate::query::Query;
+use lv_base::limits::{LISTED, TRIALS};
+use lv_base::{Cost, Seq, ValId};
+use lv_model::{Model, State as Modes, TrackedState};
+use lv_reply::Reply;
+use lv_request::{Command, Request, Sighting};
+use lv_tracker::Tracked;
+use std::alloc::{AllocError, Global};
+use std::marker;
+
+/// The state of a session. What its fields are is said where clauses see them, at `SessionState`.
+#[derive(Drop)]
+pub struct State {
+    pub(crate) tracked: Tracked,
+    pub(crate) time: u64,
+    pub(crate) k: u32,
+    pub(crate) budget: u64,
+    pub(crate) controls: Vec<ValId>,
+    pub(crate) present: Vec<Sighting>,
+    pub(crate) next: Vec<Sighting>,
+    pub(crate) query: Query,
+    pub(crate) is_ended: bool,
+}
+
+impl marker::Model for State {
+    ghost use Rattle.lv_session.specs.Session.{SessionState};
+
+    ghost Value = { SessionState };
+
+    ghost view = { λ s. record { tracked = s.tracked; time = s.time; k = s.k; budget = s.budget; controls = s.controls.items; present = s.present.items; next = s.next.items; query = s.query; is_ended = s.is_ended } };
+}
+
+/// The value at which a control rests, for each control.
+pub(crate) fn resting_values(alloc: Global, model: &Model) -> Result<Vec<ValId>, AllocError>
+    ensures { IfOk result (λ values. values.items ≡ resting model.now) }
+{
+    let controls = model.controls(alloc)?;
+    controls.as_slice().iter().map(|_| ValId(0)).collect(alloc)
+}
+
+impl State {
+    /// The state at the start, and after a `reset`.
+    pub fn start(alloc: Global, model: &Model) -> Result<State, AllocError>
+        ensures { IfOk result (λ state. state ≡ start model.now) }
+    {
+        let tracked = Tracked::start(alloc, model)?;
+        let controls = resting_values(alloc, model)?;
+        Ok(State {
+            tracked,
+            time: 0,
+            k: LISTED,
+            budget: TRIALS,
+            controls,
+            present: Vec::new(alloc),
+            next: Vec::new(alloc),
+            query: Query::Absent,
+            is_ended: false,
+        })
+    }
+
+    /// Whether the session has ended.
+    pub fn is_ended(&self) -> bool
+        ensures { result ≡ self.now.is_ended }
+    {
+        self.is_ended
+    }
+
+    /// Does what is asked for. After want of memory the state is as it was.
+    pub fn carry_out(
+        &mut self,
+        alloc: Global,
+        model: &Model,
+        request: Request,
+    ) -> Result<Reply, AllocError>
+        requires state { IsStateOf model.now self.old }
+        requires request { IsRequestOf model.now request }
+        ensures ok { IfOk result (λ reply. record { state = self.new; reply = reply } ≡ carried_out model.now self.old request) }
+        ensures err { OnErr result (self.new ≡ self.old) }
+    {
+        match request {
+            Request::Nothing => Ok(Reply::Nothing),
+            Request::Track(n) => Ok(self.track(n)),
+            Request::SetBudget(n) => Ok(self.set_budget(n)),
+            Request::SetControl(command) => Ok(self.set_control(command)),
+            Request::Release(place) => Ok(self.release(place)),
+            Request::Observe(sighting) => self.observe(sighting),
+            Request::Retract(name) => Ok(self.retract(name.as_slice())),
+            Request::Diagnose => self.diagnose(alloc, model, self.budget),
+            Request::More(n) => self.more(alloc, model, n),
+            Request::Commit => self.commit(alloc, model),
+            Request::Conflicts => self.conflicts(alloc, model),
+            Request::States => self.states(alloc),
+            Request::Reset => self.reset(alloc, model),
+            Request::Quit => Ok(self.quit()),
+        }
+    }
+
+    /// The reply to what was carried out, where no query is current any more.
+    pub(crate) fn cleared(&mut self) -> Reply
+        ensures { record { state = self.new; reply = result } ≡ cleared self.old }
+    {
+        self.query = Query::Absent;
+        Reply::Accepted
+    }
+
+    fn track(&mut self, n: u32) -> Reply
+        ensures { record { state = self.new; reply = result } ≡ track self.old n }
+    {
+        self.k = n;
+        self.cleared()
+    }
+
+    fn set_budget(&mut self, n: u64) -> Reply
+        ensures { record { state = self.new; reply = result } ≡ set_budget self.old n }
+    {
+        self.budget = n;
+        Reply::Accepted
+    }
+
+    /// Commands a control, if there is one at this place.
+    fn command(&mut self, place: usize, value: ValId) -> Reply
+        ensures { record { state = self.new; reply = result } ≡ commanded self.old place value }
+    {
+        if place < self.controls.len() {
+            self.controls[place] = value;
+        }
+        self.cleared()
+    }
+
+    fn set_control(&mut self, command: Command) -> Reply
+        ensures { record { state = self.new; reply = result } ≡ set_control self.old command }
+    {
+        self.command(command.place, ValId(command.value))
+    }
+
+    fn release(&mut self, place: usize) -> Reply
+        ensures { record { state = self.new; reply = result } ≡ release self.old place }
+    {
+        self.command(place, ValId(0))
+    }
+
+    fn reset(&mut self, alloc: Global, model: &Model) -> Result<Reply, AllocError>
+        ensures ok { IfOk result (λ reply. record { state = self.new; reply = reply } ≡ reset model.now) }
+        ensures err { OnErr result (self.new ≡ self.old) }
+    {
+        *self = State::start(alloc, model)?;
+        Ok(Reply::Accepted)
+    }
+
+    fn quit(&mut self) -> Reply
+        ensures { record { state = self.new; reply = result } ≡ quit self.old }
+    {
+        self.is_ended = true;
+        Reply::Accepted
+    }
+
+    /// The time, and a copy of the tracked states.
+    fn states(&self, alloc: Global) -> Result<Reply, AllocError>
+        ensures { IfOk result (λ reply. reply ≡ States self.now.time self.now.tracked) }
+    {
+        let tracked = copies(alloc, self.tracked.as_slice())?;
+        Ok(Reply::States(self.time, Seq::from_vec(tracked)))
+    }
+}
+
+/// A copy of a tracked state.
+fn copy_of(alloc: Global, tracked: &TrackedState) -> Result<TrackedState, AllocError>
+    ensures { IfOk result (λ copy. copy ≡ tracked.now) }
+{
+    Ok(TrackedState {
+        state: Modes {
+            modes: Seq::from_slice(alloc, tracked.state.modes.as_slice())?,
+        },
+        cost: Cost(tracked.cost.0),
+    })
+}
+
+/// Copies of tracked states.
+fn copies(alloc: Global, tracked: &[TrackedState]) -> Result<Vec<TrackedState>, AllocError>
+    ensures { IfOk result (λ copies. copies.items ≡ tracked.now) }
+{
+    let mut out = Vec::new(alloc);
+    for state in tracked {
+        out.push(copy_of(alloc, state)?)?;
+    }
+    Ok(out)
+}
