@@ -1,7 +1,7 @@
 -- What a diagnosis of the state needs, and what its walk says of the current query.
-use Rattle.std.proofs.Common.{◌≡◌, ℕ, ◌+◌, ◌*◌, ◌≤◌, Bool, true, false, List, [], ◌∷◌, length, map, refl, sym, ◌∙◌, ap, subst, arith, All}
+use Rattle.std.proofs.Common.{◌≡◌, ℕ, ◌+◌, ◌≤◌, true, List, [], ◌∷◌, length, map, sym, ◌∙◌, ap, subst, arith, All}
 use Rattle.std.proofs.lemmas.List.Elements.{All-cons, All-head, All-tail, All-nil}
-use Rattle.lv_base.specs.declared.limits.TheConstants.{COMMITS, TRACKED_COST}
+use Rattle.lv_base.specs.declared.limits.TheConstants.{COMMITS}
 use Rattle.lv_base.specs.declared.rank.Rank.{Rank}
 use Rattle.lv_model.specs.declared.plant.Plant.{Plant}
 use Rattle.lv_model.specs.declared.state.TrackedState.{TrackedState}
@@ -20,8 +20,8 @@ use Rattle.lv_reply.specs.declared.reply.Reply.TheVariants.{Refused, Conflicts}
 use Rattle.lv_request.specs.declared.request.Sighting.{Sighting}
 use Rattle.lv_request.specs.Requests.{IsSightingIn}
 use Rattle.lv_session.specs.declared.query.Query.{Query}
-use Rattle.lv_session.specs.declared.query.Query.TheVariants.{Absent, Diagnosis}
-use Rattle.lv_session.specs.Session.{SessionState, Stepped, observation_of, facts_of, unchanged, walked, trials, diagnosed, more, more_by, conflicts, commit, commit_by, taken_over}
+use Rattle.lv_session.specs.declared.query.Query.TheVariants.{Diagnosis}
+use Rattle.lv_session.specs.Session.{SessionState, observation_of, facts_of, unchanged, walked, trials, diagnosed, more, more_by, conflicts, commit, commit_by, taken_over}
 use Rattle.lv_session.specs.States.{StateCosts, RankCosts, IsStateOf, IsListOf}
 use Rattle.lv_session.proofs.Listed.{list_of, all_trials}
 

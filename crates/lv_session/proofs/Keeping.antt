@@ -1,5 +1,5 @@
 -- The state of a session over a plant stays one, whatever is asked for.
-use Rattle.std.proofs.Common.{◌≡◌, ℕ, ◌+◌, ◌*◌, ◌≤◌, Bool, true, false, cond, nat_eq, nat_le, slice_set, List, [], ◌∷◌, ◌++◌, length, map, filter, Option, Some, None, Result, Ok, Err, IfOk, OnErr, refl, sym, ◌∙◌, ap, subst, arith, All}
+use Rattle.std.proofs.Common.{◌≡◌, ℕ, ◌+◌, ◌≤◌, Bool, true, false, cond, nat_eq, nat_le, slice_set, List, [], ◌∷◌, ◌++◌, length, map, filter, Result, Ok, Err, IfOk, OnErr, refl, sym, ◌∙◌, ap, subst, arith, All}
 use Rattle.std.proofs.lemmas.Bool.{leb-false}
 use Rattle.std.proofs.lemmas.List.{length-map, length-set}
 use Rattle.std.proofs.lemmas.List.Elements.{All-cons, All-append, All-nil, All-head, All-tail, All-filter}
@@ -9,13 +9,11 @@ use Rattle.lv_base.specs.declared.rank.Rank.{Rank}
 use Rattle.lv_base.specs.declared.limits.TheConstants.{COMMITS, TRACKED}
 use Rattle.lv_model.specs.declared.plant.Plant.{Plant}
 use Rattle.lv_model.specs.declared.plant.Part.{Part}
-use Rattle.lv_model.specs.declared.state.TrackedState.{TrackedState}
 use Rattle.lv_model.specs.Lists.{controls, variable_count}
 use Rattle.lv_model.specs.WellFormed.{is_well_formed}
 use Rattle.lv_walk.specs.declared.outcome.Outcome.{Outcome}
 use Rattle.lv_walk.specs.declared.outcome.Outcome.TheVariants.{Settled, Unsettled}
-use Rattle.lv_tracker.specs.Distinct.{first_of_each}
-use Rattle.lv_tracker.specs.Targets.{target_state, HasMoves}
+use Rattle.lv_tracker.specs.Targets.{target_state}
 use Rattle.lv_tracker.specs.Tracked.{start_state, advanced, HasModes}
 use Rattle.lv_tracker.proofs.ListLemmas.{first_all, targets_have_modes}
 use Rattle.lv_reply.specs.declared.reply.Refusal.TheVariants.{NameHeld, NameNotHeld, NothingListed, TooManyHeld, TooManyCommits}
@@ -27,7 +25,7 @@ use Rattle.lv_request.specs.declared.request.Request.TheVariants.{Nothing, Track
 use Rattle.lv_request.specs.Requests.{IsSightingIn, IsRequestOf}
 use Rattle.lv_session.specs.declared.query.Query.{Query}
 use Rattle.lv_session.specs.declared.query.Query.TheVariants.{Absent, Diagnosis}
-use Rattle.lv_session.specs.Session.{SessionState, Stepped, start, rest, unchanged, cleared, resting, walked, is_held, has_no_room, lacks_name, observe, retract, more, more_by, commit, commit_by, conflicts, taken_over, advanced_to, carried_out, answered}
+use Rattle.lv_session.specs.Session.{SessionState, Stepped, start, rest, unchanged, cleared, walked, is_held, has_no_room, lacks_name, observe, retract, more, more_by, commit, commit_by, conflicts, taken_over, advanced_to, carried_out}
 use Rattle.lv_session.specs.States.{StateCosts, RankCosts, IsStateOf, IsListOf}
 use Rattle.lv_session.proofs.Listed.{list_of}
 

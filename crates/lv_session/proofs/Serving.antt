@@ -6,11 +6,11 @@ use Rattle.lv_io.specs.Whole.{AddsFront}
 use Rattle.lv_io.proofs.Pieces.{rest_of_bytes, append-append}
 use Rattle.lv_text.specs.Lines.{lines_of, BeginsWithLine}
 use Rattle.lv_reply.specs.Texts.{reply_text}
-use Rattle.lv_session.specs.Session.{SessionState, RunningSession, stepped}
+use Rattle.lv_session.specs.Session.{RunningSession, stepped}
 use Rattle.lv_session.specs.Transcript.{IsTranscriptFrom, ends, goes_on, AddsTranscriptFrom, AddsTranscriptFront}
 use Rattle.lv_session.specs.Laws.{replies}
 use Rattle.lv_session.proofs.Transcripts.{own_step, some_transcript}
-use Rattle.lv_session.proofs.Writing.{Written, append-none, written_front, front_more}
+use Rattle.lv_session.proofs.Writing.{append-none, written_front, front_more}
 
 -- the text written so far, behind which any transcript of the lines that are left makes one of all lines
 pub record Served (first : RunningSession) (all : List (List ℕ)) (session : RunningSession) (left : List (List ℕ)) (before after : Option (List ℕ)) : Type 0 where

@@ -1,5 +1,5 @@
 -- What holds of every step of a session.
-use Rattle.std.proofs.Common.{◌≡◌, ℕ, ◌+◌, Bool, true, false, cond, nat_eq, nat_le, List, ◌∷◌, [], ◌++◌, length, filter, Result, Ok, Err, refl, sym, ◌∙◌, ap, subst}
+use Rattle.std.proofs.Common.{◌≡◌, ℕ, ◌+◌, Bool, true, false, cond, nat_eq, nat_le, List, ◌∷◌, [], ◌++◌, length, filter, Result, Ok, Err, refl, sym, ◌∙◌, ap}
 use Rattle.lv_base.specs.declared.limits.TheConstants.{COMMITS}
 use Rattle.lv_base.specs.declared.rank.Rank.{Rank}
 use Rattle.lv_model.specs.declared.plant.Plant.{Plant}

@@ -1,14 +1,14 @@
 -- The state of a session, and what a line does to it.
-use Rattle.std.specs.Prelude.{ℕ, ◌+◌, ◌≤◌, ◌*◌, ◌≡◌, Bool, false, true, ◌||◌, not, nat_eq, nat_le, nat_lt, List, [], ◌∷◌, ◌++◌, length, map, filter, slice_set, if◌then◌else◌, Result, Ok, Err, All}
+use Rattle.std.specs.Prelude.{ℕ, ◌+◌, Bool, false, true, ◌||◌, not, nat_eq, nat_le, nat_lt, List, [], ◌∷◌, ◌++◌, length, map, filter, slice_set, if◌then◌else◌, Result, Ok, Err}
 use Rattle.std.specs.List.{list_any}
 use Rattle.lv_base.specs.declared.ids.ValId.{ValId}
 use Rattle.lv_base.specs.declared.ids.VarId.{VarId}
 use Rattle.lv_base.specs.declared.rank.Rank.{Rank}
-use Rattle.lv_base.specs.declared.limits.TheConstants.{LISTED, TRIALS, TRACKED, OBSERVATIONS, NAME_BYTES, COMMITS, PARTS, FAULT_COST}
+use Rattle.lv_base.specs.declared.limits.TheConstants.{LISTED, TRIALS, OBSERVATIONS, NAME_BYTES, COMMITS}
 use Rattle.lv_base.specs.Names.{is_named}
 use Rattle.lv_model.specs.declared.plant.Plant.{Plant}
 use Rattle.lv_model.specs.declared.state.TrackedState.{TrackedState}
-use Rattle.lv_model.specs.Lists.{controls, variable_count}
+use Rattle.lv_model.specs.Lists.{controls}
 use Rattle.lv_walk.specs.declared.outcome.Outcome.{Outcome}
 use Rattle.lv_walk.specs.declared.outcome.Outcome.TheVariants.{Settled, Unsettled}
 use Rattle.lv_walk.specs.Walk.{Walked}
@@ -16,7 +16,7 @@ use Rattle.lv_meaning.specs.declared.facts.Facts.{Facts}
 use Rattle.lv_meaning.specs.declared.facts.Observation.{Observation}
 use Rattle.lv_meaning.specs.Candidates.{candidates}
 use Rattle.lv_meaning.specs.Diagnosis.{diagnosis_walk}
-use Rattle.lv_tracker.specs.Tracked.{start_state, advanced, HasModes}
+use Rattle.lv_tracker.specs.Tracked.{start_state, advanced}
 use Rattle.lv_reply.specs.declared.reply.Refusal.{Refusal}
 use Rattle.lv_reply.specs.declared.reply.Refusal.TheVariants.{NameHeld, NameNotHeld, NoQuery, NotUnsettled, NothingListed, TooManyHeld, TooManyCommits}
 use Rattle.lv_reply.specs.declared.reply.Reply.{Reply}
@@ -25,7 +25,7 @@ use Rattle.lv_request.specs.declared.request.Command.{Command}
 use Rattle.lv_request.specs.declared.request.Sighting.{Sighting}
 use Rattle.lv_request.specs.declared.request.Request.{Request}
 use Rattle.lv_request.specs.declared.request.Request.TheVariants.{Nothing, Track, SetBudget, SetControl, Release, Observe, Retract, Diagnose, More, Commit, Conflicts, States, Reset, Quit}
-use Rattle.lv_request.specs.Requests.{request_of, IsSightingIn}
+use Rattle.lv_request.specs.Requests.{request_of}
 use Rattle.lv_session.specs.declared.query.Query.{Query}
 use Rattle.lv_session.specs.declared.query.Query.TheVariants.{Absent, Diagnosis}
 

@@ -1,6 +1,6 @@
 -- What was written at each exit, and after one more line.
 use Rattle.std.proofs.Common.{rules}
-use Rattle.lv_session.proofs.Serving.{nothing_served, served_more, served_all, served_front, served_front_more}
+use Rattle.lv_session.proofs.Serving.{served_more, served_all, served_front, served_front_more}
 use Rattle.lv_session.proofs.serve.serve.Goals as goal
 
 pub returns-in_err-answer_line-clause-front : goal.returns-in_err-answer_line-clause-front

@@ -1,0 +1,17 @@
+#!/usr/bin/env bash
+# Runs the built program over the sessions sessions/NAME.ses and compares what it writes with NAME.out, which was worked
+# out by hand: worked examples, each refusal on a new session and after a settled diagnosis, and as many observations
+# as may be held. The model is series.lv for series.ses and the valve of examples/ for the others.
+# shellcheck source-path=SCRIPTDIR source=common.sh
+. "$(dirname "$(readlink -f "${BASH_SOURCE[0]}")")/common.sh"
+
+for session in "$root"/tests/sessions/*.ses; do
+    case "$session" in
+    */series.ses) model="$root/tests/sessions/series.lv" ;;
+    *) model="$root/examples/valve.lv" ;;
+    esac
+    run run "$model" "$session" </dev/null
+    expect_files "sessions/$(basename "$session" .ses)" 0 "${session%.ses}.out" /dev/null
+done
+
+verdict
