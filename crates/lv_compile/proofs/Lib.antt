@@ -1,4 +1,5 @@
 pub mod GatherLemmas
 pub mod BooleanLemmas
+pub mod OneOfLemmas
 pub mod CleaningLemmas
 pub mod FormulaLemmas

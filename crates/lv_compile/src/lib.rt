@@ -6,7 +6,10 @@
 #![tactic(auto)]
 
 pub mod clause_lists;
+pub mod copies;
 pub mod examples;
 pub mod formula;
 pub mod laws;
+pub mod moves;
+pub mod one_of;
 pub mod value_bools;
