@@ -151,25 +151,25 @@ module _ (truth : ℕ → Bool) where
 
 -- what fitting equations compare
 
-record Alike (ranges : List Range) (x y : ℕ) : Type 0 where
-  left : Range
-  right : Range
-  at_left : slice_get ranges x ≡ Some left
-  at_right : slice_get ranges y ≡ Some right
-  sorts : is_same_sort left.sort right.sort ≡ true
+pub record Alike (ranges : List Range) (x y : ℕ) : Type 0 where
+  pub left : Range
+  pub right : Range
+  pub at_left : slice_get ranges x ≡ Some left
+  pub at_right : slice_get ranges y ≡ Some right
+  pub sorts : is_same_sort left.sort right.sort ≡ true
 
-alike_of : (ranges : List Range) (x y : ℕ) (o p : Option Range) → slice_get ranges x ≡ o → slice_get ranges y ≡ p
+pub alike_of : (ranges : List Range) (x y : ℕ) (o p : Option Range) → slice_get ranges x ≡ o → slice_get ranges y ≡ p
     → option_map_or (λ (r : Range). option_map_or (λ (s : Range). is_same_sort r.sort s.sort) p false) o false ≡ true → Alike ranges x y
 alike_of ranges x y None p e f h = absurd (cc)
 alike_of ranges x y (Some r) None e f h = absurd (cc)
 alike_of ranges x y (Some r) (Some s) e f h = record { left = r; right = s; at_left = e; at_right = f; sorts = h }
 
-record Within (ranges : List Range) (x v : ℕ) : Type 0 where
-  range : Range
-  at : slice_get ranges x ≡ Some range
-  below : v < range.size
+pub record Within (ranges : List Range) (x v : ℕ) : Type 0 where
+  pub range : Range
+  pub at : slice_get ranges x ≡ Some range
+  pub below : v < range.size
 
-within_of : (ranges : List Range) (x v : ℕ) (o : Option Range) → slice_get ranges x ≡ o → option_map_or (λ (r : Range). nat_lt v r.size) o false ≡ true → Within ranges x v
+pub within_of : (ranges : List Range) (x v : ℕ) (o : Option Range) → slice_get ranges x ≡ o → option_map_or (λ (r : Range). nat_lt v r.size) o false ≡ true → Within ranges x v
 within_of ranges x v None e h = absurd (cc)
 within_of ranges x v (Some r) e h = record { range = r; at = e; below = grind (arith, h) }
 

@@ -3,3 +3,6 @@ pub mod BooleanLemmas
 pub mod OneOfLemmas
 pub mod CleaningLemmas
 pub mod FormulaLemmas
+pub mod RangeLemmas
+pub mod SpeakingLemmas
+pub mod SumLemmas

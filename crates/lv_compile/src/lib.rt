@@ -12,4 +12,5 @@ pub mod formula;
 pub mod laws;
 pub mod moves;
 pub mod one_of;
+pub mod plant_clauses;
 pub mod value_bools;

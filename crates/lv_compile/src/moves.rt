@@ -20,11 +20,12 @@ use lv_model::lookup::type_of;
 use lv_model::{ComponentType, Move, MoveKind, Part};
 use std::alloc::{AllocError, Global};
 
-/// The booleans of the variables before a step and after it.
+/// The booleans of the variables before a step and after it, and the boolean of the first part's first move.
 #[derive(Drop)]
 pub struct Copies {
     pub before: ValueBools,
     pub after: ValueBools,
+    pub first_choice: u32,
 }
 
 /// Where a part's variables begin, and the booleans of its choices.

@@ -153,6 +153,13 @@ module _ (plant : Plant) (h : is_well_formed plant ≡ true) where
   pub few-parts : length plant.parts ≤ PARTS
   few-parts = leb-true (length plant.parts) PARTS (and_parts (nat_le 1 (length plant.parts)) (nat_le (length plant.parts) PARTS) parts_pass.0).1
 
+  -- each part's variables begin where those of the parts before it end
+  pub follow_pass : firsts_follow plant.types 0 plant.parts ≡ true
+  follow_pass = (and_parts (firsts_follow plant.types 0 plant.parts) (nat_le (variable_count plant) VARIABLES) rest.0).0
+
+  pub laws_pass : list_all (fits (plant_ranges plant)) plant.laws ≡ true
+  laws_pass = (and_parts (laws_fit plant) (prices_fit plant) (and_parts (laws_fit plant && prices_fit plant) (clauses_fit plant) rest.1).0).0
+
   -- it has no more variables than this
   pub few_variables : variable_count plant ≤ VARIABLES
   few_variables = leb-true (variable_count plant) VARIABLES (and_parts (firsts_follow plant.types 0 plant.parts) (nat_le (variable_count plant) VARIABLES) rest.0).1
