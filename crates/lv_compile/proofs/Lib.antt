@@ -6,3 +6,4 @@ pub mod FormulaLemmas
 pub mod RangeLemmas
 pub mod SpeakingLemmas
 pub mod SumLemmas
+pub mod RepeatLemmas

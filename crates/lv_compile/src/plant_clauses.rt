@@ -6,14 +6,15 @@ ghost use Rattle.std.specs.List.{sum};
 ghost use Rattle.lv_model.specs.WellFormed.{is_well_formed};
 ghost use Rattle.lv_model.specs.Lists.{sizes};
 ghost use Rattle.lv_compile.specs.Booleans.{booleans_now, booleans_next, first_choice};
-ghost use Rattle.lv_compile.specs.ModelClauses.{raw_clauses};
+ghost use Rattle.lv_compile.specs.ModelClauses.{raw_clauses, model_clauses};
 
+use crate::cleaning::cleaned;
 use crate::copies::push_copy;
 use crate::moves::{Copies, push_choices};
 use crate::value_bools::ValueBools;
 use lv_base::{Lit, Seq};
-use lv_model::Plant;
 use lv_model::variables::all_sizes;
+use lv_model::{Model, Plant};
 use std::alloc::{AllocError, Global};
 
 fn sum_of(sizes: &[usize]) -> u32
@@ -64,4 +65,12 @@ pub fn raw_clauses(alloc: Global, plant: &Plant) -> Result<Vec<Seq<Lit>>, AllocE
         plant.parts.as_slice(),
     )?;
     Ok(out)
+}
+
+/// The clauses of the model, in their order.
+pub fn model_clauses(alloc: Global, model: &Model) -> Result<Vec<Seq<Lit>>, AllocError>
+    ensures { IfOk result (λ out. out.items ≡ model_clauses model.now) }
+{
+    let raw = raw_clauses(alloc, model.plant())?;
+    cleaned(alloc, raw.as_slice())
 }
