@@ -7,3 +7,5 @@ pub mod RangeLemmas
 pub mod SpeakingLemmas
 pub mod SumLemmas
 pub mod RepeatLemmas
+pub mod ChosenLemmas
+pub mod CopyLemmas

@@ -97,7 +97,7 @@ module _ (plant : Plant) (h : is_well_formed plant ≡ true) (b : Booleans) (cop
   have n p t here kind = have_part plant b copy (follow_pass plant h) n p t here kind
 
   -- a part's first variable has as many values as its type has modes
-  modes_of : (n : ℕ) (p : Part) (t : ComponentType) → slice_get plant.parts n ≡ Some p → slice_get plant.types p.kind ≡ Some t → size_of b p.first.0 ≡ length t.modes
+  pub modes_of : (n : ℕ) (p : Part) (t : ComponentType) → slice_get plant.parts n ≡ Some p → slice_get plant.types p.kind ≡ Some t → size_of b p.first.0 ≡ length t.modes
   modes_of n p t here kind = let e : p.first.0 + 0 ≡ p.first.0 = omega arith in ap (size_of b) (sym e) ∙ (have n p t here kind).size 0 _ refl
 
   module _ (p : Part) (t : ComponentType) (kind : slice_get plant.types p.kind ≡ Some t) where
@@ -107,7 +107,7 @@ module _ (plant : Plant) (h : is_well_formed plant ≡ true) (b : Booleans) (cop
     own : (formulas_fit ranges t ≡ true) × (moves_fit ranges t ≡ true)
     own = and_parts (formulas_fit ranges t) (moves_fit ranges t) (and_parts (names_fit (length plant.domains) t && counts_fit t) _ (type_of_place plant.domains plant.types p.kind t (types_pass plant h) kind)).1
 
-    formulas : (list_all (fits ranges) t.laws ≡ true) × (list_all (mode_formula_fits ranges (length t.modes)) t.formulas ≡ true)
+    pub formulas : (list_all (fits ranges) t.laws ≡ true) × (list_all (mode_formula_fits ranges (length t.modes)) t.formulas ≡ true)
     formulas = and_parts (list_all (fits ranges) t.laws) (list_all (mode_formula_fits ranges (length t.modes)) t.formulas) own.0
 
     moves : list_all (move_fits ranges (length t.modes)) t.moves ≡ true

@@ -7,8 +7,13 @@ use Rattle.lv_clauses.specs.Literals.{same_truth}
 use Rattle.lv_formula.specs.declared.range.Range.{Range}
 use Rattle.lv_formula.specs.Tree.{Tree, truth_of, number_of}
 use Rattle.lv_formula.specs.Fits.{fits, is_same_sort}
+use Rattle.lv_model.specs.declared.plant.Plant.{Plant}
+use Rattle.lv_model.specs.Lists.{sizes}
+use Rattle.lv_model.specs.WellFormed.{is_well_formed}
+use Rattle.lv_model.specs.Meaning.{is_feasible}
 use Rattle.lv_compile.specs.Booleans.{Booleans, value_bool}
 use Rattle.lv_compile.specs.FormulaClauses.{Clauses, size_of, formula_clauses}
+use Rattle.lv_compile.specs.ModelClauses.{copy_clauses}
 use Rattle.lv_compile.specs.Cleaning.{cleaned}
 
 -- the truth values, one for each boolean, make the literal true
@@ -39,6 +44,12 @@ abbrev pub FormulaClausesAreExact : Type 0
 FormulaClausesAreExact =
     (ranges : List Range) (b : Booleans) (base : ℕ) → HaveBooleans ranges b base → (truth : ℕ → Bool) (a : List ValId) → Encode truth b a
     → (f : Tree) → fits ranges f ≡ true → (sign : Bool) → are_true truth (formula_clauses b base sign f) ≡ same_truth (truth_of a base f) sign
+
+-- where truth values encode an assignment, they make the clauses of one copy true exactly where the assignment is feasible
+abbrev pub CopyClausesAreExact : Type 0
+CopyClausesAreExact =
+    (plant : Plant) → is_well_formed plant ≡ true → (b : Booleans) → b.sizes ≡ sizes plant → (truth : ℕ → Bool) (a : List ValId) → Encode truth b a
+    → are_true truth (copy_clauses b plant) ≡ is_feasible plant a
 
 -- cleaning changes nothing that clauses say
 abbrev pub CleaningKeepsMeaning : Type 0

@@ -1,12 +1,17 @@
 //! What the clauses say. Each function does nothing; its clause is the law.
 #![tactic(auto)]
 
-ghost use Rattle.lv_compile.specs.Laws.{FormulaClausesAreExact, CleaningKeepsMeaning};
+ghost use Rattle.lv_compile.specs.Laws.{FormulaClausesAreExact, CopyClausesAreExact, CleaningKeepsMeaning};
 
 /// Truth values that encode an assignment make the clauses of a formula in a sign true exactly where the formula has
 /// that truth.
 pub fn formula_clauses_are_exact()
     ensures { FormulaClausesAreExact }
+{}
+
+/// Truth values that encode an assignment make what the clauses say of one time true exactly where it is feasible.
+pub fn copy_clauses_are_exact()
+    ensures { CopyClausesAreExact }
 {}
 
 /// Leaving out repeated literals and clauses that are true of everything changes nothing that clauses say.

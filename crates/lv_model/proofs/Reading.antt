@@ -139,7 +139,7 @@ module _ (plant : Plant) (h : is_well_formed plant ≡ true) where
   pub types_pass : types_fit plant.domains 0 plant.types ≡ true
   types_pass = (and_parts (types_fit plant.domains 0 plant.types) (parts_fit plant) lists.1).0
 
-  parts_pass : (is_within 1 (length plant.parts) PARTS ≡ true) × (list_all (part_fits plant.types) plant.parts ≡ true)
+  pub parts_pass : (is_within 1 (length plant.parts) PARTS ≡ true) × (list_all (part_fits plant.types) plant.parts ≡ true)
   parts_pass = and_parts (is_within 1 (length plant.parts) PARTS) (list_all (part_fits plant.types) plant.parts) (and_parts (types_fit plant.domains 0 plant.types) (parts_fit plant) lists.1).1
 
   rest : ((variables_fit plant) ≡ true) × ((laws_fit plant && prices_fit plant && clauses_fit plant) ≡ true)
