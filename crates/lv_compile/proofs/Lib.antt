@@ -9,3 +9,5 @@ pub mod SumLemmas
 pub mod RepeatLemmas
 pub mod ChosenLemmas
 pub mod CopyLemmas
+pub mod ChoiceLemmas
+pub mod StepLemmas

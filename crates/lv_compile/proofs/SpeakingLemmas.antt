@@ -110,7 +110,7 @@ module _ (plant : Plant) (h : is_well_formed plant ≡ true) (b : Booleans) (cop
     pub formulas : (list_all (fits ranges) t.laws ≡ true) × (list_all (mode_formula_fits ranges (length t.modes)) t.formulas ≡ true)
     formulas = and_parts (list_all (fits ranges) t.laws) (list_all (mode_formula_fits ranges (length t.modes)) t.formulas) own.0
 
-    moves : list_all (move_fits ranges (length t.modes)) t.moves ≡ true
+    pub moves : list_all (move_fits ranges (length t.modes)) t.moves ≡ true
     moves = (and_parts (list_all (move_fits ranges (length t.modes)) t.moves) _ own.1).0
 
   pub parts_hold : All (PartHolds b plant.types) plant.parts

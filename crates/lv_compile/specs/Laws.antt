@@ -1,19 +1,20 @@
 -- What clauses say of truth values of their booleans, and that a formula's clauses say what the formula says.
-use Rattle.std.specs.Prelude.{◌≡◌, ◌+◌, ◌<◌, ℕ, Bool, true, nat_eq, List, length, Some, slice_get}
-use Rattle.std.specs.List.{list_all, list_any}
+use Rattle.std.specs.Prelude.{◌≡◌, ◌+◌, ◌<◌, ℕ, Bool, true, nat_eq, List, length, take, Some, slice_get, slice_index_or}
+use Rattle.std.specs.List.{sum, list_all, list_any}
 use Rattle.lv_base.specs.declared.ids.Lit.{Lit}
 use Rattle.lv_base.specs.declared.ids.ValId.{ValId}
+use Rattle.lv_base.specs.declared.ids.MoveId.{MoveId}
 use Rattle.lv_clauses.specs.Literals.{same_truth}
 use Rattle.lv_formula.specs.declared.range.Range.{Range}
 use Rattle.lv_formula.specs.Tree.{Tree, truth_of, number_of}
 use Rattle.lv_formula.specs.Fits.{fits, is_same_sort}
 use Rattle.lv_model.specs.declared.plant.Plant.{Plant}
-use Rattle.lv_model.specs.Lists.{sizes}
+use Rattle.lv_model.specs.Lists.{sizes, move_counts}
 use Rattle.lv_model.specs.WellFormed.{is_well_formed}
-use Rattle.lv_model.specs.Meaning.{is_feasible}
-use Rattle.lv_compile.specs.Booleans.{Booleans, value_bool}
+use Rattle.lv_model.specs.Meaning.{is_feasible, is_step}
+use Rattle.lv_compile.specs.Booleans.{Booleans, value_bool, booleans_now, booleans_next, first_choice}
 use Rattle.lv_compile.specs.FormulaClauses.{Clauses, size_of, formula_clauses}
-use Rattle.lv_compile.specs.ModelClauses.{copy_clauses}
+use Rattle.lv_compile.specs.ModelClauses.{copy_clauses, model_clauses}
 use Rattle.lv_compile.specs.Cleaning.{cleaned}
 
 -- the truth values, one for each boolean, make the literal true
@@ -50,6 +51,25 @@ abbrev pub CopyClausesAreExact : Type 0
 CopyClausesAreExact =
     (plant : Plant) → is_well_formed plant ≡ true → (b : Booleans) → b.sizes ≡ sizes plant → (truth : ℕ → Bool) (a : List ValId) → Encode truth b a
     → are_true truth (copy_clauses b plant) ≡ is_feasible plant a
+
+-- the number of a part's move in a full choice
+abbrev pub move_number : List MoveId → ℕ → ℕ
+move_number ms k = (slice_index_or ms k (record { 0 = 0 })).0
+
+-- of parts that have so many moves each: of the booleans of each part's moves, the first of which is that of the first part's
+-- first move, exactly the one of its move in the full choice is true
+pub record EncodeMoves (truth : ℕ → Bool) (first : ℕ) (counts : List ℕ) (ms : List MoveId) : Type 0 where
+  pub each : length ms ≡ length counts
+  pub in_range : (k : ℕ) → k < length counts → move_number ms k < slice_index_or counts k 0
+  pub values : (k n : ℕ) → k < length counts → n < slice_index_or counts k 0 → truth (first + sum (take k counts) + n) ≡ nat_eq (move_number ms k) n
+
+-- truth values that encode assignments before and after and a full choice make the clauses of the plant true exactly where these
+-- are a step
+abbrev pub ModelClausesAreExact : Type 0
+ModelClausesAreExact =
+    (plant : Plant) → is_well_formed plant ≡ true → (truth : ℕ → Bool) (a b : List ValId) (ms : List MoveId) → Encode truth (booleans_now plant) a
+    → Encode truth (booleans_next plant) b → EncodeMoves truth (first_choice plant) (move_counts plant) ms
+    → are_true truth (model_clauses plant) ≡ is_step plant a b ms
 
 -- cleaning changes nothing that clauses say
 abbrev pub CleaningKeepsMeaning : Type 0

@@ -1,7 +1,7 @@
 //! What the clauses say. Each function does nothing; its clause is the law.
 #![tactic(auto)]
 
-ghost use Rattle.lv_compile.specs.Laws.{FormulaClausesAreExact, CopyClausesAreExact, CleaningKeepsMeaning};
+ghost use Rattle.lv_compile.specs.Laws.{FormulaClausesAreExact, CopyClausesAreExact, ModelClausesAreExact, CleaningKeepsMeaning};
 
 /// Truth values that encode an assignment make the clauses of a formula in a sign true exactly where the formula has
 /// that truth.
@@ -12,6 +12,12 @@ pub fn formula_clauses_are_exact()
 /// Truth values that encode an assignment make what the clauses say of one time true exactly where it is feasible.
 pub fn copy_clauses_are_exact()
     ensures { CopyClausesAreExact }
+{}
+
+/// Truth values that encode two assignments and a full choice make the clauses of a plant true exactly where these are a
+/// step.
+pub fn model_clauses_are_exact()
+    ensures { ModelClausesAreExact }
 {}
 
 /// Leaving out repeated literals and clauses that are true of everything changes nothing that clauses say.
