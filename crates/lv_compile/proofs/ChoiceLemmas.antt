@@ -1,6 +1,6 @@
 -- The clauses of a part's choice are all true exactly where the part steps by its move.
-use Rattle.std.proofs.Common.{◌≡◌, ◌+◌, ◌<◌, ◌≤◌, ℕ, zero, suc, Bool, true, false, not, nat_eq, nat_lt, ◌&&◌, ◌||◌, List, [], ◌∷◌, ◌++◌, length, take, filter, slice_get, Option, Some, None, refl, sym, ap, ap₂, ◌∙◌, arith}
-use Rattle.std.specs.List.{list_all, list_any, flat_map}
+use Rattle.std.proofs.Common.{◌≡◌, ◌+◌, ◌<◌, ◌≤◌, ℕ, zero, suc, Bool, true, false, not, nat_eq, nat_lt, ◌&&◌, ◌||◌, List, [], ◌∷◌, length, take, slice_get, Option, Some, None, refl, sym, ap, ap₂, ◌∙◌, arith}
+use Rattle.std.specs.List.{list_all, list_any}
 use Rattle.std.specs.Option.{option_map_or}
 use Rattle.std.proofs.lemmas.Bool.{and_parts}
 use Rattle.std.proofs.lemmas.Option.{slice_get_within}
@@ -12,13 +12,12 @@ use Rattle.lv_formula.specs.Fits.{fits}
 use Rattle.lv_model.specs.declared.plant.Move.{Move}
 use Rattle.lv_model.specs.declared.plant.MoveKind.{MoveKind}
 use Rattle.lv_model.specs.declared.plant.MoveKind.TheVariants.{Step, Stay, Fault}
-use Rattle.lv_model.specs.Counts.{is_step_from}
 use Rattle.lv_model.specs.WellFormed.{kind_fits, guard_fits, move_fits}
 use Rattle.lv_model.specs.Meaning.{is_open, is_step_kind, is_open_step, goes}
 use Rattle.lv_compile.specs.Booleans.{Booleans, value_bool, value_literal, literal}
-use Rattle.lv_compile.specs.FormulaClauses.{Clauses, size_of, when_true, formula_clauses}
-use Rattle.lv_compile.specs.Laws.{clause_is_true, are_true, Encode, HaveBooleans}
-use Rattle.lv_compile.specs.ModelClauses.{unless, guard_clauses, closed_clauses, goes_clauses, move_clauses, moves_clauses, choice_clauses, exactly_one}
+use Rattle.lv_compile.specs.FormulaClauses.{size_of, when_true, formula_clauses}
+use Rattle.lv_compile.specs.Laws.{are_true, Encode, HaveBooleans}
+use Rattle.lv_compile.specs.ModelClauses.{guard_clauses, closed_clauses, goes_clauses, move_clauses, moves_clauses, choice_clauses, exactly_one}
 use Rattle.lv_compile.proofs.FormulaLemmas.{joined_true, as_true, as_false, exact}
 use Rattle.lv_compile.proofs.CopyLemmas.{unless_true}
 use Rattle.lv_compile.proofs.ChosenLemmas.{one_of_row}

@@ -1,5 +1,5 @@
 -- The clauses of one copy are all true exactly where the assignment is feasible.
-use Rattle.std.proofs.Common.{◌≡◌, ◌+◌, ◌<◌, ℕ, Bool, true, false, not, nat_eq, nat_lt, ◌&&◌, ◌||◌, List, [], ◌∷◌, ◌++◌, length, map, slice_get, slice_index_or, Option, Some, None, refl, sym, ap, ap₂, subst, ◌∙◌, arith, All, get_or}
+use Rattle.std.proofs.Common.{◌≡◌, ◌+◌, ◌<◌, ℕ, Bool, true, false, not, nat_eq, nat_lt, ◌&&◌, ◌||◌, List, [], ◌∷◌, ◌++◌, length, slice_get, Option, Some, None, refl, ap, ap₂, subst, ◌∙◌, arith, All, get_or}
 use Rattle.std.specs.List.{list_all, flat_map}
 use Rattle.std.specs.Option.{option_map_or}
 use Rattle.std.proofs.lemmas.Bool.{and_parts}
@@ -19,10 +19,10 @@ use Rattle.lv_model.specs.Ranges.{type_ranges, plant_ranges}
 use Rattle.lv_model.specs.Lists.{sizes}
 use Rattle.lv_model.specs.WellFormed.{mode_formula_fits, part_fits, name_fits, is_well_formed}
 use Rattle.lv_model.specs.Meaning.{mode_formula_holds, part_is_feasible, is_feasible}
-use Rattle.lv_model.proofs.Reading.{All-at, All-of_test, parts_pass, laws_pass, follow_pass}
+use Rattle.lv_model.proofs.Reading.{All-of_test, parts_pass, laws_pass, follow_pass}
 use Rattle.lv_compile.specs.Booleans.{Booleans, value_literal}
 use Rattle.lv_compile.specs.FormulaClauses.{Clauses, size_of, formula_clauses}
-use Rattle.lv_compile.specs.Laws.{literal_is_true, clause_is_true, are_true, Encode, HaveBooleans}
+use Rattle.lv_compile.specs.Laws.{literal_is_true, are_true, Encode, HaveBooleans}
 use Rattle.lv_compile.specs.ModelClauses.{values_clauses, unless, mode_formula_clauses, type_clauses, part_clauses, copy_clauses}
 use Rattle.lv_compile.proofs.FormulaLemmas.{joined_true, each_longer, nat_eq_turned, as_true, as_false, exact}
 use Rattle.lv_compile.proofs.RangeLemmas.{have_system, have_part}

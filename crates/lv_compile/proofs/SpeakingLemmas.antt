@@ -1,5 +1,5 @@
 -- The formulas of a well-formed plant speak of values that have booleans.
-use Rattle.std.proofs.Common.{◌≡◌, ◌+◌, ◌<◌, ◌≤◌, ℕ, Bool, true, false, nat_lt, nat_le, ◌&&◌, List, [], ◌∷◌, length, slice_get, Option, Some, None, refl, ap, sym, ◌∙◌, arith, All, get_or}
+use Rattle.std.proofs.Common.{◌≡◌, ◌+◌, ℕ, true, nat_lt, nat_le, ◌&&◌, List, length, slice_get, Option, Some, None, refl, ap, sym, ◌∙◌, arith, All, get_or}
 use Rattle.std.specs.Option.{option_map_or}
 use Rattle.std.specs.List.{list_all}
 use Rattle.std.proofs.lemmas.Bool.{and_parts}
@@ -13,14 +13,13 @@ use Rattle.lv_model.specs.declared.plant.ModeFormula.{ModeFormula}
 use Rattle.lv_model.specs.declared.plant.Move.{Move}
 use Rattle.lv_model.specs.declared.plant.Part.{Part}
 use Rattle.lv_model.specs.Ranges.{type_ranges, plant_ranges}
-use Rattle.lv_model.specs.Lists.{sizes, variable_count}
-use Rattle.lv_model.specs.WellFormed.{names_fit, counts_fit, formulas_fit, moves_fit, mode_formula_fits, kind_fits, guard_fits, move_fits, firsts_follow, laws_fit, prices_fit, is_well_formed}
-use Rattle.lv_base.specs.declared.limits.TheConstants.{VARIABLES}
+use Rattle.lv_model.specs.Lists.{sizes}
+use Rattle.lv_model.specs.WellFormed.{names_fit, counts_fit, formulas_fit, moves_fit, mode_formula_fits, kind_fits, guard_fits, move_fits, is_well_formed}
 use Rattle.lv_model.proofs.Reading.{All-of_test, type_of_place, types_pass, follow_pass, laws_pass}
 use Rattle.lv_compile.specs.Booleans.{Booleans}
 use Rattle.lv_compile.specs.FormulaClauses.{size_of, are_comparable, speaks_of, each_speaks_of}
 use Rattle.lv_compile.specs.Laws.{HaveBooleans}
-use Rattle.lv_compile.specs.Speaking.{Speaks, ModeFormulaSpeaks, guard_speaks, GuardSpeaks, MoveSpeaks, TypeSpeaks, MovesSpeak, PartHolds, PartSpeaks}
+use Rattle.lv_compile.specs.Speaking.{Speaks, ModeFormulaSpeaks, GuardSpeaks, MoveSpeaks, PartHolds, PartSpeaks}
 use Rattle.lv_compile.proofs.FormulaLemmas.{Within, within_of, Alike, alike_of}
 use Rattle.lv_compile.proofs.RangeLemmas.{have_system, have_part}
 

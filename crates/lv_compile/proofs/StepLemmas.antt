@@ -1,5 +1,5 @@
 -- The clauses of a plant are all true exactly where the values that are encoded are a step.
-use Rattle.std.proofs.Common.{◌≡◌, ◌+◌, ◌<◌, ℕ, zero, suc, Bool, true, false, nat_eq, nat_lt, ◌&&◌, List, [], ◌∷◌, ◌++◌, length, map, take, slice_get, slice_index_or, Option, Some, None, refl, sym, ap, ap₂, subst, ◌∙◌, arith}
+use Rattle.std.proofs.Common.{◌≡◌, ◌+◌, ◌<◌, ℕ, zero, suc, Bool, true, false, nat_eq, nat_lt, ◌&&◌, List, [], ◌∷◌, ◌++◌, length, map, take, slice_get, Option, Some, None, refl, ap, ap₂, subst, ◌∙◌, arith}
 use Rattle.std.specs.List.{sum, list_all}
 use Rattle.std.specs.Option.{option_map_or}
 use Rattle.std.proofs.lemmas.Bool.{and_parts}
@@ -17,9 +17,9 @@ use Rattle.lv_model.specs.Lists.{sizes, part_moves, move_counts}
 use Rattle.lv_model.specs.WellFormed.{kind_fits, guard_fits, move_fits, is_well_formed}
 use Rattle.lv_model.specs.Meaning.{goes, part_steps, parts_step, is_feasible, is_step}
 use Rattle.lv_model.proofs.Reading.{follow_pass}
-use Rattle.lv_compile.specs.Booleans.{Booleans, booleans_now, booleans_next, first_choice}
+use Rattle.lv_compile.specs.Booleans.{booleans_now, booleans_next, first_choice}
 use Rattle.lv_compile.specs.FormulaClauses.{size_of}
-use Rattle.lv_compile.specs.Laws.{are_true, Encode, HaveBooleans, move_number, EncodeMoves}
+use Rattle.lv_compile.specs.Laws.{are_true, Encode, HaveBooleans, EncodeMoves}
 use Rattle.lv_compile.specs.ModelClauses.{copy_clauses, choice_clauses, part_choice_clauses, choices_clauses, raw_clauses, model_clauses}
 use Rattle.lv_compile.proofs.FormulaLemmas.{joined_true}
 use Rattle.lv_compile.proofs.CleaningLemmas.{cleaned_true}

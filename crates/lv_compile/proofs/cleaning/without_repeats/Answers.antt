@@ -1,5 +1,5 @@
 -- literal by literal
-use Rattle.std.proofs.Common.{◌≡◌, ◌+◌, ◌<◌, ◌++◌, ◌∷◌, [], drop, filter, length, ap, ◌∙◌, arith}
+use Rattle.std.proofs.Common.{◌+◌, ◌<◌, ◌++◌, drop, filter, length, ap, ◌∙◌, arith}
 use Rattle.std.proofs.lemmas.List.{drop_more}
 use Rattle.lv_compile.specs.Cleaning.{without_repeats}
 use Rattle.lv_compile.proofs.RepeatLemmas.{is_new, filter_all, one_literal_more}

@@ -1,5 +1,5 @@
 -- what was added and the clauses of the formulas that are left are all
-use Rattle.std.proofs.Common.{◌≡◌, ◌++◌, drop, true}
+use Rattle.std.proofs.Common.{◌≡◌, ◌++◌, drop}
 use Rattle.std.specs.List.{flat_map}
 use Rattle.lv_compile.specs.ModelClauses.{mode_formula_clauses}
 use Rattle.lv_compile.proofs.copies.push_mode_formulas.Given as goal

@@ -1,7 +1,6 @@
 -- a well-formed plant has few values
-use Rattle.std.proofs.Common.{◌≡◌, ◌+◌, ◌<◌, ◌^◌, ap, ◌∙◌, arith}
+use Rattle.std.proofs.Common.{ap, ◌∙◌, arith}
 use Rattle.std.specs.List.{sum}
-use Rattle.lv_model.specs.Lists.{sizes}
 use Rattle.lv_compile.proofs.SumLemmas.{few_values}
 use Rattle.lv_compile.proofs.plant_clauses.copies_of.Goals as goal
 

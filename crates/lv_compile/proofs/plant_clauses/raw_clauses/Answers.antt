@@ -1,10 +1,10 @@
 -- the formulas of a well-formed plant speak of values that have booleans, and there are few booleans
-use Rattle.std.proofs.Common.{◌≡◌, ◌+◌, ◌<◌, ◌^◌, All, List, ℕ, sum_by, sym, subst, ap, ap₂, arith}
+use Rattle.std.proofs.Common.{◌≡◌, ◌+◌, All, List, sum_by, sym, subst, ap, ap₂, arith}
 use Rattle.std.specs.List.{sum}
 use Rattle.lv_model.specs.declared.plant.ComponentType.{ComponentType}
 use Rattle.lv_model.specs.declared.plant.Part.{Part}
 use Rattle.lv_model.specs.Lists.{sizes, part_moves}
-use Rattle.lv_compile.specs.Booleans.{Booleans, first_choice}
+use Rattle.lv_compile.specs.Booleans.{Booleans}
 use Rattle.lv_compile.specs.Speaking.{PartSpeaks}
 use Rattle.lv_compile.proofs.SumLemmas.{few_values, few_choices}
 use Rattle.lv_compile.proofs.SpeakingLemmas.{system_speaks, parts_hold, parts_speak}
