@@ -11,3 +11,4 @@ pub mod ChosenLemmas
 pub mod CopyLemmas
 pub mod ChoiceLemmas
 pub mod StepLemmas
+pub mod LengthLemmas

@@ -1,5 +1,5 @@
 -- What clauses say of truth values of their booleans, and that a formula's clauses say what the formula says.
-use Rattle.std.specs.Prelude.{◌≡◌, ◌+◌, ◌<◌, ℕ, Bool, true, nat_eq, List, length, take, Some, slice_get, slice_index_or}
+use Rattle.std.specs.Prelude.{◌≡◌, ◌+◌, ◌<◌, ◌≤◌, ℕ, Bool, true, nat_eq, List, length, take, Some, slice_get, slice_index_or}
 use Rattle.std.specs.List.{sum, list_all, list_any}
 use Rattle.lv_base.specs.declared.ids.Lit.{Lit}
 use Rattle.lv_base.specs.declared.ids.ValId.{ValId}
@@ -8,6 +8,8 @@ use Rattle.lv_clauses.specs.Literals.{same_truth}
 use Rattle.lv_formula.specs.declared.range.Range.{Range}
 use Rattle.lv_formula.specs.Tree.{Tree, truth_of, number_of}
 use Rattle.lv_formula.specs.Fits.{fits, is_same_sort}
+use Rattle.lv_formula.specs.Counts.{size_at}
+use Rattle.lv_model.specs.Counts.{has_count, formula_count}
 use Rattle.lv_model.specs.declared.plant.Plant.{Plant}
 use Rattle.lv_model.specs.Lists.{sizes, move_counts}
 use Rattle.lv_model.specs.WellFormed.{is_well_formed}
@@ -70,6 +72,12 @@ ModelClausesAreExact =
     (plant : Plant) → is_well_formed plant ≡ true → (truth : ℕ → Bool) (a b : List ValId) (ms : List MoveId) → Encode truth (booleans_now plant) a
     → Encode truth (booleans_next plant) b → EncodeMoves truth (first_choice plant) (move_counts plant) ms
     → are_true truth (model_clauses plant) ≡ is_step plant a b ms
+
+-- a formula's clauses in a sign are no more than its count, where no variable has more values than the sizes say
+abbrev pub FormulaCountBounds : Type 0
+FormulaCountBounds =
+    (ranges : List Range) (b : Booleans) (base : ℕ) (sizes : List ℕ) → ((x : ℕ) (r : Range) → slice_get ranges x ≡ Some r → size_of b (base + x) ≤ size_at sizes x)
+    → (f : Tree) → fits ranges f ≡ true → (sign : Bool) → has_count sizes sign f ≡ true → length (formula_clauses b base sign f) ≤ formula_count sizes sign f
 
 -- cleaning changes nothing that clauses say
 abbrev pub CleaningKeepsMeaning : Type 0
