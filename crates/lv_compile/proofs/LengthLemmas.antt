@@ -36,7 +36,7 @@ joined_le : (of_all : Bool) (k l m n : ℕ) → k ≤ m → l ≤ n → joined o
 joined_le true k l m n a b = omega (arith, a, b)
 joined_le false k l m n a b = mul-le k l m n a b
 
-length_row : (n first : ℕ) → length (range_with_len first n) ≡ n
+pub length_row : (n first : ℕ) → length (range_with_len first n) ≡ n
 length_row zero first = refl
 length_row (suc n) first = let rest = length_row n (first + 1) in omega (arith, rest)
 

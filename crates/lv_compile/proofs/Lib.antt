@@ -12,3 +12,4 @@ pub mod CopyLemmas
 pub mod ChoiceLemmas
 pub mod StepLemmas
 pub mod LengthLemmas
+pub mod PlantCountLemmas
