@@ -13,3 +13,4 @@ pub mod ChoiceLemmas
 pub mod StepLemmas
 pub mod LengthLemmas
 pub mod PlantCountLemmas
+pub mod PlantBoundLemmas

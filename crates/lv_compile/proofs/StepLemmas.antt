@@ -37,7 +37,7 @@ found [] n below = absurd (omega (arith, below))
 found (x ∷ xs) zero below = record { item = x; at = refl }
 found (x ∷ xs) (suc n) below = let rest : Found xs n = found xs n (omega (arith, below)) in record { item = rest.item; at = rest.at }
 
-weaker : {X : Type 0} (p q : X → Bool) → ((x : X) → p x ≡ true → q x ≡ true) → (xs : List X) → list_all p xs ≡ true → list_all q xs ≡ true
+pub weaker : {X : Type 0} (p q : X → Bool) → ((x : X) → p x ≡ true → q x ≡ true) → (xs : List X) → list_all p xs ≡ true → list_all q xs ≡ true
 weaker p q f [] h = refl
 weaker p q f (x ∷ xs) h = let two = and_parts (p x) (list_all p xs) h in ap₂ (λ (a b : Bool). a && b) (f x two.0) (weaker p q f xs two.1)
 

@@ -1,6 +1,7 @@
 -- What clauses say of truth values of their booleans, and that a formula's clauses say what the formula says.
 use Rattle.std.specs.Prelude.{◌≡◌, ◌+◌, ◌<◌, ◌≤◌, ℕ, Bool, true, nat_eq, List, length, take, Some, slice_get, slice_index_or}
 use Rattle.std.specs.List.{sum, list_all, list_any}
+use Rattle.lv_base.specs.declared.limits.TheConstants.{MODEL_CLAUSES}
 use Rattle.lv_base.specs.declared.ids.Lit.{Lit}
 use Rattle.lv_base.specs.declared.ids.ValId.{ValId}
 use Rattle.lv_base.specs.declared.ids.MoveId.{MoveId}
@@ -9,7 +10,7 @@ use Rattle.lv_formula.specs.declared.range.Range.{Range}
 use Rattle.lv_formula.specs.Tree.{Tree, truth_of, number_of}
 use Rattle.lv_formula.specs.Fits.{fits, is_same_sort}
 use Rattle.lv_formula.specs.Counts.{size_at}
-use Rattle.lv_model.specs.Counts.{has_count, formula_count}
+use Rattle.lv_model.specs.Counts.{has_count, formula_count, plant_count}
 use Rattle.lv_model.specs.declared.plant.Plant.{Plant}
 use Rattle.lv_model.specs.Lists.{sizes, move_counts}
 use Rattle.lv_model.specs.WellFormed.{is_well_formed}
@@ -78,6 +79,11 @@ abbrev pub FormulaCountBounds : Type 0
 FormulaCountBounds =
     (ranges : List Range) (b : Booleans) (base : ℕ) (sizes : List ℕ) → ((x : ℕ) (r : Range) → slice_get ranges x ≡ Some r → size_of b (base + x) ≤ size_at sizes x)
     → (f : Tree) → fits ranges f ≡ true → (sign : Bool) → has_count sizes sign f ≡ true → length (formula_clauses b base sign f) ≤ formula_count sizes sign f
+
+-- a well-formed plant comes to no more clauses than its count, and so to no more than the limit
+pub record PlantCountBounds : Type 0 where
+  pub counted : (plant : Plant) → is_well_formed plant ≡ true → length (model_clauses plant) ≤ plant_count plant
+  pub within : (plant : Plant) → is_well_formed plant ≡ true → plant_count plant ≤ MODEL_CLAUSES
 
 -- cleaning changes nothing that clauses say
 abbrev pub CleaningKeepsMeaning : Type 0

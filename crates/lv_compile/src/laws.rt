@@ -1,7 +1,7 @@
 //! What the clauses say. Each function does nothing; its clause is the law.
 #![tactic(auto)]
 
-ghost use Rattle.lv_compile.specs.Laws.{FormulaClausesAreExact, CopyClausesAreExact, ModelClausesAreExact, FormulaCountBounds, CleaningKeepsMeaning};
+ghost use Rattle.lv_compile.specs.Laws.{FormulaClausesAreExact, CopyClausesAreExact, ModelClausesAreExact, FormulaCountBounds, PlantCountBounds, CleaningKeepsMeaning};
 
 /// Truth values that encode an assignment make the clauses of a formula in a sign true exactly where the formula has
 /// that truth.
@@ -23,6 +23,11 @@ pub fn model_clauses_are_exact()
 /// A formula's clauses in a sign are no more than its count.
 pub fn formula_count_bounds()
     ensures { FormulaCountBounds }
+{}
+
+/// A well-formed plant comes to no more clauses than its count, and that is within the limit.
+pub fn plant_count_bounds()
+    ensures { PlantCountBounds }
 {}
 
 /// Leaving out repeated literals and clauses that are true of everything changes nothing that clauses say.

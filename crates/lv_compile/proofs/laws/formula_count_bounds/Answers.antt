@@ -1,5 +1,4 @@
 use Rattle.lv_compile.proofs.LengthLemmas.{formula_bounded}
-use Rattle.lv_compile.proofs.PlantCountLemmas.{choice_bounded}
 use Rattle.lv_compile.proofs.laws.formula_count_bounds.Goals as goal
 
 pub returns : goal.returns
