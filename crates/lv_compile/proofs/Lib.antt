@@ -14,3 +14,4 @@ pub mod StepLemmas
 pub mod LengthLemmas
 pub mod PlantCountLemmas
 pub mod PlantBoundLemmas
+pub mod DecodeLemmas

@@ -1,5 +1,5 @@
 -- A well-formed plant comes to no more clauses than its count.
-use Rattle.std.proofs.Common.{◌≡◌, ◌+◌, ◌≤◌, ℕ, zero, suc, min, Bool, true, false, ◌&&◌, nat_lt, nat_le, List, [], ◌∷◌, ◌++◌, length, map, sum_by, slice_get, slice_index_or, Option, Some, None, refl, sym, ap, ap₂, ◌∙◌, arith, All}
+use Rattle.std.proofs.Common.{◌≡◌, ◌+◌, ◌≤◌, ℕ, zero, suc, true, ◌&&◌, nat_lt, nat_le, List, [], ◌∷◌, ◌++◌, length, map, sum_by, slice_get, slice_index_or, Option, Some, None, refl, ap, ◌∙◌, arith, All}
 use Rattle.std.specs.List.{flat_map, list_all}
 use Rattle.std.specs.Option.{option_map_or}
 use Rattle.std.proofs.lemmas.Bool.{and_parts}
@@ -11,7 +11,6 @@ use Rattle.lv_base.specs.declared.limits.TheConstants.{MODES, MOVES, VALUES, MOD
 use Rattle.lv_formula.specs.declared.range.Range.{Range}
 use Rattle.lv_formula.specs.declared.range.Sort.TheVariants.{Modes}
 use Rattle.lv_formula.specs.Tree.{Tree}
-use Rattle.lv_formula.specs.Fits.{fits}
 use Rattle.lv_formula.specs.Counts.{size_at}
 use Rattle.lv_model.specs.declared.plant.Plant.{Plant}
 use Rattle.lv_model.specs.declared.plant.Domain.{Domain}
@@ -21,11 +20,10 @@ use Rattle.lv_model.specs.declared.plant.Part.{Part}
 use Rattle.lv_model.specs.Ranges.{domain_size, variable_range, type_ranges, part_ranges, plant_ranges}
 use Rattle.lv_model.specs.Lists.{sizes, part_moves}
 use Rattle.lv_model.specs.WellFormed.{name_fits, is_within, domain_fits, names_fit, counts_fit, kind_fits, guard_fits, move_fits, type_fits, is_well_formed}
-use Rattle.lv_model.specs.Counts.{one_of_count, limited, variable_size, formula_sizes, law_sizes, has_count, formula_count, mode_formula_has_count, guard_has_counts, formulas_have_counts, type_has_counts, values_count, choice_count, copy_count, type_count, part_count, law_count, plant_count}
+use Rattle.lv_model.specs.Counts.{one_of_count, limited, variable_size, formula_sizes, law_sizes, has_count, formula_count, mode_formula_has_count, guard_has_counts, type_has_counts, values_count, choice_count, copy_count, type_count, part_count, law_count, plant_count}
 use Rattle.lv_model.proofs.Reading.{All-of_test, All-at, type_of_place, domains_pass, types_pass, laws_pass, follow_pass, counts_pass}
 use Rattle.lv_compile.specs.Booleans.{Booleans, booleans_now, booleans_next, first_choice}
 use Rattle.lv_compile.specs.FormulaClauses.{size_of, formula_clauses}
-use Rattle.lv_compile.specs.Laws.{HaveBooleans}
 use Rattle.lv_compile.specs.ModelClauses.{values_clauses, mode_formula_clauses, part_clauses, copy_clauses, part_choice_clauses, choices_clauses, raw_clauses, model_clauses}
 use Rattle.lv_compile.proofs.RangeLemmas.{have_system, have_part}
 use Rattle.lv_compile.proofs.SpeakingLemmas.{formulas, moves}

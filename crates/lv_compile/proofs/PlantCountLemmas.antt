@@ -1,12 +1,10 @@
 -- The clauses of a well-formed plant are no more than its count.
-use Rattle.std.proofs.Common.{◌≡◌, ◌+◌, ◌≤◌, ◌<◌, ℕ, zero, suc, min, Bool, true, false, not, nat_eq, nat_lt, nat_le, ◌&&◌, ◌||◌, if◌then◌else◌, List, [], ◌∷◌, ◌++◌, length, map, take, filter, sum_by, slice_get, slice_index_or, Option, Some, None, refl, sym, ap, ap₂, ◌∙◌, arith, All, get_or}
+use Rattle.std.proofs.Common.{◌≡◌, ◌+◌, ◌≤◌, ℕ, zero, suc, Bool, true, false, not, nat_eq, nat_lt, ◌&&◌, ◌||◌, if◌then◌else◌, List, [], ◌∷◌, ◌++◌, length, map, take, sum_by, slice_get, Option, Some, None, refl, ap, ap₂, ◌∙◌, arith}
 use Rattle.std.specs.List.{flat_map, list_all, range_with_len}
 use Rattle.std.specs.Option.{option_map_or}
 use Rattle.std.proofs.lemmas.Bool.{and_parts}
-use Rattle.std.proofs.lemmas.List.{length-append, length-map, map-append}
+use Rattle.std.proofs.lemmas.List.{length-append, length-map}
 use Rattle.std.proofs.lemmas.List.Sums.{sum_by-cons}
-use Rattle.std.proofs.lemmas.List.Elements.{All-cons, All-tail}
-use borrow.Author.Tests.{leb-true}
 use Rattle.lv_base.specs.declared.ids.Lit.{Lit}
 use Rattle.lv_formula.specs.declared.range.Range.{Range}
 use Rattle.lv_formula.specs.Tree.{Tree}
@@ -18,11 +16,11 @@ use Rattle.lv_model.specs.declared.plant.MoveKind.TheVariants.{Step, Stay, Fault
 use Rattle.lv_model.specs.declared.plant.ModeFormula.{ModeFormula}
 use Rattle.lv_model.specs.Meaning.{is_step_kind}
 use Rattle.lv_model.specs.WellFormed.{mode_formula_fits, guard_fits}
-use Rattle.lv_model.specs.Counts.{pairs, one_of_count, has_count, formula_count, mode_formula_count, guard_count, is_step_from, denied_count, closed_count, goes_count, moves_count, choice_count, mode_formula_has_count, guard_has_counts}
+use Rattle.lv_model.specs.Counts.{pairs, one_of_count, has_count, formula_count, mode_formula_count, guard_count, denied_count, closed_count, goes_count, moves_count, choice_count, mode_formula_has_count, guard_has_counts}
 use Rattle.lv_compile.specs.Booleans.{Booleans, literal, value_literal}
 use Rattle.lv_compile.specs.FormulaClauses.{Clauses, size_of, when_true, formula_clauses}
-use Rattle.lv_compile.specs.Cleaning.{is_tautology, without_repeats, cleaned}
-use Rattle.lv_compile.specs.ModelClauses.{not_both, apart, exactly_one, values_clauses, unless, mode_formula_clauses, guard_clauses, closed_clauses, goes_clauses, move_clauses, moves_clauses, choice_clauses}
+use Rattle.lv_compile.specs.Cleaning.{is_tautology, cleaned}
+use Rattle.lv_compile.specs.ModelClauses.{not_both, apart, exactly_one, values_clauses, mode_formula_clauses, guard_clauses, closed_clauses, goes_clauses, move_clauses, moves_clauses, choice_clauses}
 use Rattle.lv_compile.proofs.LengthLemmas.{length_row, formula_bounded}
 use Rattle.lv_compile.proofs.ChoiceLemmas.{all_taken}
 

@@ -74,6 +74,22 @@ ModelClausesAreExact =
     → Encode truth (booleans_next plant) b → EncodeMoves truth (first_choice plant) (move_counts plant) ms
     → are_true truth (model_clauses plant) ≡ is_step plant a b ms
 
+-- assignments before and after and a full choice that the truth values encode, and that are a step
+pub record IsEncodedStep (plant : Plant) (truth : ℕ → Bool) : Type 0 where
+  pub before : List ValId
+  pub after : List ValId
+  pub moves : List MoveId
+  pub whole_before : length before ≡ length (sizes plant)
+  pub whole_after : length after ≡ length (sizes plant)
+  pub now : Encode truth (booleans_now plant) before
+  pub next : Encode truth (booleans_next plant) after
+  pub choice : EncodeMoves truth (first_choice plant) (move_counts plant) moves
+  pub step : is_step plant before after moves ≡ true
+
+-- truth values that make the clauses of the plant true encode a step
+abbrev pub SatisfyingIsAStep : Type 0
+SatisfyingIsAStep = (plant : Plant) → is_well_formed plant ≡ true → (truth : ℕ → Bool) → are_true truth (model_clauses plant) ≡ true → IsEncodedStep plant truth
+
 -- a formula's clauses in a sign are no more than its count, where no variable has more values than the sizes say
 abbrev pub FormulaCountBounds : Type 0
 FormulaCountBounds =

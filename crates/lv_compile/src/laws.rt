@@ -1,7 +1,7 @@
 //! What the clauses say. Each function does nothing; its clause is the law.
 #![tactic(auto)]
 
-ghost use Rattle.lv_compile.specs.Laws.{FormulaClausesAreExact, CopyClausesAreExact, ModelClausesAreExact, FormulaCountBounds, PlantCountBounds, CleaningKeepsMeaning};
+ghost use Rattle.lv_compile.specs.Laws.{FormulaClausesAreExact, CopyClausesAreExact, ModelClausesAreExact, SatisfyingIsAStep, FormulaCountBounds, PlantCountBounds, CleaningKeepsMeaning};
 
 /// Truth values that encode an assignment make the clauses of a formula in a sign true exactly where the formula has
 /// that truth.
@@ -18,6 +18,11 @@ pub fn copy_clauses_are_exact()
 /// step.
 pub fn model_clauses_are_exact()
     ensures { ModelClausesAreExact }
+{}
+
+/// Truth values that make the clauses of a plant true encode a step.
+pub fn satisfying_is_a_step()
+    ensures { SatisfyingIsAStep }
 {}
 
 /// A formula's clauses in a sign are no more than its count.
