@@ -37,7 +37,7 @@ apart_from false true false = refl
 apart_from false false true = refl
 apart_from false false false = refl
 
-and_true : (p : Bool) → (p && true) ≡ p
+pub and_true : (p : Bool) → (p && true) ≡ p
 and_true true = refl
 and_true false = refl
 
@@ -45,11 +45,11 @@ true_or : (p : Bool) → (p || true) ≡ true
 true_or true = refl
 true_or false = refl
 
-as_true : (p : Bool) → same_truth p true ≡ p
+pub as_true : (p : Bool) → same_truth p true ≡ p
 as_true true = refl
 as_true false = refl
 
-as_false : (p : Bool) → same_truth p false ≡ not p
+pub as_false : (p : Bool) → same_truth p false ≡ not p
 as_false true = refl
 as_false false = refl
 
@@ -124,7 +124,7 @@ module _ (asked tells : ℕ → Bool) (meant : ℕ) where
           let above : first + 1 ≤ meant = grind (arith, e, low) in
           rw (here, e) (rest above (omega (arith, high)))
 
-nat_eq_turned : (a b : ℕ) → nat_eq a b ≡ nat_eq b a
+pub nat_eq_turned : (a b : ℕ) → nat_eq a b ≡ nat_eq b a
 nat_eq_turned a b = by (nat_eq a b) refl (nat_eq b a) refl
   where
     by : (p : Bool) → nat_eq a b ≡ p → (q : Bool) → nat_eq b a ≡ q → p ≡ q
@@ -134,7 +134,7 @@ nat_eq_turned a b = by (nat_eq a b) refl (nat_eq b a) refl
     by false e false f = refl
 
 module _ (truth : ℕ → Bool) where
-  each_longer : (p : List Lit) (qs : Clauses) → are_true truth (each_after qs p) ≡ (clause_is_true truth p || are_true truth qs)
+  pub each_longer : (p : List Lit) (qs : Clauses) → are_true truth (each_after qs p) ≡ (clause_is_true truth p || are_true truth qs)
   each_longer p [] = sym (true_or (clause_is_true truth p))
   each_longer p (q ∷ qs) =
       ap₂ (λ (a b : Bool). a && b) (list_any-append (literal_is_true truth) p q) (each_longer p qs) ∙ together (clause_is_true truth p) (clause_is_true truth q) (are_true truth qs)
@@ -151,25 +151,25 @@ module _ (truth : ℕ → Bool) where
 
 -- what fitting equations compare
 
-record Alike (ranges : List Range) (x y : ℕ) : Type 0 where
-  left : Range
-  right : Range
-  at_left : slice_get ranges x ≡ Some left
-  at_right : slice_get ranges y ≡ Some right
-  sorts : is_same_sort left.sort right.sort ≡ true
+pub record Alike (ranges : List Range) (x y : ℕ) : Type 0 where
+  pub left : Range
+  pub right : Range
+  pub at_left : slice_get ranges x ≡ Some left
+  pub at_right : slice_get ranges y ≡ Some right
+  pub sorts : is_same_sort left.sort right.sort ≡ true
 
-alike_of : (ranges : List Range) (x y : ℕ) (o p : Option Range) → slice_get ranges x ≡ o → slice_get ranges y ≡ p
+pub alike_of : (ranges : List Range) (x y : ℕ) (o p : Option Range) → slice_get ranges x ≡ o → slice_get ranges y ≡ p
     → option_map_or (λ (r : Range). option_map_or (λ (s : Range). is_same_sort r.sort s.sort) p false) o false ≡ true → Alike ranges x y
 alike_of ranges x y None p e f h = absurd (cc)
 alike_of ranges x y (Some r) None e f h = absurd (cc)
 alike_of ranges x y (Some r) (Some s) e f h = record { left = r; right = s; at_left = e; at_right = f; sorts = h }
 
-record Within (ranges : List Range) (x v : ℕ) : Type 0 where
-  range : Range
-  at : slice_get ranges x ≡ Some range
-  below : v < range.size
+pub record Within (ranges : List Range) (x v : ℕ) : Type 0 where
+  pub range : Range
+  pub at : slice_get ranges x ≡ Some range
+  pub below : v < range.size
 
-within_of : (ranges : List Range) (x v : ℕ) (o : Option Range) → slice_get ranges x ≡ o → option_map_or (λ (r : Range). nat_lt v r.size) o false ≡ true → Within ranges x v
+pub within_of : (ranges : List Range) (x v : ℕ) (o : Option Range) → slice_get ranges x ≡ o → option_map_or (λ (r : Range). nat_lt v r.size) o false ≡ true → Within ranges x v
 within_of ranges x v None e h = absurd (cc)
 within_of ranges x v (Some r) e h = record { range = r; at = e; below = grind (arith, h) }
 

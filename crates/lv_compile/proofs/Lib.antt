@@ -1,4 +1,17 @@
 pub mod GatherLemmas
 pub mod BooleanLemmas
+pub mod OneOfLemmas
 pub mod CleaningLemmas
 pub mod FormulaLemmas
+pub mod RangeLemmas
+pub mod SpeakingLemmas
+pub mod SumLemmas
+pub mod RepeatLemmas
+pub mod ChosenLemmas
+pub mod CopyLemmas
+pub mod ChoiceLemmas
+pub mod StepLemmas
+pub mod LengthLemmas
+pub mod PlantCountLemmas
+pub mod PlantBoundLemmas
+pub mod DecodeLemmas

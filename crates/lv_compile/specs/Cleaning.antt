@@ -1,5 +1,5 @@
 -- Clauses without repeated literals, and without those that are true of everything.
-use Rattle.std.specs.Prelude.{Bool, not, false, ◌||◌, ◌&&◌, List, [], ◌∷◌, map, filter}
+use Rattle.std.specs.Prelude.{Bool, not, false, ◌||◌, ◌&&◌, if◌then◌else◌, List, [], ◌∷◌, ◌++◌, map, filter}
 use Rattle.std.specs.List.{list_any}
 use Rattle.lv_base.specs.declared.ids.Lit.{Lit}
 use Rattle.lv_clauses.specs.Literals.{neg, same_truth, same_var}
@@ -7,6 +7,14 @@ use Rattle.lv_compile.specs.FormulaClauses.{Clauses}
 
 abbrev pub same_literal : Lit → Lit → Bool
 same_literal l m = same_var l m && same_truth l.sign m.sign
+
+-- it stands among those before it
+abbrev pub is_repeated : List Lit → Lit → Bool
+is_repeated earlier l = list_any (λ (m : Lit). same_literal m l) earlier
+
+-- the literal behind them, where it isn't among them
+abbrev pub with_new : List Lit → Lit → List Lit
+with_new earlier l = if is_repeated earlier l then earlier else earlier ++ l ∷ []
 
 -- a literal stands in it with its negation
 abbrev pub is_tautology : List Lit → Bool

@@ -1,5 +1,5 @@
 -- The clauses of a plant, in order: of the variables before the step, of those after it, of the moves of each part.
-use Rattle.std.specs.Prelude.{ℕ, ◌+◌, zero, suc, Bool, true, false, nat_eq, ◌&&◌, List, [], ◌∷◌, ◌++◌, length, map, take, filter, slice_get}
+use Rattle.std.specs.Prelude.{ℕ, ◌+◌, zero, suc, Bool, true, false, List, [], ◌∷◌, ◌++◌, length, map, take, filter, slice_get}
 use Rattle.std.specs.List.{flat_map, range_with_len}
 use Rattle.std.specs.Option.{option_map_or}
 use Rattle.lv_base.specs.declared.ids.Lit.{Lit}
@@ -11,15 +11,19 @@ use Rattle.lv_model.specs.declared.plant.MoveKind.{MoveKind}
 use Rattle.lv_model.specs.declared.plant.MoveKind.TheVariants.{Step, Stay, Fault}
 use Rattle.lv_model.specs.declared.plant.Part.{Part}
 use Rattle.lv_model.specs.Lists.{part_moves}
-use Rattle.lv_model.specs.Meaning.{is_step_kind}
+use Rattle.lv_model.specs.Counts.{is_step_from}
 use Rattle.lv_compile.specs.Booleans.{Booleans, literal, value_literal, booleans_now, booleans_next, first_choice}
 use Rattle.lv_compile.specs.FormulaClauses.{Clauses, when_true, formula_clauses}
 use Rattle.lv_compile.specs.Cleaning.{cleaned}
 
+-- not both booleans are true
+abbrev pub not_both : ℕ → ℕ → List Lit
+not_both one other = literal one false ∷ literal other false ∷ []
+
 -- no two of the n booleans from this one on are true
 abbrev pub apart : ℕ → ℕ → Clauses
 apart first zero = []
-apart first (suc n) = map (λ (other : ℕ). literal first false ∷ literal other false ∷ []) (range_with_len (first + 1) n) ++ apart (first + 1) n
+apart first (suc n) = map (not_both first) (range_with_len (first + 1) n) ++ apart (first + 1) n
 
 -- exactly one of the n booleans from this one on is true
 abbrev pub exactly_one : ℕ → ℕ → Clauses
@@ -51,9 +55,6 @@ copy_clauses b plant = values_clauses b.first b.sizes ++ flat_map (part_clauses 
 -- the guard has this truth, where there is one; what has none is open
 abbrev pub guard_clauses : Booleans → ℕ → Bool → Move → Clauses
 guard_clauses b base sign m = option_map_or (formula_clauses b base sign) m.guard (when_true sign)
-
-abbrev pub is_step_from : ℕ → Move → Bool
-is_step_from mode m = is_step_kind m.kind && nat_eq m.source.0 mode
 
 -- no step from the mode among these moves is open
 abbrev pub closed_clauses : Booleans → ℕ → ℕ → List Move → Clauses

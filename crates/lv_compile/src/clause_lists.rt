@@ -4,6 +4,7 @@
 
 ghost use Rattle.std.specs.Prelude.{◌≡◌, ◌++◌, IfOk, map};
 ghost use Rattle.lv_compile.specs.FormulaClauses.{each_after, product, gather, when_true};
+ghost use Rattle.lv_compile.specs.ModelClauses.{unless};
 
 use lv_base::{Lit, Seq};
 use std::alloc::{AllocError, Global};
@@ -85,4 +86,27 @@ pub fn gather(
     } else {
         product(alloc, front.as_slice(), back.as_slice())
     }
+}
+
+/// Adds what holds where the literal is false: each clause of the list behind the literal.
+pub fn push_unless(
+    out: &mut Vec<Seq<Lit>>,
+    alloc: Global,
+    literal: Lit,
+    clauses: &[Seq<Lit>],
+) -> Result<(), AllocError>
+    ensures { IfOk result (λ _. out.new.items ≡ out.old.items ++ unless literal clauses.now) }
+{
+    let front = Seq::from_slice(alloc, &[literal])?;
+    push_longer(out, alloc, &front, clauses)
+}
+
+/// Adds the clauses of the list.
+pub fn push_all(out: &mut Vec<Seq<Lit>>, clauses: Vec<Seq<Lit>>) -> Result<(), AllocError>
+    ensures { IfOk result (λ _. out.new.items ≡ out.old.items ++ clauses.items) }
+{
+    for clause in clauses {
+        out.push(clause)?;
+    }
+    Ok(())
 }

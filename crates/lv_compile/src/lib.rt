@@ -6,7 +6,12 @@
 #![tactic(auto)]
 
 pub mod clause_lists;
+mod cleaning;
+pub mod copies;
 pub mod examples;
 pub mod formula;
 pub mod laws;
+pub mod moves;
+pub mod one_of;
+pub mod plant_clauses;
 pub mod value_bools;

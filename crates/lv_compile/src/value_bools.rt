@@ -57,6 +57,21 @@ impl ValueBools {
         })
     }
 
+    /// The number of the first boolean.
+    pub fn first(&self) -> u32
+        ensures { result ≡ self.now.first }
+    {
+        self.first
+    }
+
+    /// How many values each variable has.
+    pub fn sizes(&self) -> &[usize]
+        ensures sizes { result.now ≡ self.now.sizes }
+        ensures fit { self.now.first + sum self.now.sizes < 2 ^ 32 }
+    {
+        self.sizes.as_slice()
+    }
+
     /// How many values a variable has.
     pub fn size(&self, var: usize) -> u32
         requires { var < length self.now.sizes }

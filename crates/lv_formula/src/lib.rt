@@ -153,6 +153,13 @@ impl Condition {
         Condition { formula }
     }
 
+    /// The formula.
+    pub fn formula(&self) -> &Formula
+        ensures { tree_of result.now ≡ self.now }
+    {
+        &self.formula
+    }
+
     /// Whether each of its equations keeps to what its variables range over. Takes no memory.
     pub fn fits(&self, ranges: &[Range]) -> bool
         ensures { result ≡ fits ranges.now self.now }

@@ -139,7 +139,7 @@ module _ (plant : Plant) (h : is_well_formed plant ≡ true) where
   pub types_pass : types_fit plant.domains 0 plant.types ≡ true
   types_pass = (and_parts (types_fit plant.domains 0 plant.types) (parts_fit plant) lists.1).0
 
-  parts_pass : (is_within 1 (length plant.parts) PARTS ≡ true) × (list_all (part_fits plant.types) plant.parts ≡ true)
+  pub parts_pass : (is_within 1 (length plant.parts) PARTS ≡ true) × (list_all (part_fits plant.types) plant.parts ≡ true)
   parts_pass = and_parts (is_within 1 (length plant.parts) PARTS) (list_all (part_fits plant.types) plant.parts) (and_parts (types_fit plant.domains 0 plant.types) (parts_fit plant) lists.1).1
 
   rest : ((variables_fit plant) ≡ true) × ((laws_fit plant && prices_fit plant && clauses_fit plant) ≡ true)
@@ -152,6 +152,13 @@ module _ (plant : Plant) (h : is_well_formed plant ≡ true) where
   -- and there are few parts
   pub few-parts : length plant.parts ≤ PARTS
   few-parts = leb-true (length plant.parts) PARTS (and_parts (nat_le 1 (length plant.parts)) (nat_le (length plant.parts) PARTS) parts_pass.0).1
+
+  -- each part's variables begin where those of the parts before it end
+  pub follow_pass : firsts_follow plant.types 0 plant.parts ≡ true
+  follow_pass = (and_parts (firsts_follow plant.types 0 plant.parts) (nat_le (variable_count plant) VARIABLES) rest.0).0
+
+  pub laws_pass : list_all (fits (plant_ranges plant)) plant.laws ≡ true
+  laws_pass = (and_parts (laws_fit plant) (prices_fit plant) (and_parts (laws_fit plant && prices_fit plant) (clauses_fit plant) rest.1).0).0
 
   -- it has no more variables than this
   pub few_variables : variable_count plant ≤ VARIABLES

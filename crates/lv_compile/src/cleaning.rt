@@ -1,0 +1,76 @@
+//! Clauses without repeated literals, and without those that are true of everything.
+#![tactic(auto)]
+
+ghost use Rattle.std.specs.Prelude.{◌≡◌, IfOk};
+ghost use Rattle.std.specs.List.{list_any};
+ghost use Rattle.lv_compile.specs.Cleaning.{same_literal, is_tautology, without_repeats, cleaned, is_repeated, with_new};
+
+use lv_base::{Lit, Seq};
+use lv_clauses::negation;
+use std::alloc::{AllocError, Global};
+
+fn is_same(one: Lit, other: Lit) -> bool
+    ensures { result ≡ same_literal one other }
+{
+    one.var.0 == other.var.0 && one.sign == other.sign
+}
+
+fn has_literal(lits: &[Lit], lit: Lit) -> bool
+    ensures { result ≡ list_any (same_literal lit) lits.now }
+{
+    lits.iter().any(|other| is_same(lit, *other))
+}
+
+fn is_repeated(earlier: &[Lit], lit: Lit) -> bool
+    ensures { result ≡ is_repeated earlier.now lit }
+{
+    earlier.iter().any(|one| is_same(*one, lit))
+}
+
+/// Whether a literal stands in the clause with its negation.
+fn is_tautology(lits: &[Lit]) -> bool
+    ensures { result ≡ is_tautology lits.now }
+{
+    let mut rest = lits;
+    while let Some((first, more)) = rest.split_first() {
+        if has_literal(more, negation(*first)) {
+            return true;
+        }
+        rest = more;
+    }
+    false
+}
+
+/// Adds the literal where it doesn't stand there yet.
+fn push_new(out: &mut Vec<Lit>, lit: Lit) -> Result<(), AllocError>
+    ensures { IfOk result (λ _. out.new.items ≡ with_new out.old.items lit) }
+{
+    if !is_repeated(out.as_slice(), lit) {
+        out.push(lit)?;
+    }
+    Ok(())
+}
+
+/// Each literal once, at its first place.
+fn without_repeats(alloc: Global, lits: &[Lit]) -> Result<Seq<Lit>, AllocError>
+    ensures { IfOk result (λ c. c ≡ without_repeats lits.now) }
+{
+    let mut out = Vec::new(alloc);
+    for lit in lits {
+        push_new(&mut out, *lit)?;
+    }
+    Ok(Seq::from_vec(out))
+}
+
+/// The clauses that are not true of everything, each without repeated literals.
+pub fn cleaned(alloc: Global, clauses: &[Seq<Lit>]) -> Result<Vec<Seq<Lit>>, AllocError>
+    ensures { IfOk result (λ out. out.items ≡ cleaned clauses.now) }
+{
+    let mut out = Vec::new(alloc);
+    for clause in clauses {
+        if !is_tautology(clause.as_slice()) {
+            out.push(without_repeats(alloc, clause.as_slice())?)?;
+        }
+    }
+    Ok(out)
+}
