@@ -14,9 +14,10 @@ if ! "$root/build" </dev/null; then
     exit 1
 fi
 
-# The program's words, in the folder that this is called in; its input is that of this function.
+# The program's words, in the folder that this is called in; its input is that of this function. A run that hasn't ended
+# after ten minutes is stopped, with status 124.
 run() {
-    "$program" "$@" >"$work/out" 2>"$work/err"
+    timeout 600 "$program" "$@" >"$work/out" 2>"$work/err"
     status=$?
 }
 
