@@ -3,7 +3,10 @@ use Rattle.std.proofs.Common.{◌≡◌, ◌+◌, ◌*◌, ◌≤◌, ◌<◌, �
 use Rattle.std.proofs.lemmas.Bool.{cases_lt}
 use Rattle.std.proofs.Math.Nat.{mul-zero, mul-suc, mul_assoc, add_assoc, one-mul, mul-one}
 use Rattle.lv_base.specs.declared.limits.TheConstants.{FORMULA_CLAUSES}
-use Rattle.lv_formula.specs.Counts.{within, joined, gathered, whole, truth_count}
+use Rattle.lv_formula.specs.Counts.{within, joined, gathered, whole, truth_count, taken}
+
+some_is_one : {m n : ℕ} → Some m ≡ Some n → m ≡ n
+some_is_one h = (cc)
 
 -- what is too much is not within the limit
 past : (n : ℕ) → FORMULA_CLAUSES < n → within n ≡ None
@@ -63,3 +66,12 @@ count_start false (Some n) = ap Some (one-mul n)
 pub count_end : (of_all : Bool) (n : ℕ) → gathered of_all (Some n) (Some (truth_count of_all)) ≡ Some n
 count_end true n = let e : n + 0 ≡ n = omega arith in ap Some e
 count_end false n = ap Some (mul-one n)
+
+-- one operand more, which may be too long by itself
+pub counted : (of_all : Bool) (count one new rest left w : Option ℕ) → new ≡ taken of_all count one → left ≡ gathered of_all one rest
+    → whole (gathered of_all count left) ≡ w → whole (gathered of_all new rest) ≡ w
+counted of_all None one new rest left w is cut so_far = ap (λ (o : Option ℕ). whole (gathered of_all o rest)) is ∙ so_far
+counted of_all (Some a) None new rest left w is cut so_far =
+    ap (λ (o : Option ℕ). whole (gathered of_all o rest)) is ∙ counted_none of_all a None rest left w refl cut so_far
+counted of_all (Some a) (Some m) None rest left w is cut so_far = absurd (cc)
+counted of_all (Some a) (Some m) (Some n) rest left w is cut so_far = counted_more of_all a m n rest left w (some_is_one is) cut so_far

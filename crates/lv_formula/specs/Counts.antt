@@ -1,7 +1,7 @@
 -- How many clauses say that a formula is true, or false, counted without making them. That both of two lists of clauses hold is
 -- said by one list behind the other, that one of them holds by their product. Each rule is for a kind of formula and a sign, and
 -- no list that a rule gives may be longer than the limit; what is multiplied on the way to it may.
-use Rattle.std.specs.Prelude.{ℕ, ◌+◌, ◌*◌, Bool, true, false, not, nat_le, List, slice_index_or, Option, Some, None, if◌then◌else◌}
+use Rattle.std.specs.Prelude.{ℕ, ◌+◌, ◌*◌, min, Bool, true, false, not, nat_le, List, slice_index_or, Option, Some, None, if◌then◌else◌}
 use Rattle.std.specs.Option.{option_and_then}
 use Rattle.lv_base.specs.declared.limits.TheConstants.{FORMULA_CLAUSES}
 use Rattle.lv_formula.specs.Tree.{Tree, always, never, is, same, negation, all, any, implies, iff, Trees, none, more}
@@ -54,3 +54,9 @@ abbrev mutual
   pub gathered_count : List ℕ → Bool → Bool → Trees → Option ℕ
   gathered_count sizes of_all sign none = Some (truth_count of_all)
   gathered_count sizes of_all sign (more f fs) = gathered of_all (clause_count sizes sign f) (gathered_count sizes of_all sign fs)
+
+-- as many as a list held back at one more than the limit comes to with one more behind it, or multiplied by it
+abbrev pub taken : Bool → Option ℕ → Option ℕ → Option ℕ
+taken of_all None n = None
+taken of_all (Some m) None = None
+taken of_all (Some m) (Some n) = Some (min (joined of_all m n) (FORMULA_CLAUSES + 1))
