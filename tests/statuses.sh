@@ -14,6 +14,19 @@ echo 'no model' >refused.lv
 run run "$model" empty </dev/null
 expect 'an empty session' 0 '' ''
 
+cp "$model" ./-dashed.lv
+for words in "print $model" "print -- $model" "print -- -dashed.lv"; do
+    read -ra split <<<"$words"
+    run "${split[@]}" </dev/null
+    expect_files "$words" 0 "$root/tests/prints/valve.out" empty
+done
+
+run print stdin <"$model"
+expect_files 'a model on standard input' 0 "$root/tests/prints/valve.out" empty
+
+run run -- -dashed.lv empty </dev/null
+expect 'a model whose name begins with -' 0 '' ''
+
 # 2: the words are refused.
 run </dev/null
 expect 'no words' 2 '' "$usage"
@@ -30,19 +43,31 @@ expect 'a first word that names nothing' 2 '' "$usage"
 run run -v "$session" </dev/null
 expect 'a word that begins with -' 2 '' "$usage"
 
+for words in print 'print a b' 'print -dashed.lv' 'print -' 'print --' 'print --help' '--help' 'help' '-- print a' 'run -dashed.lv empty' 'run --' 'run a -- -- b'; do
+    read -ra split <<<"$words"
+    run "${split[@]}" </dev/null
+    expect "the words $words" 2 '' "$usage"
+done
+
 run run "$model" $'\xff' </dev/null
 expect 'a word that is no UTF-8' 2 '' "$usage"
 
 # 3: the model is refused.
 run run refused.lv "$session" </dev/null
-expect 'a text that is no model' 3 '' 'model 0 M00'
+expect 'a text that is no model' 3 '' 'model 1 M04'
 
 run run refused.lv absent.ses </dev/null
-expect 'a text that is no model, whose session is not opened' 3 '' 'model 0 M00'
+expect 'a text that is no model, whose session is not opened' 3 '' 'model 1 M04'
+
+run print refused.lv </dev/null
+expect 'a text that is no model, to be printed' 3 '' 'model 1 M04'
 
 # 4: the model is not read.
 run run absent.lv "$session" </dev/null
 expect 'an absent model' 4 '' 'cannot read model'
+
+run print absent </dev/null
+expect 'an absent model, to be printed' 4 '' 'cannot read model'
 
 run run / "$session" </dev/null
 expect 'a folder as model' 4 '' 'cannot read model'
