@@ -4,6 +4,7 @@
     series LINES   a series of up to 256 valves, then laws over them, in so many lines
     types LINES    types of 16 modes and 64 moves, in about so many lines, and a part of the first
     laws LINES     two parts and so many laws, each of nearly 4,000 bytes
+    shared LINES   a type with so many laws, each of nearly 4,000 bytes, and 256 parts of it
     bytes BYTES    a series whose text has exactly so many bytes, the last of them a comment
 """
 
@@ -50,15 +51,25 @@ def types(lines):
     return out + ["part p t1 m1"]
 
 
-def laws(lines):
-    equations = ["v%d.inn = v%d.out" % (1 + i % 2, 1 + i // 2 % 2) for i in range(8)]
-    law = "law v1.inn = some"
-    i = 0
+def long_law(equations):
+    """A law of nearly as many bytes as that; it has one clause."""
+    law = "law " + equations[0]
+    i = 1
     while len(law) + 40 < LAW_BYTES:
-        law += " | (%s)" % (equations[i % 8] if i % 100 == 99 else "v%d.out = zero" % (1 + i % 2))
+        law += " | (%s)" % equations[i % len(equations)]
         i += 1
+    return law
+
+
+def laws(lines):
     front = DOMAINS + VALVE + ["part v1 valve closed", "part v2 valve closed"]
-    return front + [law] * lines
+    return front + [long_law(["v1.out = zero", "v2.out = zero", "v2.inn = some"])] * lines
+
+
+def shared(lines):
+    law = long_law(["inn = some", "out = zero", "cmd = none", "mode = open"])
+    parts = ["part v%d valve closed" % i for i in range(1, MOST_PARTS + 1)]
+    return DOMAINS + VALVE[:-1] + [law] * lines + ["end"] + parts
 
 
 def series_of_bytes(size):
@@ -77,7 +88,7 @@ def main():
     if kind == "series":
         lines = [line for line, _ in zip(series(min(MOST_PARTS, size // 4)), range(size))]
     else:
-        lines = {"types": types, "laws": laws, "bytes": series_of_bytes}[kind](size)
+        lines = {"types": types, "laws": laws, "shared": shared, "bytes": series_of_bytes}[kind](size)
     sys.stdout.write("".join(line + "\n" for line in lines))
 
 

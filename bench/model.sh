@@ -1,8 +1,9 @@
 #!/usr/bin/env bash
 # What `print` takes for each byte of a model, in nanoseconds of the processor: the text is read, checked, and written in
 # its canonical form. The texts are those of make_model.py: growing series of valves with laws, growing numbers of types
-# with 16 modes and 64 moves, laws of nearly 4,000 bytes, and the longest text that there may be. Behind each stands the
-# time a byte as a multiple of the first of its kind, so that growth beyond the text's own can be seen in one run.
+# with 16 modes and 64 moves, laws of nearly 4,000 bytes, such laws in a type that 256 parts share, and the longest text
+# that there may be. Behind each stands the time a byte as a multiple of the first of its kind, so that growth beyond the
+# text's own can be seen in one run.
 # Builds the program first, and takes the time that it needs for a text of four lines off.
 set -eu
 . "$(dirname "$0")/common.sh"
@@ -48,4 +49,7 @@ report types 100000 1
 report laws 10 100
 report laws 100 10
 report laws 1000 1
+report shared 10 10
+report shared 100 1
+report shared 1000 1
 report bytes 4194304 1
