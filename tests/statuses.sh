@@ -5,7 +5,6 @@
 
 model="$root/examples/valve.lv"
 session="$root/examples/first.ses"
-canonical="$root/tests/valve.canonical"
 usage='usage: livingstone run MODEL SESSION, check MODEL CERT, print MODEL, generate KIND N, drive N'
 cd "$work" || exit 1
 : >empty
@@ -15,11 +14,18 @@ echo 'no model' >refused.lv
 run run "$model" empty </dev/null
 expect 'an empty session' 0 '' ''
 
-run print "$model" </dev/null
-expect_files 'a model printed' 0 "$canonical" empty
+cp "$model" ./-dashed.lv
+for words in "print $model" "print -- $model" "print -- -dashed.lv"; do
+    read -ra split <<<"$words"
+    run "${split[@]}" </dev/null
+    expect_files "$words" 0 "$root/tests/prints/valve.out" empty
+done
 
-run print -- "$model" </dev/null
-expect_files 'a model printed behind --' 0 "$canonical" empty
+run print stdin <"$model"
+expect_files 'a model on standard input' 0 "$root/tests/prints/valve.out" empty
+
+run run -- -dashed.lv empty </dev/null
+expect 'a model whose name begins with -' 0 '' ''
 
 # 2: the words are refused.
 run </dev/null
@@ -34,20 +40,14 @@ expect 'too many words' 2 '' "$usage"
 run walk "$model" "$session" </dev/null
 expect 'a first word that names nothing' 2 '' "$usage"
 
-run check "$model" "$session" </dev/null
-expect 'a command that is to come' 2 '' "$usage"
-
-run print "$model" "$session" </dev/null
-expect 'too many words to print' 2 '' "$usage"
-
-run -- run "$model" "$session" </dev/null
-expect '-- as the command' 2 '' "$usage"
-
 run run -v "$session" </dev/null
 expect 'a word that begins with -' 2 '' "$usage"
 
-run run "$model" - </dev/null
-expect 'a lone -' 2 '' "$usage"
+for words in print 'print a b' 'print -dashed.lv' 'print -' 'print --' 'print --help' '--help' 'help' '-- print a' 'run -dashed.lv empty' 'run --' 'run a -- -- b'; do
+    read -ra split <<<"$words"
+    run "${split[@]}" </dev/null
+    expect "the words $words" 2 '' "$usage"
+done
 
 run run "$model" $'\xff' </dev/null
 expect 'a word that is no UTF-8' 2 '' "$usage"
@@ -59,25 +59,18 @@ expect 'a text that is no model' 3 '' 'model 1 M04'
 run run refused.lv absent.ses </dev/null
 expect 'a text that is no model, whose session is not opened' 3 '' 'model 1 M04'
 
-run run empty "$session" </dev/null
-expect 'an empty model' 3 '' 'model 1 M15'
-
 run print refused.lv </dev/null
-expect 'a text that is no model, printed' 3 '' 'model 1 M04'
-
-head -c 4194305 /dev/zero | tr '\0' '#' >long.lv
-run print long.lv </dev/null
-expect 'a model of 4194305 bytes' 3 '' 'model 0 M01'
+expect 'a text that is no model, to be printed' 3 '' 'model 1 M04'
 
 # 4: the model is not read.
 run run absent.lv "$session" </dev/null
 expect 'an absent model' 4 '' 'cannot read model'
 
+run print absent </dev/null
+expect 'an absent model, to be printed' 4 '' 'cannot read model'
+
 run run / "$session" </dev/null
 expect 'a folder as model' 4 '' 'cannot read model'
-
-run print absent.lv </dev/null
-expect 'an absent model to print' 4 '' 'cannot read model'
 
 # 5: the session is not read.
 run run "$model" absent.ses </dev/null
@@ -88,9 +81,6 @@ expect 'a folder as session' 5 '' 'cannot read session'
 
 run run stdin stdin <"$model"
 expect 'standard input twice' 5 '' 'cannot read session'
-
-run run -- "$model" -absent.ses </dev/null
-expect 'a name that begins with - behind --' 5 '' 'cannot read session'
 
 # 6: what was to be written was not.
 : >out

@@ -1,0 +1,96 @@
+#!/usr/bin/env python3
+"""Writes a model text of the kind and size given to standard output; each is accepted.
+
+    series LINES   a series of up to 256 valves, then laws over them, in so many lines
+    types LINES    types of 16 modes and 64 moves, in about so many lines, and a part of the first
+    laws LINES     two parts and so many laws, each of nearly 4,000 bytes
+    shared LINES   a type with so many laws, each of nearly 4,000 bytes, and 256 parts of it
+    bytes BYTES    a series whose text has exactly so many bytes, the last of them a comment
+"""
+
+import sys
+
+DOMAINS = ["domain flow zero some", "domain order none open close"]
+VALVE = ["type valve", "control cmd order", "variable inn flow", "observable out flow",
+         "mode closed", "mode open", "mode stuck_closed", "mode stuck_open",
+         "in closed out = zero", "in open out = inn", "in stuck_closed out = zero", "in stuck_open out = inn",
+         "step closed -> open when cmd = open", "step open -> closed when cmd = close",
+         "fault closed -> stuck_closed cost 3", "fault open -> stuck_open cost 5", "fault open -> stuck_closed cost 4",
+         "fault closed -> stuck_open cost 8", "end"]
+MOST_PARTS = 256
+LAW_BYTES = 4000
+
+
+def series(parts):
+    """The lines of a series of valves, and then laws over it without end."""
+    yield from DOMAINS + VALVE
+    yield from ("part v%d valve closed" % i for i in range(1, parts + 1))
+    while True:
+        yield "law v1.inn = some"
+        yield from ("law v%d.inn = v%d.out" % (i, i - 1) for i in range(2, parts + 1))
+
+
+def crowded_type(number):
+    """A type of 16 modes and 64 moves: the stay of each, three more from each."""
+    lines = ["type t%d" % number, "control cmd order", "variable inn flow"]
+    lines += ["mode m%d" % m for m in range(1, 17)]
+    for m in range(1, 17):
+        target = m % 16 + 1
+        lines.append("step m%d -> m%d when cmd = open & !(inn = zero) | mode = m%d" % (m, target, target))
+        lines.append("fault m%d -> m%d cost %d" % (m, target, m))
+        lines.append("fault m%d -> m%d cost %d when cmd = close => inn = some" % (m, target, m))
+    return lines + ["end"]
+
+
+def types(lines):
+    out = list(DOMAINS)
+    number = 1
+    while len(out) < lines:
+        out += crowded_type(number)
+        number += 1
+    return out + ["part p t1 m1"]
+
+
+def long_law(equations):
+    """A law of nearly as many bytes as that; it has one clause."""
+    law = "law " + equations[0]
+    i = 1
+    while len(law) + 40 < LAW_BYTES:
+        law += " | (%s)" % equations[i % len(equations)]
+        i += 1
+    return law
+
+
+def laws(lines):
+    front = DOMAINS + VALVE + ["part v1 valve closed", "part v2 valve closed"]
+    return front + [long_law(["v1.out = zero", "v2.out = zero", "v2.inn = some"])] * lines
+
+
+def shared(lines):
+    law = long_law(["inn = some", "out = zero", "cmd = none", "mode = open"])
+    parts = ["part v%d valve closed" % i for i in range(1, MOST_PARTS + 1)]
+    return DOMAINS + VALVE[:-1] + [law] * lines + ["end"] + parts
+
+
+def series_of_bytes(size):
+    """Laws until the next would not leave room for a comment."""
+    out = []
+    left = size
+    for line in series(MOST_PARTS):
+        if left - len(line) - 1 < 40:
+            return out + ["#" * (left - 1)]
+        out.append(line)
+        left -= len(line) + 1
+
+
+def main():
+    kind, size = sys.argv[1], int(sys.argv[2])
+    if kind == "series":
+        lines = [line for line, _ in zip(series(min(MOST_PARTS, size // 4)), range(size))]
+    else:
+        lines = {"types": types, "laws": laws, "shared": shared, "bytes": series_of_bytes}[kind](size)
+    sys.stdout.write("".join(line + "\n" for line in lines))
+
+
+if __name__ == "__main__":
+    main()
