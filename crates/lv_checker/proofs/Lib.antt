@@ -1,2 +1,7 @@
 pub mod VerdictLemmas
 pub mod ModelLemmas
+pub mod FitsLists
+pub mod FitsCounts
+pub mod FitsMoves
+pub mod FitsNames
+pub mod FitsScopes
