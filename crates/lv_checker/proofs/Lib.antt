@@ -5,3 +5,4 @@ pub mod FitsCounts
 pub mod FitsMoves
 pub mod FitsNames
 pub mod FitsScopes
+pub mod FitsTypes
