@@ -6,3 +6,5 @@ pub mod FitsMoves
 pub mod FitsNames
 pub mod FitsScopes
 pub mod FitsTypes
+pub mod FitsEntries
+pub mod FitsPlants
