@@ -8,3 +8,5 @@ pub mod FitsScopes
 pub mod FitsTypes
 pub mod FitsEntries
 pub mod FitsPlants
+pub mod FitsParts
+pub mod FitsDrafts

@@ -7,6 +7,8 @@ use Rattle.lv_checker.proofs.FitsScopes.{type_formula_fits}
 use Rattle.lv_checker.proofs.FitsTypes.{ended_fits}
 use Rattle.lv_checker.proofs.FitsEntries.{inside_fits}
 use Rattle.lv_checker.proofs.FitsPlants.{type_added}
+use Rattle.lv_checker.proofs.FitsParts.{price_added}
+use Rattle.lv_checker.proofs.FitsDrafts.{checked_well}
 use Rattle.lv_checker.proofs.laws.verdict_is_one.Goals as goal
 
 pub returns : goal.returns
