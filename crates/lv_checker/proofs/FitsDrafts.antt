@@ -1,8 +1,8 @@
 -- A draft fits at every statement, and what is checked is well formed.
-use Rattle.std.proofs.Common.{◌≡◌, ◌≢◌, ◌+◌, ◌-◌, ◌<◌, ◌≤◌, ℕ, zero, suc, min, Bool, true, false, not, ◌&&◌, ◌||◌, nat_eq, nat_lt, nat_le, List, [], ◌∷◌, ◌++◌, length, map, position, slice_get, if◌then◌else◌, Option, Some, None, option_map, Result, Ok, Err, refl, sym, ap, ap₂, subst, ◌∙◌, arith}
+use Rattle.std.proofs.Common.{◌≡◌, ◌≢◌, ◌+◌, ◌-◌, ◌<◌, ◌≤◌, ℕ, zero, suc, min, Bool, true, false, not, ◌&&◌, ◌||◌, nat_eq, nat_lt, nat_le, List, [], ◌∷◌, ◌++◌, length, map, position, slice_get, if◌then◌else◌, Option, Some, None, is_some, option_map, Result, Ok, Err, refl, sym, ap, ap₂, subst, ◌∙◌, arith}
 use Rattle.std.specs.List.{list_all, list_any, flat_map}
 use Rattle.std.specs.Option.{option_map_or, option_and_then}
-use Rattle.std.proofs.lemmas.Bool.{and_parts, and_from, or_parts, lt-ltb, le-leb, ltb-true, ltb-false, not-false}
+use Rattle.std.proofs.lemmas.Bool.{and_parts, and_from, or_parts, lt-ltb, le-leb, ltb-true, ltb-false, eqb-false, not-false, not-true}
 use Rattle.std.proofs.lemmas.List.{map_push}
 use Rattle.std.proofs.lemmas.Option.{slice_get-map}
 use Rattle.lv_base.specs.declared.limits.TheConstants.{PARTS, VALUES, VARIABLES, NAME_BYTES, MODEL_CLAUSES, PRICE}
@@ -26,7 +26,7 @@ use Rattle.lv_model.specs.Prices.{is_price_of}
 use Rattle.lv_model.specs.WellFormed.{name_fits, domain_fits, part_fits, price_fits, is_within, is_well_formed}
 use Rattle.lv_model.proofs.Reading.{length-plant_ranges}
 use Rattle.lv_reader.specs.declared.code.ModelCode.{ModelCode}
-use Rattle.lv_reader.specs.declared.code.ModelCode.TheVariants.{UnknownName, NoFit, Misplaced, LimitPassed}
+use Rattle.lv_reader.specs.declared.code.ModelCode.TheVariants.{UnknownName, NoFit, Misplaced, LimitPassed, NotEnded, NoPart}
 use Rattle.lv_reader.specs.declared.statement.Statement.{Statement}
 use Rattle.lv_reader.specs.declared.statement.Statement.TheVariants.{ModelLine, DomainLine, TypeLine, VariableLine, ModeLine, LawLine, InLine, StepLine, FaultLine, EndLine, PartLine, PriceLine}
 use Rattle.lv_reader.specs.declared.statement.NumberedStatement.{NumberedStatement}
@@ -42,7 +42,8 @@ use Rattle.lv_checker.specs.Scopes.{variable_of_part, value_of_system}
 use Rattle.lv_checker.specs.Entries.{known, on_ok, system_formula, own_variable, is_control_of, has_control, priced_entry, outside_entry, inside_entry, entry_where, entry_of}
 use Rattle.lv_checker.specs.Faults.{first_of, fault_where, judged, in_use_inside, is_too_long_inside, passes_inside, in_use_outside, is_too_long_outside, passes_outside, is_long_name, share_of}
 use Rattle.lv_checker.specs.Drafts.{empty, begun, with_type, with_inside, with_part, with_law, with_outside, with_where, with_entry, type_with, limited_size}
-use Rattle.lv_checker.specs.Checking.{Checked, fine, faulty, checked_by, after, one_added, all_added}
+use Rattle.lv_checker.specs.Checking.{Checked, fine, faulty, checked_by, after, one_added, all_added, finished, checked, is_complete, EndsWell, GivesModel}
+use Rattle.lv_checker.specs.Verdicts.{Verdict, IsVerdict, not_read, is_checked, accepted, refused, verdict_of, AcceptedIsWellFormed}
 use Rattle.lv_checker.proofs.FitsLists.{all_at, all_more, all_joined, chained, mapped, passed, placed_is}
 use Rattle.lv_checker.proofs.FitsNames.{is_spelled, has_names, is_sound, statements_sound}
 use Rattle.lv_checker.proofs.FitsScopes.{place_below, is_sized, parts_sized, system_value, system_formula_fits}
@@ -398,12 +399,53 @@ all_fit d (s ∷ ss) end fact sound h = by (judged d s.statement) refl h (λ e f
     by (Ok e) is h rest = rest e (entry_kept d fact s.statement e is own.0 own.1) h
     by (Err code) is h rest = absurd (cc)
 
-pub checked_well : (bytes : List ℕ) (text : ModelText) (d : Draft) → ReadsAs bytes text → all_added empty text.statements ≡ fine d → d.current ≡ None → length d.plant.parts ≢ 0
-    → is_well_formed d.plant ≡ true
-checked_well bytes text d reads added none some =
+checked_well : (bytes : List ℕ) (text : ModelText) (d : Draft) → ReadsAs bytes text → all_added empty text.statements ≡ fine d → nat_eq (length d.plant.parts) 0 ≡ false → is_well_formed d.plant ≡ true
+checked_well bytes text d reads added some =
     let fact = all_fit empty text.statements d empty_fits (statements_sound reads.statements) added in
-    well_formed d.plant fact.lists (by (length d.plant.parts) some)
+    well_formed d.plant fact.lists (by (length d.plant.parts) (eqb-false (length d.plant.parts) 0 some))
   where
-    by : (n : ℕ) → n ≢ 0 → 1 ≤ n
+    by : (n : ℕ) → (n ≡ 0 → ⊥) → 1 ≤ n
     by zero f = absurd (f refl)
     by (suc n) f = omega arith
+
+-- a text that is read gives a model, if it may end where it does
+pub gives_model : (bytes : List ℕ) (text : ModelText) → ReadsAs bytes text → GivesModel text
+gives_model bytes text reads =
+    record {
+      ends = λ d added.
+        record {
+          well_formed = λ whole.
+            checked_well bytes text d reads added (not-true (nat_eq (length d.plant.parts) 0) (and_parts (not (is_some d.current)) (not (nat_eq (length d.plant.parts) 0)) whole).1);
+        };
+    }
+
+-- what a draft comes to
+finished_parts : (lines : ℕ) (d : Draft) (plant : Plant) → finished lines d ≡ fine plant → (nat_eq (length d.plant.parts) 0 ≡ false) × (d.plant ≡ plant)
+finished_parts lines d plant h = by (is_some d.current) (nat_eq (length d.plant.parts) 0) refl h
+  where
+    by : (a b : Bool) → nat_eq (length d.plant.parts) 0 ≡ b → (if a then faulty NotEnded (lines + 1) else (if b then faulty NoPart (lines + 1) else fine d.plant)) ≡ fine plant
+        → (nat_eq (length d.plant.parts) 0 ≡ false) × (d.plant ≡ plant)
+    by true b e h = absurd (cc)
+    by false true e h = absurd (cc)
+    by false false e h = let same : d.plant ≡ plant = cc h in (e, same)
+
+text_well : (bytes : List ℕ) (text : ModelText) (plant : Plant) → ReadsAs bytes text → (c : Checked Draft) → all_added empty text.statements ≡ c → after c (finished text.lines) ≡ fine plant
+    → is_well_formed plant ≡ true
+text_well bytes text plant reads (fine d) added h =
+    let two = finished_parts text.lines d plant h in
+    subst (λ (p : Plant). is_well_formed p ≡ true) two.1 (checked_well bytes text d reads added two.0)
+text_well bytes text plant reads (faulty code line) added h = absurd (cc)
+
+checked_text_well : (bytes : List ℕ) (text : ModelText) (plant : Plant) → ReadsAs bytes text → (c : Checked Plant) → checked text ≡ c → accepted plant ≡ verdict_of c → is_well_formed plant ≡ true
+unfolding checked
+checked_text_well bytes text plant reads (fine q) is h =
+    let same : q ≡ plant = cc h in
+    text_well bytes text plant reads (all_added empty text.statements) refl (is ∙ ap (λ (p : Plant). fine p) same)
+checked_text_well bytes text plant reads (faulty code line) is h = absurd (cc)
+
+pub accepted_well : AcceptedIsWellFormed
+accepted_well bytes plant v = by v refl
+  where
+    by : {w : Verdict} → IsVerdict bytes w → w ≡ accepted plant → is_well_formed plant ≡ true
+    by (not_read code line why e) is = absurd (cc)
+    by (is_checked text reads e) is = checked_text_well bytes text plant reads (checked text) refl (sym is ∙ e)
