@@ -436,16 +436,21 @@ text_well bytes text plant reads (fine d) added h =
     subst (λ (p : Plant). is_well_formed p ≡ true) two.1 (checked_well bytes text d reads added two.0)
 text_well bytes text plant reads (faulty code line) added h = absurd (cc)
 
-checked_text_well : (bytes : List ℕ) (text : ModelText) (plant : Plant) → ReadsAs bytes text → (c : Checked Plant) → checked text ≡ c → accepted plant ≡ verdict_of c → is_well_formed plant ≡ true
+checked_is : (text : ModelText) → checked text ≡ after (all_added empty text.statements) (finished text.lines)
 unfolding checked
-checked_text_well bytes text plant reads (fine q) is h =
-    let same : q ≡ plant = cc h in
-    text_well bytes text plant reads (all_added empty text.statements) refl (is ∙ ap (λ (p : Plant). fine p) same)
-checked_text_well bytes text plant reads (faulty code line) is h = absurd (cc)
+checked_is text = refl
+
+accepted_found : (c : Checked Plant) (plant : Plant) → accepted plant ≡ verdict_of c → c ≡ fine plant
+accepted_found (fine q) plant h = let same : q ≡ plant = cc h in ap (λ (p : Plant). fine p) same
+accepted_found (faulty code line) plant h = absurd (cc)
+
+not_refused : (w : Verdict) (plant : Plant) (code : ModelCode) (line : ℕ) → w ≡ accepted plant → w ≡ refused code line → ⊥
+not_refused w plant code line a b = absurd (cc)
 
 pub accepted_well : AcceptedIsWellFormed
 accepted_well bytes plant v = by v refl
   where
     by : {w : Verdict} → IsVerdict bytes w → w ≡ accepted plant → is_well_formed plant ≡ true
-    by (not_read code line why e) is = absurd (cc)
-    by (is_checked text reads e) is = checked_text_well bytes text plant reads (checked text) refl (sym is ∙ e)
+    by {w} (not_read code line why e) is = absurd (not_refused w plant code line is e)
+    by (is_checked text reads e) is =
+        text_well bytes text plant reads (all_added empty text.statements) refl (sym (checked_is text) ∙ accepted_found (checked text) plant (sym is ∙ e))
