@@ -1,2 +1,12 @@
 pub mod VerdictLemmas
 pub mod ModelLemmas
+pub mod FitsLists
+pub mod FitsCounts
+pub mod FitsMoves
+pub mod FitsNames
+pub mod FitsScopes
+pub mod FitsTypes
+pub mod FitsEntries
+pub mod FitsPlants
+pub mod FitsParts
+pub mod FitsDrafts

@@ -1,9 +1,9 @@
 -- The model that statements give, or the first of them that is refused.
-use Rattle.std.specs.Prelude.{◌≡◌, ℕ, ◌+◌, List, [], ◌∷◌, length, nat_eq, is_some, if◌then◌else◌, Option, Some, None, Result, Ok, Err}
+use Rattle.std.specs.Prelude.{◌≡◌, ℕ, ◌+◌, Bool, true, not, ◌&&◌, List, [], ◌∷◌, length, nat_eq, is_some, if◌then◌else◌, Option, Some, None, Result, Ok, Err}
 use Rattle.lv_model.specs.declared.plant.Plant.{Plant}
 use Rattle.lv_model.specs.WellFormed.{is_well_formed}
 use Rattle.lv_reader.specs.declared.code.ModelCode.{ModelCode}
-use Rattle.lv_reader.specs.declared.code.ModelCode.TheVariants.{NotEnded, LimitPassed, NoPart}
+use Rattle.lv_reader.specs.declared.code.ModelCode.TheVariants.{NotEnded, NoPart}
 use Rattle.lv_reader.specs.declared.fault.ModelFault.{ModelFault}
 use Rattle.lv_reader.specs.declared.fault.ModelFault.TheVariants.{At, Memory}
 use Rattle.lv_reader.specs.declared.statement.NumberedStatement.{NumberedStatement}
@@ -35,11 +35,21 @@ abbrev pub all_added : Draft → List NumberedStatement → Checked Draft
 all_added d [] = fine d
 all_added d (s ∷ ss) = after (one_added d s) (λ e. all_added e ss)
 
--- what a draft comes to where the text ends, behind so many lines: no type is left that has not ended, there is a part, and the
--- plant is well formed
+-- what a draft comes to where the text ends, behind so many lines: no type is left that has not ended, and there is a part
 abbrev pub finished : ℕ → Draft → Checked Plant
-finished lines d =
-    if is_some d.current then faulty NotEnded (lines + 1) else (if nat_eq (length d.plant.parts) 0 then faulty NoPart (lines + 1) else (if is_well_formed d.plant then fine d.plant else faulty LimitPassed (lines + 1)))
+finished lines d = if is_some d.current then faulty NotEnded (lines + 1) else (if nat_eq (length d.plant.parts) 0 then faulty NoPart (lines + 1) else fine d.plant)
+
+-- a text may end there
+abbrev pub is_complete : Draft → Bool
+is_complete d = not (is_some d.current) && not (nat_eq (length d.plant.parts) 0)
+
+-- where a text may end, the plant is well formed
+pub record EndsWell (d : Draft) : Type 0 where
+  pub well_formed : is_complete d ≡ true → is_well_formed d.plant ≡ true
+
+-- the same of the draft that the statements of a text give
+pub record GivesModel (text : ModelText) : Type 0 where
+  pub ends : (d : Draft) → all_added empty text.statements ≡ fine d → EndsWell d
 
 -- the plant of a text, or its first fault of checking
 unfoldable pub checked : ModelText → Checked Plant

@@ -1,10 +1,11 @@
 -- What becomes of the bytes of a model's text: a plant, or the code and the line for which they are refused. A fault of reading
 -- comes before every fault of checking.
-use Rattle.std.specs.Prelude.{◌≡◌, ◌≤◌, ℕ, List, length, map}
+use Rattle.std.specs.Prelude.{◌≡◌, ◌≤◌, ℕ, true, List, length, map}
 use Rattle.lv_base.specs.declared.limits.TheConstants.{MODEL_BYTES}
 use Rattle.lv_text.specs.Lexemes.{line_reading}
 use Rattle.lv_text.specs.Lines.{lines_of}
 use Rattle.lv_model.specs.declared.plant.Plant.{Plant}
+use Rattle.lv_model.specs.WellFormed.{is_well_formed}
 use Rattle.lv_reader.specs.declared.code.ModelCode.{ModelCode}
 use Rattle.lv_reader.specs.declared.fault.ModelFault.{ModelFault}
 use Rattle.lv_reader.specs.declared.fault.ModelFault.TheVariants.{At, Memory}
@@ -40,3 +41,7 @@ abbrev pub ReadingsGiveVerdict : Type 0
 ReadingsGiveVerdict =
     (a b : List ℕ) (v : Verdict) → length a ≤ MODEL_BYTES → length b ≤ MODEL_BYTES → map line_reading (lines_of a) ≡ map line_reading (lines_of b)
     → IsVerdict a v → IsVerdict b v
+
+-- an accepted plant is well formed
+abbrev pub AcceptedIsWellFormed : Type 0
+AcceptedIsWellFormed = (bytes : List ℕ) (plant : Plant) → IsVerdict bytes (accepted plant) → is_well_formed plant ≡ true

@@ -7,7 +7,7 @@ ghost use Rattle.lv_checker.specs.declared.draft.Entry.TheVariants.{NewDomain, N
 ghost use Rattle.lv_checker.specs.Entries.{TellsEntry};
 ghost use Rattle.lv_checker.specs.Faults.{fault_of_entry, judged};
 ghost use Rattle.lv_checker.specs.Drafts.{bare, empty, limited_size, is_end, with_type, with_inside, with_part, with_law, with_outside, with_entry};
-ghost use Rattle.lv_checker.specs.Checking.{fine, one_added, all_added, finished, checked, Finds};
+ghost use Rattle.lv_checker.specs.Checking.{fine, one_added, all_added, finished, checked, EndsWell, GivesModel, Finds};
 ghost use Rattle.lv_checker.specs.Verdicts.{IsVerdict, accepted, Tells};
 
 use crate::draft::{CheckFault, Draft, Entry, TypeDraft};
@@ -239,7 +239,8 @@ fn one_added(alloc: Global, draft: Draft, numbered: &NumberedStatement) -> Resul
 
 /// What a draft comes to where the text ends, behind so many lines.
 fn finished(alloc: Global, draft: Draft, lines: usize) -> Result<Model, ModelFault>
-    requires { lines < 2 ^ 63 }
+    requires lines { lines < 2 ^ 63 }
+    requires well { EndsWell draft }
     ensures ok { IfOk result (λ m. finished lines draft ≡ fine m) }
     ensures fault { IfErr result (λ fault. Finds fault (finished lines draft)) }
 {
@@ -258,17 +259,15 @@ fn finished(alloc: Global, draft: Draft, lines: usize) -> Result<Model, ModelFau
     }
     match Model::new(alloc, draft.plant)? {
         Some(model) => Ok(model),
-        None => Err(ModelFault::At {
-            code: ModelCode::LimitPassed,
-            line,
-        }),
+        None => unreachable!(),
     }
 }
 
 /// The model of a text, or its first fault of checking.
 #[tactic(auto, unfolding(crate::specs::Checking::checked))]
-pub fn check_model(alloc: Global, text: &ModelText) -> Result<Model, ModelFault>
-    requires { text.now.lines < 2 ^ 63 }
+fn check_model(alloc: Global, text: &ModelText) -> Result<Model, ModelFault>
+    requires lines { text.now.lines < 2 ^ 63 }
+    requires model { GivesModel text.now }
     ensures ok { IfOk result (λ m. checked text.now ≡ fine m) }
     ensures fault { IfErr result (λ fault. Finds fault (checked text.now)) }
 {

@@ -1,7 +1,7 @@
 //! What holds of every text. The functions do nothing; their clauses are the laws.
 #![tactic(auto)]
 
-ghost use Rattle.lv_checker.specs.Verdicts.{VerdictIsOne, ReadingsGiveVerdict};
+ghost use Rattle.lv_checker.specs.Verdicts.{VerdictIsOne, ReadingsGiveVerdict, AcceptedIsWellFormed};
 
 /// A text has at most one verdict.
 pub fn verdict_is_one()
@@ -12,4 +12,9 @@ pub fn verdict_is_one()
 /// read alike, line by line, have the same verdict.
 pub fn readings_give_verdict()
     ensures { ReadingsGiveVerdict }
+{}
+
+/// The plant of an accepted text is well formed: what is asked of each statement leaves nothing to ask of the whole.
+pub fn accepted_is_well_formed()
+    ensures { AcceptedIsWellFormed }
 {}

@@ -6,7 +6,7 @@
 //!
 //! | part | items |
 //! |---|---|
-//! | the model of a text | `model_of`, `check_model` |
+//! | the model of a text | `model_of` |
 //! | statements so far, and what one more adds | `Draft`, `TypeDraft`, `Entry` |
 //! | what names stand for | `places`, `scope` |
 //! | what a statement adds, or why its place or names are wrong | `entries` |
@@ -23,5 +23,5 @@ mod places;
 mod scope;
 mod types;
 
-pub use checker::{check_model, model_of};
+pub use checker::model_of;
 pub use draft::{Draft, Entry, TypeDraft};
