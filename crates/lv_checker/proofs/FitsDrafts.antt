@@ -1,13 +1,12 @@
 -- A draft fits at every statement, and what is checked is well formed.
-use Rattle.std.proofs.Common.{◌≡◌, ◌≢◌, ◌+◌, ◌-◌, ◌<◌, ◌≤◌, ℕ, zero, suc, min, Bool, true, false, not, ◌&&◌, ◌||◌, nat_eq, nat_lt, nat_le, List, [], ◌∷◌, ◌++◌, length, map, position, slice_get, if◌then◌else◌, Option, Some, None, is_some, option_map, Result, Ok, Err, refl, sym, ap, ap₂, subst, ◌∙◌, arith}
-use Rattle.std.specs.List.{list_all, list_any, flat_map}
+use Rattle.std.proofs.Common.{◌≡◌, ◌+◌, ◌-◌, ◌<◌, ◌≤◌, ℕ, zero, suc, Bool, true, false, not, ◌&&◌, ◌||◌, nat_eq, nat_lt, nat_le, List, [], ◌∷◌, ◌++◌, length, map, position, slice_get, if◌then◌else◌, Option, Some, None, is_some, option_map, Result, Ok, Err, refl, sym, ap, ap₂, subst, ◌∙◌, arith}
+use Rattle.std.specs.List.{list_all, list_any}
 use Rattle.std.specs.Option.{option_map_or, option_and_then}
 use Rattle.std.proofs.lemmas.Bool.{and_parts, and_from, or_parts, lt-ltb, le-leb, ltb-true, ltb-false, eqb-false, not-false, not-true}
 use Rattle.std.proofs.lemmas.List.{map_push}
 use Rattle.std.proofs.lemmas.Option.{slice_get-map}
-use Rattle.lv_base.specs.declared.limits.TheConstants.{PARTS, VALUES, VARIABLES, NAME_BYTES, MODEL_CLAUSES, PRICE}
+use Rattle.lv_base.specs.declared.limits.TheConstants.{PARTS, VALUES, VARIABLES, MODEL_CLAUSES, PRICE}
 use Rattle.lv_base.specs.declared.ids.VarId.{VarId}
-use Rattle.lv_base.specs.declared.ids.ValId.{ValId}
 use Rattle.lv_formula.specs.Tree.{Tree}
 use Rattle.lv_formula.specs.declared.range.Range.{Range}
 use Rattle.lv_formula.specs.Fits.{fits, has_value}
@@ -39,12 +38,12 @@ use Rattle.lv_checker.specs.declared.draft.Entry.{Entry}
 use Rattle.lv_checker.specs.declared.draft.Entry.TheVariants.{Named, NewDomain, TypeBegins, NewVariable, NewMode, TypeLaw, ModeLaw, NewMove, TypeEnds, NewPart, SystemLaw, NewPrice}
 use Rattle.lv_checker.specs.Places.{placed, variable_numbered, variable_place, part_of_name, type_place, mode_of_type, mode_place}
 use Rattle.lv_checker.specs.Scopes.{variable_of_part, value_of_system}
-use Rattle.lv_checker.specs.Entries.{known, on_ok, system_formula, own_variable, is_control_of, has_control, priced_entry, outside_entry, inside_entry, entry_where, entry_of}
-use Rattle.lv_checker.specs.Faults.{first_of, fault_where, judged, in_use_inside, is_too_long_inside, passes_inside, in_use_outside, is_too_long_outside, passes_outside, is_long_name, share_of}
+use Rattle.lv_checker.specs.Entries.{system_formula, own_variable, is_control_of, has_control, priced_entry, outside_entry, entry_where}
+use Rattle.lv_checker.specs.Faults.{fault_where, judged, in_use_inside, is_too_long_inside, passes_inside, in_use_outside, is_too_long_outside, passes_outside, is_long_name, share_of}
 use Rattle.lv_checker.specs.Drafts.{empty, begun, with_type, with_inside, with_part, with_law, with_outside, with_where, with_entry, type_with, limited_size}
-use Rattle.lv_checker.specs.Checking.{Checked, fine, faulty, checked_by, after, one_added, all_added, finished, checked, is_complete, EndsWell, GivesModel}
+use Rattle.lv_checker.specs.Checking.{Checked, fine, faulty, checked_by, after, all_added, finished, checked, GivesModel}
 use Rattle.lv_checker.specs.Verdicts.{Verdict, IsVerdict, not_read, is_checked, accepted, refused, verdict_of, AcceptedIsWellFormed}
-use Rattle.lv_checker.proofs.FitsLists.{all_at, all_more, all_joined, chained, mapped, passed, placed_is}
+use Rattle.lv_checker.proofs.FitsLists.{chained, mapped, passed, placed_is}
 use Rattle.lv_checker.proofs.FitsNames.{is_spelled, has_names, is_sound, statements_sound}
 use Rattle.lv_checker.proofs.FitsScopes.{place_below, is_sized, parts_sized, system_value, system_formula_fits}
 use Rattle.lv_checker.proofs.FitsTypes.{TypeFits, FitsInside, begun_fits, type_kept, ended_fits, ended_counts}
@@ -69,10 +68,25 @@ pub empty_fits : DraftFits empty
 empty_fits =
     record {
       lists = record {
-        named = refl; each_domain = refl; each_type = refl; few_parts = omega arith; each_part = refl; numbered = refl; few_variables = omega arith;
-        each_law = refl; each_price = refl; once = refl; type_counts = refl; law_counts = refl; few_clauses = omega arith;
+        named = refl;
+        each_domain = refl;
+        each_type = refl;
+        few_parts = omega arith;
+        each_part = refl;
+        numbered = refl;
+        few_variables = omega arith;
+        each_law = refl;
+        each_price = refl;
+        once = refl;
+        type_counts = refl;
+        law_counts = refl;
+        few_clauses = omega arith;
       };
-      ranges_are = refl; sizes_are = refl; shares_are = refl; clauses_are = refl; current_fits = tt;
+      ranges_are = refl;
+      sizes_are = refl;
+      shares_are = refl;
+      clauses_are = refl;
+      current_fits = tt;
     }
 
 begun_draft : (d : Draft) → DraftFits d → DraftFits (record d { has_begun = true })
@@ -149,7 +163,7 @@ module _ (d : Draft) (fact : DraftFits d) where
   law_kept f h =
       record {
         lists =
-          law_added d.plant fact.lists f (subst (λ (rs : List Range). fits rs f ≡ true) fact.ranges_are h.fit) (subst (λ (ns : List ℕ). has_count ns true f ≡ true) fact.sizes_are h.counts) few;
+            law_added d.plant fact.lists f (subst (λ (rs : List Range). fits rs f ≡ true) fact.ranges_are h.fit) (subst (λ (ns : List ℕ). has_count ns true f ≡ true) fact.sizes_are h.counts) few;
         ranges_are = fact.ranges_are;
         sizes_are = fact.sizes_are;
         shares_are = fact.shares_are;
@@ -170,7 +184,11 @@ module _ (d : Draft) (fact : DraftFits d) where
   price_kept x h =
       record {
         lists = price_added d.plant fact.lists x (subst (λ (rs : List Range). price_fits rs (controls d.plant) x ≡ true) fact.ranges_are h.fit) h.new;
-        ranges_are = fact.ranges_are; sizes_are = fact.sizes_are; shares_are = fact.shares_are; clauses_are = fact.clauses_are; current_fits = fact.current_fits;
+        ranges_are = fact.ranges_are;
+        sizes_are = fact.sizes_are;
+        shares_are = fact.shares_are;
+        clauses_are = fact.clauses_are;
+        current_fits = fact.current_fits;
       }
 
   domain_kept : (x : Domain) → d.current ≡ None → domain_fits x ≡ true → DraftFits (record d { plant = record (d.plant) { domains = d.plant.domains ++ x ∷ [] } })
@@ -188,7 +206,11 @@ module _ (d : Draft) (fact : DraftFits d) where
   named_kept name h =
       record {
         lists = name_given d.plant name fact.lists h;
-        ranges_are = fact.ranges_are; sizes_are = fact.sizes_are; shares_are = fact.shares_are; clauses_are = fact.clauses_are; current_fits = fact.current_fits;
+        ranges_are = fact.ranges_are;
+        sizes_are = fact.sizes_are;
+        shares_are = fact.shares_are;
+        clauses_are = fact.clauses_are;
+        current_fits = fact.current_fits;
       }
 
   going : (t : TypeDraft) → TypeFits d.plant.domains t → DraftFits (record d { current = Some t })
@@ -202,7 +224,7 @@ module _ (d : Draft) (fact : DraftFits d) where
         ranges_are = fact.ranges_are ∙ sym (ranges_same d.plant d.plant.domains (d.plant.types ++ t.lists ∷ []) fact.lists (same_with_type d.plant.domains d.plant.types t.lists));
         sizes_are = fact.sizes_are ∙ sym (sizes_same d.plant d.plant.domains (d.plant.types ++ t.lists ∷ []) fact.lists (same_with_type d.plant.domains d.plant.types t.lists));
         shares_are =
-          ap (λ (ns : List ℕ). ns ++ held (type_count d.plant.domains t.lists) ∷ []) fact.shares_are ∙ sym (map_push (held_type_count d.plant.domains) d.plant.types t.lists);
+            ap (λ (ns : List ℕ). ns ++ held (type_count d.plant.domains t.lists) ∷ []) fact.shares_are ∙ sym (map_push (held_type_count d.plant.domains) d.plant.types t.lists);
         clauses_are = fact.clauses_are ∙ sym (count_same d.plant d.plant.domains (d.plant.types ++ t.lists ∷ []) fact.lists (same_with_type d.plant.domains d.plant.types t.lists));
         current_fits = tt;
       }
@@ -269,7 +291,7 @@ module _ (d : Draft) (fact : DraftFits d) where
       let place : own_variable one.0.variables two.0 ≡ Some class.0 = sym (ap (λ (o : Option ℕ). option_and_then (own_variable one.0.variables) o) two.1) ∙ class.1 in
       among_parts (is_variable x.0) (part_controls d.plant.types) d.plant.parts k p here
       (subst (λ (o : Option ComponentType). list_any (is_variable x.0) (option_map_or (λ (t : ComponentType). controls_from (p.first.0 + 1) t.variables) o []) ≡ true) (sym one.1)
-        (by two.0 number class.0 place class.2 one.0.variables refl))
+      (by two.0 number class.0 place class.2 one.0.variables refl))
     where
       by : (n : ℕ) → x.0 ≡ p.first.0 + n → (v : Variable) → {vs : List Variable} → own_variable vs n ≡ Some v → is_control v.class ≡ true → (us : List Variable) → us ≡ vs → list_any (is_variable x.0) (controls_from (p.first.0 + 1) us) ≡ true
       by zero e v at h us is = absurd (cc)
@@ -293,26 +315,26 @@ module _ (d : Draft) (fact : DraftFits d) where
   outside_fits (DomainLine name values) e h named number =
       subst (λ (x : Entry). Fitting x) (same_ok (NewDomain (record { name = name; values = values })) e h)
       (λ free.
-        let own = and_parts (is_spelled name) (nat_lt 0 (length values) && list_all is_spelled values) named in
-        let rest = and_parts (nat_lt 0 (length values)) (list_all is_spelled values) own.1 in
-        let limits = or_parts (nat_lt VALUES (length values)) (is_long_name name || list_any is_long_name values) free.within in
-        let long = or_parts (is_long_name name) (list_any is_long_name values) limits.1 in
-        let some : 0 < length values = ltb-true 0 (length values) rest.0 in
-        and_from (name_fits name) (is_within 1 (length values) VALUES && list_all name_fits values) (name_from name own.0 long.0)
-        (and_from (is_within 1 (length values) VALUES) (list_all name_fits values)
-          (and_from (nat_le 1 (length values)) (nat_le (length values) VALUES) (le-leb 1 (length values) (omega (arith, some))) (le-leb (length values) VALUES (ltb-false VALUES (length values) limits.0)))
-          (names_from values rest.1 long.1)))
+      let own = and_parts (is_spelled name) (nat_lt 0 (length values) && list_all is_spelled values) named in
+      let rest = and_parts (nat_lt 0 (length values)) (list_all is_spelled values) own.1 in
+      let limits = or_parts (nat_lt VALUES (length values)) (is_long_name name || list_any is_long_name values) free.within in
+      let long = or_parts (is_long_name name) (list_any is_long_name values) limits.1 in
+      let some : 0 < length values = ltb-true 0 (length values) rest.0 in
+      and_from (name_fits name) (is_within 1 (length values) VALUES && list_all name_fits values) (name_from name own.0 long.0)
+      (and_from (is_within 1 (length values) VALUES) (list_all name_fits values)
+      (and_from (nat_le 1 (length values)) (nat_le (length values) VALUES) (le-leb 1 (length values) (omega (arith, some))) (le-leb (length values) VALUES (ltb-false VALUES (length values) limits.0)))
+      (names_from values rest.1 long.1)))
   outside_fits (TypeLine name) e h named number =
       subst (λ (x : Entry). Fitting x) (same_ok (TypeBegins name) e h) (λ free. name_from name named free.within)
   outside_fits (LawLine f) e h named number =
       let one = ok_parts (system_formula d f) (λ g. Ok (SystemLaw g)) e h in
       subst (λ (x : Entry). Fitting x) (same_ok (SystemLaw one.0) e one.2)
       (λ free.
-        record {
-          fit = system_formula_fits d sized f one.0 one.1;
-          counts = not-false (has_count d.sizes true one.0) free.short;
-          few_clauses = ltb-false MODEL_CLAUSES (d.clauses + law_count d.sizes one.0) free.within;
-        })
+      record {
+        fit = system_formula_fits d sized f one.0 one.1;
+        counts = not-false (has_count d.sizes true one.0) free.short;
+        few_clauses = ltb-false MODEL_CLAUSES (d.clauses + law_count d.sizes one.0) free.within;
+      })
   outside_fits (PartLine name kind start) e h named number =
       let one = known_parts (type_place d.plant.types kind) UnknownName _ e h in
       let two = known_parts (mode_of_type d.plant.types one.0 start) UnknownName _ e one.2 in
@@ -322,18 +344,18 @@ module _ (d : Draft) (fact : DraftFits d) where
       let below = place_below there.0.modes start two.0 there.2 in
       subst (λ (x : Entry). Fitting x) (same_ok (NewPart (record { name = name; kind = one.0; start = two.0; first = three.0 })) e three.2)
       (λ free.
-        let a = or_parts (not (nat_lt (length d.plant.parts) PARTS)) _ free.within in
-        let b = or_parts (nat_lt VARIABLES (length d.ranges + part_width d.plant.types (record { name = name; kind = one.0; start = two.0; first = three.0 }))) _ a.1 in
-        let c = or_parts (nat_lt MODEL_CLAUSES (d.clauses + share_of d (record { name = name; kind = one.0; start = two.0; first = three.0 }))) (is_long_name name) b.1 in
-        record {
-          fit =
+      let a = or_parts (not (nat_lt (length d.plant.parts) PARTS)) _ free.within in
+      let b = or_parts (nat_lt VARIABLES (length d.ranges + part_width d.plant.types (record { name = name; kind = one.0; start = two.0; first = three.0 }))) _ a.1 in
+      let c = or_parts (nat_lt MODEL_CLAUSES (d.clauses + share_of d (record { name = name; kind = one.0; start = two.0; first = three.0 }))) (is_long_name name) b.1 in
+      record {
+        fit =
             and_from (name_fits name) _ (name_from name named c.1)
             (subst (λ (o : Option ComponentType). option_map_or (λ (t : ComponentType). nat_lt two.0.0 (length t.modes)) o false ≡ true) (sym there.1) (lt-ltb two.0.0 (length there.0.modes) below));
-          begins = numbered_is (length d.ranges) three.0 three.1;
-          few_parts = ltb-true (length d.plant.parts) PARTS (not-false (nat_lt (length d.plant.parts) PARTS) a.0);
-          few_variables = ltb-false VARIABLES (length d.ranges + part_width d.plant.types (record { name = name; kind = one.0; start = two.0; first = three.0 })) b.0;
-          few_clauses = ltb-false MODEL_CLAUSES (d.clauses + share_of d (record { name = name; kind = one.0; start = two.0; first = three.0 })) c.0;
-        })
+        begins = numbered_is (length d.ranges) three.0 three.1;
+        few_parts = ltb-true (length d.plant.parts) PARTS (not-false (nat_lt (length d.plant.parts) PARTS) a.0);
+        few_variables = ltb-false VARIABLES (length d.ranges + part_width d.plant.types (record { name = name; kind = one.0; start = two.0; first = three.0 })) b.0;
+        few_clauses = ltb-false MODEL_CLAUSES (d.clauses + share_of d (record { name = name; kind = one.0; start = two.0; first = three.0 })) c.0;
+      })
   outside_fits (PriceLine part control value cost) e h named number =
       let one = known_parts (part_of_name d.plant.parts part) UnknownName _ e h in
       let two = known_parts (variable_of_part d.plant.types control one.0) UnknownName _ e one.2 in
@@ -343,12 +365,12 @@ module _ (d : Draft) (fact : DraftFits d) where
       let place = chained (slice_get d.plant.parts) (position (part_named part) d.plant.parts) one.0 one.1 in
       subst (λ (x : Entry). Fitting x) (same_ok (NewPrice (record { control = two.0; value = four.0; cost = record { 0 = cost } })) e five.1)
       (λ free.
-        record {
-          fit =
+      record {
+        fit =
             and_from (list_any (is_variable two.0.0) (controls d.plant)) _ (control_found one.0 place.0 control two.0 place.2 two.1 three.0)
             (and_from (has_value d.ranges two.0.0 four.0.0) _ (system_value d sized two.0 value four.0 four.1) (and_from (nat_lt 0 four.0.0) (nat_le cost PRICE) five.0 number));
-          new = free.new;
-        })
+        new = free.new;
+      })
   outside_fits (VariableLine class name domain) e h named number = absurd (cc)
   outside_fits (ModeLine name) e h named number = absurd (cc)
   outside_fits (InLine mode f) e h named number = absurd (cc)
@@ -413,10 +435,10 @@ pub gives_model : (bytes : List ℕ) (text : ModelText) → ReadsAs bytes text �
 gives_model bytes text reads =
     record {
       ends = λ d added.
-        record {
-          well_formed = λ whole.
-            checked_well bytes text d reads added (not-true (nat_eq (length d.plant.parts) 0) (and_parts (not (is_some d.current)) (not (nat_eq (length d.plant.parts) 0)) whole).1);
-        };
+          record {
+            well_formed = λ whole.
+                checked_well bytes text d reads added (not-true (nat_eq (length d.plant.parts) 0) (and_parts (not (is_some d.current)) (not (nat_eq (length d.plant.parts) 0)) whole).1);
+          };
     }
 
 -- what a draft comes to

@@ -1,18 +1,16 @@
 -- What a statement adds to a type that has not ended is known to fit.
-use Rattle.std.proofs.Common.{◌≡◌, ◌+◌, ◌<◌, ◌≤◌, ℕ, zero, suc, Bool, true, false, not, ◌&&◌, ◌||◌, nat_eq, nat_lt, nat_le, List, [], ◌∷◌, length, position, Option, Some, None, is_some, Result, Ok, Err, if◌then◌else◌, refl, sym, ap, ap₂, subst, ◌∙◌, arith}
-use Rattle.std.specs.Option.{option_map_or, option_and_then}
-use Rattle.std.proofs.lemmas.Bool.{and_parts, and_from, lt-ltb, le-leb, ltb-true, ltb-false, eqb-false, or_parts, not-false}
+use Rattle.std.proofs.Common.{◌≡◌, ◌<◌, ◌≤◌, ℕ, zero, suc, Bool, true, false, not, ◌&&◌, ◌||◌, nat_eq, nat_lt, nat_le, List, [], length, position, Option, Some, None, Result, Ok, Err, if◌then◌else◌, refl, sym, ap, subst, ◌∙◌, arith}
+use Rattle.std.specs.Option.{option_map_or}
+use Rattle.std.proofs.lemmas.Bool.{and_from, lt-ltb, le-leb, ltb-true, ltb-false, eqb-false, or_parts, not-false}
 use Rattle.std.proofs.lemmas.List.Quantifiers.{position-Some}
 use Rattle.lv_base.specs.declared.limits.TheConstants.{MODES, MOVES, NAME_BYTES, LEAST_FAULT_COST, FAULT_COST}
 use Rattle.lv_base.specs.declared.ids.ValId.{ValId}
 use Rattle.lv_formula.specs.Tree.{Tree}
 use Rattle.lv_formula.specs.Fits.{fits}
 use Rattle.lv_model.specs.declared.plant.Domain.{Domain}
-use Rattle.lv_model.specs.declared.plant.ComponentType.{ComponentType}
 use Rattle.lv_model.specs.Names.{domain_named}
-use Rattle.lv_model.specs.Ranges.{type_ranges}
 use Rattle.lv_model.specs.Counts.{has_count, guard_has_counts}
-use Rattle.lv_model.specs.WellFormed.{name_fits, variable_fits, move_fits, kind_fits, guard_fits}
+use Rattle.lv_model.specs.WellFormed.{name_fits, move_fits}
 use Rattle.lv_phrase.specs.PhraseTree.{PhraseTree}
 use Rattle.lv_reader.specs.declared.code.ModelCode.{ModelCode}
 use Rattle.lv_reader.specs.declared.code.ModelCode.TheVariants.{UnknownName, LimitPassed, NotEnded}
@@ -22,14 +20,14 @@ use Rattle.lv_reader.specs.Statements.{number_fits}
 use Rattle.lv_checker.specs.declared.draft.Draft.{Draft}
 use Rattle.lv_checker.specs.declared.draft.TypeDraft.{TypeDraft}
 use Rattle.lv_checker.specs.declared.draft.Entry.{Entry}
-use Rattle.lv_checker.specs.declared.draft.Entry.TheVariants.{Named, NewDomain, TypeBegins, NewVariable, NewMode, TypeLaw, ModeLaw, NewMove, TypeEnds, NewPart, SystemLaw, NewPrice}
+use Rattle.lv_checker.specs.declared.draft.Entry.TheVariants.{NewMode, TypeLaw, ModeLaw, NewMove, TypeEnds}
 use Rattle.lv_checker.specs.Places.{placed, domain_place, mode_place}
 use Rattle.lv_checker.specs.Entries.{known, on_ok, type_formula, step_of, fault_of, line_number, guard_in, inside_entry, entry_of}
 use Rattle.lv_checker.specs.Faults.{first_of, fault_where, fault_of_entry, unless_faulty, judged, in_use_inside, is_too_long_inside, passes_inside, is_long_name}
 use Rattle.lv_checker.proofs.FitsLists.{chained, placed_is}
 use Rattle.lv_checker.proofs.FitsNames.{is_spelled, has_names}
 use Rattle.lv_checker.proofs.FitsScopes.{place_below, type_formula_fits}
-use Rattle.lv_checker.proofs.FitsTypes.{own_ranges, TypeFits, FitsInside}
+use Rattle.lv_checker.proofs.FitsTypes.{own_ranges, FitsInside}
 
 pub known_parts : {A B : Type 0} (o : Option A) (code : ModelCode) (next : A → Result B ModelCode) (y : B) → known o code next ≡ Ok y → (x : A) × (o ≡ Some x) × (next x ≡ Ok y)
 known_parts None code next y h = absurd (cc)
@@ -122,14 +120,14 @@ module _ (domains : List Domain) (t : TypeDraft) where
       let one = known_parts (placed (length t.lists.modes)) LimitPassed (λ n. Ok (NewMode name n)) e h in
       subst (λ (x : Entry). Fitting x) (same_ok _ e one.2)
       (λ free.
-        let first = or_parts (not (nat_lt (length t.lists.modes) MODES)) (not (nat_lt (length t.lists.moves) MOVES) || is_long_name name) free.within in
-        let second = or_parts (not (nat_lt (length t.lists.moves) MOVES)) (is_long_name name) first.1 in
-        record {
-          name_is = name_from name named second.1;
-          number = sym (placed_is (length t.lists.modes) one.0 one.1);
-          few_modes = few_from (length t.lists.modes) MODES first.0;
-          few_moves = few_from (length t.lists.moves) MOVES second.0;
-        })
+      let first = or_parts (not (nat_lt (length t.lists.modes) MODES)) (not (nat_lt (length t.lists.moves) MOVES) || is_long_name name) free.within in
+      let second = or_parts (not (nat_lt (length t.lists.moves) MOVES)) (is_long_name name) first.1 in
+      record {
+        name_is = name_from name named second.1;
+        number = sym (placed_is (length t.lists.modes) one.0 one.1);
+        few_modes = few_from (length t.lists.modes) MODES first.0;
+        few_moves = few_from (length t.lists.moves) MOVES second.0;
+      })
   inside_fits (LawLine f) e h named number =
       let one = ok_parts (type_formula domains t.lists f) (λ g. Ok (TypeLaw g)) e h in
       subst (λ (x : Entry). Fitting x) (same_ok _ e one.2)
@@ -139,10 +137,10 @@ module _ (domains : List Domain) (t : TypeDraft) where
       let two = ok_parts (type_formula domains t.lists f) (λ g. Ok (ModeLaw (record { mode = one.0; condition = g }))) e one.2 in
       subst (λ (x : Entry). Fitting x) (same_ok _ e two.2)
       (λ free.
-        record {
-          fit = and_from (nat_lt one.0.0 (length t.lists.modes)) _ (mode_below mode one.0 one.1) (type_formula_fits domains t.lists f two.0 two.1);
-          counts = not-false (has_count t.sizes true two.0) free.short;
-        })
+      record {
+        fit = and_from (nat_lt one.0.0 (length t.lists.modes)) _ (mode_below mode one.0 one.1) (type_formula_fits domains t.lists f two.0 two.1);
+        counts = not-false (has_count t.sizes true two.0) free.short;
+      })
   inside_fits (StepLine source target f) e h named number =
       let one = known_parts (mode_place t.lists source) UnknownName _ e h in
       let two = known_parts (mode_place t.lists target) UnknownName _ e one.2 in
@@ -150,12 +148,12 @@ module _ (domains : List Domain) (t : TypeDraft) where
       let four = known_parts (line_number t.lists) LimitPassed (λ n. Ok (NewMove (step_of one.0 two.0 three.0 n))) e three.2 in
       subst (λ (x : Entry). Fitting x) (same_ok _ e four.2)
       (λ free.
-        record {
-          fit = step_from one.0 two.0 three.0 four.0 (mode_below source one.0 one.1) (mode_below target two.0 two.1) (type_formula_fits domains t.lists f three.0 three.1);
-          counts = not-false (guard_has_counts t.sizes (step_of one.0 two.0 three.0 four.0)) free.short;
-          no_stay = refl;
-          few_moves = few_from (length t.lists.moves) MOVES free.within;
-        })
+      record {
+        fit = step_from one.0 two.0 three.0 four.0 (mode_below source one.0 one.1) (mode_below target two.0 two.1) (type_formula_fits domains t.lists f three.0 three.1);
+        counts = not-false (guard_has_counts t.sizes (step_of one.0 two.0 three.0 four.0)) free.short;
+        no_stay = refl;
+        few_moves = few_from (length t.lists.moves) MOVES free.within;
+      })
   inside_fits (FaultLine source target cost guard) e h named number =
       let one = known_parts (mode_place t.lists source) UnknownName _ e h in
       let two = known_parts (mode_place t.lists target) UnknownName _ e one.2 in
@@ -163,12 +161,12 @@ module _ (domains : List Domain) (t : TypeDraft) where
       let four = known_parts (line_number t.lists) LimitPassed (λ n. Ok (NewMove (fault_of one.0 two.0 cost three.0 n))) e three.2 in
       subst (λ (x : Entry). Fitting x) (same_ok _ e four.2)
       (λ free.
-        record {
-          fit = move_from one.0 two.0 cost three.0 four.0 (mode_below source one.0 one.1) (mode_below target two.0 two.1) number (guard_found guard three.0 three.1);
-          counts = not-false (guard_has_counts t.sizes (fault_of one.0 two.0 cost three.0 four.0)) free.short;
-          no_stay = refl;
-          few_moves = few_from (length t.lists.moves) MOVES free.within;
-        })
+      record {
+        fit = move_from one.0 two.0 cost three.0 four.0 (mode_below source one.0 one.1) (mode_below target two.0 two.1) number (guard_found guard three.0 three.1);
+        counts = not-false (guard_has_counts t.sizes (fault_of one.0 two.0 cost three.0 four.0)) free.short;
+        no_stay = refl;
+        few_moves = few_from (length t.lists.moves) MOVES free.within;
+      })
   inside_fits EndLine e h named number = ended (nat_eq (length t.lists.modes) 0) e refl h
   inside_fits (ModelLine name) e h named number = absurd (cc)
   inside_fits (DomainLine name values) e h named number = absurd (cc)

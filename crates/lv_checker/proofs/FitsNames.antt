@@ -1,14 +1,13 @@
 -- What is read of a text: the names of its statements are not empty, and its numbers are within their limits.
-use Rattle.std.proofs.Common.{◌≡◌, ◌+◌, ◌<◌, ℕ, Bool, true, false, ◌&&◌, nat_le, nat_lt, nat_eq, List, [], ◌∷◌, ◌++◌, length, drop, slice_get, Option, Some, None, option_map, if◌then◌else◌, refl, sym, ap, subst, ◌∙◌, arith, All}
+use Rattle.std.proofs.Common.{◌≡◌, ◌+◌, ◌<◌, ℕ, Bool, true, false, ◌&&◌, nat_le, nat_lt, nat_eq, List, [], ◌∷◌, ◌++◌, length, drop, slice_get, Option, Some, None, option_map, if◌then◌else◌, refl, sym, ap, subst, arith, All}
 use Rattle.std.specs.List.{list_all}
 use Rattle.std.specs.Option.{option_and_then}
-use Rattle.std.proofs.lemmas.Bool.{and_parts, and_from, lt-ltb, leb-true}
+use Rattle.std.proofs.lemmas.Bool.{and_from, lt-ltb, leb-true}
 use Rattle.std.proofs.lemmas.List.{length-drop}
 use Rattle.std.proofs.lemmas.List.Elements.{All-head, All-tail, All-drop}
 use Rattle.lv_text.specs.Laws.{IsLexeme}
 use Rattle.lv_text.specs.Lexemes.{Lexeme, Reading, reads, has_bad_byte, is_too_long, line_reading, is_word, word_of, word_at}
 use Rattle.lv_text.specs.Kinds.{has_kind}
-use Rattle.lv_text.specs.Bytes.{is_letter, is_word_byte}
 use Rattle.lv_text.specs.declared.lexer.TokenKind.{TokenKind}
 use Rattle.lv_text.specs.declared.lexer.TokenKind.TheVariants.{Word, Number, Iff, Implies, Arrow, Equals, Not, And, Or, Open, Close, Dot}
 use Rattle.lv_text.proofs.ReadBack.{lexemes_have}
@@ -69,9 +68,10 @@ words_spelled (l ∷ ls) names facts h =
     let rest = mapped (λ words. one.0 ∷ words) (words_of ls) names one.2 in
     let spelled = words_spelled ls rest.0 (All-tail IsLexeme l ls facts) rest.1 in
     let first = lexeme_spelled l one.0 (All-head IsLexeme l ls facts) one.1 in
-    let count : length rest.0 ≡ length ls = spelled.1 in
-    (subst (λ (ns : List (List ℕ)). list_all is_spelled ns ≡ true) rest.2 (and_from (is_spelled one.0) (list_all is_spelled rest.0) first spelled.0),
-    subst (λ (ns : List (List ℕ)). length ns ≡ length (l ∷ ls)) rest.2 (omega (arith, count)))
+    let count : length rest.0 ≡ length ls = spelled.1 in (
+      subst (λ (ns : List (List ℕ)). list_all is_spelled ns ≡ true) rest.2 (and_from (is_spelled one.0) (list_all is_spelled rest.0) first spelled.0),
+      subst (λ (ns : List (List ℕ)). length ns ≡ length (l ∷ ls)) rest.2 (omega (arith, count)),
+    )
 
 module _ (ls : List Lexeme) (facts : All IsLexeme ls) where
   word_spelled : (n : ℕ) (name : List ℕ) → word_at ls n ≡ Some name → is_spelled name ≡ true

@@ -1,9 +1,8 @@
 -- A plant keeps fitting with one more part, one more law of the system, or one more price.
-use Rattle.std.proofs.Common.{◌≡◌, ◌+◌, ◌-◌, ◌<◌, ◌≤◌, ℕ, zero, suc, Bool, true, false, not, ◌&&◌, ◌||◌, nat_eq, nat_lt, nat_le, List, [], ◌∷◌, ◌++◌, length, map, sum_by, slice_get, if◌then◌else◌, Option, Some, None, refl, sym, ap, ap₂, subst, ◌∙◌, arith}
+use Rattle.std.proofs.Common.{◌≡◌, ◌+◌, ◌<◌, ◌≤◌, ℕ, zero, suc, Bool, true, false, not, ◌||◌, nat_eq, List, [], ◌∷◌, ◌++◌, length, map, sum_by, slice_get, if◌then◌else◌, Some, refl, sym, ap, ap₂, subst, ◌∙◌, arith}
 use Rattle.std.specs.List.{list_all, list_any, flat_map}
-use Rattle.std.specs.Option.{option_map_or, option_and_then}
-use Rattle.std.proofs.lemmas.Bool.{and_parts, and_from, or_left, or_right, or_parts, or_from, not_from_false, not-true, lt-ltb, eq-eqb}
-use Rattle.std.proofs.lemmas.List.{length-map, length_push, map-append, flat_map_more}
+use Rattle.std.proofs.lemmas.Bool.{and_parts, and_from, or_left, or_right, or_parts, or_from, not_from_false, not-true, eq-eqb}
+use Rattle.std.proofs.lemmas.List.{length-map, length_push, flat_map_more}
 use Rattle.std.proofs.lemmas.List.Folds.{list_any-append}
 use Rattle.std.proofs.lemmas.List.Sums.{sum_by-cons, sum_by_push}
 use Rattle.lv_base.specs.declared.limits.TheConstants.{PARTS, VARIABLES, MODEL_CLAUSES}
@@ -18,7 +17,7 @@ use Rattle.lv_model.specs.declared.plant.Part.{Part}
 use Rattle.lv_model.specs.declared.plant.Price.{Price}
 use Rattle.lv_model.specs.declared.plant.Variable.{Variable}
 use Rattle.lv_model.specs.Ranges.{part_ranges, plant_ranges}
-use Rattle.lv_model.specs.Lists.{sizes, part_width, variable_count, is_control, is_variable, controls_from, part_controls, controls}
+use Rattle.lv_model.specs.Lists.{part_width, variable_count, is_control, is_variable, controls_from, part_controls, controls}
 use Rattle.lv_model.specs.Counts.{limited, has_count, law_sizes, law_count, part_count, plant_count}
 use Rattle.lv_model.specs.Prices.{is_price_of}
 use Rattle.lv_model.specs.WellFormed.{name_fits, part_fits, firsts_follow, price_fits, are_priced_once}
@@ -31,9 +30,19 @@ use Rattle.lv_checker.proofs.FitsPlants.{PlantFits}
 pub name_given : (plant : Plant) (name : List ℕ) → PlantFits plant → name_fits name ≡ true → PlantFits (record plant { name = name })
 name_given plant name fact h =
     record {
-      named = h; each_domain = fact.each_domain; each_type = fact.each_type; few_parts = fact.few_parts; each_part = fact.each_part; numbered = fact.numbered;
-      few_variables = fact.few_variables; each_law = fact.each_law; each_price = fact.each_price; once = fact.once; type_counts = fact.type_counts;
-      law_counts = fact.law_counts; few_clauses = fact.few_clauses;
+      named = h;
+      each_domain = fact.each_domain;
+      each_type = fact.each_type;
+      few_parts = fact.few_parts;
+      each_part = fact.each_part;
+      numbered = fact.numbered;
+      few_variables = fact.few_variables;
+      each_law = fact.each_law;
+      each_price = fact.each_price;
+      once = fact.once;
+      type_counts = fact.type_counts;
+      law_counts = fact.law_counts;
+      few_clauses = fact.few_clauses;
     }
 
 sizes_of : (rs : List Range) → map limited (map (λ (r : Range). r.size) rs) ≡ map limited_size rs
@@ -85,9 +94,9 @@ module _ (plant : Plant) (fact : PlantFits plant) where
     count_more =
         let a = sum_by_push (part_count plant.domains plant.types) plant.parts p in
         let b : sum_by (law_count (law_sizes with_it)) plant.laws ≡ sum_by (law_count (law_sizes plant)) plant.laws =
-            ap (λ (ns : List ℕ). sum_by (law_count ns) plant.laws) sizes_more
-            ∙ sum_same (fits (plant_ranges plant)) (law_count (law_sizes plant ++ map limited_size (part_ranges plant.domains plant.types p))) (law_count (law_sizes plant)) plant.laws
-              (law_kept (plant_ranges plant) (law_sizes plant) (map limited_size (part_ranges plant.domains plant.types p)) few_ranges) fact.each_law in
+        ap (λ (ns : List ℕ). sum_by (law_count ns) plant.laws) sizes_more
+        ∙ sum_same (fits (plant_ranges plant)) (law_count (law_sizes plant ++ map limited_size (part_ranges plant.domains plant.types p))) (law_count (law_sizes plant)) plant.laws
+        (law_kept (plant_ranges plant) (law_sizes plant) (map limited_size (part_ranges plant.domains plant.types p)) few_ranges) fact.each_law in
         omega (arith, a, b)
 
     pub part_added : part_fits plant.types p ≡ true → p.first.0 ≡ variable_count plant → length plant.parts < PARTS → variable_count plant + part_width plant.types p ≤ VARIABLES
@@ -102,18 +111,18 @@ module _ (plant : Plant) (fact : PlantFits plant) where
           numbered = let e : p.first.0 ≡ 0 + sum_by (part_width plant.types) plant.parts = omega (arith, first) in firsts_more plant.types 0 plant.parts p fact.numbered e;
           few_variables = let e = sum_by_push (part_width plant.types) plant.parts p in omega (arith, e, room);
           each_law =
-            subst (λ (rs : List Range). list_all (fits rs) plant.laws ≡ true) (sym ranges_more)
-            (all_kept (fits (plant_ranges plant)) (fits (plant_ranges plant ++ part_ranges plant.domains plant.types p)) plant.laws
+              subst (λ (rs : List Range). list_all (fits rs) plant.laws ≡ true) (sym ranges_more)
+              (all_kept (fits (plant_ranges plant)) (fits (plant_ranges plant ++ part_ranges plant.domains plant.types p)) plant.laws
               (λ f. fits_wider (plant_ranges plant) (plant_ranges plant ++ part_ranges plant.domains plant.types p) (further (plant_ranges plant) (part_ranges plant.domains plant.types p)) f) fact.each_law);
           each_price =
-            ap₂ (λ (rs : List Range) (cs : List VarId). list_all (price_fits rs cs) plant.prices) ranges_more controls_more
-            ∙ all_kept (price_fits (plant_ranges plant) (controls plant)) (price_fits (plant_ranges plant ++ part_ranges plant.domains plant.types p) (controls plant ++ part_controls plant.types p)) plant.prices
+              ap₂ (λ (rs : List Range) (cs : List VarId). list_all (price_fits rs cs) plant.prices) ranges_more controls_more
+              ∙ all_kept (price_fits (plant_ranges plant) (controls plant)) (price_fits (plant_ranges plant ++ part_ranges plant.domains plant.types p) (controls plant ++ part_controls plant.types p)) plant.prices
               (price_kept (plant_ranges plant) (part_ranges plant.domains plant.types p) (controls plant) (part_controls plant.types p)) fact.each_price;
           once = fact.once;
           type_counts = fact.type_counts;
           law_counts =
-            ap (λ (ns : List ℕ). list_all (has_count ns true) plant.laws) sizes_more
-            ∙ laws_counted (plant_ranges plant) (law_sizes plant) (map limited_size (part_ranges plant.domains plant.types p)) few_ranges plant.laws fact.each_law fact.law_counts;
+              ap (λ (ns : List ℕ). list_all (has_count ns true) plant.laws) sizes_more
+              ∙ laws_counted (plant_ranges plant) (law_sizes plant) (map limited_size (part_ranges plant.domains plant.types p)) few_ranges plant.laws fact.each_law fact.law_counts;
           few_clauses = let e = count_more in omega (arith, e, clauses);
         }
 
@@ -121,10 +130,17 @@ module _ (plant : Plant) (fact : PlantFits plant) where
       → PlantFits (record plant { laws = plant.laws ++ f ∷ [] })
   law_added f fit count clauses =
       record {
-        named = fact.named; each_domain = fact.each_domain; each_type = fact.each_type; few_parts = fact.few_parts; each_part = fact.each_part; numbered = fact.numbered;
+        named = fact.named;
+        each_domain = fact.each_domain;
+        each_type = fact.each_type;
+        few_parts = fact.few_parts;
+        each_part = fact.each_part;
+        numbered = fact.numbered;
         few_variables = fact.few_variables;
         each_law = all_more (fits (plant_ranges plant)) plant.laws f fact.each_law fit;
-        each_price = fact.each_price; once = fact.once; type_counts = fact.type_counts;
+        each_price = fact.each_price;
+        once = fact.once;
+        type_counts = fact.type_counts;
         law_counts = all_more (has_count (law_sizes plant) true) plant.laws f fact.law_counts count;
         few_clauses = let e = sum_by_push (law_count (law_sizes plant)) plant.laws f in omega (arith, e, clauses);
       }
@@ -136,11 +152,19 @@ module _ (plant : Plant) (fact : PlantFits plant) where
       → PlantFits (record plant { prices = plant.prices ++ x ∷ [] })
   price_added x fit new =
       record {
-        named = fact.named; each_domain = fact.each_domain; each_type = fact.each_type; few_parts = fact.few_parts; each_part = fact.each_part; numbered = fact.numbered;
-        few_variables = fact.few_variables; each_law = fact.each_law;
+        named = fact.named;
+        each_domain = fact.each_domain;
+        each_type = fact.each_type;
+        few_parts = fact.few_parts;
+        each_part = fact.each_part;
+        numbered = fact.numbered;
+        few_variables = fact.few_variables;
+        each_law = fact.each_law;
         each_price = all_more (price_fits (plant_ranges plant) (controls plant)) plant.prices x fact.each_price fit;
         once = priced_once plant.prices fact.once new;
-        type_counts = fact.type_counts; law_counts = fact.law_counts; few_clauses = fact.few_clauses;
+        type_counts = fact.type_counts;
+        law_counts = fact.law_counts;
+        few_clauses = fact.few_clauses;
       }
     where
       other : (q : Price) → is_price_of x.control.0 x.value.0 q ≡ false → is_price_of q.control.0 q.value.0 x ≡ false
@@ -152,9 +176,9 @@ module _ (plant : Plant) (fact : PlantFits plant) where
           let two = and_parts (not (list_any (is_price_of q.control.0 q.value.0) ps)) (are_priced_once ps) h in
           let own = or_parts (is_price_of x.control.0 x.value.0 q) (list_any (is_price_of x.control.0 x.value.0) ps) k in
           let none : list_any (is_price_of q.control.0 q.value.0) (ps ++ x ∷ []) ≡ false =
-              list_any-append (is_price_of q.control.0 q.value.0) ps (x ∷ [])
-              ∙ or_from (list_any (is_price_of q.control.0 q.value.0) ps) (is_price_of q.control.0 q.value.0 x || false) (not-true (list_any (is_price_of q.control.0 q.value.0) ps) two.0)
-                (or_from (is_price_of q.control.0 q.value.0 x) false (other q own.0) refl) in
+          list_any-append (is_price_of q.control.0 q.value.0) ps (x ∷ [])
+          ∙ or_from (list_any (is_price_of q.control.0 q.value.0) ps) (is_price_of q.control.0 q.value.0 x || false) (not-true (list_any (is_price_of q.control.0 q.value.0) ps) two.0)
+          (or_from (is_price_of q.control.0 q.value.0 x) false (other q own.0) refl) in
           and_from (not (list_any (is_price_of q.control.0 q.value.0) (ps ++ x ∷ []))) (are_priced_once (ps ++ x ∷ [])) (not_from_false (list_any (is_price_of q.control.0 q.value.0) (ps ++ x ∷ [])) none) (priced_once ps two.1 own.1)
 
 -- a control of a type is among the controls of each part of it

@@ -1,12 +1,11 @@
 -- A plant whose statements were checked is well formed once it has a part, and what further domains and types leave of it.
-use Rattle.std.proofs.Common.{◌≡◌, ◌+◌, ◌<◌, ◌≤◌, ℕ, zero, suc, Bool, true, false, not, ◌&&◌, ◌||◌, nat_eq, nat_lt, nat_le, List, [], ◌∷◌, ◌++◌, length, map, sum_by, slice_get, Option, Some, None, refl, sym, ap, ap₂, subst, ◌∙◌, arith}
-use Rattle.std.specs.List.{list_all, flat_map}
+use Rattle.std.proofs.Common.{◌≡◌, ◌+◌, ◌≤◌, ℕ, Bool, true, false, ◌&&◌, nat_eq, nat_lt, nat_le, List, [], ◌∷◌, ◌++◌, length, map, sum_by, slice_get, Option, Some, None, refl, sym, ap, ap₂, subst, ◌∙◌, arith}
+use Rattle.std.specs.List.{list_all}
 use Rattle.std.specs.Option.{option_map_or}
 use Rattle.std.proofs.lemmas.Bool.{and_parts, and_from, lt-ltb, le-leb, ltb-true}
 use Rattle.std.proofs.lemmas.List.{length_push}
 use Rattle.lv_base.specs.declared.limits.TheConstants.{PARTS, VARIABLES, MODES, MODEL_CLAUSES}
 use Rattle.lv_base.specs.declared.ids.VarId.{VarId}
-use Rattle.lv_formula.specs.Tree.{Tree}
 use Rattle.lv_formula.specs.declared.range.Range.{Range}
 use Rattle.lv_formula.specs.Fits.{fits}
 use Rattle.lv_model.specs.declared.plant.Plant.{Plant}
@@ -15,7 +14,7 @@ use Rattle.lv_model.specs.declared.plant.ComponentType.{ComponentType}
 use Rattle.lv_model.specs.declared.plant.Part.{Part}
 use Rattle.lv_model.specs.declared.plant.Variable.{Variable}
 use Rattle.lv_model.specs.Ranges.{domain_size, variable_range, type_ranges, part_ranges, plant_ranges}
-use Rattle.lv_model.specs.Lists.{sizes, type_width, part_width, variable_count, part_controls, controls, controls_from}
+use Rattle.lv_model.specs.Lists.{type_width, part_width, variable_count, part_controls, controls, controls_from}
 use Rattle.lv_model.specs.Counts.{held, limited, has_count, variable_size, values_count, formula_sizes, one_of_count, holds_count, choice_count, law_sizes, law_count, type_count, part_count, plant_count, type_has_counts, formulas_have_counts, clauses_fit}
 use Rattle.lv_model.specs.Denials.{held_type_count}
 use Rattle.lv_model.specs.WellFormed.{name_fits, domain_fits, variable_fits, names_fit, counts_fit, formulas_fit, moves_fit, type_fits, types_fit, part_fits, parts_fit, firsts_follow, variables_fit, price_fits, are_priced_once, laws_fit, prices_fit, lists_fit, is_within, is_well_formed}
@@ -41,17 +40,17 @@ pub well_formed : (plant : Plant) → PlantFits plant → 1 ≤ length plant.par
 well_formed plant fact some =
     and_from (lists_fit plant) (variables_fit plant && ((laws_fit plant && prices_fit plant) && clauses_fit plant))
     (and_from (name_fits plant.name && list_all domain_fits plant.domains) (types_fit plant.domains 0 plant.types && parts_fit plant)
-      (and_from (name_fits plant.name) (list_all domain_fits plant.domains) fact.named fact.each_domain)
-      (and_from (types_fit plant.domains 0 plant.types) (parts_fit plant) fact.each_type
-        (and_from (is_within 1 (length plant.parts) PARTS) (list_all (part_fits plant.types) plant.parts)
-          (and_from (nat_le 1 (length plant.parts)) (nat_le (length plant.parts) PARTS) (le-leb 1 (length plant.parts) some) (le-leb (length plant.parts) PARTS fact.few_parts)) fact.each_part)))
+    (and_from (name_fits plant.name) (list_all domain_fits plant.domains) fact.named fact.each_domain)
+    (and_from (types_fit plant.domains 0 plant.types) (parts_fit plant) fact.each_type
+    (and_from (is_within 1 (length plant.parts) PARTS) (list_all (part_fits plant.types) plant.parts)
+    (and_from (nat_le 1 (length plant.parts)) (nat_le (length plant.parts) PARTS) (le-leb 1 (length plant.parts) some) (le-leb (length plant.parts) PARTS fact.few_parts)) fact.each_part)))
     (and_from (variables_fit plant) ((laws_fit plant && prices_fit plant) && clauses_fit plant)
-      (and_from (firsts_follow plant.types 0 plant.parts) (nat_le (variable_count plant) VARIABLES) fact.numbered (le-leb (variable_count plant) VARIABLES fact.few_variables))
-      (and_from (laws_fit plant && prices_fit plant) (clauses_fit plant)
-        (and_from (laws_fit plant) (prices_fit plant) fact.each_law (and_from (list_all (price_fits (plant_ranges plant) (controls plant)) plant.prices) (are_priced_once plant.prices) fact.each_price fact.once))
-        (and_from (list_all (type_has_counts plant.domains) plant.types && list_all (has_count (law_sizes plant) true) plant.laws) (nat_le (plant_count plant) MODEL_CLAUSES)
-          (and_from (list_all (type_has_counts plant.domains) plant.types) (list_all (has_count (law_sizes plant) true) plant.laws) fact.type_counts fact.law_counts)
-          (le-leb (plant_count plant) MODEL_CLAUSES fact.few_clauses))))
+    (and_from (firsts_follow plant.types 0 plant.parts) (nat_le (variable_count plant) VARIABLES) fact.numbered (le-leb (variable_count plant) VARIABLES fact.few_variables))
+    (and_from (laws_fit plant && prices_fit plant) (clauses_fit plant)
+    (and_from (laws_fit plant) (prices_fit plant) fact.each_law (and_from (list_all (price_fits (plant_ranges plant) (controls plant)) plant.prices) (are_priced_once plant.prices) fact.each_price fact.once))
+    (and_from (list_all (type_has_counts plant.domains) plant.types && list_all (has_count (law_sizes plant) true) plant.laws) (nat_le (plant_count plant) MODEL_CLAUSES)
+    (and_from (list_all (type_has_counts plant.domains) plant.types) (list_all (has_count (law_sizes plant) true) plant.laws) fact.type_counts fact.law_counts)
+    (le-leb (plant_count plant) MODEL_CLAUSES fact.few_clauses))))
 
 -- a part is the same among other domains and types
 pub record SamePart (domains others : List Domain) (types kinds : List ComponentType) (p : Part) : Type 0 where
@@ -166,7 +165,7 @@ module _ (domains : List Domain) (x : Domain) where
     type_ranges_same kind =
         ap (λ (rs : List Range). type_ranges [] kind (record t { variables = [] }) ++ rs)
         (map_same (variable_fits (length domains)) (variable_range more) (variable_range domains) t.variables
-          (λ v e. ap (λ (n : ℕ). record (variable_range domains v) { size = n }) (size_same v e)) known)
+        (λ v e. ap (λ (n : ℕ). record (variable_range domains v) { size = n }) (size_same v e)) known)
 
     formula_sizes_same : formula_sizes more t.variables ≡ formula_sizes domains t.variables
     formula_sizes_same =
@@ -191,8 +190,8 @@ module _ (domains : List Domain) (x : Domain) where
         let lists = and_parts (list_all (variable_fits (length domains)) t.variables) (list_all name_fits t.modes) own.1 in
         and_from (names_fit (length (domains ++ x ∷ [])) t && counts_fit t) _
         (and_from (names_fit (length (domains ++ x ∷ [])) t) (counts_fit t)
-          (and_from (name_fits t.name) _ own.0 (and_from (list_all (variable_fits (length (domains ++ x ∷ []))) t.variables) _
-            (all_kept (variable_fits (length domains)) (variable_fits (length (domains ++ x ∷ []))) t.variables still_known lists.0) lists.1)) names.1)
+        (and_from (name_fits t.name) _ own.0 (and_from (list_all (variable_fits (length (domains ++ x ∷ []))) t.variables) _
+        (all_kept (variable_fits (length domains)) (variable_fits (length (domains ++ x ∷ []))) t.variables still_known lists.0) lists.1)) names.1)
         (ap (λ (rs : List Range). formulas_fit rs t && moves_fit rs t) (type_ranges_same kind) ∙ two.1)
 
   types_fit_more : (kind : ℕ) (ts : List ComponentType) → types_fit domains kind ts ≡ true → list_all (knows_domains domains) ts ≡ true → types_fit more kind ts ≡ true

@@ -1,8 +1,8 @@
 -- Formulas whose names stand for something fitting fit what the variables range over.
-use Rattle.std.proofs.Common.{◌≡◌, ◌+◌, ◌-◌, ◌<◌, ◌≤◌, ℕ, zero, suc, Bool, true, false, nat_eq, nat_lt, List, [], ◌∷◌, ◌++◌, length, map, position, slice_get, Option, Some, None, option_map, Result, Ok, Err, refl, sym, ap, ap₂, subst, ◌∙◌, arith}
+use Rattle.std.proofs.Common.{◌≡◌, ◌-◌, ◌<◌, ℕ, zero, suc, Bool, true, false, nat_eq, nat_lt, List, [], ◌∷◌, length, map, position, slice_get, Option, Some, None, option_map, Result, Ok, Err, refl, sym, ap, ap₂, subst, ◌∙◌, arith}
 use Rattle.std.specs.List.{list_all, flat_map}
 use Rattle.std.specs.Option.{option_and_then, option_map_or}
-use Rattle.std.proofs.lemmas.Bool.{and_parts, and_from, lt-ltb, eq-eqb, eqb-true}
+use Rattle.std.proofs.lemmas.Bool.{and_from, lt-ltb, eq-eqb, eqb-true}
 use Rattle.std.proofs.lemmas.List.Folds.{list_all-append}
 use Rattle.std.proofs.lemmas.List.Quantifiers.{position-Some}
 use Rattle.std.proofs.lemmas.Option.{slice_get-map}
@@ -25,7 +25,7 @@ use Rattle.lv_phrase.specs.Fitting.{ScopeFits}
 use Rattle.lv_phrase.specs.declared.resolver.NameFault.{NameFault}
 use Rattle.lv_phrase.proofs.FittingLemmas.{resolved_fits}
 use Rattle.lv_checker.specs.declared.draft.Draft.{Draft}
-use Rattle.lv_checker.specs.Places.{placed, value_place, mode_place, value_of_domain, mode_of_type, value_of_sort}
+use Rattle.lv_checker.specs.Places.{placed, value_place, mode_place, value_of_domain, value_of_sort}
 use Rattle.lv_checker.specs.Scopes.{are_one_sort, sort_in_type, value_by_sort, value_of_type, type_names, sort_in_system, system_names, with_code}
 use Rattle.lv_checker.specs.Entries.{type_formula, system_formula}
 use Rattle.lv_checker.proofs.FitsLists.{all_at, chained, mapped, placed_is}
@@ -87,7 +87,7 @@ module _ (domains : List Domain) (t : ComponentType) where
   own_range (suc n) s h =
       let one = mapped (λ (v : Variable). Values v.domain) (slice_get t.variables n) s (sym (later_sort n) ∙ h) in
       let here : slice_get (map (variable_range domains) t.variables) n ≡ Some (variable_range domains one.0) =
-          slice_get-map (variable_range domains) t.variables n ∙ ap (λ (o : Option Variable). option_map (variable_range domains) o) one.1 in
+      slice_get-map (variable_range domains) t.variables n ∙ ap (λ (o : Option Variable). option_map (variable_range domains) o) one.1 in
       (variable_range domains one.0, here, one.2, ap (λ (x : Sort). own_size domains t x) one.2)
 
   own_value_below : (s : Sort) (word : List ℕ) (v : ValId) → value_by_sort domains t s word ≡ Some v → v.0 < own_size domains t s

@@ -1,5 +1,5 @@
 -- A type that has not ended fits its place, and still does with one more line.
-use Rattle.std.proofs.Common.{◌≡◌, ◌+◌, ◌<◌, ◌≤◌, ℕ, zero, suc, Bool, true, false, not, ◌&&◌, ◌||◌, nat_eq, nat_lt, nat_le, List, [], ◌∷◌, ◌++◌, length, map, count_by, slice_get, cond, Option, Some, None, is_some, refl, sym, ap, ap₂, subst, ◌∙◌, arith}
+use Rattle.std.proofs.Common.{◌≡◌, ◌+◌, ◌<◌, ◌≤◌, ℕ, zero, suc, Bool, true, false, not, ◌&&◌, ◌||◌, nat_eq, nat_lt, nat_le, List, [], ◌∷◌, ◌++◌, length, map, count_by, slice_get, cond, Option, Some, None, refl, sym, ap, ap₂, subst, ◌∙◌, arith}
 use Rattle.std.specs.List.{list_all}
 use Rattle.std.specs.Option.{option_map_or}
 use Rattle.std.proofs.lemmas.Bool.{and_parts, and_from, and_left, lt-ltb, le-leb, eq-eqb, ltb-true}
@@ -7,7 +7,7 @@ use Rattle.std.proofs.lemmas.List.{length-map, map_push, length_push}
 use Rattle.lv_base.specs.declared.limits.TheConstants.{MODES, MOVES}
 use Rattle.lv_formula.specs.Tree.{Tree, Trees, always, never, is, same, negation, all, any, implies, iff, none, more}
 use Rattle.lv_formula.specs.declared.range.Range.{Range}
-use Rattle.lv_formula.specs.declared.range.Sort.TheVariants.{Modes, Values}
+use Rattle.lv_formula.specs.declared.range.Sort.TheVariants.{Modes}
 use Rattle.lv_formula.specs.Fits.{is_same_sort, has_value, are_alike, fits, each_fits}
 use Rattle.lv_formula.specs.Laws.{AllWiden}
 use Rattle.lv_formula.proofs.WidenLemmas.{fits_wider, further, all_themselves}
@@ -81,8 +81,20 @@ FitsInside domains t entry = Unit {0}
 pub begun_fits : (domains : List Domain) (name : List ℕ) → name_fits name ≡ true → TypeFits domains (begun name)
 begun_fits domains name h =
     record {
-      name = h; variables = refl; modes = refl; few_modes = omega arith; few_moves = omega arith; laws = refl; mode_laws = refl; moves = refl;
-      rise = refl; once = refl; sizes = refl; law_counts = refl; mode_law_counts = refl; guard_counts = refl;
+      name = h;
+      variables = refl;
+      modes = refl;
+      few_modes = omega arith;
+      few_moves = omega arith;
+      laws = refl;
+      mode_laws = refl;
+      moves = refl;
+      rise = refl;
+      once = refl;
+      sizes = refl;
+      law_counts = refl;
+      mode_law_counts = refl;
+      guard_counts = refl;
     }
 
 module _ (old new : List Range) (wide : AllWiden old new) (fewer modes : ℕ) (few : fewer ≤ modes) where
@@ -128,7 +140,7 @@ module _ (ranges : List Range) (sizes behind : List ℕ) (few : length ranges �
   guards_counted modes ms h k =
       all_joined (move_fits ranges modes) (guard_has_counts sizes) (guard_has_counts (sizes ++ behind)) ms
       (λ m a b. guard_counted (is_step_kind m.kind) m.guard
-          (and_parts (kind_fits m.kind m) (guard_fits ranges m) (and_parts (nat_lt m.source.0 modes && nat_lt m.target.0 modes) (kind_fits m.kind m && guard_fits ranges m) a).1).1 b) h k
+      (and_parts (kind_fits m.kind m) (guard_fits ranges m) (and_parts (nat_lt m.source.0 modes && nat_lt m.target.0 modes) (kind_fits m.kind m && guard_fits ranges m) a).1).1 b) h k
 
 module _ (domains : List Domain) (t : TypeDraft) (fact : TypeFits domains t) where
   variable_kept : (v : Variable) → variable_fits (length domains) v ≡ true → TypeFits domains (with_variable domains t v)
@@ -177,19 +189,37 @@ module _ (domains : List Domain) (t : TypeDraft) (fact : TypeFits domains t) whe
   law_added : (f : Tree) → LawFits (own_ranges domains t) t.sizes f → TypeFits domains (with_type_law t f)
   law_added f h =
       record {
-        name = fact.name; variables = fact.variables; modes = fact.modes; few_modes = fact.few_modes; few_moves = fact.few_moves;
+        name = fact.name;
+        variables = fact.variables;
+        modes = fact.modes;
+        few_modes = fact.few_modes;
+        few_moves = fact.few_moves;
         laws = all_more (fits (own_ranges domains t)) t.lists.laws f fact.laws h.fit;
-        mode_laws = fact.mode_laws; moves = fact.moves; rise = fact.rise; once = fact.once; sizes = fact.sizes;
+        mode_laws = fact.mode_laws;
+        moves = fact.moves;
+        rise = fact.rise;
+        once = fact.once;
+        sizes = fact.sizes;
         law_counts = all_more (has_count t.sizes true) t.lists.laws f fact.law_counts h.counts;
-        mode_law_counts = fact.mode_law_counts; guard_counts = fact.guard_counts;
+        mode_law_counts = fact.mode_law_counts;
+        guard_counts = fact.guard_counts;
       }
 
   mode_law_added : (f : ModeFormula) → ModeLawFits (own_ranges domains t) t f → TypeFits domains (with_mode_law t f)
   mode_law_added f h =
       record {
-        name = fact.name; variables = fact.variables; modes = fact.modes; few_modes = fact.few_modes; few_moves = fact.few_moves; laws = fact.laws;
+        name = fact.name;
+        variables = fact.variables;
+        modes = fact.modes;
+        few_modes = fact.few_modes;
+        few_moves = fact.few_moves;
+        laws = fact.laws;
         mode_laws = all_more (mode_formula_fits (own_ranges domains t) (length t.lists.modes)) t.lists.formulas f fact.mode_laws h.fit;
-        moves = fact.moves; rise = fact.rise; once = fact.once; sizes = fact.sizes; law_counts = fact.law_counts;
+        moves = fact.moves;
+        rise = fact.rise;
+        once = fact.once;
+        sizes = fact.sizes;
+        law_counts = fact.law_counts;
         mode_law_counts = all_more (mode_formula_has_count t.sizes) t.lists.formulas f fact.mode_law_counts h.counts;
         guard_counts = fact.guard_counts;
       }
@@ -197,13 +227,19 @@ module _ (domains : List Domain) (t : TypeDraft) (fact : TypeFits domains t) whe
   move_added : (m : Move) → MoveFits (own_ranges domains t) t m → TypeFits domains (with_move t m)
   move_added m h =
       record {
-        name = fact.name; variables = fact.variables; modes = fact.modes; few_modes = fact.few_modes;
+        name = fact.name;
+        variables = fact.variables;
+        modes = fact.modes;
+        few_modes = fact.few_modes;
         few_moves = subst (λ (ms : List Move). length ms ≤ MOVES) (sym (put_is m t.lists.moves)) few;
-        laws = fact.laws; mode_laws = fact.mode_laws;
+        laws = fact.laws;
+        mode_laws = fact.mode_laws;
         moves = placed (λ (ms : List Move). list_all (move_fits (own_ranges domains t) (length t.lists.modes)) ms) (put_all (move_fits (own_ranges domains t) (length t.lists.modes)) m t.lists.moves fact.moves h.fit);
         rise = placed (λ (ms : List Move). moves_rise 0 0 ms) (put_rises m 0 0 t.lists.moves fact.rise (from_first m));
         once = once_same 0 t.lists.modes (with_move_in_place m t.lists.moves) t.lists.moves unchanged fact.once;
-        sizes = fact.sizes; law_counts = fact.law_counts; mode_law_counts = fact.mode_law_counts;
+        sizes = fact.sizes;
+        law_counts = fact.law_counts;
+        mode_law_counts = fact.mode_law_counts;
         guard_counts = placed (λ (ms : List Move). list_all (guard_has_counts t.sizes) ms) (put_all (guard_has_counts t.sizes) m t.lists.moves fact.guard_counts h.counts);
       }
     where
@@ -222,7 +258,8 @@ module _ (domains : List Domain) (t : TypeDraft) (fact : TypeFits domains t) whe
   mode_added : (name : List ℕ) (n : ℕ) → ModeFits t name n → TypeFits domains (with_mode t name n)
   mode_added name n h =
       record {
-        name = fact.name; variables = fact.variables;
+        name = fact.name;
+        variables = fact.variables;
         modes = all_more name_fits t.lists.modes name fact.modes h.name_is;
         few_modes = few_more;
         few_moves = subst (λ (ms : List Move). length ms ≤ MOVES) (sym (put_is m t.lists.moves)) few;
@@ -231,7 +268,9 @@ module _ (domains : List Domain) (t : TypeDraft) (fact : TypeFits domains t) whe
         moves = placed (λ (ms : List Move). list_all (move_fits new more) ms) (put_all (move_fits new more) m t.lists.moves (all_kept (move_fits old fewer) (move_fits new more) t.lists.moves (move_kept old new wide fewer more grows) fact.moves) own);
         rise = placed (λ (ms : List Move). moves_rise 0 0 ms) (put_rises m 0 0 t.lists.moves fact.rise (from_first m));
         once = once_more 0 t.lists.modes name (with_move_in_place m t.lists.moves) (once_same 0 t.lists.modes (with_move_in_place m t.lists.moves) t.lists.moves unchanged fact.once) one;
-        sizes = fact.sizes; law_counts = fact.law_counts; mode_law_counts = fact.mode_law_counts;
+        sizes = fact.sizes;
+        law_counts = fact.law_counts;
+        mode_law_counts = fact.mode_law_counts;
         guard_counts = placed (λ (ms : List Move). list_all (guard_has_counts t.sizes) ms) (put_all (guard_has_counts t.sizes) m t.lists.moves fact.guard_counts refl);
       }
     where
@@ -376,17 +415,17 @@ ended_fits domains t kind fact some =
     let modes : ℕ = length t.lists.modes in
     and_from (names_fit (length domains) t.lists && counts_fit t.lists) (formulas_fit (type_ranges domains kind t.lists) t.lists && moves_fit (type_ranges domains kind t.lists) t.lists)
     (and_from (names_fit (length domains) t.lists) (counts_fit t.lists)
-      (and_from (name_fits t.lists.name) _ fact.name (and_from (list_all (variable_fits (length domains)) t.lists.variables) _ fact.variables fact.modes))
-      (and_from (is_within 1 (length t.lists.modes) MODES) (nat_le (length t.lists.moves) MOVES)
-        (and_from (nat_le 1 (length t.lists.modes)) (nat_le (length t.lists.modes) MODES) (le-leb 1 (length t.lists.modes) some) (le-leb (length t.lists.modes) MODES fact.few_modes))
-        (le-leb (length t.lists.moves) MOVES fact.few_moves)))
+    (and_from (name_fits t.lists.name) _ fact.name (and_from (list_all (variable_fits (length domains)) t.lists.variables) _ fact.variables fact.modes))
+    (and_from (is_within 1 (length t.lists.modes) MODES) (nat_le (length t.lists.moves) MOVES)
+    (and_from (nat_le 1 (length t.lists.modes)) (nat_le (length t.lists.modes) MODES) (le-leb 1 (length t.lists.modes) some) (le-leb (length t.lists.modes) MODES fact.few_modes))
+    (le-leb (length t.lists.moves) MOVES fact.few_moves)))
     (and_from (formulas_fit (type_ranges domains kind t.lists) t.lists) (moves_fit (type_ranges domains kind t.lists) t.lists)
-      (and_from (list_all (fits (type_ranges domains kind t.lists)) t.lists.laws) _
-        (all_kept (fits (type_ranges domains 0 t.lists)) (fits (type_ranges domains kind t.lists)) t.lists.laws (renamed domains t.lists kind) fact.laws)
-        (all_kept (mode_formula_fits (type_ranges domains 0 t.lists) (length t.lists.modes)) (mode_formula_fits (type_ranges domains kind t.lists) (length t.lists.modes)) t.lists.formulas (mode_law_renamed domains t.lists kind) fact.mode_laws))
-      (and_from (list_all (move_fits (type_ranges domains kind t.lists) (length t.lists.modes)) t.lists.moves) _
-        (all_kept (move_fits (type_ranges domains 0 t.lists) (length t.lists.modes)) (move_fits (type_ranges domains kind t.lists) (length t.lists.modes)) t.lists.moves (move_renamed domains t.lists kind) fact.moves)
-        (and_from (moves_rise 0 0 t.lists.moves) (stays_once 0 t.lists.modes t.lists.moves) fact.rise fact.once)))
+    (and_from (list_all (fits (type_ranges domains kind t.lists)) t.lists.laws) _
+    (all_kept (fits (type_ranges domains 0 t.lists)) (fits (type_ranges domains kind t.lists)) t.lists.laws (renamed domains t.lists kind) fact.laws)
+    (all_kept (mode_formula_fits (type_ranges domains 0 t.lists) (length t.lists.modes)) (mode_formula_fits (type_ranges domains kind t.lists) (length t.lists.modes)) t.lists.formulas (mode_law_renamed domains t.lists kind) fact.mode_laws))
+    (and_from (list_all (move_fits (type_ranges domains kind t.lists) (length t.lists.modes)) t.lists.moves) _
+    (all_kept (move_fits (type_ranges domains 0 t.lists) (length t.lists.modes)) (move_fits (type_ranges domains kind t.lists) (length t.lists.modes)) t.lists.moves (move_renamed domains t.lists kind) fact.moves)
+    (and_from (moves_rise 0 0 t.lists.moves) (stays_once 0 t.lists.modes t.lists.moves) fact.rise fact.once)))
 
 pub ended_counts : (domains : List Domain) (t : TypeDraft) → TypeFits domains t → type_has_counts domains t.lists ≡ true
 ended_counts domains t fact =

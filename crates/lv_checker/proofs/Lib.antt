@@ -10,3 +10,4 @@ pub mod FitsEntries
 pub mod FitsPlants
 pub mod FitsParts
 pub mod FitsDrafts
+pub mod Ending

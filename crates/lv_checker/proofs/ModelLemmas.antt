@@ -1,9 +1,8 @@
 -- What a fault of one statement tells of all, and what a fault tells of the bytes.
-use Rattle.std.proofs.Common.{◌≡◌, ◌≤◌, ◌<◌, ◌+◌, ◌^◌, ℕ, suc, List, [], ◌∷◌, length, map, drop, Bool, true, false, refl, sym, ◌∙◌, ap, subst, arith, get_or}
+use Rattle.std.proofs.Common.{◌≡◌, ◌≤◌, ◌<◌, ◌+◌, ◌^◌, ℕ, suc, List, [], ◌∷◌, length, drop, Bool, true, false, refl, sym, ◌∙◌, ap, subst, arith, get_or}
 use Rattle.std.specs.List.{onto_first}
 use Rattle.std.specs.Str.Lines.{strip_carriage_return}
 use Rattle.std.proofs.lemmas.List.{length-map, drop_more}
-use Rattle.lv_base.specs.declared.limits.TheConstants.{MODEL_BYTES}
 use Rattle.lv_text.specs.Lines.{is_line_feed, unended_lines, lines_of}
 use Rattle.lv_model.specs.declared.plant.Plant.{Plant}
 use Rattle.lv_reader.specs.declared.code.ModelCode.{ModelCode}
@@ -14,7 +13,7 @@ use Rattle.lv_reader.specs.declared.statement.ModelText.{ModelText}
 use Rattle.lv_reader.specs.Texts.{ReadsAs, TellsReading}
 use Rattle.lv_checker.specs.declared.draft.Draft.{Draft}
 use Rattle.lv_checker.specs.Checking.{Checked, fine, faulty, after, one_added, all_added, checked, Finds}
-use Rattle.lv_checker.specs.Verdicts.{Verdict, accepted, refused, verdict_of, IsVerdict, not_read, is_checked, Tells}
+use Rattle.lv_checker.specs.Verdicts.{accepted, refused, verdict_of, IsVerdict, not_read, is_checked, Tells}
 
 first_found : {A B : Type 0} (c : Checked A) (next : A → Checked B) (fault : ModelFault) → Finds fault c → Finds fault (after c next)
 first_found (fine x) next (At code line) h = absurd h

@@ -1,17 +1,16 @@
 -- A text has one verdict, by what its lines read as.
-use Rattle.std.proofs.Common.{◌≡◌, ◌≤◌, ◌<◌, ℕ, ◌+◌, List, [], ◌∷◌, length, map, Option, refl, sym, ◌∙◌, ap, ap₂, subst, arith}
+use Rattle.std.proofs.Common.{◌≡◌, ◌≤◌, ℕ, List, [], ◌∷◌, length, map, refl, sym, ◌∙◌, ap, ap₂, subst, arith}
 use Rattle.lv_base.specs.declared.limits.TheConstants.{MODEL_BYTES}
 use Rattle.lv_text.specs.Lexemes.{Reading, line_reading}
 use Rattle.lv_text.specs.Lines.{lines_of}
 use Rattle.lv_reader.specs.declared.code.ModelCode.{ModelCode}
-use Rattle.lv_reader.specs.declared.statement.Statement.{Statement}
 use Rattle.lv_reader.specs.declared.statement.NumberedStatement.{NumberedStatement}
 use Rattle.lv_reader.specs.declared.statement.ModelText.{ModelText}
 use Rattle.lv_reader.specs.Lines.{SaysOf, RefusedOf}
 use Rattle.lv_reader.specs.Texts.{AreStatements, none_left, one_more, IsFirstRefused, at_once, later, ReadsAs, IsReadingFault, too_long, refused as on_line}
 use Rattle.lv_reader.proofs.ReadingLemmas.{text_one, fault_code_one, fault_line_one, text_or_fault}
 use Rattle.lv_checker.specs.Checking.{checked}
-use Rattle.lv_checker.specs.Verdicts.{Verdict, accepted, refused, verdict_of, IsVerdict, not_read, is_checked}
+use Rattle.lv_checker.specs.Verdicts.{Verdict, refused, verdict_of, IsVerdict, not_read, is_checked}
 
 pub verdict_one : (bytes : List ℕ) (v w : Verdict) → IsVerdict bytes v → IsVerdict bytes w → v ≡ w
 verdict_one bytes v w (not_read c m g e) (not_read d n h f) = e ∙ ap₂ refused (fault_code_one bytes c d m n g h) (fault_line_one bytes c d m n g h) ∙ sym f

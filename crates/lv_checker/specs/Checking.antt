@@ -1,5 +1,5 @@
 -- The model that statements give, or the first of them that is refused.
-use Rattle.std.specs.Prelude.{◌≡◌, ℕ, ◌+◌, Bool, true, not, ◌&&◌, List, [], ◌∷◌, length, nat_eq, is_some, if◌then◌else◌, Option, Some, None, Result, Ok, Err}
+use Rattle.std.specs.Prelude.{◌≡◌, ℕ, ◌+◌, Bool, true, not, ◌&&◌, List, [], ◌∷◌, length, nat_eq, is_some, if◌then◌else◌, Result, Ok, Err}
 use Rattle.lv_model.specs.declared.plant.Plant.{Plant}
 use Rattle.lv_model.specs.WellFormed.{is_well_formed}
 use Rattle.lv_reader.specs.declared.code.ModelCode.{ModelCode}
@@ -8,8 +8,8 @@ use Rattle.lv_reader.specs.declared.fault.ModelFault.{ModelFault}
 use Rattle.lv_reader.specs.declared.fault.ModelFault.TheVariants.{At, Memory}
 use Rattle.lv_reader.specs.declared.statement.NumberedStatement.{NumberedStatement}
 use Rattle.lv_reader.specs.declared.statement.ModelText.{ModelText}
+use Rattle.lv_reader.specs.Texts.{ReadsAs}
 use Rattle.lv_checker.specs.declared.draft.Draft.{Draft}
-use Rattle.lv_checker.specs.declared.draft.Entry.{Entry}
 use Rattle.lv_checker.specs.Faults.{judged}
 use Rattle.lv_checker.specs.Drafts.{empty, with_entry}
 
@@ -50,6 +50,11 @@ pub record EndsWell (d : Draft) : Type 0 where
 -- the same of the draft that the statements of a text give
 pub record GivesModel (text : ModelText) : Type 0 where
   pub ends : (d : Draft) → all_added empty text.statements ≡ fine d → EndsWell d
+
+-- a text that some bytes read as
+pub record IsRead (text : ModelText) : Type 0 where
+  pub bytes : List ℕ
+  pub reads : ReadsAs bytes text
 
 -- the plant of a text, or its first fault of checking
 unfoldable pub checked : ModelText → Checked Plant

@@ -1,17 +1,14 @@
 -- A model as far as its statements go, and one more entry.
-use Rattle.std.specs.Prelude.{ℕ, ◌+◌, Bool, true, false, ◌&&◌, ◌||◌, List, [], ◌∷◌, ◌++◌, length, map, nat_eq, nat_lt, slice_get, position, unwrap_or, insert, if◌then◌else◌, Option, Some, None, codes}
-use Rattle.std.specs.Option.{option_map_or}
+use Rattle.std.specs.Prelude.{ℕ, ◌+◌, Bool, true, false, ◌&&◌, ◌||◌, List, [], ◌∷◌, ◌++◌, length, map, nat_eq, nat_lt, position, unwrap_or, insert, if◌then◌else◌, Option, Some, None, codes}
 use Rattle.lv_base.specs.declared.limits.TheConstants.{MODES}
 use Rattle.lv_formula.specs.declared.range.Range.{Range}
 use Rattle.lv_formula.specs.Tree.{Tree}
 use Rattle.lv_model.specs.declared.plant.Plant.{Plant}
 use Rattle.lv_model.specs.declared.plant.Domain.{Domain}
-use Rattle.lv_model.specs.declared.plant.ComponentType.{ComponentType}
 use Rattle.lv_model.specs.declared.plant.ModeFormula.{ModeFormula}
 use Rattle.lv_model.specs.declared.plant.Move.{Move}
 use Rattle.lv_model.specs.declared.plant.MoveKind.TheVariants.{Stay}
 use Rattle.lv_model.specs.declared.plant.Part.{Part}
-use Rattle.lv_model.specs.declared.plant.Price.{Price}
 use Rattle.lv_model.specs.declared.plant.Variable.{Variable}
 use Rattle.lv_model.specs.Ranges.{part_ranges}
 use Rattle.lv_model.specs.WellFormed.{kind_place}

@@ -1,21 +1,16 @@
 -- What a statement adds to the statements before it, or why its place or its names are refused: its place first, then its names
 -- from left to right.
-use Rattle.std.specs.Prelude.{◌≡◌, ℕ, ◌+◌, ◌-◌, Bool, true, false, ◌&&◌, not, List, nat_eq, nat_lt, length, position, is_some, slice_get, if◌then◌else◌, Option, Some, None, option_map, Result, Ok, Err}
-use Rattle.std.specs.List.{list_any}
+use Rattle.std.specs.Prelude.{◌≡◌, ℕ, ◌+◌, ◌-◌, Bool, false, List, nat_eq, nat_lt, length, slice_get, if◌then◌else◌, Option, Some, None, Result, Ok, Err}
 use Rattle.std.specs.Option.{option_and_then, option_map_or}
-use Rattle.lv_base.specs.Names.{is_named}
 use Rattle.lv_base.specs.declared.ids.VarId.{VarId}
 use Rattle.lv_base.specs.declared.ids.ValId.{ValId}
 use Rattle.lv_base.specs.declared.names.Class.{Class}
 use Rattle.lv_formula.specs.Tree.{Tree}
-use Rattle.lv_formula.specs.declared.path.Path.TheVariants.{OfPart}
 use Rattle.lv_model.specs.declared.plant.Domain.{Domain}
 use Rattle.lv_model.specs.declared.plant.ComponentType.{ComponentType}
-use Rattle.lv_model.specs.declared.plant.ModeFormula.{ModeFormula}
 use Rattle.lv_model.specs.declared.plant.Move.{Move}
 use Rattle.lv_model.specs.declared.plant.MoveKind.TheVariants.{Step, Fault}
 use Rattle.lv_model.specs.declared.plant.Part.{Part}
-use Rattle.lv_model.specs.declared.plant.Price.{Price}
 use Rattle.lv_model.specs.declared.plant.Variable.{Variable}
 use Rattle.lv_model.specs.Lists.{is_control}
 use Rattle.lv_phrase.specs.PhraseTree.{PhraseTree}

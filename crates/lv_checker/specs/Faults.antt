@@ -1,14 +1,11 @@
 -- Why a statement is refused whose place and names are right: a new name is in use, a formula gives too many clauses, a limit is
 -- passed. The first of these counts.
-use Rattle.std.specs.Prelude.{ℕ, ◌+◌, Bool, true, false, not, ◌&&◌, ◌||◌, List, [], ◌∷◌, length, position, nat_eq, nat_lt, is_some, slice_get, if◌then◌else◌, Option, Some, None, Result, Ok, Err}
-use Rattle.std.specs.List.{list_any, list_all}
+use Rattle.std.specs.Prelude.{ℕ, ◌+◌, Bool, true, false, not, ◌&&◌, ◌||◌, List, [], ◌∷◌, length, position, nat_lt, is_some, slice_get, if◌then◌else◌, Option, Some, None, Result, Ok, Err}
+use Rattle.std.specs.List.{list_any}
 use Rattle.std.specs.Option.{option_map_or}
 use Rattle.lv_base.specs.Names.{is_named}
 use Rattle.lv_base.specs.declared.limits.TheConstants.{PARTS, MODES, MOVES, VALUES, VARIABLES, NAME_BYTES, MODEL_CLAUSES}
-use Rattle.lv_formula.specs.Tree.{Tree}
-use Rattle.lv_model.specs.declared.plant.Domain.{Domain}
 use Rattle.lv_model.specs.declared.plant.Part.{Part}
-use Rattle.lv_model.specs.declared.plant.Price.{Price}
 use Rattle.lv_model.specs.Names.{domain_named, type_named, variable_named, part_named}
 use Rattle.lv_model.specs.Counts.{has_count, guard_has_counts, law_count}
 use Rattle.lv_model.specs.Lists.{part_width}
@@ -19,7 +16,7 @@ use Rattle.lv_reader.specs.declared.statement.Statement.{Statement}
 use Rattle.lv_checker.specs.declared.draft.Draft.{Draft}
 use Rattle.lv_checker.specs.declared.draft.TypeDraft.{TypeDraft}
 use Rattle.lv_checker.specs.declared.draft.Entry.{Entry}
-use Rattle.lv_checker.specs.declared.draft.Entry.TheVariants.{Named, NewDomain, TypeBegins, NewVariable, NewMode, TypeLaw, ModeLaw, NewMove, TypeEnds, NewPart, SystemLaw, NewPrice}
+use Rattle.lv_checker.specs.declared.draft.Entry.TheVariants.{Named, NewDomain, TypeBegins, NewVariable, NewMode, TypeLaw, ModeLaw, NewMove, NewPart, SystemLaw, NewPrice}
 use Rattle.lv_checker.specs.Entries.{entry_of, on_ok}
 
 -- no name stands twice

@@ -1,7 +1,7 @@
 -- Which variables and values a formula may name: in a type its own, by a word alone; in a law of the system those of the parts
 -- so far, by the part's name and the variable's.
 use Rattle.std.specs.Prelude.{◌≡◌, ℕ, ◌+◌, ◌-◌, List, Bool, false, nat_eq, slice_get, if◌then◌else◌, Option, Some, None, option_map, Result, Ok, Err}
-use Rattle.std.specs.Option.{option_and_then, option_map_or}
+use Rattle.std.specs.Option.{option_and_then}
 use Rattle.lv_base.specs.declared.ids.ValId.{ValId}
 use Rattle.lv_base.specs.declared.ids.VarId.{VarId}
 use Rattle.lv_formula.specs.Tree.{Tree}

@@ -7,7 +7,7 @@ ghost use Rattle.lv_checker.specs.declared.draft.Entry.TheVariants.{NewDomain, N
 ghost use Rattle.lv_checker.specs.Entries.{TellsEntry};
 ghost use Rattle.lv_checker.specs.Faults.{fault_of_entry, judged};
 ghost use Rattle.lv_checker.specs.Drafts.{bare, empty, limited_size, is_end, with_type, with_inside, with_part, with_law, with_outside, with_entry};
-ghost use Rattle.lv_checker.specs.Checking.{fine, one_added, all_added, finished, checked, EndsWell, GivesModel, Finds};
+ghost use Rattle.lv_checker.specs.Checking.{fine, one_added, all_added, finished, checked, EndsWell, IsRead, Finds};
 ghost use Rattle.lv_checker.specs.Verdicts.{IsVerdict, accepted, Tells};
 
 use crate::draft::{CheckFault, Draft, Entry, TypeDraft};
@@ -263,11 +263,10 @@ fn finished(alloc: Global, draft: Draft, lines: usize) -> Result<Model, ModelFau
     }
 }
 
-/// The model of a text, or its first fault of checking.
+/// The model of a text that was read, or its first fault of checking.
 #[tactic(auto, unfolding(crate::specs::Checking::checked))]
-fn check_model(alloc: Global, text: &ModelText) -> Result<Model, ModelFault>
-    requires lines { text.now.lines < 2 ^ 63 }
-    requires model { GivesModel text.now }
+pub fn check_model(alloc: Global, text: &ModelText) -> Result<Model, ModelFault>
+    requires { IsRead text.now }
     ensures ok { IfOk result (λ m. checked text.now ≡ fine m) }
     ensures fault { IfErr result (λ fault. Finds fault (checked text.now)) }
 {

@@ -23,5 +23,5 @@ mod places;
 mod scope;
 mod types;
 
-pub use checker::model_of;
+pub use checker::{check_model, model_of};
 pub use draft::{Draft, Entry, TypeDraft};

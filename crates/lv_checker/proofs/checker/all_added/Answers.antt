@@ -1,4 +1,3 @@
-use Rattle.std.proofs.Common.{rules}
 use Rattle.std.proofs.lemmas.Result.{err_from_is_err_and}
 use Rattle.lv_checker.proofs.ModelLemmas.{left_at, one_tells, one_more}
 use Rattle.lv_checker.proofs.checker.all_added.Goals as goal
