@@ -1,5 +1,5 @@
 -- The literals of a plant's clauses are of its booleans.
-use Rattle.std.proofs.Common.{◌≡◌, ◌+◌, ◌≤◌, ◌<◌, ℕ, zero, suc, Bool, true, false, not, nat_lt, nat_le, ◌&&◌, List, [], ◌∷◌, ◌++◌, length, map, take, filter, sum_by, slice_get, Option, Some, None, refl, ap, ap₂, ◌∙◌, arith, All}
+use Rattle.std.proofs.Common.{◌≡◌, ◌+◌, ◌≤◌, ◌<◌, ℕ, zero, suc, Bool, true, false, not, nat_lt, nat_le, ◌&&◌, List, [], ◌∷◌, ◌++◌, length, map, take, filter, sum_by, slice_get, Option, Some, None, refl, ap, ◌∙◌, arith, All}
 use Rattle.std.specs.List.{sum, flat_map, list_all, range_with_len}
 use Rattle.std.specs.Option.{option_map_or}
 use Rattle.std.proofs.lemmas.Bool.{and_parts}
@@ -11,12 +11,11 @@ use Rattle.lv_clauses.specs.Literals.{in_range}
 use Rattle.lv_formula.specs.Tree.{Tree, always, never, is, same, negation, all, any, implies, iff, Trees, none, more}
 use Rattle.lv_model.specs.declared.plant.Plant.{Plant}
 use Rattle.lv_model.specs.declared.plant.ComponentType.{ComponentType}
-use Rattle.lv_model.specs.declared.plant.ModeFormula.{ModeFormula}
 use Rattle.lv_model.specs.declared.plant.Move.{Move}
 use Rattle.lv_model.specs.declared.plant.MoveKind.{MoveKind}
 use Rattle.lv_model.specs.declared.plant.MoveKind.TheVariants.{Step, Stay, Fault}
 use Rattle.lv_model.specs.declared.plant.Part.{Part}
-use Rattle.lv_model.specs.Lists.{sizes, part_moves, move_counts}
+use Rattle.lv_model.specs.Lists.{sizes, part_moves}
 use Rattle.lv_model.specs.Counts.{is_step_from}
 use Rattle.lv_model.specs.WellFormed.{is_well_formed}
 use Rattle.lv_compile.specs.Booleans.{Booleans, literal, value_bool, value_literal, booleans_now, booleans_next, first_choice, bool_count}
