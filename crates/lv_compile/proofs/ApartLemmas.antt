@@ -1,7 +1,7 @@
 -- A clause that isn't true of everything has no boolean twice, once each literal stands once.
 use Rattle.std.proofs.Common.{◌≡◌, ℕ, Bool, true, false, not, ◌&&◌, ◌||◌, List, [], ◌∷◌, filter, refl, ap₂}
 use Rattle.std.specs.List.{list_all, list_any}
-use Rattle.std.proofs.lemmas.Bool.{and_parts}
+use Rattle.std.proofs.lemmas.Bool.{and_parts, or_parts}
 use Rattle.lv_base.specs.declared.ids.Lit.{Lit}
 use Rattle.lv_clauses.specs.Literals.{neg, same_truth, same_var, in_range, distinct, is_clause}
 use Rattle.lv_model.specs.declared.plant.Plant.{Plant}
@@ -23,16 +23,12 @@ all_kept q p (l ∷ ls) h = by (p l) refl (all_kept q p ls two.1)
     by true e rest = rw e (ap₂ (λ (x y : Bool). x && y) two.0 rest)
     by false e rest = rw e rest
 
-either_none : (b d : Bool) → (b || d) ≡ false → (b ≡ false) × (d ≡ false)
-either_none true d h = absurd (cc)
-either_none false d h = (refl, h)
-
 any_kept : (q p : Lit → Bool) (ls : List Lit) → list_any q ls ≡ false → list_any q (filter p ls) ≡ false
 any_kept q p [] h = refl
 any_kept q p (l ∷ ls) h = by (p l) refl (any_kept q p ls two.1)
   where
     two : (q l ≡ false) × (list_any q ls ≡ false)
-    two = either_none (q l) (list_any q ls) h
+    two = or_parts (q l) (list_any q ls) h
 
     by : (b : Bool) → p l ≡ b → list_any q (filter p ls) ≡ false → list_any q (filter p (l ∷ ls)) ≡ false
     by true e rest = rw e (ap₂ (λ (x y : Bool). x || y) two.0 rest)
@@ -41,7 +37,7 @@ any_kept q p (l ∷ ls) h = by (p l) refl (any_kept q p ls two.1)
 any_once : (q : Lit → Bool) (ls : List Lit) → list_any q ls ≡ false → list_any q (without_repeats ls) ≡ false
 any_once q [] h = refl
 any_once q (l ∷ ls) h =
-    let two = either_none (q l) (list_any q ls) h in
+    let two = or_parts (q l) (list_any q ls) h in
     ap₂ (λ (x y : Bool). x || y) two.0 (any_kept q (λ (m : Lit). not (same_literal l m)) (without_repeats ls) (any_once q ls two.1))
 
 all_once : (q : Lit → Bool) (ls : List Lit) → list_all q ls ≡ true → list_all q (without_repeats ls) ≡ true
@@ -63,7 +59,7 @@ others_apart l [] h = refl
 others_apart l (m ∷ ms) h = by (same_literal l m) refl (others_apart l ms two.1)
   where
     two : (same_literal (neg l) m ≡ false) × (list_any (same_literal (neg l)) ms ≡ false)
-    two = either_none (same_literal (neg l) m) (list_any (same_literal (neg l)) ms) h
+    two = or_parts (same_literal (neg l) m) (list_any (same_literal (neg l)) ms) h
 
     by : (b : Bool) → same_literal l m ≡ b → list_all (λ (n : Lit). not (same_var l n)) (filter (λ (n : Lit). not (same_literal l n)) ms) ≡ true
         → list_all (λ (n : Lit). not (same_var l n)) (filter (λ (n : Lit). not (same_literal l n)) (m ∷ ms)) ≡ true
@@ -84,7 +80,7 @@ distinct_kept p (l ∷ ls) h = by (p l) refl (distinct_kept p ls two.1)
 distinct_once : (ls : List Lit) → is_tautology ls ≡ false → distinct (without_repeats ls) ≡ true
 distinct_once [] h = refl
 distinct_once (l ∷ ls) h =
-    let two = either_none (list_any (same_literal (neg l)) ls) (is_tautology ls) h in
+    let two = or_parts (list_any (same_literal (neg l)) ls) (is_tautology ls) h in
     ap₂ (λ (x y : Bool). x && y) (others_apart l (without_repeats ls) (any_once (same_literal (neg l)) ls two.0))
     (distinct_kept (λ (m : Lit). not (same_literal l m)) (without_repeats ls) (distinct_once ls two.1))
 

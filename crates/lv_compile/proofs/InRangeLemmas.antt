@@ -2,7 +2,7 @@
 use Rattle.std.proofs.Common.{◌≡◌, ◌+◌, ◌≤◌, ◌<◌, ℕ, zero, suc, Bool, true, false, not, nat_lt, nat_le, ◌&&◌, List, [], ◌∷◌, ◌++◌, length, map, take, filter, sum_by, slice_get, Option, Some, None, refl, ap, ◌∙◌, arith, All}
 use Rattle.std.specs.List.{sum, flat_map, list_all, range_with_len}
 use Rattle.std.specs.Option.{option_map_or}
-use Rattle.std.proofs.lemmas.Bool.{and_parts}
+use Rattle.std.proofs.lemmas.Bool.{and_parts, and_from}
 use Rattle.std.proofs.lemmas.List.Sums.{sum_by-cons}
 use Rattle.std.proofs.lemmas.List.Folds.{list_all-append}
 use Rattle.std.proofs.lemmas.List.Elements.{All-head, All-tail, All-take, All-filter}
@@ -33,20 +33,16 @@ module _ (bools : ℕ) where
   abbrev pub all_in : Clauses → Bool
   all_in cs = list_all lits_in cs
 
-  both : (p q : Bool) → p ≡ true → q ≡ true → (p && q) ≡ true
-  both true q h k = k
-  both false q h k = absurd (cc)
-
   -- lists that are joined
 
   joined_in : (ps qs : Clauses) → all_in ps ≡ true → all_in qs ≡ true → all_in (ps ++ qs) ≡ true
-  joined_in ps qs h k = list_all-append lits_in ps qs ∙ both (all_in ps) (all_in qs) h k
+  joined_in ps qs h k = list_all-append lits_in ps qs ∙ and_from (all_in ps) (all_in qs) h k
 
   longer_in : (p : List Lit) (qs : Clauses) → lits_in p ≡ true → all_in qs ≡ true → all_in (each_after qs p) ≡ true
   longer_in p [] h k = refl
   longer_in p (q ∷ qs) h k =
       let two = and_parts (lits_in q) (all_in qs) k in
-      both (lits_in (p ++ q)) (all_in (each_after qs p)) (list_all-append (in_range bools) p q ∙ both (lits_in p) (lits_in q) h two.0) (longer_in p qs h two.1)
+      and_from (lits_in (p ++ q)) (all_in (each_after qs p)) (list_all-append (in_range bools) p q ∙ and_from (lits_in p) (lits_in q) h two.0) (longer_in p qs h two.1)
 
   product_in : (ps qs : Clauses) → all_in ps ≡ true → all_in qs ≡ true → all_in (product ps qs) ≡ true
   product_in [] qs h k = refl
@@ -62,7 +58,7 @@ module _ (bools : ℕ) where
   unless_in l [] h k = refl
   unless_in l (c ∷ cs) h k =
       let two = and_parts (lits_in c) (all_in cs) k in
-      both (lits_in (l ∷ c)) (all_in (unless l cs)) (both (in_range bools l) (lits_in c) h two.0) (unless_in l cs h two.1)
+      and_from (lits_in (l ∷ c)) (all_in (unless l cs)) (and_from (in_range bools l) (lits_in c) h two.0) (unless_in l cs h two.1)
 
   when_in : (sign : Bool) → all_in (when_true sign) ≡ true
   when_in true = refl
@@ -71,7 +67,7 @@ module _ (bools : ℕ) where
   mapped_in : (f : ℕ → List Lit) (first n : ℕ) → ((k : ℕ) → first ≤ k → k < first + n → lits_in (f k) ≡ true) → all_in (map f (range_with_len first n)) ≡ true
   mapped_in f first zero each = refl
   mapped_in f first (suc n) each =
-      both (lits_in (f first)) (all_in (map f (range_with_len (first + 1) n))) (each first (omega arith) (omega arith))
+      and_from (lits_in (f first)) (all_in (map f (range_with_len (first + 1) n))) (each first (omega arith) (omega arith))
       (mapped_in f (first + 1) n (λ k low high. each k (omega (arith, low)) (omega (arith, high))))
 
   flat_in : {X : Type 0} (f : X → Clauses) (P : X → Type 0) (xs : List X) → ((x : X) → P x → all_in (f x) ≡ true) → All P xs → all_in (flat_map f xs) ≡ true
@@ -84,7 +80,7 @@ module _ (bools : ℕ) where
   lit_in k sign h = grind (arith, h)
 
   pair_in : (l m : Lit) → in_range bools l ≡ true → in_range bools m ≡ true → lits_in (l ∷ m ∷ []) ≡ true
-  pair_in l m h k = both (in_range bools l) (lits_in (m ∷ [])) h (both (in_range bools m) true k refl)
+  pair_in l m h k = and_from (in_range bools l) (lits_in (m ∷ [])) h (and_from (in_range bools m) true k refl)
 
   apart_in : (first n : ℕ) → first + n ≤ bools → all_in (apart first n) ≡ true
   apart_in first zero h = refl
@@ -96,10 +92,10 @@ module _ (bools : ℕ) where
   row_in : (first n : ℕ) → first + n ≤ bools → lits_in (map (λ (k : ℕ). literal k true) (range_with_len first n)) ≡ true
   row_in first zero h = refl
   row_in first (suc n) h =
-      both (in_range bools (literal first true)) (lits_in (map (λ (k : ℕ). literal k true) (range_with_len (first + 1) n))) (lit_in first true (omega (arith, h))) (row_in (first + 1) n (omega (arith, h)))
+      and_from (in_range bools (literal first true)) (lits_in (map (λ (k : ℕ). literal k true) (range_with_len (first + 1) n))) (lit_in first true (omega (arith, h))) (row_in (first + 1) n (omega (arith, h)))
 
   one_of_in : (first n : ℕ) → first + n ≤ bools → all_in (exactly_one first n) ≡ true
-  one_of_in first n h = both (lits_in (map (λ (k : ℕ). literal k true) (range_with_len first n))) (all_in (apart first n)) (row_in first n h) (apart_in first n h)
+  one_of_in first n h = and_from (lits_in (map (λ (k : ℕ). literal k true) (range_with_len first n))) (all_in (apart first n)) (row_in first n h) (apart_in first n h)
 
   values_in : (first : ℕ) (ns : List ℕ) → first + sum ns ≤ bools → all_in (values_clauses first ns) ≡ true
   values_in first [] h = refl
@@ -116,7 +112,7 @@ module _ (bools : ℕ) where
         lit_in (value_bool b x v) sign (omega (arith, among, h, fit))
 
     alone_in : (x v : ℕ) (sign : Bool) → v < size_of b x → all_in ((value_literal b x v sign ∷ []) ∷ []) ≡ true
-    alone_in x v sign h = both (lits_in (value_literal b x v sign ∷ [])) true (both (in_range bools (value_literal b x v sign)) true (value_in x v sign h) refl) refl
+    alone_in x v sign h = and_from (lits_in (value_literal b x v sign ∷ [])) true (and_from (in_range bools (value_literal b x v sign)) true (value_in x v sign h) refl) refl
 
     mutual
       pub formula_in : (base : ℕ) (f : Tree) → speaks_of b base f ≡ true → (sign : Bool) → all_in (formula_clauses b base sign f) ≡ true
