@@ -15,3 +15,5 @@ pub mod LengthLemmas
 pub mod PlantCountLemmas
 pub mod PlantBoundLemmas
 pub mod DecodeLemmas
+pub mod InRangeLemmas
+pub mod ApartLemmas

@@ -21,7 +21,7 @@ few_sum (n ∷ ns) few =
     let more = sum_by-cons (λ (x : ℕ). x) n ns in
     omega (arith, rest, one, more)
 
-mapped_sum : (types : List ComponentType) (ps : List Part) → sum (map (part_moves types) ps) ≡ sum_by (part_moves types) ps
+pub mapped_sum : (types : List ComponentType) (ps : List Part) → sum (map (part_moves types) ps) ≡ sum_by (part_moves types) ps
 mapped_sum types [] = refl
 mapped_sum types (p ∷ ps) =
     sum_by-cons (λ (x : ℕ). x) (part_moves types p) (map (part_moves types) ps)

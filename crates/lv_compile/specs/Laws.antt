@@ -5,7 +5,7 @@ use Rattle.lv_base.specs.declared.limits.TheConstants.{MODEL_CLAUSES}
 use Rattle.lv_base.specs.declared.ids.Lit.{Lit}
 use Rattle.lv_base.specs.declared.ids.ValId.{ValId}
 use Rattle.lv_base.specs.declared.ids.MoveId.{MoveId}
-use Rattle.lv_clauses.specs.Literals.{same_truth}
+use Rattle.lv_clauses.specs.Literals.{same_truth, is_clause}
 use Rattle.lv_formula.specs.declared.range.Range.{Range}
 use Rattle.lv_formula.specs.Tree.{Tree, truth_of, number_of}
 use Rattle.lv_formula.specs.Fits.{fits, is_same_sort}
@@ -15,7 +15,7 @@ use Rattle.lv_model.specs.declared.plant.Plant.{Plant}
 use Rattle.lv_model.specs.Lists.{sizes, move_counts}
 use Rattle.lv_model.specs.WellFormed.{is_well_formed}
 use Rattle.lv_model.specs.Meaning.{is_feasible, is_step}
-use Rattle.lv_compile.specs.Booleans.{Booleans, value_bool, booleans_now, booleans_next, first_choice}
+use Rattle.lv_compile.specs.Booleans.{Booleans, value_bool, booleans_now, booleans_next, first_choice, bool_count}
 use Rattle.lv_compile.specs.FormulaClauses.{Clauses, size_of, formula_clauses}
 use Rattle.lv_compile.specs.ModelClauses.{copy_clauses, model_clauses}
 use Rattle.lv_compile.specs.Cleaning.{cleaned}
@@ -104,3 +104,7 @@ pub record PlantCountBounds : Type 0 where
 -- cleaning changes nothing that clauses say
 abbrev pub CleaningKeepsMeaning : Type 0
 CleaningKeepsMeaning = (truth : ℕ → Bool) (cs : Clauses) → are_true truth (cleaned cs) ≡ are_true truth cs
+
+-- the clauses of a well-formed plant are clauses over its booleans: each literal is of one of them, and none stands twice
+abbrev pub ModelClausesAreClauses : Type 0
+ModelClausesAreClauses = (plant : Plant) → is_well_formed plant ≡ true → list_all (is_clause (bool_count plant)) (model_clauses plant) ≡ true

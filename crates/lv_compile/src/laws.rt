@@ -1,7 +1,7 @@
 //! What the clauses say. Each function does nothing; its clause is the law.
 #![tactic(auto)]
 
-ghost use Rattle.lv_compile.specs.Laws.{FormulaClausesAreExact, CopyClausesAreExact, ModelClausesAreExact, SatisfyingIsAStep, FormulaCountBounds, PlantCountBounds, CleaningKeepsMeaning};
+ghost use Rattle.lv_compile.specs.Laws.{FormulaClausesAreExact, CopyClausesAreExact, ModelClausesAreExact, SatisfyingIsAStep, FormulaCountBounds, PlantCountBounds, CleaningKeepsMeaning, ModelClausesAreClauses};
 
 /// Truth values that encode an assignment make the clauses of a formula in a sign true exactly where the formula has
 /// that truth.
@@ -38,4 +38,9 @@ pub fn plant_count_bounds()
 /// Leaving out repeated literals and clauses that are true of everything changes nothing that clauses say.
 pub fn cleaning_keeps_meaning()
     ensures { CleaningKeepsMeaning }
+{}
+
+/// The clauses of a plant are clauses over its booleans: each literal in range, no boolean twice.
+pub fn model_clauses_are_clauses()
+    ensures { ModelClausesAreClauses }
 {}

@@ -17,7 +17,8 @@ use lv_model::variables::all_sizes;
 use lv_model::{Model, Plant};
 use std::alloc::{AllocError, Global};
 
-fn sum_of(sizes: &[usize]) -> u32
+/// How many booleans there are of things that have so many each.
+pub fn sum_of(sizes: &[usize]) -> u32
     requires { sum sizes.now < 2 ^ 32 }
     ensures { result ≡ sum sizes.now }
 {
@@ -29,7 +30,7 @@ fn sum_of(sizes: &[usize]) -> u32
 }
 
 /// The booleans of the plant's variables and choices.
-fn copies_of(alloc: Global, plant: &Plant) -> Result<Copies, AllocError>
+pub fn copies_of(alloc: Global, plant: &Plant) -> Result<Copies, AllocError>
     requires { IsTrue (is_well_formed plant.now) }
     ensures before { IfOk result (λ c. c.before ≡ booleans_now plant.now) }
     ensures after { IfOk result (λ c. c.after ≡ booleans_next plant.now) }
