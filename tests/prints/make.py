@@ -10,6 +10,11 @@ new one. The texts with names for numbers are written by hand.
 
 import os
 import random
+import sys
+
+sys.path.insert(0, os.path.join(os.path.dirname(os.path.abspath(__file__)), ".."))
+sys.dont_write_bytecode = True
+import texts  # noqa: E402
 
 SEEDS = range(1, 61)
 DOMAINS = [("flow", ["zero", "some"]), ("order", ["none", "open", "close"]), ("bit", ["off", "on"]), ("mode", ["true", "mode"])]
@@ -155,11 +160,7 @@ def layout(rng, lines):
         elif throw < 0.5:
             line = rng.choice([" ", "\t"]) + line + rng.choice(["\t", " # note", "#"])
         out.append(line)
-    end = rng.choice(["\n", "\n", "\n", "\r\n"])
-    text = end.join(out) + end
-    if rng.random() < 0.15:
-        text = text[:-len(end)] + rng.choice(["", "\r"])
-    return text.encode("latin-1")
+    return texts.joined(rng, out)
 
 
 def main():

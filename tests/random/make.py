@@ -9,6 +9,11 @@ needs new ones.
 
 import os
 import random
+import sys
+
+sys.path.insert(0, os.path.join(os.path.dirname(os.path.abspath(__file__)), ".."))
+sys.dont_write_bytecode = True
+import texts  # noqa: E402
 
 SEEDS = range(1, 145)
 
@@ -284,11 +289,7 @@ def layout(rng, lines, plain):
         if not plain and rng.random() < 0.05:
             line += rng.choice([" # note", "#", "\t"])
         out.append(line)
-    end = rng.choice(["\n", "\n", "\n", "\r\n"])
-    text = end.join(out) + end
-    if rng.random() < 0.15:
-        text = text[:-len(end)] + rng.choice(["", "\r"])
-    return text.encode("latin-1")
+    return texts.joined(rng, out)
 
 
 def main():
