@@ -1,1 +1,1 @@
-mod KeyLemmas
+pub mod KeyLemmas

@@ -9,7 +9,7 @@
 //! | `get`, `len` | the name at a place; how many names there are |
 #![tactic(auto)]
 
-ghost use Rattle.std.specs.Prelude.{◌≡◌, [], ◌∷◌, ◌++◌, None, length, position, is_some, nat_eq, slice_get, OnOk, OnErr};
+ghost use Rattle.std.specs.Prelude.{◌≡◌, ◌<◌, ◌^◌, [], ◌∷◌, ◌++◌, None, length, position, is_some, nat_eq, slice_get, IfSome, OnOk, OnErr};
 ghost use Rattle.std.specs.Option.{option_copied};
 ghost use Rattle.std.specs.List.{IsDistinct};
 ghost use Rattle.std.specs.Cmp.Lexicographic.{pointwise};
@@ -59,8 +59,10 @@ impl NameTable {
 
     /// The place of a name, if it is there. Takes no memory.
     pub fn find(&self, name: &[u8]) -> Option<usize>
-        ensures { result ≡ position (is_named name.now) self.now }
+        ensures place { result ≡ position (is_named name.now) self.now }
+        ensures within { IfSome result (λ place. place < 2 ^ 63) }
     {
+        let _count = self.names.len();
         self.names.get_index_of(name)
     }
 

@@ -1,4 +1,5 @@
 pub mod SameModes
+pub mod SetLemmas
 pub mod KeptLemmas
 pub mod FirstLemmas
 pub mod ListLemmas

@@ -1,10 +1,11 @@
 -- Having the same modes is having equal lists of modes.
-use Rattle.std.proofs.Common.{◌≡◌, Bool, true, false, List, [], ◌∷◌, refl, sym, ◌∙◌, ap}
+use Rattle.std.proofs.Common.{◌≡◌, true, List, [], ◌∷◌, refl, sym, ◌∙◌, ap}
 use Rattle.std.specs.Cmp.Lexicographic.{pointwise}
-use Rattle.std.proofs.lemmas.Bool.{and_parts, and_from, eqb-true, eq-eqb, false_from_ne_true}
+use Rattle.std.proofs.lemmas.Bool.{and_parts, and_from, eqb-true, eq-eqb}
 use Rattle.lv_base.specs.declared.ids.ValId.{ValId}
 use Rattle.lv_model.specs.declared.state.TrackedState.{TrackedState}
 use Rattle.lv_tracker.specs.Distinct.{is_same_mode, has_modes}
+use Rattle.lv_tracker.specs.Sets.{modes_equiv}
 
 equal_modes : (xs ys : List ValId) → pointwise is_same_mode xs ys ≡ true → xs ≡ ys
 equal_modes [] [] h = refl
@@ -31,8 +32,4 @@ has_equal_modes s t e = ap (λ (modes : List ValId). has_modes modes t) (sym e) 
 
 -- it is the same read either way
 pub turned : (s t : TrackedState) → has_modes s.state.modes t ≡ has_modes t.state.modes s
-turned s t = by (has_modes s.state.modes t) refl
-  where
-    by : (b : Bool) → has_modes s.state.modes t ≡ b → b ≡ has_modes t.state.modes s
-    by true e = sym (has_equal_modes t s (sym (same_modes s t e)))
-    by false e = sym (false_from_ne_true (has_modes t.state.modes s) (λ h. absurd (cc (sym e ∙ has_equal_modes s t (sym (same_modes t s h))))))
+turned s t = modes_equiv.symm t.state.modes s.state.modes

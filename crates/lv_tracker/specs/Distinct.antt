@@ -1,6 +1,6 @@
 -- Of states with the same modes the first.
-use Rattle.std.specs.Prelude.{Bool, true, nat_eq, ◌&&◌, not, List, [], ◌∷◌, filter}
-use Rattle.std.specs.List.{list_all}
+use Rattle.std.specs.Prelude.{Bool, true, nat_eq, ◌&&◌, not, List, [], ◌∷◌, ◌++◌, filter, if◌then◌else◌}
+use Rattle.std.specs.List.{list_all, list_any}
 use Rattle.std.specs.Cmp.Lexicographic.{pointwise}
 use Rattle.lv_base.specs.declared.ids.ValId.{ValId}
 use Rattle.lv_model.specs.declared.state.TrackedState.{TrackedState}
@@ -24,3 +24,7 @@ are_distinct (s ∷ ss) = list_all (differs s) ss && are_distinct ss
 abbrev pub first_of_each : List TrackedState → List TrackedState
 first_of_each [] = []
 first_of_each (s ∷ ss) = s ∷ filter (differs s) (first_of_each ss)
+
+-- the states with one more behind them, unless it has the modes of one of them
+abbrev pub with_new : List TrackedState → TrackedState → List TrackedState
+with_new states s = if list_any (has_modes s.state.modes) states then states else states ++ s ∷ []

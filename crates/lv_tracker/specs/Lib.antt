@@ -2,3 +2,4 @@ pub mod Targets
 pub mod Distinct
 pub mod Tracked
 pub mod Laws
+pub mod Sets
