@@ -1,0 +1,27 @@
+-- The names of a plant's lists, and what is found by them.
+use Rattle.std.specs.Prelude.{ℕ, List, map, position, slice_get, Option}
+use Rattle.std.specs.Option.{option_and_then}
+use Rattle.lv_model.specs.declared.plant.Plant.{Plant}
+use Rattle.lv_model.specs.declared.plant.Domain.{Domain}
+use Rattle.lv_model.specs.declared.plant.ComponentType.{ComponentType}
+use Rattle.lv_model.specs.declared.plant.Variable.{Variable}
+use Rattle.lv_model.specs.declared.plant.Part.{Part}
+use Rattle.lv_model.specs.Names.{variable_named}
+use Rattle.lv_directory.specs.declared.directory.Directory.{Directory}
+
+abbrev pub variable_names : List Variable → List (List ℕ)
+variable_names = map (λ (v : Variable). v.name)
+
+-- the names of the plant's lists, in the order of the lists
+abbrev pub names_of : Plant → Directory
+names_of plant =
+    record {
+      domains = map (λ (d : Domain). d.name) plant.domains;
+      types = map (λ (t : ComponentType). t.name) plant.types;
+      parts = map (λ (p : Part). p.name) plant.parts;
+      variables = map (λ (t : ComponentType). variable_names t.variables) plant.types;
+    }
+
+-- the place of a name among the variables of the type at a place
+abbrev pub variable_at : List ComponentType → ℕ → List ℕ → Option ℕ
+variable_at types kind word = option_and_then (λ (t : ComponentType). position (variable_named word) t.variables) (slice_get types kind)

@@ -1,0 +1,17 @@
+//! Types and plants that are being put together, with what they have found by name in a time that doesn't grow with their
+//! lists.
+//!
+//! | file | what it holds |
+//! |---|---|
+//! | `directory` | `Directory`: a table of names for each list of a plant that has names |
+//! | `named_type` | `NamedType`: a component type, its variables found by name |
+//! | `named_plant` | `NamedPlant`: a plant, its domains, types, parts and their variables found by name |
+#![tactic(auto)]
+
+pub mod directory;
+pub mod named_plant;
+pub mod named_type;
+
+pub use directory::Directory;
+pub use named_plant::NamedPlant;
+pub use named_type::NamedType;

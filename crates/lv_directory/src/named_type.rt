@@ -1,0 +1,120 @@
+//! A component type that is being put together, with its variables found by name.
+#![tactic(auto)]
+
+ghost use Rattle.std.specs.Prelude.{◌≡◌, ◌<◌, ◌≤◌, ◌^◌, [], ◌∷◌, ◌++◌, None, IfOk, IfSome, OnOk, insert, length, position};
+ghost use Rattle.lv_model.specs.Names.{variable_named};
+ghost use Rattle.lv_directory.specs.Names.{variable_names};
+
+use lv_base::{Name, Seq};
+use lv_formula::Condition;
+use lv_model::{ComponentType, ModeFormula, Move, Variable};
+use lv_names::NameTable;
+use std::alloc::{AllocError, Global};
+use std::marker::Model;
+
+/// A component type no two of whose variables have one name, seen by contracts as the type.
+#[derive(Debug, Drop)]
+pub struct NamedType {
+    lists: ComponentType,
+    variables: NameTable,
+}
+
+impl Model for NamedType {
+    ghost use Rattle.std.specs.Prelude.{◌≡◌};
+    ghost use Rattle.lv_model.specs.declared.plant.ComponentType.{ComponentType as Lists};
+    ghost use Rattle.lv_directory.specs.Names.{variable_names};
+    ghost use Rattle.std.specs.Coded.{codes};
+    ghost use Rattle.lv_formula.specs.contracts.Condition as condition;
+
+    ghost Value = { Lists };
+
+    ghost coded = { Prim.hlevel (codes, condition.the_row.coded) };
+
+    ghost view = { λ t. t.lists };
+
+    ghost invariant = { λ t. t.variables ≡ variable_names t.lists.variables };
+}
+
+impl NamedType {
+    /// A type that has only its name.
+    pub fn new(alloc: Global, name: Name) -> NamedType
+        ensures { result ≡ record { name = name; variables = []; modes = []; laws = []; formulas = []; moves = [] } }
+    {
+        NamedType {
+            lists: ComponentType {
+                name,
+                variables: Seq::new(alloc),
+                modes: Seq::new(alloc),
+                laws: Seq::new(alloc),
+                formulas: Seq::new(alloc),
+                moves: Seq::new(alloc),
+            },
+            variables: NameTable::new(alloc),
+        }
+    }
+
+    pub fn as_type(&self) -> &ComponentType
+        ensures { result.now ≡ self.now }
+    {
+        &self.lists
+    }
+
+    /// The type, and the table of its variables' names.
+    pub fn into_parts(self) -> (ComponentType, NameTable)
+        ensures lists { result.0 ≡ self }
+        ensures names { result.1 ≡ variable_names self.variables }
+    {
+        (self.lists, self.variables)
+    }
+
+    /// The place of the variable of this name. Takes no memory.
+    pub fn find_variable(&self, word: &[u8]) -> Option<usize>
+        ensures place { result ≡ position (variable_named word.now) self.now.variables }
+        ensures within { IfSome result (λ n. n < 2 ^ 63) }
+    {
+        self.variables.find(word)
+    }
+
+    /// The type with one more variable, of a new name.
+    pub fn with_variable(self, variable: Variable) -> Result<NamedType, AllocError>
+        requires { position (variable_named variable.name) self.variables ≡ None }
+        ensures { IfOk result (λ t. t ≡ record self { variables = self.variables ++ variable ∷ [] }) }
+    {
+        let (mut lists, mut variables) = self.into_parts();
+        variables.push(variable.name.as_slice())?;
+        lists.variables.push(variable)?;
+        Ok(NamedType { lists, variables })
+    }
+
+    /// Adds a mode's name.
+    pub fn push_mode(&mut self, name: Name) -> Result<(), AllocError>
+        ensures { OnOk result (self.new ≡ record self.old { modes = self.old.modes ++ name ∷ [] }) }
+    {
+        self.lists.modes.push(name)
+    }
+
+    pub fn push_law(&mut self, law: Condition) -> Result<(), AllocError>
+        ensures { OnOk result (self.new ≡ record self.old { laws = self.old.laws ++ law ∷ [] }) }
+    {
+        self.lists.laws.push(law)
+    }
+
+    /// Adds what holds in a mode.
+    pub fn push_formula(&mut self, formula: ModeFormula) -> Result<(), AllocError>
+        ensures { OnOk result (self.new ≡ record self.old { formulas = self.old.formulas ++ formula ∷ [] }) }
+    {
+        self.lists.formulas.push(formula)
+    }
+
+    /// The type with a move at this place, before those from there on.
+    pub fn with_move(self, place: usize, m: Move) -> Result<NamedType, AllocError>
+        requires { place ≤ length self.moves }
+        ensures { IfOk result (λ t. t ≡ record self { moves = insert self.moves place m }) }
+    {
+        let (mut lists, variables) = self.into_parts();
+        let mut moves = lists.moves.into_vec();
+        moves.insert(place, m)?;
+        lists.moves = Seq::from_vec(moves);
+        Ok(NamedType { lists, variables })
+    }
+}
