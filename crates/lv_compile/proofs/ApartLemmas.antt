@@ -84,7 +84,7 @@ distinct_once (l ∷ ls) h =
     ap₂ (λ (x y : Bool). x && y) (others_apart l (without_repeats ls) (any_once (same_literal (neg l)) ls two.0))
     (distinct_kept (λ (m : Lit). not (same_literal l m)) (without_repeats ls) (distinct_once ls two.1))
 
-cleaned_are : (bools : ℕ) (cs : Clauses) → list_all (λ (c : List Lit). list_all (in_range bools) c) cs ≡ true → list_all (is_clause bools) (cleaned cs) ≡ true
+pub cleaned_are : (bools : ℕ) (cs : Clauses) → list_all (λ (c : List Lit). list_all (in_range bools) c) cs ≡ true → list_all (is_clause bools) (cleaned cs) ≡ true
 cleaned_are bools [] h = refl
 cleaned_are bools (c ∷ cs) h = by (is_tautology c) refl (cleaned_are bools cs two.1)
   where

@@ -5,7 +5,7 @@ use Rattle.std.proofs.lemmas.List.FromFn.{map-range_with_len_more}
 use Rattle.std.proofs.lemmas.List.{append_assoc, append-nil, map-append}
 use Rattle.std.proofs.lemmas.Grind.{flat_map-append}
 use Rattle.lv_base.specs.declared.ids.Lit.{Lit}
-use Rattle.lv_compile.specs.FormulaClauses.{Clauses, each_after, product, gather, when_true}
+use Rattle.lv_compile.specs.FormulaClauses.{Clauses, each_after, product, gather, when_true, asked}
 
 longer_nil : (qs : Clauses) → map (λ (q : List Lit). [] ++ q) qs ≡ qs
 longer_nil [] = refl
@@ -46,10 +46,39 @@ pub gather_assoc : (of_all : Bool) (ps qs rs : Clauses) → gather of_all (gathe
 gather_assoc true ps qs rs = append_assoc ps qs rs
 gather_assoc false ps qs rs = product_assoc ps qs rs
 
--- one operand more
-pub gathered_more : (of_all : Bool) (out new more rest left whole : Clauses) → new ≡ gather of_all out more → left ≡ gather of_all more rest → gather of_all out left ≡ whole → gather of_all new rest ≡ whole
-gathered_more of_all out new more rest left whole is cut so_far =
-    ap (λ (n : Clauses). gather of_all n rest) is ∙ gather_assoc of_all out more rest ∙ ap (λ (l : Clauses). gather of_all out l) (sym cut) ∙ so_far
+-- what is gathered where it isn't asked for is nothing
+pub gather_asked : (is_asked of_all : Bool) (ps qs : Clauses) → gather of_all (asked is_asked ps) (asked is_asked qs) ≡ asked is_asked (gather of_all ps qs)
+gather_asked true of_all ps qs = refl
+gather_asked false true ps qs = refl
+gather_asked false false ps qs = refl
+
+-- what was gathered, and these clauses of the operands that are left, give the whole
+pub record IsGathered (is_asked of_all : Bool) (out rest whole : Clauses) : Type 0 where
+  pub so_far : gather of_all out (asked is_asked rest) ≡ asked is_asked whole
+  pub held : out ≡ asked is_asked out
+
+pub gathered_start : (is_asked of_all : Bool) (out whole : Clauses) → out ≡ asked is_asked (when_true of_all) → IsGathered is_asked of_all out whole whole
+gathered_start true of_all out whole is = record { so_far = ap (λ (o : Clauses). gather of_all o whole) is ∙ gather_start of_all whole; held = refl }
+gathered_start false of_all out whole is = record { so_far = ap (λ (o : Clauses). gather of_all o []) is ∙ gather_asked false of_all [] []; held = is }
+
+pub gathered_more : (is_asked of_all : Bool) (out new more clauses rest left whole : Clauses) → IsGathered is_asked of_all out left whole → left ≡ gather of_all clauses rest
+    → more ≡ asked is_asked clauses → new ≡ gather of_all out more → IsGathered is_asked of_all new rest whole
+gathered_more true of_all out new more clauses rest left whole before cut are is =
+    record {
+      so_far =
+          ap (λ (n : Clauses). gather of_all n rest) (is ∙ ap (λ (m : Clauses). gather of_all out m) are)
+          ∙ gather_assoc of_all out clauses rest
+          ∙ ap (λ (l : Clauses). gather of_all out l) (sym cut)
+          ∙ before.so_far;
+      held = refl;
+    }
+gathered_more false of_all out new more clauses rest left whole before cut are is =
+    let none : new ≡ [] = is ∙ ap₂ (λ (o m : Clauses). gather of_all o m) before.held are ∙ gather_asked false of_all [] [] in
+    record { so_far = ap (λ (n : Clauses). gather of_all n []) none ∙ gather_asked false of_all [] []; held = none }
+
+pub gathered_all : (is_asked of_all : Bool) (out rest whole : Clauses) → IsGathered is_asked of_all out rest whole → rest ≡ when_true of_all → out ≡ asked is_asked whole
+gathered_all true of_all out rest whole are none = sym (gather_end of_all out) ∙ sym (ap (λ (r : Clauses). gather of_all out r) none) ∙ are.so_far
+gathered_all false of_all out rest whole are none = are.held
 
 -- the clause of one value more
 pub one_more : (clause_of : ℕ → List Lit) (out new : Clauses) (c : List Lit) (v : ℕ) → out ≡ map clause_of (range_with_len 0 v) → new ≡ out ++ c ∷ [] → c ≡ clause_of v → new ≡ map clause_of (range_with_len 0 (v + 1))

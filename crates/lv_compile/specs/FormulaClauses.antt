@@ -34,6 +34,11 @@ abbrev pub when_true : Bool → Clauses
 when_true true = no_clause
 when_true false = empty_clause
 
+-- the clauses where they are asked for, and else none
+abbrev pub asked : Bool → Clauses → Clauses
+asked true cs = cs
+asked false cs = no_clause
+
 -- how many values the variable has
 abbrev pub size_of : Booleans → ℕ → ℕ
 size_of b x = slice_index_or b.sizes x 0

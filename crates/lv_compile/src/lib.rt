@@ -6,7 +6,7 @@
 #![tactic(auto)]
 
 pub mod clause_lists;
-mod cleaning;
+pub mod cleaning;
 pub mod copies;
 pub mod examples;
 pub mod formula;

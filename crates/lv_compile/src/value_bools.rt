@@ -57,6 +57,19 @@ impl ValueBools {
         })
     }
 
+    /// The same booleans once more.
+    pub fn copied(&self, alloc: Global) -> Result<ValueBools, AllocError>
+        ensures { IfOk result (λ b. b ≡ self.now) }
+    {
+        let sizes = Vec::from_slice(alloc, self.sizes.as_slice())?;
+        let starts = Vec::from_slice(alloc, self.starts.as_slice())?;
+        Ok(ValueBools {
+            first: self.first,
+            sizes,
+            starts,
+        })
+    }
+
     /// The number of the first boolean.
     pub fn first(&self) -> u32
         ensures { result ≡ self.now.first }
