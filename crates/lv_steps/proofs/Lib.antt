@@ -1,0 +1,7 @@
+pub mod NumberingLemmas
+pub mod EncodingLemmas
+pub mod LiteralLemmas
+pub mod SystemLemmas
+pub mod RangeLemmas
+pub mod DecodingLemmas
+pub mod GoalLemmas
