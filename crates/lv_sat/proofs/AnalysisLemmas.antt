@@ -13,6 +13,7 @@ use Rattle.lv_reflog.specs.declared.log.Hint.{Hint}
 use Rattle.lv_reflog.specs.declared.log.Step.{Step}
 use Rattle.lv_reflog.specs.Following.{clause_of, is_last, goes_on, goes_on_from, ends_well, denied, follows_by_hints}
 use Rattle.lv_sat.specs.declared.trail.Entry.{Entry}
+use Rattle.lv_sat.specs.declared.analysis.Flip.{Flip}
 use Rattle.lv_sat.specs.Trail.{same_lit, among, lits_of, IsForced, IsFalse, IsChain}
 use Rattle.lv_sat.specs.Analysis.{sees, seen_all, seen_by, denial, Covers, IsPending, GoesPast, GivesWay, StopsAt, Derives, IsDerived, end_of}
 use Rattle.lv_sat.proofs.ListLemmas.{same_lit-equal, same_lit-self, among_member, among_contained, among_push, clause_range, clause_take, clause_last, clause_sides}
@@ -234,15 +235,13 @@ module _ (cs : ClauseMap) (log : List Step) (entries : List Entry) (trail : IsCh
         follows = pending_follows at seen hints pending;
       }
 
-  pub derives : (floor : ℕ) (place : Option ℕ) (seen : List Bool) (hints : List Hint) (new : List Step) (clause : List Lit) (taken : List Hint) → StopsAt cs log entries floor seen hints place
-      → clause ≡ denial seen (take (end_of place floor) entries) → taken ≡ reverse hints → new ≡ log ++ record { clause = clause; hints = taken } ∷ [] → Derives cs log new floor entries place
+  pub derives : (floor : ℕ) (flip : Option Flip) (seen : List Bool) (hints : List Hint) (new : List Step) (clause : List Lit) (taken : List Hint) → StopsAt cs log entries floor seen hints flip
+      → clause ≡ denial seen (take (end_of flip floor) entries) → taken ≡ reverse hints → new ≡ log ++ record { clause = clause; hints = taken } ∷ [] → Derives cs log new floor entries flip
   unfolding made
   derives floor None seen hints new clause taken stopped is taken_is added = made floor seen hints new clause taken stopped is taken_is added
-  derives floor (Some place) seen hints new clause taken stopped is taken_is added =
+  derives floor (Some flip) seen hints new clause taken stopped is taken_is added =
       record {
-        derived = made (place + 1) seen hints new clause taken stopped.pending is taken_is added;
+        derived = made (flip.place + 1) seen hints new clause taken stopped.pending is taken_is added;
         within = stopped.within;
-        above = stopped.above;
-        chosen = stopped.chosen;
-        seen = stopped.seen_too;
+        cut = stopped.cut;
       }

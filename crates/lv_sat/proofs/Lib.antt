@@ -2,5 +2,6 @@ mod ListLemmas
 mod TrailLemmas
 mod SeenLemmas
 mod AnalysisLemmas
+mod CutLemmas
 mod MeasureLemmas
 mod SearchLemmas

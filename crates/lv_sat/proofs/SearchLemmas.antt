@@ -22,7 +22,8 @@ use Rattle.lv_sat.specs.Analysis.{sees, denial, IsDerived, IsTurning, Derives}
 use Rattle.lv_sat.specs.Measure.{above}
 use Rattle.lv_sat.proofs.ListLemmas.{among_member, among_contained, all_from, clause_take, clause_last}
 use Rattle.lv_sat.proofs.SeenLemmas.{from_filter, filter_none, from_map}
-use Rattle.lv_sat.proofs.TrailLemmas.{lits_push, trail_push, front_of, front_then, none_at, not_so}
+use Rattle.lv_sat.specs.declared.analysis.Flip.{Flip}
+use Rattle.lv_sat.proofs.TrailLemmas.{lits_push, cut_contained, trail_push, front_of, front_then, none_at, not_so}
 use Rattle.lv_sat.proofs.AnalysisLemmas.{front_among}
 use Rattle.lv_sat.proofs.MeasureLemmas.{above_longer, above_turned}
 
@@ -201,9 +202,9 @@ module _ (cs : ClauseMap) (assumptions : List Lit) (log : List Step) where
           (all_member (lit_holds values) assumptions (neg found.0) model.all_assumptions
           (from_filter (sees derived.seen) assumptions (neg found.0) (from_map (filter (sees derived.seen) assumptions) found.0 (subst (λ ls. Contains ls found.0) clause_is found.1))))
 
-  -- the clause derived turns the choice
-  pub turn_forced : (marks : Marks) (entries : List Entry) (new : List Step) (place : ℕ) → IsSearch cs assumptions log marks entries → IsTurning cs log new (length assumptions) entries place → IsTurned cs new entries place (Earlier (length new - 1))
-  turn_forced marks entries new place here turning =
+  -- the clause derived turns the entry
+  pub turn_forced : (marks : Marks) (entries : List Entry) (new : List Step) (flip : Flip) → IsSearch cs assumptions log marks entries → IsTurning cs log new (length assumptions) entries flip → IsTurned cs new entries flip (Earlier (length new - 1))
+  turn_forced marks entries new flip here turning =
       record {
         forced =
             λ d.
@@ -211,58 +212,63 @@ module _ (cs : ClauseMap) (assumptions : List Lit) (log : List Step) where
               clause = turning.derived.step.clause;
               named = ap (λ (steps : List Step). last_clause steps) turning.derived.added ∙ ap (option_map (λ (t : Step). t.clause)) (got_last log turning.derived.step);
               left =
-                  ap (left_of (lits_of (take place entries))) (turning.derived.clause ∙ split d)
-                  ∙ filter-append (q d) (map neg (filter p (lits_of (take place entries)))) (neg (get_or entries place d).lit ∷ [])
-                  ∙ ap₂ (λ (xs ys : List Lit). xs ++ ys) (filter_none (q d) (map neg (filter p (lits_of (take place entries)))) (λ m h. ap not (among_member (lits_of (take place entries)) (neg m) (from_filter p (lits_of (take place entries)) (neg m) (from_map (filter p (lits_of (take place entries))) m h)))))
-                  (ap (λ b. cond (not b) (neg (get_or entries place d).lit ∷ []) []) (absent d));
+                  ap (left_of front) (turning.derived.clause ∙ split d)
+                  ∙ filter-append (q d) (map neg (filter p front)) (neg (get_or entries flip.place d).lit ∷ [])
+                  ∙ ap₂ (λ (xs ys : List Lit). xs ++ ys) (filter_none (q d) (map neg (filter p front)) (λ m h. ap not (among_member front (neg m) (from_filter p front (neg m) (from_map (filter p front) m h)))))
+                  (ap (λ b. cond (not b) (neg (get_or entries flip.place d).lit ∷ []) []) (absent d));
             };
       }
     where
+      front : List Lit
+      front = lits_of (take flip.cut entries)
+
       p : Lit → Bool
       p = sees turning.derived.seen
 
       q : Entry → Lit → Bool
-      q d m = not (among (lits_of (take place entries)) (neg m))
+      q d m = not (among front (neg m))
 
-      split : (d : Entry) → denial turning.derived.seen (take (place + 1) entries) ≡ map neg (filter p (lits_of (take place entries))) ++ neg (get_or entries place d).lit ∷ []
+      split : (d : Entry) → denial turning.derived.seen (take (flip.place + 1) entries) ≡ map neg (filter p front) ++ neg (get_or entries flip.place d).lit ∷ []
       split d =
-          ap (λ (es : List Entry). map neg (filter p (lits_of es))) (take_more entries place d turning.within)
-          ∙ ap (λ ls. map neg (filter p ls)) (lits_push (take place entries) (get_or entries place d))
-          ∙ ap (map neg) (filter-append p (lits_of (take place entries)) ((get_or entries place d).lit ∷ []) ∙ ap (λ b. filter p (lits_of (take place entries)) ++ cond b ((get_or entries place d).lit ∷ []) []) (turning.seen d))
-          ∙ map-append neg (filter p (lits_of (take place entries))) ((get_or entries place d).lit ∷ [])
+          ap (λ (es : List Entry). map neg (filter p (lits_of es))) (take_more entries flip.place d turning.within)
+          ∙ ap (λ ls. map neg (filter p ls)) (lits_push (take flip.place entries) (get_or entries flip.place d))
+          ∙ ap (map neg) (filter-append p (lits_of (take flip.place entries)) ((get_or entries flip.place d).lit ∷ []) ∙ ap (λ b. filter p (lits_of (take flip.place entries)) ++ cond b ((get_or entries flip.place d).lit ∷ []) []) (turning.cut.seen_too d))
+          ∙ ap (λ (ls : List Lit). map neg (ls ++ (get_or entries flip.place d).lit ∷ [])) turning.cut.apart.unseen
+          ∙ map-append neg (filter p front) ((get_or entries flip.place d).lit ∷ [])
 
-      absent : (d : Entry) → among (lits_of (take place entries)) (neg (neg (get_or entries place d).lit)) ≡ false
+      absent : (d : Entry) → among front (neg (neg (get_or entries flip.place d).lit)) ≡ false
       absent d =
-          ap (among (lits_of (take place entries))) (neg_neg (get_or entries place d).lit)
-          ∙ not_so (among (lits_of (take place entries)) (get_or entries place d).lit)
-          (λ e. clause_last cs.bools (lits_of (take place entries)) (get_or entries place d).lit (get_or entries place d).lit
-          (ap (is_clause cs.bools) (sym (lits_push (take place entries) (get_or entries place d)) ∙ ap (λ (es : List Entry). lits_of es) (sym (take_more entries place d turning.within)) ∙ sym (take-map (λ (k : Entry). k.lit) (place + 1) entries)) ∙ clause_take cs.bools (place + 1) (lits_of entries) here.trail.chain.clause)
-          (among_contained (lits_of (take place entries)) (get_or entries place d).lit e) refl)
+          ap (among front) (neg_neg (get_or entries flip.place d).lit)
+          ∙ not_so (among front (get_or entries flip.place d).lit)
+          (λ e. clause_last cs.bools (lits_of (take flip.place entries)) (get_or entries flip.place d).lit (get_or entries flip.place d).lit
+          (ap (is_clause cs.bools) (sym (lits_push (take flip.place entries) (get_or entries flip.place d)) ∙ ap (λ (es : List Entry). lits_of es) (sym (take_more entries flip.place d turning.within)) ∙ sym (take-map (λ (k : Entry). k.lit) (flip.place + 1) entries)) ∙ clause_take cs.bools (flip.place + 1) (lits_of entries) here.trail.chain.clause)
+          (cut_contained entries flip.cut flip.place (get_or entries flip.place d).lit turning.cut.apart.before (among_contained front (get_or entries flip.place d).lit e)) refl)
 
-  pub search_turned : (marks now : Marks) (entries left : List Entry) (new : List Step) (place : ℕ) (d : Entry) → IsSearch cs assumptions log marks entries → IsTurning cs log new (length assumptions) entries place
-      → left ≡ take place entries ++ turned (get_or entries place d) (Earlier (length new - 1)) ∷ []
-      → (IsTrail cs new marks entries → IsTurned cs new entries place (Earlier (length new - 1)) → IsTrail cs new now left) → IsSearch cs assumptions new now left
-  search_turned marks now entries left new place d here turning is made =
+  pub search_turned : (marks now : Marks) (entries left : List Entry) (new : List Step) (flip : Flip) (d : Entry) → IsSearch cs assumptions log marks entries → IsTurning cs log new (length assumptions) entries flip
+      → left ≡ take flip.cut entries ++ turned (get_or entries flip.place d) (Earlier (length new - 1)) ∷ []
+      → (IsTrail cs new marks entries → IsTurned cs new entries flip (Earlier (length new - 1)) → IsTrail cs new now left) → IsSearch cs assumptions new now left
+  search_turned marks now entries left new flip d here turning is made =
+      let within : flip.cut < length entries = omega (arith, turning.within, turning.cut.apart.before) in
       record {
-        trail = made (subst (λ (steps : List Step). IsTrail cs steps marks entries) (sym turning.derived.added) (trail_grows cs log turning.derived.step marks entries here.trail)) (turn_forced marks entries new place here turning);
+        trail = made (subst (λ (steps : List Step). IsTrail cs steps marks entries) (sym turning.derived.added) (trail_grows cs log turning.derived.step marks entries here.trail)) (turn_forced marks entries new flip here turning);
         assumed =
             ap (λ (es : List Entry). take (length assumptions) (lits_of es)) is
-            ∙ ap (take (length assumptions)) (lits_push (take place entries) (turned (get_or entries place d) (Earlier (length new - 1))))
-            ∙ take-append-le (length assumptions) (lits_of (take place entries)) (neg (get_or entries place d).lit ∷ []) (omega (arith, turning.above, turning.within, lits_len (take place entries), length-take-le place entries (omega (arith, turning.within))))
-            ∙ ap (take (length assumptions)) (sym (take-map (λ (k : Entry). k.lit) place entries))
-            ∙ take-take (length assumptions) place (lits_of entries) turning.above
+            ∙ ap (take (length assumptions)) (lits_push (take flip.cut entries) (turned (get_or entries flip.place d) (Earlier (length new - 1))))
+            ∙ take-append-le (length assumptions) (lits_of (take flip.cut entries)) (neg (get_or entries flip.place d).lit ∷ []) (omega (arith, turning.cut.apart.above, within, lits_len (take flip.cut entries), length-take-le flip.cut entries (omega (arith, within))))
+            ∙ ap (take (length assumptions)) (sym (take-map (λ (k : Entry). k.lit) flip.cut entries))
+            ∙ take-take (length assumptions) flip.cut (lits_of entries) turning.cut.apart.above
             ∙ here.assumed;
         valid = ap (first_bad_step cs) turning.derived.added ∙ valid_push cs log turning.derived.step here.valid turning.derived.follows;
       }
 
   -- fewer trails are above
-  pub search_falls : (marks : Marks) (old entries left : List Entry) (new : List Step) (place : ℕ) (d : Entry) → IsTrail cs log marks entries → entries ≡ old ++ drop (length old) entries
-      → IsTurning cs log new (length assumptions) entries place → left ≡ take place entries ++ turned (get_or entries place d) (Earlier (length new - 1)) ∷ [] → above cs.bools left < above cs.bools old
-  search_falls marks old entries left new place d trail front turning is =
+  pub search_falls : (marks : Marks) (old entries left : List Entry) (new : List Step) (flip : Flip) (d : Entry) → IsTrail cs log marks entries → entries ≡ old ++ drop (length old) entries
+      → IsTurning cs log new (length assumptions) entries flip → left ≡ take flip.cut entries ++ turned (get_or entries flip.place d) (Earlier (length new - 1)) ∷ [] → above cs.bools left < above cs.bools old
+  search_falls marks old entries left new flip d trail front turning is =
       omega (
         arith,
         ap (above cs.bools) is,
-        above_turned cs.bools entries place d (turned (get_or entries place d) (Earlier (length new - 1))) (Earlier (length new - 1)) (omega (arith, trail.room, trail.len)) turning.within (turning.chosen d) refl,
+        above_turned cs.bools entries flip.cut d (turned (get_or entries flip.place d) (Earlier (length new - 1))) (Earlier (length new - 1)) (omega (arith, trail.room, trail.len)) (omega (arith, turning.within, turning.cut.apart.before)) (turning.cut.apart.chosen d) refl,
         ap (above cs.bools) front,
         above_longer cs.bools old (drop (length old) entries),
       )
@@ -274,19 +280,19 @@ module _ (cs : ClauseMap) (assumptions : List Lit) (log : List Step) where
         let here : IsReached cs log old marks entries (Values values) = subst (IsReached cs log old marks entries) is told in
         model_found marks entries values (search_extended a marks old entries before here.trail here.front) here.reaches.0 here.reaches.2
 
-    pub refuted_end : (reached : Reached) (place : Option ℕ) (shown : List Entry) (new : List Step) (core : List Lit) → IsReached cs log old marks entries reached → shown ≡ entries → place ≡ None
-        → Derives cs log new (length assumptions) shown place → IfSome (last_clause new) (λ clause. core ≡ map neg clause) → IsRefutation cs assumptions core new
-    refuted_end reached place shown new core here same none derived told =
+    pub refuted_end : (reached : Reached) (flip : Option Flip) (shown : List Entry) (new : List Step) (core : List Lit) → IsReached cs log old marks entries reached → shown ≡ entries → flip ≡ None
+        → Derives cs log new (length assumptions) shown flip → IfSome (last_clause new) (λ clause. core ≡ map neg clause) → IsRefutation cs assumptions core new
+    refuted_end reached flip shown new core here same none derived told =
         refutation_found marks entries new core (search_extended a marks old entries before here.trail here.front)
         (subst (λ (es : List Entry). IsDerived cs log new es (length assumptions)) same (subst (Derives cs log new (length assumptions) shown) none derived)) told
 
-    module _ (reached : Reached) (place : ℕ) (found : Option ℕ) (shown left : List Entry) (new : List Step) (d : Entry) (here : IsReached cs log old marks entries reached) (same : shown ≡ entries) (some : found ≡ Some place)
-        (derived : Derives cs log new (length assumptions) shown found) (is : left ≡ take place entries ++ turned (get_or entries place d) (Earlier (length new - 1)) ∷ []) where
-      turning : IsTurning cs log new (length assumptions) entries place
-      turning = subst (λ (es : List Entry). IsTurning cs log new (length assumptions) es place) same (subst (Derives cs log new (length assumptions) shown) some derived)
+    module _ (reached : Reached) (flip : Flip) (found : Option Flip) (shown left : List Entry) (new : List Step) (d : Entry) (here : IsReached cs log old marks entries reached) (same : shown ≡ entries) (some : found ≡ Some flip)
+        (derived : Derives cs log new (length assumptions) shown found) (is : left ≡ take flip.cut entries ++ turned (get_or entries flip.place d) (Earlier (length new - 1)) ∷ []) where
+      turning : IsTurning cs log new (length assumptions) entries flip
+      turning = subst (λ (es : List Entry). IsTurning cs log new (length assumptions) es flip) same (subst (Derives cs log new (length assumptions) shown) some derived)
 
-      pub turn_keeps : (now : Marks) → ((sets : ClauseMap) (steps : List Step) → IsTrail sets steps marks entries → IsTurned sets steps entries place (Earlier (length new - 1)) → IsTrail sets steps now left) → IsSearch cs assumptions new now left
-      turn_keeps now made = search_turned marks now entries left new place d (search_extended a marks old entries before here.trail here.front) turning is (made cs new)
+      pub turn_keeps : (now : Marks) → ((sets : ClauseMap) (steps : List Step) → IsTrail sets steps marks entries → IsTurned sets steps entries flip (Earlier (length new - 1)) → IsTrail sets steps now left) → IsSearch cs assumptions new now left
+      turn_keeps now made = search_turned marks now entries left new flip d (search_extended a marks old entries before here.trail here.front) turning is (made cs new)
 
       pub turn_falls : above cs.bools left < above cs.bools old
-      turn_falls = search_falls marks old entries left new place d here.trail here.front turning is
+      turn_falls = search_falls marks old entries left new flip d here.trail here.front turning is

@@ -1,5 +1,5 @@
 -- What was seen stays so, and the negations of literals seen are a clause whose denial is these literals.
-use Rattle.std.proofs.Common.{◌≡◌, ◌≢◌, ◌⊎◌, ℕ, ◌<◌, ◌≤◌, Bool, true, false, not, cond, List, [], ◌∷◌, length, map, filter, get_or, set, Option, Some, None, refl, sym, ap, ap₂, subst, ◌∙◌, arith, inl, inr, Contains}
+use Rattle.std.proofs.Common.{◌≡◌, ◌≢◌, ◌⊎◌, ℕ, suc, zero, ◌<◌, ◌≤◌, Bool, true, false, not, cond, List, [], ◌∷◌, length, take, map, filter, get_or, set, Option, Some, None, refl, sym, ap, ap₂, subst, ◌∙◌, arith, inl, inr, Contains}
 use Rattle.std.specs.List.{list_all}
 use Rattle.std.proofs.lemmas.Bool.{cases_eq, cases_lt}
 use Rattle.std.proofs.lemmas.List.{get_or-set_same, get_or-set_other, length-set, set_past}
@@ -71,6 +71,15 @@ pub filter_none : {X : Type 0} (p : X → Bool) (xs : List X) → ((x : X) → C
 filter_none p [] each = refl
 filter_none p (x ∷ xs) each =
     ap₂ (λ b ys. cond b (x ∷ ys) ys) (each x (Contains-head x xs)) (filter_none p xs (λ y h. each y (Contains-tail x y xs h)))
+
+pub contains_take : {X : Type 0} (k : ℕ) (xs : List X) (x : X) → Contains (take k xs) x → Contains xs x
+contains_take zero xs x h = absurd (omega (arith, h.1))
+contains_take (suc k) [] x h = h
+contains_take (suc k) (y ∷ ys) x h = by_place (Contains-cases y x (take k ys) h) (λ more. contains_take k ys x more)
+  where
+    by_place : (y ≡ x) ⊎ Contains (take k ys) x → (Contains (take k ys) x → Contains ys x) → Contains (y ∷ ys) x
+    by_place (inl same) rest = subst (λ z. Contains (y ∷ ys) z) same (Contains-head y ys)
+    by_place (inr more) rest = Contains-tail y x ys (rest more)
 
 -- members of a list of negations
 pub in_map : (ls : List Lit) (l : Lit) → Contains ls l → Contains (map neg ls) (neg l)

@@ -1,10 +1,11 @@
 -- What one entry more or less makes of a trail.
-use Rattle.std.proofs.Common.{◌≡◌, ◌≢◌, ◌⊎◌, ℕ, ◌+◌, ◌-◌, ◌<◌, ◌≤◌, Bool, true, false, not, ◌&&◌, ◌||◌, List, [], ◌∷◌, ◌++◌, length, take, drop, get_or, set, Option, Some, None, is_none, count_by, cond, append_assoc, refl, sym, ap, subst, ◌∙◌, arith, inl, inr, Contains}
+use Rattle.std.proofs.Common.{◌≡◌, ◌≢◌, ◌⊎◌, ℕ, ◌+◌, ◌-◌, ◌<◌, ◌≤◌, Bool, true, false, not, ◌&&◌, ◌||◌, List, [], ◌∷◌, ◌++◌, length, take, drop, get_or, set, Option, Some, None, is_none, is_some, count_by, cond, eqb, append_assoc, refl, sym, ap, subst, ◌∙◌, arith, inl, inr, Contains}
 use Rattle.std.proofs.lemmas.Bool.{cases_eq, cases_lt}
 use Rattle.std.proofs.lemmas.List.{get_or-set_same, get_or-set_other, length-set, length-replicate, get_or_append_left, take-append-le, map-append, take-map, take-take, take_more, get_or-take, length-take-le, length-append, append-nil}
 use Rattle.std.proofs.Math.Seq.{take-append_seam, drop-append_seam, get_or-append_seam, take-length}
 use Rattle.std.proofs.lemmas.List.Sums.{sum_by-set}
-use Rattle.std.proofs.lemmas.List.Folds.{sum_by-replicate}
+use Rattle.std.proofs.lemmas.List.Folds.{sum_by-replicate, sum_by-zero}
+use Rattle.std.specs.List.{list_all}
 use Rattle.std.proofs.lemmas.Option.{same_Some, none-some}
 use Rattle.lv_base.specs.declared.ids.Lit.{Lit}
 use Rattle.lv_clauses.specs.Literals.{neg, same_truth, in_range, is_clause}
@@ -18,7 +19,8 @@ use Rattle.lv_reflog.specs.declared.log.Step.{Step}
 use Rattle.lv_reflog.specs.Following.{clause_of}
 use Rattle.lv_sat.specs.declared.trail.Entry.{Entry}
 use Rattle.lv_sat.specs.Trail.{same_lit, among, lits_of, is_open, IsForced, IsFalse, IsChain, IsTrail, IsTurned, IsExtended, turned}
-use Rattle.lv_sat.proofs.SeenLemmas.{in_filter, filter_same}
+use Rattle.lv_sat.specs.declared.analysis.Flip.{Flip}
+use Rattle.lv_sat.proofs.SeenLemmas.{in_filter, filter_same, contains_take}
 use Rattle.lv_sat.proofs.ListLemmas.{eq_isnt, lt_from, same_lit-self, among_push, among_member, among_contained, clause_range, clause_front, clause_take, clause_last, clause_push, lt_is}
 
 none_from : (o : Option Bool) → is_none o ≡ true → o ≡ None
@@ -212,22 +214,28 @@ open_apart cs log marks entries l trail within apart =
     absent : (m : Lit) → m.var.0 ≡ l.var.0 → is_marked marks m ≡ false
     absent m same = trail.same m ∙ not_so (among (lits_of entries) m) (λ e. apart m (among_contained (lits_of entries) m e) same)
 
--- the entry at a place is turned
-pub trail_turned : (cs : ClauseMap) (log : List Step) (marks : Marks) (entries : List Entry) (place : ℕ) (d : Entry) (h : Hint) → place < length entries → IsChain cs log entries → IsTurned cs log entries place h
-    → IsTrail cs log marks (take place entries) → IsTrail cs log (marked marks (neg (get_or entries place d).lit)) (take place entries ++ turned (get_or entries place d) h ∷ [])
-trail_turned cs log marks entries place d h within chain turn trail =
-    trail_push cs log marks (take place entries) trail (turned e h)
-    (open_apart cs log marks (take place entries) (neg e.lit) trail (clause_range cs.bools (lits_of (take place entries) ++ e.lit ∷ []) e.lit whole_clause (among_contained (lits_of (take place entries) ++ e.lit ∷ []) e.lit (among_push (lits_of (take place entries)) e.lit e.lit ∙ or_right (among (lits_of (take place entries)) e.lit) (same_lit e.lit e.lit) (same_lit-self e.lit))))
-    (λ m h2. clause_last cs.bools (lits_of (take place entries)) e.lit m whole_clause h2))
-    (λ k is. subst (IsForced cs.slots log (lits_of (take place entries)) (neg e.lit)) (same_Some h k is) (turn.forced d))
+-- what stands before the cut stands before the place
+pub cut_contained : (entries : List Entry) (cut place : ℕ) (m : Lit) → cut ≤ place → Contains (lits_of (take cut entries)) m → Contains (lits_of (take place entries)) m
+cut_contained entries cut place m before h =
+    contains_take cut (lits_of (take place entries)) m
+    (subst (λ ls. Contains ls m) (ap (λ (es : List Entry). lits_of es) (sym (take-take cut place entries before)) ∙ sym (take-map (λ (k : Entry). k.lit) cut (take place entries))) h)
+
+-- the entry at a place is turned, at the cut
+pub trail_turned : (cs : ClauseMap) (log : List Step) (marks : Marks) (entries : List Entry) (flip : Flip) (d : Entry) (h : Hint) → flip.place < length entries → flip.cut ≤ flip.place → IsChain cs log entries → IsTurned cs log entries flip h
+    → IsTrail cs log marks (take flip.cut entries) → IsTrail cs log (marked marks (neg (get_or entries flip.place d).lit)) (take flip.cut entries ++ turned (get_or entries flip.place d) h ∷ [])
+trail_turned cs log marks entries flip d h within before chain turn trail =
+    trail_push cs log marks (take flip.cut entries) trail (turned e h)
+    (open_apart cs log marks (take flip.cut entries) (neg e.lit) trail (clause_range cs.bools (lits_of (take flip.place entries) ++ e.lit ∷ []) e.lit whole_clause (among_contained (lits_of (take flip.place entries) ++ e.lit ∷ []) e.lit (among_push (lits_of (take flip.place entries)) e.lit e.lit ∙ or_right (among (lits_of (take flip.place entries)) e.lit) (same_lit e.lit e.lit) (same_lit-self e.lit))))
+    (λ m h2. clause_last cs.bools (lits_of (take flip.place entries)) e.lit m whole_clause (cut_contained entries flip.cut flip.place m before h2)))
+    (λ k is. subst (IsForced cs.slots log (lits_of (take flip.cut entries)) (neg e.lit)) (same_Some h k is) (turn.forced d))
   where
     e : Entry
-    e = get_or entries place d
+    e = get_or entries flip.place d
 
-    whole_clause : is_clause cs.bools (lits_of (take place entries) ++ e.lit ∷ []) ≡ true
+    whole_clause : is_clause cs.bools (lits_of (take flip.place entries) ++ e.lit ∷ []) ≡ true
     whole_clause =
-        ap (is_clause cs.bools) (sym (lits_push (take place entries) e) ∙ ap (λ (es : List Entry). lits_of es) (sym (take_more entries place d within)) ∙ sym (take-map (λ (k : Entry). k.lit) (place + 1) entries))
-        ∙ clause_take cs.bools (place + 1) (lits_of entries) chain.clause
+        ap (is_clause cs.bools) (sym (lits_push (take flip.place entries) e) ∙ ap (λ (es : List Entry). lits_of es) (sym (take_more entries flip.place d within)) ∙ sym (take-map (λ (k : Entry). k.lit) (flip.place + 1) entries))
+        ∙ clause_take cs.bools (flip.place + 1) (lits_of entries) chain.clause
 
 -- what goes on from a list begins with it
 pub front_of : {X : Type 0} (old new rest : List X) → new ≡ old ++ rest → new ≡ old ++ drop (length old) new
@@ -297,3 +305,12 @@ module _ (cs : ClauseMap) (log : List Step) (marks now : Marks) (entries more : 
       ∙ lits_push entries (record { lit = get_or assumptions at d; reason = None })
       ∙ ap (λ ls. ls ++ get_or assumptions at d ∷ []) lits
       ∙ sym (take_more assumptions at d within)
+
+all_some : (ms : Marks) → list_all (λ o. eqb (cond (is_none o) 1 0) 0) ms ≡ true → list_all is_some ms ≡ true
+all_some [] e = refl
+all_some (None ∷ ms) e = absurd (cc)
+all_some (Some b ∷ ms) e = all_some ms e
+
+-- as many entries as booleans mark all of them
+pub all_marked : (ms : Marks) → count_by is_none ms ≡ 0 → list_all is_some ms ≡ true
+all_marked ms e = all_some ms (sym (sum_by-zero weight ms) ∙ ap (λ n. eqb n 0) e)

@@ -1,5 +1,5 @@
 -- What the analysis of a false clause derives: a clause of negations of entries that were needed.
-use Rattle.std.specs.Prelude.{◌≡◌, ℕ, ◌+◌, ◌<◌, ◌≤◌, Bool, true, false, List, [], ◌∷◌, ◌++◌, map, filter, length, take, Option, Some, None, reverse, slice_index_or, slice_set, unwrap_or}
+use Rattle.std.specs.Prelude.{◌≡◌, ℕ, ◌+◌, ◌<◌, ◌≤◌, Bool, true, false, List, [], ◌∷◌, ◌++◌, map, filter, length, take, Option, Some, None, IsSome, reverse, slice_index_or, slice_set, unwrap_or}
 use Rattle.lv_base.specs.declared.ids.Lit.{Lit}
 use Rattle.lv_clauses.specs.Literals.{neg}
 use Rattle.lv_clauses.specs.ClauseMap.{ClauseMap, Slots}
@@ -8,6 +8,7 @@ use Rattle.lv_reflog.specs.declared.log.Hint.{Hint}
 use Rattle.lv_reflog.specs.declared.log.Step.{Step}
 use Rattle.lv_reflog.specs.Following.{clause_of, ends_well, follows_by_hints}
 use Rattle.lv_sat.specs.declared.trail.Entry.{Entry}
+use Rattle.lv_sat.specs.declared.analysis.Flip.{Flip}
 use Rattle.lv_sat.specs.Trail.{lits_of, among}
 
 -- the literal's boolean was seen
@@ -31,10 +32,38 @@ needed seen entries = filter (sees seen) (lits_of entries)
 abbrev pub denial : List Bool → List Entry → List Lit
 denial seen entries = map neg (needed seen entries)
 
--- the number of entries up to the place, or below the floor
-abbrev pub end_of : Option ℕ → ℕ → ℕ
+-- the number of entries up to the last one needed, or below the floor
+abbrev pub end_of : Option Flip → ℕ → ℕ
 end_of None floor = floor
-end_of (Some place) floor = place + 1
+end_of (Some flip) floor = flip.place + 1
+
+-- at the place no choice stands
+abbrev pub HasReason : List Entry → ℕ → Type 0
+HasReason entries at = (d : Entry) → IsSome (slice_index_or entries at d).reason
+
+-- a choice at or before the place, and none of the entries from it on and before the place was seen
+pub record IsApart (seen : List Bool) (entries : List Entry) (floor at cut : ℕ) : Type 0 where
+  pub above : floor ≤ cut
+  pub before : cut ≤ at
+  pub chosen : (d : Entry) → (slice_index_or entries cut d).reason ≡ None
+  pub unseen : needed seen (take at entries) ≡ needed seen (take cut entries)
+
+-- and the entry at the place was seen
+pub record IsCut (seen : List Bool) (entries : List Entry) (floor at cut : ℕ) : Type 0 where
+  pub apart : IsApart seen entries floor at cut
+  pub seen_too : (d : Entry) → sees seen (slice_index_or entries at d).lit ≡ true
+
+-- the entry at the place is no choice if it was seen
+abbrev pub IsForcedIfSeen : List Bool → List Entry → ℕ → Type 0
+IsForcedIfSeen seen entries at = (d : Entry) → sees seen (slice_index_or entries at d).lit ≡ true → IsSome (slice_index_or entries at d).reason
+
+-- the place where a choice stands there, else the other one
+abbrev pub choice_or : Option Hint → ℕ → Option ℕ → Option ℕ
+choice_or None at other = Some at
+choice_or (Some h) at other = other
+
+abbrev pub IsChoiceOr : List Entry → ℕ → Option ℕ → Option ℕ → Type 0
+IsChoiceOr entries at other result = (d : Entry) → result ≡ choice_or (slice_index_or entries at d).reason at other
 
 -- the literals that are among the first entries and were seen are marked, and nothing that isn't on the trail is
 pub record Covers (seen : List Bool) (entries : List Entry) (at : ℕ) (marks : Marks) : Type 0 where
@@ -46,17 +75,15 @@ pub record IsPending (set : ClauseMap) (log : List Step) (entries : List Entry) 
   pub len : length seen ≡ set.bools
   pub ends : (marks : Marks) → length marks ≡ set.bools → Covers seen entries at marks → ends_well set.slots log (reverse hints) marks ≡ true
 
--- the walk stopped behind a choice that was seen, or at the floor
-pub record IsStopped (set : ClauseMap) (log : List Step) (entries : List Entry) (floor : ℕ) (seen : List Bool) (hints : List Hint) (place : ℕ) : Type 0 where
-  pub pending : IsPending set log entries (place + 1) seen hints
-  pub within : place < length entries
-  pub above : floor ≤ place
-  pub chosen : (d : Entry) → (slice_index_or entries place d).reason ≡ None
-  pub seen_too : (d : Entry) → sees seen (slice_index_or entries place d).lit ≡ true
+-- the walk stopped behind an entry that was seen, or at the floor
+pub record IsStopped (set : ClauseMap) (log : List Step) (entries : List Entry) (floor : ℕ) (seen : List Bool) (hints : List Hint) (flip : Flip) : Type 0 where
+  pub pending : IsPending set log entries (flip.place + 1) seen hints
+  pub within : flip.place < length entries
+  pub cut : IsCut seen entries floor flip.place flip.cut
 
-abbrev pub StopsAt : ClauseMap → List Step → List Entry → ℕ → List Bool → List Hint → Option ℕ → Type 0
+abbrev pub StopsAt : ClauseMap → List Step → List Entry → ℕ → List Bool → List Hint → Option Flip → Type 0
 StopsAt set log entries floor seen hints None = IsPending set log entries floor seen hints
-StopsAt set log entries floor seen hints (Some place) = IsStopped set log entries floor seen hints place
+StopsAt set log entries floor seen hints (Some flip) = IsStopped set log entries floor seen hints flip
 
 -- an entry that was seen gives way to its reason
 pub record GivesWay (slots : Slots) (log : List Step) (h : Hint) (old : List Bool) (given : List Hint) (new : List Bool) (more : List Hint) : Type 0 where
@@ -72,16 +99,6 @@ GoesPast slots log false reason old hints new more = IsUnchanged old hints new m
 GoesPast slots log true None old hints new more = ⊥
 GoesPast slots log true (Some h) old hints new more = GivesWay slots log h old hints new more
 
--- a choice that was seen
-pub record IsSeenChoice (entry : Entry) (seen : List Bool) : Type 0 where
-  pub seen_too : sees seen entry.lit ≡ true
-  pub chosen : entry.reason ≡ None
-
--- the entry isn't needed or gives way to its reason, or it is a choice
-abbrev pub Passes : Slots → List Step → Entry → List Bool → List Hint → Bool → List Bool → List Hint → Type 0
-Passes slots log entry old hints false new more = IsSeenChoice entry old × IsUnchanged old hints new more
-Passes slots log entry old hints true new more = GoesPast slots log (sees old entry.lit) entry.reason old hints new more
-
 -- the log has one step more, which follows by its hints: its clause is of negations of the first entries
 pub record IsDerived (set : ClauseMap) (old new : List Step) (entries : List Entry) (at : ℕ) : Type 0 where
   pub step : Step
@@ -90,15 +107,13 @@ pub record IsDerived (set : ClauseMap) (old new : List Step) (entries : List Ent
   pub clause : step.clause ≡ denial seen (take at entries)
   pub follows : follows_by_hints set old step ≡ true
 
--- the last literal of the clause negates the choice at this place
-pub record IsTurning (set : ClauseMap) (old new : List Step) (floor : ℕ) (entries : List Entry) (place : ℕ) : Type 0 where
-  pub derived : IsDerived set old new entries (place + 1)
-  pub within : place < length entries
-  pub above : floor ≤ place
-  pub chosen : (d : Entry) → (slice_index_or entries place d).reason ≡ None
-  pub seen : (d : Entry) → sees derived.seen (slice_index_or entries place d).lit ≡ true
+-- the last literal of the clause negates the entry at the place, and none other an entry from the cut on
+pub record IsTurning (set : ClauseMap) (old new : List Step) (floor : ℕ) (entries : List Entry) (flip : Flip) : Type 0 where
+  pub derived : IsDerived set old new entries (flip.place + 1)
+  pub within : flip.place < length entries
+  pub cut : IsCut derived.seen entries floor flip.place flip.cut
 
--- the clause has a choice, or it is of negations of entries below the floor alone
-abbrev pub Derives : ClauseMap → List Step → List Step → ℕ → List Entry → Option ℕ → Type 0
+-- the clause turns an entry, or it is of negations of entries below the floor alone
+abbrev pub Derives : ClauseMap → List Step → List Step → ℕ → List Entry → Option Flip → Type 0
 Derives set old new floor entries None = IsDerived set old new entries floor
-Derives set old new floor entries (Some place) = IsTurning set old new floor entries place
+Derives set old new floor entries (Some flip) = IsTurning set old new floor entries flip

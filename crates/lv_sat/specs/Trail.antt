@@ -10,6 +10,7 @@ use Rattle.lv_reflog.specs.declared.log.Hint.{Hint}
 use Rattle.lv_reflog.specs.declared.log.Step.{Step}
 use Rattle.lv_reflog.specs.Following.{clause_of, first_bad_step}
 use Rattle.lv_sat.specs.declared.trail.Entry.{Entry}
+use Rattle.lv_sat.specs.declared.analysis.Flip.{Flip}
 use Rattle.lv_sat.specs.declared.search.Reached.{Reached}
 use Rattle.lv_sat.specs.declared.search.Reached.TheVariants.{Values, False}
 
@@ -61,9 +62,9 @@ pub record IsTrail (set : ClauseMap) (log : List Step) (marks : Marks) (entries 
 abbrev pub turned : Entry → Hint → Entry
 turned e h = record { lit = neg e.lit; reason = Some h }
 
--- the hint's clause forces the negation of the entry at the place, where those before it are true
-pub record IsTurned (set : ClauseMap) (log : List Step) (entries : List Entry) (place : ℕ) (h : Hint) : Type 0 where
-  pub forced : (d : Entry) → IsForced set.slots log (lits_of (take place entries)) (neg (slice_index_or entries place d).lit) h
+-- the hint's clause forces the negation of the entry at the place, where those before the cut are true
+pub record IsTurned (set : ClauseMap) (log : List Step) (entries : List Entry) (flip : Flip) (h : Hint) : Type 0 where
+  pub forced : (d : Entry) → IsForced set.slots log (lits_of (take flip.cut entries)) (neg (slice_index_or entries flip.place d).lit) h
 
 -- what the search keeps: a trail that begins with the assumptions, and a valid log
 pub record IsSearch (set : ClauseMap) (assumptions : List Lit) (log : List Step) (marks : Marks) (entries : List Entry) : Type 0 where

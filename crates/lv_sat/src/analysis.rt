@@ -1,14 +1,14 @@
 //! What a false clause teaches. The trail is walked from its end: an entry that was needed gives way to the entries that
-//! forced it, until one is met that was chosen, or the assumptions alone are left. The negations of the entries needed
-//! are then a clause that follows from the reasons used, in the order of the trail, and the false clause: one step of
-//! the log.
+//! forced it, until one is met behind which nothing is needed up to a choice, or the assumptions alone are left. The
+//! negations of the entries needed are then a clause that follows from the reasons used, in the order of the trail, and
+//! the false clause: one step of the log.
 #![tactic(auto)]
 
-ghost use Rattle.std.specs.Prelude.{◌≡◌, ◌<◌, ◌≤◌, ◌+◌, ◌^◌, true, ◌++◌, ◌∷◌, [], length, take, IfOk, IfSome, OnOk, option_map, slice_set, unwrap_or};
+ghost use Rattle.std.specs.Prelude.{◌≡◌, ◌<◌, ◌≤◌, ◌+◌, ◌^◌, true, ◌++◌, ◌∷◌, [], length, take, IfOk, IfSome, IfNone, IsSome, OnOk, option_map, slice_set, unwrap_or};
 ghost use Rattle.lv_reflog.specs.Following.{clause_of};
 ghost use Rattle.lv_sat.specs.Trail.{IsChain, IsFalse, lits_of};
 ghost use Rattle.lv_sat.specs.Analysis as Analysis;
-ghost use Rattle.lv_sat.specs.Analysis.{denial, seen_all, seen_by, Passes, Derives, IsPending, StopsAt};
+ghost use Rattle.lv_sat.specs.Analysis.{denial, seen_all, seen_by, GoesPast, HasReason, IsForcedIfSeen, IsApart, IsChoiceOr, IsCut, Derives, IsPending, StopsAt};
 
 use super::trail::Entry;
 use lv_base::Lit;
@@ -16,8 +16,16 @@ use lv_clauses::{ClauseSet, negation};
 use lv_reflog::{Hint, Log};
 use std::alloc::{AllocError, Global};
 
-/// Adds the step that a false clause teaches to the log. Its clause negates entries: the last of them is a choice,
-/// whose place is answered, or all stand before the floor.
+/// An entry whose negation is to be taken as true, and the choice at or before it in whose place. None of the entries
+/// from that choice on and before this one is needed.
+#[derive(Clone, Copy, Debug, PartialEq, Eq)]
+pub struct Flip {
+    pub place: usize,
+    pub cut: usize,
+}
+
+/// Adds the step that a false clause teaches to the log. Its clause negates entries: the last of them is answered, with
+/// the first choice behind the others, or all stand before the floor.
 pub fn derive(
     alloc: Global,
     set: &ClauseSet,
@@ -25,36 +33,36 @@ pub fn derive(
     entries: &[Entry],
     floor: usize,
     hint: Hint,
-) -> Result<Option<usize>, AllocError>
+) -> Result<Option<Flip>, AllocError>
     requires chain { IsChain set.now log.old entries.now }
     requires floor { floor ≤ length entries.now }
     requires refuted { IsFalse set.now.slots log.old (lits_of entries.now) hint }
-    ensures { IfOk result (λ place. Derives set.now log.old log.new floor entries.now place) }
+    ensures { IfOk result (λ flip. Derives set.now log.old log.new floor entries.now flip) }
 {
     let mut seen = vec![in alloc; false; set.bools() as usize]?;
     let mut hints = Vec::new(alloc);
     take_reason(set, log, hint, &mut seen, &mut hints)?;
-    let place = walk(set, log, entries, floor, &mut seen, &mut hints)?;
+    let flip = walk(set, log, entries, floor, &mut seen, &mut hints)?;
     hints.reverse();
-    let at = end_of(place, floor);
+    let at = end_of(flip, floor);
     let clause = negate_seen(alloc, seen.as_slice(), &entries[..at])?;
     log.push(clause.as_slice(), hints.as_slice())?;
-    Ok(place)
+    Ok(flip)
 }
 
-/// The number of entries up to the place, or below the floor.
-fn end_of(place: Option<usize>, floor: usize) -> usize
-    requires { IfSome place (λ p. p + 1 < 2 ^ 64) }
-    ensures { result ≡ Analysis.end_of place floor }
+/// The number of entries up to the last one needed, or below the floor.
+fn end_of(flip: Option<Flip>, floor: usize) -> usize
+    requires { IfSome flip (λ f. f.place + 1 < 2 ^ 64) }
+    ensures { result ≡ Analysis.end_of flip floor }
 {
-    match place {
-        Some(place) => place + 1,
+    match flip {
+        Some(flip) => flip.place + 1,
         None => floor,
     }
 }
 
-/// Walks back to the last choice that was seen; None where there is none from the floor on. The hints are taken in the
-/// order of the walk.
+/// Walks back to the last entry needed behind which a choice stands before the next one needed; None where there is none
+/// from the floor on. The hints are taken in the order of the walk.
 fn walk(
     set: &ClauseSet,
     log: &Log,
@@ -62,42 +70,85 @@ fn walk(
     floor: usize,
     seen: &mut Vec<bool>,
     hints: &mut Vec<Hint>,
-) -> Result<Option<usize>, AllocError>
+) -> Result<Option<Flip>, AllocError>
     requires chain { IsChain set.now log.now entries.now }
     requires floor { floor ≤ length entries.now }
     requires pending { IsPending set.now log.now entries.now (length entries.now) seen.old.items hints.old.items }
-    ensures { IfOk result (λ place. StopsAt set.now log.now entries.now floor seen.new.items hints.new.items place) }
+    ensures { IfOk result (λ flip. StopsAt set.now log.now entries.now floor seen.new.items hints.new.items flip) }
 {
     let mut at = entries.len();
     while at > floor {
         at -= 1;
-        if !passes(set, log, entries[at], seen, hints)? {
-            return Ok(Some(at));
+        if let Some(cut) = find_cut(seen.as_slice(), entries, floor, at) {
+            return Ok(Some(Flip { place: at, cut }));
         }
+        pass(set, log, entries[at], seen, hints)?;
     }
     Ok(None)
 }
 
-/// Goes past an entry, with the literals that forced it seen if it was. False, and nothing changed, at a choice that
-/// was seen.
-fn passes(
+/// The first choice behind the last entry before this one that was seen, where this one was seen too and is behind it or
+/// is that choice.
+fn find_cut(seen: &[bool], entries: &[Entry], floor: usize, at: usize) -> Option<usize>
+    requires floor { floor ≤ at }
+    requires within { at < length entries.now }
+    ensures found { IfSome result (λ cut. IsCut seen.now entries.now floor at cut) }
+    ensures forced { IfNone result (IsForcedIfSeen seen.now entries.now at) }
+{
+    if sees(seen, entries[at].lit) {
+        first_choice(seen, entries, floor, at)
+    } else {
+        None
+    }
+}
+
+/// The first choice from the last entry before this one that was seen, up to this one.
+fn first_choice(seen: &[bool], entries: &[Entry], floor: usize, at: usize) -> Option<usize>
+    requires floor { floor ≤ at }
+    requires within { at < length entries.now }
+    ensures found { IfSome result (λ cut. IsApart seen.now entries.now floor at cut) }
+    ensures forced { IfNone result (HasReason entries.now at) }
+{
+    let mut cut = choice_at(entries, at, None);
+    let mut below = at;
+    while below > floor {
+        below -= 1;
+        if sees(seen, entries[below].lit) {
+            return cut;
+        }
+        cut = choice_at(entries, below, cut);
+    }
+    cut
+}
+
+/// The place where a choice stands there, else the other one.
+fn choice_at(entries: &[Entry], at: usize, other: Option<usize>) -> Option<usize>
+    requires { at < length entries.now }
+    ensures { IsChoiceOr entries.now at other result }
+{
+    match entries[at].reason {
+        None => Some(at),
+        Some(_) => other,
+    }
+}
+
+/// Goes past an entry, with the literals that forced it seen if it was.
+fn pass(
     set: &ClauseSet,
     log: &Log,
     entry: Entry,
     seen: &mut Vec<bool>,
     hints: &mut Vec<Hint>,
-) -> Result<bool, AllocError>
-    ensures { IfOk result (λ past. Passes set.now.slots log.now entry seen.old.items hints.old.items past seen.new.items hints.new.items) }
+) -> Result<(), AllocError>
+    requires { Analysis.sees seen.old.items entry.lit ≡ true → IsSome entry.reason }
+    ensures { OnOk result (GoesPast set.now.slots log.now (Analysis.sees seen.old.items entry.lit) entry.reason seen.old.items hints.old.items seen.new.items hints.new.items) }
 {
     if !sees(seen.as_slice(), entry.lit) {
-        return Ok(true);
+        return Ok(());
     }
     match entry.reason {
-        None => Ok(false),
-        Some(hint) => {
-            take_reason(set, log, hint, seen, hints)?;
-            Ok(true)
-        }
+        None => Ok(()),
+        Some(hint) => take_reason(set, log, hint, seen, hints),
     }
 }
 

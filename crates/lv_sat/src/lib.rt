@@ -5,18 +5,25 @@
 //! |---|---|
 //! | the solver | `Solver` |
 //! | what it answers | `Answer` |
+//! | what it did | `Effort` |
 //! | literals taken as true | `trail` |
 //! | what a false clause teaches | `analysis` |
-//! | which clauses to look at | `index` |
+//! | which clauses to look at | `watches` |
+//! | what to choose next | `order` |
+//! | what clauses force | `propagation` |
 //! | the search | `search` |
 #![tactic(auto)]
 
 mod analysis;
 pub mod answer;
-mod index;
+pub mod effort;
+mod order;
+mod propagation;
 mod search;
 pub mod solver;
 mod trail;
+mod watches;
 
 pub use answer::Answer;
+pub use effort::Effort;
 pub use solver::Solver;

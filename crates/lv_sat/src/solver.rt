@@ -7,17 +7,24 @@ ghost use Rattle.lv_clauses.specs.Literals.{is_clause};
 ghost use Rattle.lv_clauses.specs.ClauseMap.{clause_at, Puts};
 
 use super::answer::Answer;
-use super::search::search;
+use super::effort::Effort;
+use super::order::Order;
+use super::search::{Guide, search};
+use super::trail::Trail;
+use super::watches::Watches;
 use lv_base::{ClauseId, Lit};
 use lv_clauses::ClauseSet;
 use std::alloc::{AllocError, Global};
 use std::marker::Model;
 
-/// The clauses present over booleans counted from 0, seen by contracts as the map from their numbers.
+/// The clauses present over booleans counted from 0, seen by contracts as the map from their numbers. What else it keeps
+/// is the room and the lead of its searches, from one to the next.
 #[derive(Drop)]
 pub struct Solver {
     alloc: Global,
     set: ClauseSet,
+    guide: Guide,
+    trail: Trail,
 }
 
 impl Model for Solver {
@@ -38,17 +45,27 @@ impl Solver {
         Ok(Solver {
             alloc,
             set: set.copy()?,
+            guide: Guide {
+                watches: Watches::new(alloc, set)?,
+                order: Order::new(alloc, set.bools())?,
+                effort: Effort::new(),
+            },
+            trail: Trail::new(alloc, set.bools())?,
         })
     }
 
-    /// Adds a clause and answers its number, which no clause had. After want of memory the clauses are as they were.
+    /// Adds a clause and answers its number, which no clause had. After want of memory the clauses are as they were. Where
+    /// memory suffices for the clause alone, it is there, and a search judges by it only in the end.
     pub fn add(&mut self, lits: &[Lit]) -> Result<ClauseId, AllocError>
         requires { IsTrue (is_clause self.old.bools lits.now) }
         ensures vacant { IfOk result (λ id. clause_at self.old.slots id.0 ≡ None) }
         ensures added { IfOk result (λ id. Puts self.old self.new id.0 (Some lits.now)) }
         ensures kept { OnErr result (self.new ≡ self.old) }
     {
-        self.set.add(lits)
+        let id = self.set.add(lits)?;
+        match self.guide.watches.add_given(lits, id) {
+            Ok(()) | Err(_) => Ok(id),
+        }
     }
 
     /// Takes away a clause that is present. Takes no memory.
@@ -57,6 +74,7 @@ impl Solver {
         ensures { Puts self.old self.new id.0 None }
     {
         self.set.remove(id);
+        self.guide.watches.remove_given(id);
     }
 
     /// The clauses present, by which the log of a refutation can be checked.
@@ -73,6 +91,17 @@ impl Solver {
         ensures answer { IfOk result (λ answer. Answers self.old assumptions.now answer) }
         ensures kept { self.new ≡ self.old }
     {
-        search(self.alloc, &self.set, assumptions)
+        search(
+            self.alloc,
+            &self.set,
+            &mut self.guide,
+            &mut self.trail,
+            assumptions,
+        )
+    }
+
+    /// What its searches did, all together.
+    pub fn effort(&self) -> Effort {
+        self.guide.effort.with(self.trail.entries())
     }
 }

@@ -2,7 +2,7 @@
 //! choices and what they force. A mark for each boolean says at once what is true.
 #![tactic(auto)]
 
-ghost use Rattle.std.specs.Prelude.{◌≡◌, ◌<◌, ◌≤◌, ◌-◌, ◌++◌, ◌∷◌, [], List, length, take, drop, true, IsTrue, IfOk, IfSome, IfNone, OnOk, is_some, slice_set, slice_index_or, None, Some};
+ghost use Rattle.std.specs.Prelude.{◌≡◌, ◌<◌, ◌≤◌, ◌-◌, ◌+◌, ◌++◌, ◌∷◌, [], List, length, take, drop, count_by, true, IsTrue, IfOk, IfSome, IfNone, OnOk, is_some, is_none, slice_set, slice_index_or, None, Some};
 ghost use Rattle.std.specs.List.{list_all};
 ghost use Rattle.lv_clauses.specs.ClauseMap.{ClauseMap};
 ghost use Rattle.lv_clauses.specs.Marks.{nothing, marked};
@@ -10,6 +10,7 @@ ghost use Rattle.lv_reflog.specs.declared.log.Step.{Step};
 ghost use Rattle.lv_sat.specs.Trail as Trails;
 ghost use Rattle.lv_sat.specs.Trail.{IsTrail, IsForced, IsTurned, lits_of, turned, values_of};
 
+use super::analysis::Flip;
 use lv_base::{BoolId, Lit, Seq};
 use lv_clauses::negation;
 use lv_reflog::Hint;
@@ -39,6 +40,25 @@ impl Trail {
             marks: vec![in alloc; None; bools as usize]?,
             entries: Vec::with_capacity(alloc, bools as usize)?,
         })
+    }
+
+    /// Takes back all entries, and has a mark for each of so many booleans.
+    pub fn restart(&mut self, bools: u32) -> Result<(), AllocError>
+        ensures marks { OnOk result (self.new.marks.items ≡ nothing bools) }
+        ensures entries { OnOk result (self.new.entries.items ≡ []) }
+    {
+        self.entries.clear();
+        self.marks.clear();
+        self.marks.resize(bools as usize, None)?;
+        Ok(())
+    }
+
+    /// Whether each boolean is marked.
+    pub fn is_full(&self) -> bool
+        requires { length self.now.entries.items + count_by is_none self.now.marks.items ≡ length self.now.marks.items }
+        ensures { IsTrue result → list_all is_some self.now.marks.items ≡ true }
+    {
+        self.entries.len() == self.marks.len()
     }
 
     pub fn marks(&self) -> &[Option<bool>]
@@ -86,15 +106,16 @@ impl Trail {
         }
     }
 
-    /// Takes back all entries from that at a place on, and takes its negation as true, which a clause forces.
-    pub fn turn(&mut self, place: usize, hint: Hint) -> Result<(), AllocError>
-        requires { place < length self.old.entries.items }
-        ensures entries { OnOk result ((d : Entry) → self.new.entries.items ≡ take place self.old.entries.items ++ turned (slice_index_or self.old.entries.items place d) hint ∷ []) }
+    /// Takes back all entries from the cut on, and takes the negation of that at the place as true, which a clause forces.
+    pub fn turn(&mut self, flip: Flip, hint: Hint) -> Result<(), AllocError>
+        requires cut { flip.cut ≤ flip.place }
+        requires place { flip.place < length self.old.entries.items }
+        ensures entries { OnOk result ((d : Entry) → self.new.entries.items ≡ take flip.cut self.old.entries.items ++ turned (slice_index_or self.old.entries.items flip.place d) hint ∷ []) }
         ensures trail { OnOk result ((set : ClauseMap) (log : List Step) → IsTrail set log self.old.marks.items self.old.entries.items
-            → IsTurned set log self.old.entries.items place hint → IsTrail set log self.new.marks.items self.new.entries.items) }
+            → IsTurned set log self.old.entries.items flip hint → IsTrail set log self.new.marks.items self.new.entries.items) }
     {
-        let lit = negation(self.entries[place].lit);
-        self.cut(place);
+        let lit = negation(self.entries[flip.place].lit);
+        self.cut(flip.cut);
         self.push(Entry {
             lit,
             reason: Some(hint),

@@ -12,5 +12,5 @@ walk-requires-clause-pending c =
 
 pub returns : goal.returns
 returns c =
-    derives c.args.set.now c.args.log.now c.args.entries.now c.requires.chain c.args.floor c.in_ok-place.place c.walk.new.seen.items c.walk.new.hints.items c.push.new.self c.as_slice-2.result.now c.as_slice-3.result.now c.in_ok-place.ensures
+    derives c.args.set.now c.args.log.now c.args.entries.now c.requires.chain c.args.floor c.in_ok-flip.flip c.walk.new.seen.items c.walk.new.hints.items c.push.new.self c.as_slice-2.result.now c.as_slice-3.result.now c.in_ok-flip.ensures
     (c.as_slice-2.ensures.value ∙ c.in_ok-clause.ensures ∙ ap₂ (λ s k. denial s (take k c.args.entries.now)) c.as_slice.ensures.value c.end_of-at.ensures) (c.as_slice-3.ensures.value ∙ c.reverse.ensures.items) c.in_ok-push.ensures.added

@@ -14,7 +14,7 @@ loop-lit-preserved c =
       trail =
           λ cs same.
           assumed_trail cs [] c.loop-lit.trail.marks.items c.push.new.self.marks.items c.loop-lit.trail.entries.items c.push.new.self.entries.items c.args.assumptions.now c.loop-lit.lit-index blank c.loop-lit-test.true c.loop-lit.invariant.lits
-          c.in_ok-push.ensures.entries (c.loop-lit.invariant.trail cs same) (ap (λ n. is_clause n c.args.assumptions.now) same ∙ c.requires) c.in_ok-push.ensures.marks;
+          c.in_ok-push.ensures.entries (c.loop-lit.invariant.trail cs same) (ap (λ n. is_clause n c.args.assumptions.now) same ∙ c.requires.clause) c.in_ok-push.ensures.marks;
       lits =
           assumed_lits (record { bools = c.args.bools; slots = [] }) [] c.loop-lit.trail.marks.items c.push.new.self.marks.items c.loop-lit.trail.entries.items c.push.new.self.entries.items c.args.assumptions.now c.loop-lit.lit-index blank c.loop-lit-test.true c.loop-lit.invariant.lits
           c.in_ok-push.ensures.entries;

@@ -22,12 +22,12 @@ returns-in-None c =
 pub conflicts-smaller : goal.conflicts-smaller
 conflicts-smaller c =
     turn_falls c.args.set.now c.args.assumptions.now c.conflicts.log c.conflicts.trail.marks.items c.extend.new.trail.marks.items c.conflicts.trail.entries.items c.extend.new.trail.entries.items c.conflicts.invariant
-    c.in_ok-values.field-0 c.in-Some.place c.in_ok-derive-in-False.field-0 c.entries.result.now c.turn.new.self.entries.items c.derive.new.log blank c.in_ok-values.ensures c.entries.ensures c.in-Some.is c.in_ok-derive-in-False.ensures
-    (c.in_ok-turn-in-Some.ensures.entries blank ∙ ap (λ n. take c.in-Some.place c.extend.new.trail.entries.items ++ turned (get_or c.extend.new.trail.entries.items c.in-Some.place blank) (Earlier (n - 1)) ∷ []) c.len-last.ensures)
+    c.in_ok-values.field-0 c.in-Some.flip c.in_ok-derive-in-False.field-0 c.entries.result.now c.turn.new.self.entries.items c.derive.new.log blank c.in_ok-values.ensures c.entries.ensures c.in-Some.is c.in_ok-derive-in-False.ensures
+    (c.in_ok-turn-in-Some.ensures.entries blank ∙ ap (λ n. take c.in-Some.flip.cut c.extend.new.trail.entries.items ++ turned (get_or c.extend.new.trail.entries.items c.in-Some.flip.place blank) (Earlier (n - 1)) ∷ []) c.len-last.ensures)
 
 pub conflicts-preserved : goal.conflicts-preserved
 conflicts-preserved c =
     turn_keeps c.args.set.now c.args.assumptions.now c.conflicts.log c.conflicts.trail.marks.items c.extend.new.trail.marks.items c.conflicts.trail.entries.items c.extend.new.trail.entries.items c.conflicts.invariant
-    c.in_ok-values.field-0 c.in-Some.place c.in_ok-derive-in-False.field-0 c.entries.result.now c.turn.new.self.entries.items c.derive.new.log blank c.in_ok-values.ensures c.entries.ensures c.in-Some.is c.in_ok-derive-in-False.ensures
-    (c.in_ok-turn-in-Some.ensures.entries blank ∙ ap (λ n. take c.in-Some.place c.extend.new.trail.entries.items ++ turned (get_or c.extend.new.trail.entries.items c.in-Some.place blank) (Earlier (n - 1)) ∷ []) c.len-last.ensures)
-    c.turn.new.self.marks.items (λ sets steps trail turn. c.in_ok-turn-in-Some.ensures.trail sets steps trail (subst (λ n. IsTurned sets steps c.extend.new.trail.entries.items c.in-Some.place (Earlier (n - 1))) (sym c.len-last.ensures) turn))
+    c.in_ok-values.field-0 c.in-Some.flip c.in_ok-derive-in-False.field-0 c.entries.result.now c.turn.new.self.entries.items c.derive.new.log blank c.in_ok-values.ensures c.entries.ensures c.in-Some.is c.in_ok-derive-in-False.ensures
+    (c.in_ok-turn-in-Some.ensures.entries blank ∙ ap (λ n. take c.in-Some.flip.cut c.extend.new.trail.entries.items ++ turned (get_or c.extend.new.trail.entries.items c.in-Some.flip.place blank) (Earlier (n - 1)) ∷ []) c.len-last.ensures)
+    c.turn.new.self.marks.items (λ sets steps trail turn. c.in_ok-turn-in-Some.ensures.trail sets steps trail (subst (λ n. IsTurned sets steps c.extend.new.trail.entries.items c.in-Some.flip (Earlier (n - 1))) (sym c.len-last.ensures) turn))

@@ -1,4 +1,4 @@
--- the entries before the place are a trail, and no entry there has its boolean
+-- the entries before the cut are a trail, and no entry there has the boolean
 use Rattle.std.proofs.Common.{Some, None, false, get_or, sym, rules, ap, ap₂, subst, ◌∙◌, ◌≡◌, List, ◌++◌, ◌∷◌, []}
 use Rattle.lv_base.specs.declared.ids.Lit.{Lit}
 use Rattle.lv_clauses.specs.Literals.{neg}
@@ -14,8 +14,8 @@ blank = record { lit = record { var = record { 0 = 0 }; sign = false }; reason =
 pub returns-clause-trail : goal.returns-clause-trail
 returns-clause-trail c =
     λ cs log trail turn.
-    let lit : c.negation-lit.result ≡ neg (get_or c.args.self.now.entries.items c.args.place blank).lit = search rules in
+    let lit : c.negation-lit.result ≡ neg (get_or c.args.self.now.entries.items c.args.flip.place blank).lit = search rules in
     subst (λ m. IsTrail cs log m c.push.new.self.entries.items) (sym (c.in_ok-push.ensures.marks ∙ ap (marked c.cut.new.self.marks.items) lit))
-    (subst (IsTrail cs log (marked c.cut.new.self.marks.items (neg (get_or c.args.self.now.entries.items c.args.place blank).lit)))
+    (subst (IsTrail cs log (marked c.cut.new.self.marks.items (neg (get_or c.args.self.now.entries.items c.args.flip.place blank).lit)))
     (sym (c.in_ok-push.ensures.entries ∙ ap₂ (λ (es : List Entry) (l : Lit). es ++ record { lit = l; reason = Some c.args.hint } ∷ []) c.cut.ensures.entries lit))
-    (trail_turned cs log c.cut.new.self.marks.items c.args.self.now.entries.items c.args.place blank c.args.hint c.requires trail.chain turn (subst (IsTrail cs log c.cut.new.self.marks.items) c.cut.ensures.entries (c.cut.ensures.trail cs log trail))))
+    (trail_turned cs log c.cut.new.self.marks.items c.args.self.now.entries.items c.args.flip blank c.args.hint c.requires.place c.requires.cut trail.chain turn (subst (IsTrail cs log c.cut.new.self.marks.items) c.cut.ensures.entries (c.cut.ensures.trail cs log trail))))

@@ -4,7 +4,7 @@ use Rattle.std.proofs.lemmas.Option.{same_Some, none-some}
 use Rattle.lv_clauses.specs.Marks.{look_at}
 use Rattle.lv_sat.specs.Trail.{IsFalse, lits_of}
 use Rattle.lv_sat.proofs.TrailLemmas.{look_false, look_unit, front_self}
-use Rattle.lv_sat.proofs.search.examine.Goals as goal
+use Rattle.lv_sat.proofs.propagation.examine.Goals as goal
 
 pub returns-in-AllFalse : goal.returns-in-AllFalse
 returns-in-AllFalse c =

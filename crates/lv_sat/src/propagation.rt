@@ -1,0 +1,174 @@
+//! Propagation: what clauses force, given the literals on the trail. It looks at the clauses that watch a literal that
+//! became false; such a clause finds another literal to watch, or else forces its last one, or is false.
+#![tactic(auto)]
+
+ghost use Rattle.std.specs.Prelude.{◌≡◌, ◌-◌, ◌<◌, IfOk};
+ghost use Rattle.lv_sat.specs.Trail.{IsTrail, IsExtended};
+
+use super::analysis::find_clause;
+use super::trail::Trail;
+use super::watches::{Watch, Watches};
+use lv_base::Lit;
+use lv_clauses::{ClauseSet, Finding, is_marked, look, negation};
+use lv_reflog::{Hint, Log};
+use std::alloc::AllocError;
+
+/// What becomes of a watch whose literal is false.
+enum Fate {
+    /// The clause is true.
+    Stays,
+    /// The clause watches another literal now, or is gone.
+    Leaves,
+    /// The clause has to be looked at.
+    Asks,
+}
+
+/// Adds what clauses force by the entries from a place on and by those that this adds; or finds a false clause.
+pub fn propagate(
+    set: &ClauseSet,
+    log: &Log,
+    watches: &mut Watches,
+    from: usize,
+    trail: &mut Trail,
+) -> Result<Option<Hint>, AllocError>
+    requires { IsTrail set.now log.now trail.old.marks.items trail.old.entries.items }
+    ensures { IfOk result (λ found. IsExtended set.now log.now trail.old.entries.items trail.new.marks.items trail.new.entries.items found) }
+{
+    let mut at = from;
+    while at < trail.entries().len() {
+        let turned = negation(trail.entries()[at].lit);
+        if let Some(hint) = visit(set, log, watches, turned, trail)? {
+            return Ok(Some(hint));
+        }
+        at += 1;
+    }
+    Ok(None)
+}
+
+/// Adds what the clauses force that watch a literal that became false; or finds a false one.
+fn visit(
+    set: &ClauseSet,
+    log: &Log,
+    watches: &mut Watches,
+    turned: Lit,
+    trail: &mut Trail,
+) -> Result<Option<Hint>, AllocError>
+    requires { IsTrail set.now log.now trail.old.marks.items trail.old.entries.items }
+    ensures { IfOk result (λ found. IsExtended set.now log.now trail.old.entries.items trail.new.marks.items trail.new.entries.items found) }
+{
+    let mut row = watches.take_row(turned);
+    let found = visit_row(set, log, watches, &mut row, turned, trail);
+    watches.put_row(turned, row);
+    found
+}
+
+/// Goes along the watches of a literal that became false.
+fn visit_row(
+    set: &ClauseSet,
+    log: &Log,
+    watches: &mut Watches,
+    row: &mut Vec<Watch>,
+    turned: Lit,
+    trail: &mut Trail,
+) -> Result<Option<Hint>, AllocError>
+    requires { IsTrail set.now log.now trail.old.marks.items trail.old.entries.items }
+    ensures { IfOk result (λ found. IsExtended set.now log.now trail.old.entries.items trail.new.marks.items trail.new.entries.items found) }
+{
+    let mut at = 0;
+    while at < row.len() {
+        match meet(set, log, watches, trail.marks(), row[at], turned)? {
+            Fate::Leaves => {
+                row.swap_remove(at);
+            }
+            Fate::Stays => at += 1,
+            Fate::Asks => {
+                if let Some(found) = examine(set, log, trail, row[at].hint)? {
+                    return Ok(Some(found));
+                }
+                at += 1;
+            }
+        }
+    }
+    Ok(None)
+}
+
+/// Finds another literal to watch for a clause that isn't true, if there is one.
+fn meet(
+    set: &ClauseSet,
+    log: &Log,
+    watches: &mut Watches,
+    marks: &[Option<bool>],
+    watch: Watch,
+    turned: Lit,
+) -> Result<Fate, AllocError> {
+    if is_marked(marks, watch.other) {
+        return Ok(Fate::Stays);
+    }
+    let (Some(kept), Some(clause)) = (
+        watches.beside(watch.hint, turned),
+        find_clause(set, log, watch.hint),
+    ) else {
+        return Ok(Fate::Leaves);
+    };
+    if is_marked(marks, kept) {
+        return Ok(Fate::Stays);
+    }
+    match free_beside(marks, clause, kept) {
+        Some(lit) => {
+            watches.turn_to(watch.hint, kept, lit)?;
+            Ok(Fate::Leaves)
+        }
+        None => Ok(Fate::Asks),
+    }
+}
+
+/// A literal of the clause, another than this one, that isn't false.
+fn free_beside(marks: &[Option<bool>], clause: &[Lit], kept: Lit) -> Option<Lit> {
+    for lit in clause {
+        if *lit != kept && !is_marked(marks, negation(*lit)) {
+            return Some(*lit);
+        }
+    }
+    None
+}
+
+/// Adds what the clauses that hints name force; or finds a false one.
+pub fn visit_all(
+    set: &ClauseSet,
+    log: &Log,
+    hints: &[Hint],
+    trail: &mut Trail,
+) -> Result<Option<Hint>, AllocError>
+    requires { IsTrail set.now log.now trail.old.marks.items trail.old.entries.items }
+    ensures { IfOk result (λ found. IsExtended set.now log.now trail.old.entries.items trail.new.marks.items trail.new.entries.items found) }
+{
+    for hint in hints {
+        if let Some(found) = examine(set, log, trail, *hint)? {
+            return Ok(Some(found));
+        }
+    }
+    Ok(None)
+}
+
+/// Adds the literal that a clause forces, if it does; or answers the hint where the clause is false.
+fn examine(
+    set: &ClauseSet,
+    log: &Log,
+    trail: &mut Trail,
+    hint: Hint,
+) -> Result<Option<Hint>, AllocError>
+    requires { IsTrail set.now log.now trail.old.marks.items trail.old.entries.items }
+    ensures { IfOk result (λ found. IsExtended set.now log.now trail.old.entries.items trail.new.marks.items trail.new.entries.items found) }
+{
+    match find_clause(set, log, hint) {
+        None => Ok(None),
+        Some(clause) => match look(trail.marks(), clause) {
+            Finding::AllFalse => Ok(Some(hint)),
+            Finding::Open => Ok(None),
+            Finding::Unit(lit) => {
+                trail.force(lit, hint)?;
+                Ok(None)
+            }
+        },
+    }
+}
