@@ -35,7 +35,7 @@ module _ (plant : Plant) (facts : Facts) (partial : List Pair) where
       (found_list move_number (move_counts plant) (λ moves. witnesses plant facts partial (map value w.before) (map value w.after) moves) w.moves w.moves_below w.step))
 
 -- what holds of all items holds of those of a part
-all_of_part : {X : Type 0} (f : X → Bool) (part whole : List X) → ((x : X) → Contains part x → Contains whole x) → list_all f whole ≡ true → list_all f part ≡ true
+pub all_of_part : {X : Type 0} (f : X → Bool) (part whole : List X) → ((x : X) → Contains part x → Contains whole x) → list_all f whole ≡ true → list_all f part ≡ true
 all_of_part f part whole inside h =
     list_all-from_AllPass f part
     (λ k d below.
@@ -64,7 +64,7 @@ pub part_possible : (plant : Plant) (facts : Facts) (part whole : List Pair) →
     → is_possible plant facts whole ≡ true → is_possible plant facts part ≡ true
 part_possible plant facts part whole inside = possible_less plant facts whole part (λ moves. all_of_part (gives moves) part whole inside)
 
-still_there : (before after : List Pair) (left_out p : Pair) → Contains (before ++ after) p → Contains (before ++ left_out ∷ after) p
+pub still_there : (before after : List Pair) (left_out p : Pair) → Contains (before ++ after) p → Contains (before ++ left_out ∷ after) p
 still_there before after left_out p h =
     ⊎_elim (λ front. Contains-append_left before (left_out ∷ after) p front)
     (λ back. Contains-append_right before (left_out ∷ after) p (Contains-append_right (left_out ∷ []) after p back))

@@ -4,7 +4,6 @@ use Rattle.std.specs.List.{list_all}
 use Rattle.std.proofs.Math.Seq.{get_or-append_seam}
 use Rattle.std.proofs.lemmas.Bool.{and_from, and_parts, eqb-true, ltb-true}
 use Rattle.std.proofs.lemmas.List.{length-append}
-use Rattle.lv_base.specs.declared.ids.MoveId.{MoveId}
 use Rattle.lv_base.specs.declared.search.Candidate.{Candidate}
 use Rattle.lv_base.specs.declared.search.Pair.{Pair}
 use Rattle.lv_base.specs.Choices.{picks, contains_all, pairs_from, pairs_of}
@@ -30,33 +29,32 @@ own_pairs front (c ∷ cs) =
     (and_from (nat_lt (length front) (length (front ++ (c ∷ cs)))) (nat_eq (get_or (front ++ (c ∷ cs)) (length front) 0) c) (lt-ltb (length front) (length (front ++ (c ∷ cs))) within) (eq-eqb (get_or (front ++ (c ∷ cs)) (length front) 0) c (get_or-append_seam front c cs 0)))
     (sym (λ i. contains_all (append_assoc front (c ∷ []) cs i) (pairs_from (longer i) cs)) ∙ own_pairs (front ++ (c ∷ [])) cs)
 
--- a full choice with all pairs of the choices gives each
-given : (moves : List MoveId) (cs : List ℕ) (slot i : ℕ) → list_all (gives moves) (pairs_from slot cs) ≡ true → i < length cs → gives moves (record { slot = slot + i; choice = get_or cs i 0 }) ≡ true
-given moves [] slot i all below = absurd (omega arith)
-given moves (c ∷ cs) slot zero all below =
+-- what holds of all choices as pairs holds of each of them
+at_place : (f : Pair → Bool) (cs : List ℕ) (slot i : ℕ) → list_all f (pairs_from slot cs) ≡ true → i < length cs → f (record { slot = slot + i; choice = get_or cs i 0 }) ≡ true
+at_place f [] slot i all below = absurd (omega arith)
+at_place f (c ∷ cs) slot zero all below =
     let at : slot + 0 ≡ slot = omega arith in
-    ap (λ s. gives moves (record { slot = s; choice = c })) at ∙ (and_parts (gives moves (record { slot = slot; choice = c })) (list_all (gives moves) (pairs_from (slot + 1) cs)) all).0
-given moves (c ∷ cs) slot (suc i) all below =
+    ap (λ s. f (record { slot = s; choice = c })) at ∙ (and_parts (f (record { slot = slot; choice = c })) (list_all f (pairs_from (slot + 1) cs)) all).0
+at_place f (c ∷ cs) slot (suc i) all below =
     let at : slot + suc i ≡ slot + 1 + i = omega arith in
-    ap (λ s. gives moves (record { slot = s; choice = get_or cs i 0 })) at
-    ∙ given moves cs (slot + 1) i (and_parts (gives moves (record { slot = slot; choice = c })) (list_all (gives moves) (pairs_from (slot + 1) cs)) all).1 (omega arith)
+    ap (λ s. f (record { slot = s; choice = get_or cs i 0 })) at
+    ∙ at_place f cs (slot + 1) i (and_parts (f (record { slot = slot; choice = c })) (list_all f (pairs_from (slot + 1) cs)) all).1 (omega arith)
 
--- and so each pair that the choices have
-picked : (moves : List MoveId) (cs : List ℕ) (p : Pair) → list_all (gives moves) (pairs_from 0 cs) ≡ true → picks cs p ≡ true → gives moves p ≡ true
-picked moves cs p all is =
+at_pair : (f : Pair → Bool) (cs : List ℕ) (p : Pair) → list_all f (pairs_from 0 cs) ≡ true → picks cs p ≡ true → f p ≡ true
+at_pair f cs p all is =
     let parts = and_parts (nat_lt p.slot (length cs)) (nat_eq (get_or cs p.slot 0) p.choice) is in
     let at : 0 + p.slot ≡ p.slot = omega arith in
-    sym (λ i. gives moves (record { slot = at i; choice = eqb-true (get_or cs p.slot 0) p.choice parts.1 i }))
-    ∙ given moves cs 0 p.slot all (ltb-true p.slot (length cs) parts.0)
+    sym (λ i. f (record { slot = at i; choice = eqb-true (get_or cs p.slot 0) p.choice parts.1 i })) ∙ at_place f cs 0 p.slot all (ltb-true p.slot (length cs) parts.0)
 
-all_picked : (moves : List MoveId) (cs : List ℕ) (ps : List Pair) → list_all (gives moves) (pairs_from 0 cs) ≡ true → contains_all cs ps ≡ true → list_all (gives moves) ps ≡ true
-all_picked moves cs [] all is = refl
-all_picked moves cs (p ∷ ps) all is =
+-- and of all pairs that the choices have
+pub at_pairs : (f : Pair → Bool) (cs : List ℕ) (ps : List Pair) → list_all f (pairs_of cs) ≡ true → contains_all cs ps ≡ true → list_all f ps ≡ true
+at_pairs f cs [] all is = refl
+at_pairs f cs (p ∷ ps) all is =
     let parts = and_parts (picks cs p) (contains_all cs ps) is in
-    and_from (gives moves p) (list_all (gives moves) ps) (picked moves cs p all parts.0) (all_picked moves cs ps all parts.1)
+    and_from (f p) (list_all f ps) (at_pair f cs p all parts.0) (at_pairs f cs ps all parts.1)
 
 -- what has a false consequence is false
-apart_by : (b c : Bool) → c ≡ false → (b ≡ true → c ≡ true) → b ≡ false
+pub apart_by : (b c : Bool) → c ≡ false → (b ≡ true → c ≡ true) → b ≡ false
 apart_by true c never follows = sym (follows refl) ∙ never
 apart_by false c never follows = refl
 
@@ -65,7 +63,7 @@ pub reason_apart : (plant : Plant) (facts : Facts) (c d : Candidate) → is_poss
 reason_apart plant facts c d cannot can =
     apart_by (contains_all d.choices (reason_of plant facts c)) (is_possible plant facts (reason_of plant facts c))
     (still_impossible (is_possible plant facts) [] (pairs_of c.choices) cannot)
-    (λ is. possible_less plant facts (pairs_of d.choices) (reason_of plant facts c) (λ moves all. all_picked moves d.choices (reason_of plant facts c) all is) can)
+    (λ is. possible_less plant facts (pairs_of d.choices) (reason_of plant facts c) (λ moves all. at_pairs (gives moves) d.choices (reason_of plant facts c) all is) can)
 
 -- every candidate suits a diagnosis
 pub is_sound : (plant : Plant) (facts : Facts) → IsSound (λ (c : Candidate). true) (is_possible_candidate plant facts) (reason_of plant facts)

@@ -19,7 +19,7 @@ use std::alloc::{AllocError, Global};
 use std::collections::BTreeSet;
 
 /// The moves of the part's type; none where there is no such type.
-fn moves_of<'a>(types: &'a [ComponentType], part: &Part) -> &'a [Move]
+pub fn moves_of<'a>(types: &'a [ComponentType], part: &Part) -> &'a [Move]
     requires { All TypeIsSmall types.now }
     ensures moves { result.now ≡ type_moves types.now part.now }
     ensures few { length result.now ≤ MOVES }

@@ -229,7 +229,7 @@ fn is_found_among(
 }
 
 /// The observations that the assignment before the step has to meet: each control with its value, and the present ones.
-fn before_the_step(
+pub fn before_the_step(
     alloc: Global,
     model: &Model,
     facts: &Facts,
