@@ -1,0 +1,172 @@
+-- What facts and choices say of truth values that encode a step, and which partial choices are possible by that.
+use Rattle.std.proofs.Common.{◌≡◌, ℕ, suc, zero, ◌<◌, Bool, true, false, nat_eq, nat_lt, ◌&&◌, List, [], ◌∷◌, length, map, get_or, refl, sym, ap, ap₂, ◌∙◌, arith, All}
+use Rattle.std.specs.List.{list_all}
+use Rattle.std.proofs.lemmas.Bool.{and_parts, and_from, lt-ltb, ltb-true}
+use Rattle.std.proofs.lemmas.List.Elements.{All-tail}
+use Rattle.std.proofs.lemmas.List.Folds.{list_all-append}
+use Rattle.lv_base.specs.declared.ids.ValId.{ValId}
+use Rattle.lv_base.specs.declared.ids.MoveId.{MoveId}
+use Rattle.lv_base.specs.declared.search.Pair.{Pair}
+use Rattle.lv_clauses.specs.Literals.{lit_holds}
+use Rattle.lv_clauses.specs.ClauseMap.{satisfies}
+use Rattle.lv_model.specs.declared.plant.Plant.{Plant}
+use Rattle.lv_model.specs.Lists.{sizes, move_counts}
+use Rattle.lv_model.specs.WellFormed.{is_well_formed}
+use Rattle.lv_model.specs.Meaning.{is_step}
+use Rattle.lv_compile.specs.Booleans.{Booleans, booleans_now, booleans_next, bool_count}
+use Rattle.lv_compile.specs.Laws.{literal_is_true, Encode, EncodeMoves, IsEncodedStep}
+use Rattle.lv_compile.proofs.BooleanLemmas.{is_there}
+use Rattle.lv_steps.specs.Choices.{Choices}
+use Rattle.lv_steps.specs.System.{SystemValue, IsSystemOf}
+use Rattle.lv_steps.specs.Encoding.{truth_in, encoded}
+use Rattle.lv_steps.specs.Laws.{IsWholeStep, IsModelOf}
+use Rattle.lv_steps.proofs.LiteralLemmas.{value_true, choice_true}
+use Rattle.lv_steps.proofs.SystemLemmas.{step_has_a_model}
+use Rattle.lv_meaning.specs.declared.facts.Observation.{Observation}
+use Rattle.lv_meaning.specs.declared.facts.Facts.{Facts}
+use Rattle.lv_meaning.specs.Facts.{meets, now_facts, meets_facts}
+use Rattle.lv_meaning.specs.Possible.{value, move_number, extends, is_possible}
+use Rattle.lv_laws.specs.Possible.{are_below, Witness}
+use Rattle.lv_laws.proofs.Possibility.{witnessed, possible}
+use Rattle.lv_ident.specs.Literals.{observed_literals, fact_literals, HasValue, FactsInRange, pair_literals, HasMove, plant_choices}
+
+module _ (truth : ℕ → Bool) where
+  -- what was observed is true exactly where the assignment agrees
+  pub observed_hold : (b : Booleans) (a : List ValId) → Encode truth b a → (os : List Observation) → All (HasValue b.sizes) os
+      → list_all (literal_is_true truth) (observed_literals b os) ≡ meets a os
+  observed_hold b a code [] have = refl
+  observed_hold b a code (o ∷ os) have =
+      ap₂ (λ (p q : Bool). p && q) (value_true truth b a code o.var.0 o.val.0 (have 0 o (omega arith)).below) (observed_hold b a code os (All-tail (HasValue b.sizes) o os have))
+
+  -- what pairs say is true exactly where the full choice extends them
+  pub pairs_hold : (c : Choices) (ms : List MoveId) → EncodeMoves truth c.first c.counts ms → (ps : List Pair) → All (HasMove c.counts) ps
+      → list_all (literal_is_true truth) (pair_literals c ps) ≡ extends ms ps
+  pairs_hold c ms code [] have = refl
+  pairs_hold c ms code (p ∷ ps) have =
+      let below = (have 0 p (omega arith)).below in
+      let there : p.slot < length c.counts = is_there c.counts p.slot p.choice below in
+      let each : length ms ≡ length c.counts = code.each in
+      let within : nat_lt p.slot (length ms) ≡ true = lt-ltb p.slot (length ms) (omega (arith, there, each)) in
+      ap₂ (λ (a b : Bool). a && b)
+      (choice_true truth c ms code p.slot p.choice below ∙ sym (ap (λ b. b && nat_eq (get_or ms p.slot (record { 0 = 0 })).0 p.choice) within ∙ true_first (nat_eq (get_or ms p.slot (record { 0 = 0 })).0 p.choice)))
+      (pairs_hold c ms code ps (All-tail (HasMove c.counts) p ps have))
+    where
+      true_first : (b : Bool) → (true && b) ≡ b
+      true_first true = refl
+      true_first false = refl
+
+  -- the facts are true exactly where the assignments meet them
+  pub facts_hold : (plant : Plant) (facts : Facts) (a b : List ValId) → Encode truth (booleans_now plant) a → Encode truth (booleans_next plant) b → FactsInRange plant facts
+      → list_all (literal_is_true truth) (fact_literals plant facts) ≡ meets_facts plant facts a b
+  facts_hold plant facts a b now next fit =
+      list_all-append (literal_is_true truth) (observed_literals (booleans_now plant) (now_facts plant facts)) (observed_literals (booleans_next plant) facts.next)
+      ∙ ap₂ (λ (p q : Bool). p && q) (observed_hold (booleans_now plant) a now (now_facts plant facts) fit.now) (observed_hold (booleans_next plant) b next facts.next fit.next)
+
+-- items and their numbers, each below its bound
+module _ {X : Type 0} (item : ℕ → X) (number : X → ℕ) (back : (x : X) → item (number x) ≡ x) (forth : (n : ℕ) → number (item n) ≡ n) (d : X) where
+  items_back : (xs : List X) → map item (map number xs) ≡ xs
+  items_back [] = refl
+  items_back (x ∷ xs) = ap₂ (λ (y : X) (ys : List X). y ∷ ys) (back x) (items_back xs)
+
+  all_below : (ns : List ℕ) (xs : List X) → length xs ≡ length ns → ((k : ℕ) → k < length ns → number (get_or xs k d) < get_or ns k 0) → are_below ns (map number xs) ≡ true
+  all_below [] [] len below = refl
+  all_below [] (x ∷ xs) len below = absurd (omega (arith, len))
+  all_below (n ∷ ns) [] len below = absurd (omega (arith, len))
+  all_below (n ∷ ns) (x ∷ xs) len below =
+      and_from (nat_lt (number x) n) (are_below ns (map number xs)) (lt-ltb (number x) n (below 0 (omega arith)))
+      (all_below ns xs (omega (arith, len)) (λ k within. below (suc k) (omega (arith, within))))
+
+  length_below : (ns vs : List ℕ) → are_below ns vs ≡ true → length (map item vs) ≡ length ns
+  length_below [] [] h = refl
+  length_below [] (v ∷ vs) h = absurd (cc h)
+  length_below (n ∷ ns) [] h = absurd (cc h)
+  length_below (n ∷ ns) (v ∷ vs) h = let rest = length_below ns vs (and_parts (nat_lt v n) (are_below ns vs) h).1 in omega (arith, rest)
+
+  below_at : (ns vs : List ℕ) → are_below ns vs ≡ true → (k : ℕ) → k < length ns → number (get_or (map item vs) k d) < get_or ns k 0
+  below_at [] vs h k within = absurd (omega (arith, within))
+  below_at (n ∷ ns) [] h k within = absurd (cc h)
+  below_at (n ∷ ns) (v ∷ vs) h zero within =
+      let less : v < n = ltb-true v n (and_parts (nat_lt v n) (are_below ns vs) h).0 in
+      let same : number (item v) ≡ v = forth v in
+      omega (arith, less, same)
+  below_at (n ∷ ns) (v ∷ vs) h (suc k) within = below_at ns vs (and_parts (nat_lt v n) (are_below ns vs) h).1 k (omega (arith, within))
+
+abbrev value_number : ValId → ℕ
+value_number v = v.0
+
+abbrev number_of_move : MoveId → ℕ
+number_of_move m = m.0
+
+abbrev no_value : ValId
+no_value = record { 0 = 0 }
+
+abbrev no_move : MoveId
+no_move = record { 0 = 0 }
+
+module _ (plant : Plant) (facts : Facts) (pairs : List Pair) (fit : FactsInRange plant facts) (have : All (HasMove (move_counts plant)) pairs) where
+  -- values that encode a step and make facts and pairs true are a witness
+  pub step_makes_possible : (values : List Bool) → IsEncodedStep plant (truth_in values) → list_all (lit_holds values) (pair_literals (plant_choices plant) pairs) ≡ true
+      → list_all (lit_holds values) (fact_literals plant facts) ≡ true → is_possible plant facts pairs ≡ true
+  step_makes_possible values s chosen seen =
+      let before = map value_number s.before in
+      let after = map value_number s.after in
+      let moves = map number_of_move s.moves in
+      let given : extends s.moves pairs ≡ true = sym (pairs_hold (truth_in values) (plant_choices plant) s.moves s.choice pairs have) ∙ chosen in
+      let met : meets_facts plant facts s.before s.after ≡ true = sym (facts_hold (truth_in values) plant facts s.before s.after s.now s.next fit) ∙ seen in
+      possible plant facts pairs
+      (record {
+        before = before;
+        after = after;
+        moves = moves;
+        before_below = all_below value value_number (λ v. refl) (λ n. refl) no_value (sizes plant) s.before s.whole_before s.now.in_range;
+        after_below = all_below value value_number (λ v. refl) (λ n. refl) no_value (sizes plant) s.after s.whole_after s.next.in_range;
+        moves_below = all_below move_number number_of_move (λ m. refl) (λ n. refl) no_move (move_counts plant) s.moves s.choice.each s.choice.in_range;
+        step =
+            and_from (extends (map move_number moves) pairs) (is_step plant (map value before) (map value after) (map move_number moves) && meets_facts plant facts (map value before) (map value after))
+            (ap (λ ms. extends ms pairs) moves_back ∙ given)
+            (and_from (is_step plant (map value before) (map value after) (map move_number moves)) (meets_facts plant facts (map value before) (map value after))
+            ((λ i. is_step plant (before_back i) (after_back i) (moves_back i)) ∙ s.step) ((λ i. meets_facts plant facts (before_back i) (after_back i)) ∙ met));
+      })
+    where
+      before_back : map value (map value_number s.before) ≡ s.before
+      before_back = items_back value value_number (λ v. refl) (λ n. refl) no_value s.before
+
+      after_back : map value (map value_number s.after) ≡ s.after
+      after_back = items_back value value_number (λ v. refl) (λ n. refl) no_value s.after
+
+      moves_back : map move_number (map number_of_move s.moves) ≡ s.moves
+      moves_back = items_back move_number number_of_move (λ m. refl) (λ n. refl) no_move s.moves
+
+  -- the truth values of a witness
+  pub record HasValues (system : SystemValue) : Type 0 where
+    pub values : List Bool
+    pub whole : length values ≡ bool_count plant
+    pub satisfied : satisfies values system.set.slots ≡ true
+    pub chosen : list_all (lit_holds values) (pair_literals (plant_choices plant) pairs) ≡ true
+    pub seen : list_all (lit_holds values) (fact_literals plant facts) ≡ true
+
+  -- a possible partial choice has values that satisfy the clauses and make facts and pairs true
+  pub possible_has_values : is_well_formed plant ≡ true → (system : SystemValue) → IsSystemOf plant system → is_possible plant facts pairs ≡ true → HasValues system
+  possible_has_values h system is can =
+      let w : Witness plant facts pairs = witnessed plant facts pairs can in
+      let a : List ValId = map value w.before in
+      let b : List ValId = map value w.after in
+      let ms : List MoveId = map move_number w.moves in
+      let parts = and_parts (extends ms pairs) (is_step plant a b ms && meets_facts plant facts a b) w.step in
+      let rest = and_parts (is_step plant a b ms) (meets_facts plant facts a b) parts.1 in
+      let whole : IsWholeStep plant a b ms =
+      record {
+        before = record { whole = length_below value value_number (λ v. refl) (λ n. refl) no_value (sizes plant) w.before w.before_below; in_range = below_at value value_number (λ v. refl) (λ n. refl) no_value (sizes plant) w.before w.before_below };
+        after = record { whole = length_below value value_number (λ v. refl) (λ n. refl) no_value (sizes plant) w.after w.after_below; in_range = below_at value value_number (λ v. refl) (λ n. refl) no_value (sizes plant) w.after w.after_below };
+        moves = record { whole = length_below move_number number_of_move (λ m. refl) (λ n. refl) no_move (move_counts plant) w.moves w.moves_below; in_range = below_at move_number number_of_move (λ m. refl) (λ n. refl) no_move (move_counts plant) w.moves w.moves_below };
+        step = rest.0;
+      }
+      in
+      let model : IsModelOf plant system a b ms (encoded plant a b ms) = step_has_a_model plant h system is a b ms whole in
+      record {
+        values = encoded plant a b ms;
+        whole = model.whole;
+        satisfied = model.satisfied;
+        chosen = pairs_hold (truth_in (encoded plant a b ms)) (plant_choices plant) ms model.choice pairs have ∙ parts.0;
+        seen = facts_hold (truth_in (encoded plant a b ms)) plant facts a b model.now model.next fit ∙ rest.1;
+      }

@@ -1,0 +1,65 @@
+-- A query is on the walk of the diagnosis, whatever its trial holds.
+use Rattle.std.proofs.Common.{◌≡◌, ℕ, Bool, List, [], refl, sym, subst, ap, ◌∙◌, arith, Result, Ok, Err}
+use Rattle.std.specs.Result.{IfOk}
+use Rattle.lv_base.specs.declared.rank.Rank.{Rank}
+use Rattle.lv_base.specs.declared.ids.Cost.{Cost}
+use Rattle.lv_base.specs.declared.search.Pair.{Pair}
+use Rattle.lv_base.specs.declared.search.Candidate.{Candidate}
+use Rattle.lv_boxes.specs.Members.{ZoneValue}
+use Rattle.lv_model.specs.declared.plant.Plant.{Plant}
+use Rattle.lv_model.specs.declared.state.TrackedState.{TrackedState}
+use Rattle.lv_meaning.specs.declared.facts.Facts.{Facts}
+use Rattle.lv_meaning.specs.Candidates.{candidates, is_possible_candidate}
+use Rattle.lv_meaning.specs.Diagnosis.{reason_of}
+use Rattle.lv_search.specs.Members.{ranked_members}
+use Rattle.lv_search.specs.Standing.{Standing, IsUnderWay, AreSame}
+use Rattle.lv_search.specs.Search.{SearchValue}
+use Rattle.lv_ident.specs.Zones.{move_slots, zones_from, is_full_choice}
+use Rattle.lv_ident.specs.Trial.{TrialValue}
+use Rattle.lv_ident.specs.Query.{QueryValue, IsQueryOf, IsTriedBy}
+use Rattle.lv_ident.proofs.ZoneLemmas.{zones_have_candidates, candidates_are_full}
+
+-- what holds of the meanings of one trial holds of the same meanings of another
+pub of_same_meaning : (P : (Candidate → Bool) → (Candidate → Bool) → (Candidate → List Pair) → Type 0) (plant : Plant) (facts : Facts) (t : TrialValue) → IsTriedBy plant facts t
+    → P (is_full_choice t.plant) (is_possible_candidate t.plant t.facts) (reason_of t.plant t.facts) → P (is_full_choice plant) (is_possible_candidate plant facts) (reason_of plant facts)
+of_same_meaning P plant facts t h holds =
+    subst (λ (reason : Candidate → List Pair). P (is_full_choice plant) (is_possible_candidate plant facts) reason) h.reason
+    (subst (λ (fits : Candidate → Bool). P (is_full_choice plant) fits (reason_of t.plant t.facts)) h.fits
+    (subst (λ (suits : Candidate → Bool). P suits (is_possible_candidate t.plant t.facts) (reason_of t.plant t.facts)) h.suits holds))
+
+-- a trial of which only the meaning is as it was
+pub tried_on : (plant : Plant) (facts : Facts) (old new : TrialValue) → IsTriedBy plant facts old → AreSame (λ (t : TrialValue). is_full_choice t.plant) (λ (t : TrialValue). is_possible_candidate t.plant t.facts) (λ (t : TrialValue). reason_of t.plant t.facts) old new
+    → IsTriedBy plant facts new
+tried_on plant facts old new h same = record { suits = same.suits_same ∙ h.suits; fits = same.fits_same ∙ h.fits; reason = same.reason_same ∙ h.reason }
+
+abbrev at_standing : Plant → Facts → Standing → QueryValue
+at_standing plant facts s = record { plant = plant; facts = facts; standing = s }
+
+-- a query that has tried nothing
+pub start_of : (plant : Plant) (facts : Facts) (tracked : List TrackedState) (grid : List (List Cost)) → grid ≡ move_slots plant → (zones : List ZoneValue) → zones ≡ zones_from plant 0 tracked → (k : ℕ)
+    → (s : SearchValue) → s ≡ record { standing = record { k = k; listed = []; kept = []; left = ranked_members grid zones }; splits = [] }
+    → at_standing plant facts s.standing ≡ at_standing plant facts (record { k = k; listed = []; kept = []; left = candidates plant tracked })
+start_of plant facts tracked grid grid_is zones zones_are k s is =
+    ap (λ (v : SearchValue). at_standing plant facts v.standing) is
+    ∙ ap (λ (rs : List Rank). at_standing plant facts (record { k = k; listed = []; kept = []; left = rs }))
+    ((λ i. ranked_members (grid_is i) (zones_are i)) ∙ zones_have_candidates plant tracked)
+
+started : (suits fits : Candidate → Bool) (reason : Candidate → List Pair) (k : ℕ) (entries : List Rank) → IsUnderWay suits fits reason entries (record { k = k; listed = []; kept = []; left = entries })
+started suits fits reason k entries = record { walk = λ budget few. refl; trials = omega arith; k = refl; suit = λ suit. suit }
+
+pub start_is_query : (plant : Plant) (facts : Facts) (tracked : List TrackedState) (k : ℕ) (q : QueryValue)
+    → q ≡ record { plant = plant; facts = facts; standing = record { k = k; listed = []; kept = []; left = candidates plant tracked } } → IsQueryOf tracked q
+start_is_query plant facts tracked k q is =
+    subst (λ (v : QueryValue). IsQueryOf tracked v) (sym is)
+    (record {
+      under_way = started (is_full_choice plant) (is_possible_candidate plant facts) (reason_of plant facts) k (candidates plant tracked);
+      suit = candidates_are_full plant tracked;
+    })
+
+pub start_is_tried : (plant : Plant) (facts : Facts) (t : TrialValue) → t ≡ record { plant = plant; facts = facts } → IsTriedBy plant facts t
+start_is_tried plant facts t is = subst (λ (v : TrialValue). IsTriedBy plant facts v) (sym is) (record { suits = refl; fits = refl; reason = refl })
+
+-- what two facts about a result's value say together
+pub of_both : {X Y : Type 0} (r : Result X Y) (P Q S : X → Type 0) → ((x : X) → P x → Q x → S x) → IfOk r P → IfOk r Q → IfOk r S
+of_both (Ok x) P Q S f p q = f x p q
+of_both (Err e) P Q S f p q = tt

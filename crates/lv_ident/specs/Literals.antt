@@ -1,0 +1,67 @@
+-- Facts and choices as literals: each says of one variable, before the step or after it, that it has one value, or of one part that it
+-- makes one move.
+use Rattle.std.specs.Prelude.{◌≡◌, ◌<◌, ℕ, Bool, true, List, ◌++◌, map, filter, All, slice_index_or}
+use Rattle.std.specs.List.{list_all}
+use Rattle.lv_base.specs.declared.ids.Lit.{Lit}
+use Rattle.lv_base.specs.declared.search.Pair.{Pair}
+use Rattle.lv_clauses.specs.Literals.{is_clause, lit_holds}
+use Rattle.lv_clauses.specs.Marks.{Marks, is_marked}
+use Rattle.lv_model.specs.declared.plant.Plant.{Plant}
+use Rattle.lv_model.specs.Lists.{sizes, move_counts}
+use Rattle.lv_compile.specs.Booleans.{Booleans, value_literal, booleans_now, booleans_next, first_choice}
+use Rattle.lv_steps.specs.Choices.{Choices, choice_literal}
+use Rattle.lv_meaning.specs.declared.facts.Observation.{Observation}
+use Rattle.lv_meaning.specs.declared.facts.Facts.{Facts}
+use Rattle.lv_meaning.specs.Facts.{now_facts}
+
+-- the variable has the observed value
+abbrev pub observed_literal : Booleans → Observation → Lit
+observed_literal b o = value_literal b o.var.0 o.val.0 true
+
+abbrev pub observed_literals : Booleans → List Observation → List Lit
+observed_literals b os = map (observed_literal b) os
+
+-- what was commanded and seen before the step, then what was seen after it
+abbrev pub fact_literals : Plant → Facts → List Lit
+fact_literals plant facts = observed_literals (booleans_now plant) (now_facts plant facts) ++ observed_literals (booleans_next plant) facts.next
+
+-- the observed value is one that the variable has
+pub record HasValue (sizes : List ℕ) (o : Observation) : Type 0 where
+  pub below : o.val.0 < slice_index_or sizes o.var.0 0
+
+-- each fact speaks of a value that its variable has
+pub record FactsInRange (plant : Plant) (facts : Facts) : Type 0 where
+  pub now : All (HasValue (sizes plant)) (now_facts plant facts)
+  pub next : All (HasValue (sizes plant)) facts.next
+
+-- the pair's part makes the pair's move
+abbrev pub pair_literal : Choices → Pair → Lit
+pair_literal c p = choice_literal c p.slot p.choice true
+
+abbrev pub pair_literals : Choices → List Pair → List Lit
+pair_literals c pairs = map (pair_literal c) pairs
+
+-- the part has a move of this number
+pub record HasMove (counts : List ℕ) (p : Pair) : Type 0 where
+  pub below : p.choice < slice_index_or counts p.slot 0
+
+-- the booleans of the plant's moves
+abbrev pub plant_choices : Plant → Choices
+plant_choices plant = record { first = first_choice plant; counts = move_counts plant }
+
+abbrev pub is_positive : Lit → Bool
+is_positive l = l.sign
+
+-- a boolean that is there and is to be true
+pub record IsPositive (bools : ℕ) (l : Lit) : Type 0 where
+  pub sign : l.sign ≡ true
+  pub below : l.var.0 < bools
+
+-- the literals of a list, each once: they say what the list says
+pub record IsOnce (bools : ℕ) (lits once : List Lit) : Type 0 where
+  pub clause : is_clause bools once ≡ true
+  pub says : (values : List Bool) → list_all (lit_holds values) once ≡ list_all (lit_holds values) lits
+
+-- of the pairs those whose literals are marked
+abbrev pub marked_pairs : Choices → Marks → List Pair → List Pair
+marked_pairs c marks pairs = filter (λ (p : Pair). is_marked marks (pair_literal c p)) pairs

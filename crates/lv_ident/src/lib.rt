@@ -1,0 +1,27 @@
+//! Identification: which candidates explain what was commanded and seen. A query searches the candidates of the tracked
+//! states best first; its trial asks the solver about the clauses of the model, so no assignment is ever tried. It is proved
+//! to come to the walk of a diagnosis along all candidates.
+//!
+//! | file | what it holds |
+//! |---|---|
+//! | `query` | `identify` and `Query`: the search and its trial together |
+//! | `trial` | `IdentTrial`: whether a candidate is possible, and the reason of one that isn't |
+//! | `refutation` | the one question that a trial asks of the solver |
+//! | `literals` | facts and moves as literals |
+//! | `grid` | what the moves of each part cost |
+//! | `zones` | the candidates of each tracked state, as a zone |
+//! | `laws` | that the search's candidates are those of the definition, and what kept conflicts are |
+#![tactic(auto)]
+
+pub mod grid;
+pub mod laws;
+pub mod literals;
+pub mod query;
+pub mod refutation;
+pub mod trial;
+pub mod zones;
+
+pub use grid::grid_of;
+pub use query::{Query, identify};
+pub use trial::IdentTrial;
+pub use zones::zones_of;

@@ -1,0 +1,135 @@
+//! A query: the search for the first candidates that are possible under facts, which can be gone on with.
+#![tactic(auto)]
+
+ghost use Rattle.std.specs.Prelude.{◌≡◌, ◌+◌, ◌<◌, ◌≤◌, ◌^◌, [], true, List, All, IfOk, length};
+ghost use Rattle.lv_base.specs.declared.limits.TheConstants.{TRACKED};
+ghost use Rattle.lv_model.specs.declared.state.TrackedState.{TrackedState};
+ghost use Rattle.lv_steps.specs.System.{IsSystemOf};
+ghost use Rattle.lv_meaning.specs.Facts.{FactsFit};
+ghost use Rattle.lv_meaning.specs.Candidates.{candidates, IsTracked};
+ghost use Rattle.lv_meaning.specs.Diagnosis.{diagnosis_walk};
+ghost use Rattle.lv_search.specs.Standing.{trials_of, all_suit};
+ghost use Rattle.lv_ident.specs.Literals.{FactsInRange};
+ghost use Rattle.lv_ident.specs.Query.{IsQueryOf};
+ghost use Rattle.lv_ident.specs.Zones.{is_full_choice};
+
+use crate::grid::grid_of;
+use crate::trial::IdentTrial;
+use crate::zones::zones_of;
+use lv_base::{Conflict, Rank, Seq};
+use lv_meaning::Facts;
+use lv_model::{Model, TrackedState};
+use lv_search::{Outcome, Search, Split};
+use lv_steps::StepSystem;
+use std::alloc::{AllocError, Global};
+use std::marker;
+
+/// A search for the first candidates that are possible under facts. It keeps the facts beside its trial, of which a run
+/// leaves only the meaning as it was. Contracts see the plant, the facts, and where the search stands.
+#[derive(Drop)]
+pub struct Query<'a> {
+    model: &'a Model,
+    facts: Facts,
+    trial: IdentTrial<'a>,
+    search: Search,
+}
+
+impl<'a> marker::Model for Query<'a> {
+    ghost use Rattle.std.specs.Coded.{codes};
+    ghost use Rattle.lv_formula.specs.contracts.Condition as condition;
+    ghost use Rattle.lv_ident.specs.Query.{QueryValue, IsTriedBy};
+
+    ghost Value = { QueryValue };
+
+    ghost coded = { Prim.hlevel (codes, condition.the_row.coded) };
+
+    ghost view = { λ q. record { plant = q.model.now; facts = q.facts; standing = q.search.standing } };
+
+    ghost invariant = { λ q. IsTriedBy q.model.now q.facts q.trial };
+}
+
+/// The same facts once more.
+fn copied(alloc: Global, facts: &Facts) -> Result<Facts, AllocError>
+    ensures { IfOk result (λ copy. copy ≡ facts.now) }
+{
+    Ok(Facts {
+        controls: Seq::from_slice(alloc, facts.controls.as_slice())?,
+        present: Seq::from_slice(alloc, facts.present.as_slice())?,
+        next: Seq::from_slice(alloc, facts.next.as_slice())?,
+    })
+}
+
+/// A query that has tried nothing, for the first `k` candidates of the tracked states that are possible under the facts,
+/// which may contradict each other.
+pub fn identify<'a>(
+    alloc: Global,
+    model: &'a Model,
+    system: &StepSystem,
+    tracked: &[TrackedState],
+    facts: Facts,
+    k: u32,
+) -> Result<Query<'a>, AllocError>
+    requires system { IsSystemOf model.now system.now }
+    requires few { length tracked.now ≤ TRACKED }
+    requires states { All (IsTracked (length model.now.parts)) tracked.now }
+    requires fit { FactsFit model.now facts }
+    requires in_range { FactsInRange model.now facts }
+    ensures start { IfOk result (λ query. query ≡ record { plant = model.now; facts = facts; standing = record { k = k; listed = []; kept = []; left = candidates model.now tracked.now } }) }
+    ensures query { IfOk result (λ query. IsQueryOf tracked.now query) }
+{
+    let grid = grid_of(alloc, model)?;
+    let zones = zones_of(alloc, model, tracked)?;
+    let search = Search::new(alloc, grid, zones, k)?;
+    let trial = IdentTrial::new(alloc, model, system, copied(alloc, &facts)?)?;
+    Ok(Query {
+        model,
+        facts,
+        trial,
+        search,
+    })
+}
+
+impl<'a> Query<'a> {
+    /// Goes on with `more` trials at most. A query of some tracked states is then at the end of their walk for the sum of all
+    /// trials given so far, and can go on. After want of memory it is only dropped.
+    pub fn run(&mut self, more: u64) -> Result<Outcome, AllocError>
+        requires number { trials_of self.old.standing + more < 2 ^ 64 }
+        requires suit { all_suit (is_full_choice self.old.plant) self.old.standing ≡ true }
+        ensures walk { (tracked : List TrackedState) → IsQueryOf tracked self.old →
+            IfOk result (λ outcome. diagnosis_walk self.old.plant self.old.facts self.old.standing.k (trials_of self.old.standing + more) (candidates self.old.plant tracked) ≡ record { outcome = outcome; listed = self.new.standing.listed; kept = self.new.standing.kept }) }
+        ensures query { (tracked : List TrackedState) → IsQueryOf tracked self.old → IfOk result (λ _. IsQueryOf tracked self.new) }
+        ensures suit { IfOk result (λ _. all_suit (is_full_choice self.new.plant) self.new.standing ≡ true) }
+        ensures few { IfOk result (λ _. trials_of self.new.standing ≤ trials_of self.old.standing + more) }
+        ensures plant { self.new.plant ≡ self.old.plant }
+        ensures facts { self.new.facts ≡ self.old.facts }
+        ensures k { IfOk result (λ _. self.new.standing.k ≡ self.old.standing.k) }
+    {
+        self.search.run(&mut self.trial, more)
+    }
+
+    /// The candidates listed, in the order of their ranks. Takes no memory.
+    pub fn listed(&self) -> &[Rank]
+        ensures { result.now ≡ self.now.standing.listed }
+    {
+        self.search.listed()
+    }
+
+    /// The conflicts kept, in the order in which they were found. Takes no memory.
+    pub fn conflicts(&self) -> &[Conflict]
+        ensures { result.now ≡ self.now.standing.kept }
+    {
+        self.search.conflicts()
+    }
+
+    /// How many candidates were tried. Takes no memory.
+    pub fn trials(&self) -> u64
+        ensures { result ≡ trials_of self.now.standing }
+    {
+        self.search.trials()
+    }
+
+    /// The splits made, in order. Takes no memory.
+    pub fn splits(&self) -> &[Split] {
+        self.search.splits()
+    }
+}

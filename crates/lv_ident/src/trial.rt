@@ -1,0 +1,231 @@
+//! A trial of candidates under facts: the solver tells whether a candidate is possible, and of one that isn't the reason,
+//! where it is asked only about choices that its last refutation needed.
+#![tactic(auto)]
+
+ghost use Rattle.std.specs.Prelude.{◌≡◌, ◌+◌, ◌<◌, ◌++◌, [], false, drop, length, IfOk, IfSome, IsTrue, is_none};
+ghost use Rattle.lv_base.specs.Choices.{pairs_of};
+ghost use Rattle.lv_clauses.specs.Marks.{is_marked};
+ghost use Rattle.lv_model.specs.Lists.{move_counts};
+ghost use Rattle.std.specs.List.{sum};
+ghost use Rattle.lv_steps.specs.System.{IsSystemOf};
+ghost use Rattle.lv_walk.specs.Reason.{reduced};
+ghost use Rattle.lv_meaning.specs.Facts.{FactsFit};
+ghost use Rattle.lv_meaning.specs.Possible.{is_possible};
+ghost use Rattle.lv_meaning.specs.Candidates.{is_possible_candidate};
+ghost use Rattle.lv_meaning.specs.Diagnosis.{reason_of};
+ghost use Rattle.lv_ident.specs.Literals.{FactsInRange, HasMove, marked_pairs, pair_literal, plant_choices};
+ghost use Rattle.lv_ident.specs.Reducing.{IsPartial, IsReducing};
+ghost use Rattle.lv_ident.specs.Zones.{is_full_choice};
+
+use crate::literals::{each_once, fact_literals, push_pairs};
+use crate::refutation::refute;
+use lv_base::{Candidate, Conflict, Lit, MoveId, Pair, PartId, pairs_of};
+use lv_clauses::{Marks, is_marked};
+use lv_compile::plant_clauses::sum_of;
+use lv_meaning::Facts;
+use lv_model::Model;
+use lv_sat::Solver;
+use lv_search::{Trial, Tried};
+use lv_steps::{ChoiceBools, Moment, StepSystem};
+use std::alloc::{AllocError, Global};
+use std::marker;
+
+/// A trial of the candidates of a model under facts. Contracts see the plant and the facts.
+#[derive(Drop)]
+pub struct IdentTrial<'a> {
+    alloc: Global,
+    model: &'a Model,
+    facts: Facts,
+    solver: Solver,
+    choices: ChoiceBools,
+    assumed: Vec<Lit>,
+}
+
+impl<'a> marker::Model for IdentTrial<'a> {
+    ghost use Rattle.lv_ident.specs.Trial.{TrialValue, IsTrialOf};
+    ghost use Rattle.std.specs.Coded.{codes};
+    ghost use Rattle.lv_formula.specs.contracts.Condition as condition;
+
+    ghost Value = { TrialValue };
+
+    ghost coded = { Prim.hlevel (codes, condition.the_row.coded) };
+
+    ghost view = { λ t. record { plant = t.model.now; facts = t.facts } };
+
+    ghost invariant = { λ t. IsTrialOf t.model.now t.facts t.solver t.choices t.assumed.items };
+}
+
+/// The number of the first boolean that stands for a move.
+fn first_of_choices(system: &StepSystem) -> u32
+    ensures { result ≡ system.now.after.first + sum system.now.after.sizes }
+{
+    let after = system.bools_at(Moment::Next);
+    after.first() + sum_of(after.sizes())
+}
+
+/// Pairs of which some are left out: those kept so far, and marks of the choices that a refutation needed.
+#[derive(Drop)]
+struct Deletion {
+    kept: Vec<Pair>,
+    core: Marks,
+}
+
+/// The kept pairs, and those behind this place.
+fn all_but(alloc: Global, kept: &[Pair], pairs: &[Pair], at: usize) -> Result<Vec<Pair>, AllocError>
+    requires { at < length pairs.now }
+    ensures { IfOk result (λ out. out.items ≡ kept.now ++ drop (at + 1) pairs.now) }
+{
+    let mut out = Vec::from_slice(alloc, kept)?;
+    out.extend_from_slice(&pairs[at + 1..])?;
+    Ok(out)
+}
+
+impl<'a> IdentTrial<'a> {
+    /// A trial under facts, which may contradict each other.
+    pub fn new(
+        alloc: Global,
+        model: &'a Model,
+        system: &StepSystem,
+        facts: Facts,
+    ) -> Result<IdentTrial<'a>, AllocError>
+        requires system { IsSystemOf model.now system.now }
+        requires fit { FactsFit model.now facts }
+        requires in_range { FactsInRange model.now facts }
+        ensures { IfOk result (λ trial. trial ≡ record { plant = model.now; facts = facts }) }
+    {
+        let _plant = model.plant();
+        let literals = fact_literals(alloc, model, system, &facts)?;
+        let assumed = each_once(alloc, first_of_choices(system), literals.as_slice())?;
+        Ok(IdentTrial {
+            alloc,
+            model,
+            facts,
+            solver: Solver::new(alloc, system.clauses())?,
+            choices: system.choices().copied(alloc)?,
+            assumed,
+        })
+    }
+
+    /// Asks whether the pairs are possible together: nothing where they are, else marks of those of them that already
+    /// aren't.
+    fn refuted(&mut self, pairs: &[Pair]) -> Result<Option<Marks>, AllocError>
+        requires { IsPartial self.old.plant pairs.now }
+        ensures possible { IfOk result (λ core. is_none core ≡ is_possible self.old.plant self.old.facts pairs.now) }
+        ensures core { IfOk result (λ core. IfSome core (λ marks. is_possible self.old.plant self.old.facts (marked_pairs (plant_choices self.old.plant) marks pairs.now) ≡ false)) }
+        ensures same { self.new ≡ self.old }
+    {
+        let mut chosen = Vec::new(self.alloc);
+        push_pairs(&mut chosen, &self.choices, pairs)?;
+        refute(
+            self.alloc,
+            &mut self.solver,
+            chosen.as_slice(),
+            self.assumed.as_slice(),
+        )
+    }
+
+    /// Whether the pairs are possible together under the facts.
+    pub fn possible(&mut self, pairs: &[Pair]) -> Result<bool, AllocError>
+        requires { IsPartial self.old.plant pairs.now }
+        ensures answer { IfOk result (λ answer. answer ≡ is_possible self.old.plant self.old.facts pairs.now) }
+        ensures same { self.new ≡ self.old }
+    {
+        Ok(self.refuted(pairs)?.is_none())
+    }
+
+    /// Whether the pair is one of those that the last refutation needed.
+    fn is_needed(&self, core: &Marks, pair: Pair) -> bool
+        requires { HasMove (move_counts self.now.plant) pair }
+        ensures { result ≡ is_marked core.now (pair_literal (plant_choices self.now.plant) pair) }
+    {
+        let literal = self
+            .choices
+            .literal(PartId(pair.slot), MoveId(pair.choice), true);
+        is_marked(core.as_slice(), literal)
+    }
+
+    /// Leaves the pair at this place out where the others aren't possible together, and else keeps it. Of a pair that the
+    /// last refutation didn't need that is known.
+    fn look_at(
+        &mut self,
+        pairs: &[Pair],
+        at: usize,
+        deletion: &mut Deletion,
+    ) -> Result<(), AllocError>
+        requires at { at < length pairs.now }
+        requires so_far { IsReducing self.old.plant self.old.facts pairs.now at deletion.old.kept.items deletion.old.core }
+        ensures so_far { IfOk result (λ _. IsReducing self.old.plant self.old.facts pairs.now (at + 1) deletion.new.kept.items deletion.new.core) }
+        ensures same { self.new ≡ self.old }
+    {
+        if !self.is_needed(&deletion.core, pairs[at]) {
+            return Ok(());
+        }
+        let others = all_but(self.alloc, deletion.kept.as_slice(), pairs, at)?;
+        match self.refuted(others.as_slice())? {
+            Some(core) => {
+                deletion.core = core;
+                Ok(())
+            }
+            None => {
+                deletion.kept.push(pairs[at])?;
+                Ok(())
+            }
+        }
+    }
+
+    /// What is left of the pairs when each that isn't needed is left out, from the first on, where a refutation needed those
+    /// that are marked.
+    fn reduced(&mut self, pairs: &[Pair], core: Marks) -> Result<Vec<Pair>, AllocError>
+        requires partial { IsPartial self.old.plant pairs.now }
+        requires core { is_possible self.old.plant self.old.facts (marked_pairs (plant_choices self.old.plant) core pairs.now) ≡ false }
+        ensures reduced { IfOk result (λ out. out.items ≡ reduced (is_possible self.old.plant self.old.facts) [] pairs.now) }
+        ensures same { self.new ≡ self.old }
+    {
+        let mut deletion = Deletion {
+            kept: Vec::new(self.alloc),
+            core,
+        };
+        for at in 0..pairs.len() {
+            self.look_at(pairs, at, &mut deletion)?;
+        }
+        Ok(deletion.kept)
+    }
+
+    /// The candidate's moves, part by part.
+    fn moves_of(&self, candidate: &Candidate) -> Result<Vec<Pair>, AllocError>
+        requires { IsTrue (is_full_choice self.now.plant candidate.now) }
+        ensures pairs { IfOk result (λ out. out.items ≡ pairs_of candidate.now.choices) }
+        ensures partial { IfOk result (λ out. IsPartial self.now.plant out.items) }
+    {
+        let _plant = self.model.plant();
+        pairs_of(self.alloc, candidate.choices.as_slice())
+    }
+}
+
+impl Trial for IdentTrial<'_> {
+    ghost use Rattle.std.proofs.Common.{refl};
+    ghost use Rattle.lv_base.specs.Choices.{picks};
+    ghost use Rattle.lv_walk.proofs.ReasonLemmas.{part_of_all};
+    ghost use Rattle.lv_laws.proofs.Reasons.{own_pairs, reason_apart};
+
+    ghost suits = { λ t c. is_full_choice t.plant c };
+
+    ghost fits = { λ t c. is_possible_candidate t.plant t.facts c };
+
+    ghost reason = { λ t c. reason_of t.plant t.facts c };
+
+    ghost is_inside = { λ t c suits unfit. part_of_all (is_possible t.plant t.facts) (picks c.choices) [] (pairs_of c.choices) refl (own_pairs [] c.choices) };
+
+    ghost is_apart = { λ t c d one other cannot can. reason_apart t.plant t.facts c d cannot can };
+
+    fn attempt(&mut self, candidate: &Candidate) -> Result<Tried, AllocError> {
+        let pairs = self.moves_of(candidate)?;
+        match self.refuted(pairs.as_slice())? {
+            None => Ok(Tried::Fits),
+            Some(core) => {
+                let reason = self.reduced(pairs.as_slice(), core)?;
+                Ok(Tried::Refused(Conflict::from_pairs(self.alloc, reason.as_slice())?))
+            }
+        }
+    }
+}
