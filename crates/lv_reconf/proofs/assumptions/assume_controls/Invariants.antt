@@ -1,0 +1,10 @@
+-- what is assumed so far and the pairs left say what all say
+use Rattle.std.proofs.Common.{drop}
+use Rattle.lv_model.specs.Lists.{controls}
+use Rattle.lv_recovery.specs.Recovers.{has_controls}
+use Rattle.lv_reconf.specs.Assuming.{AssumesSoFar}
+use Rattle.lv_reconf.proofs.assumptions.assume_controls.Given as goal
+
+abbrev pub invariant-loop-pair : goal.invariant-loop-pair
+invariant-loop-pair l =
+    AssumesSoFar l.compiled l.initial.lits.items l.lits.items (λ a. has_controls (controls l.compiled) a (drop l.pair-index l.pairs)) (λ a. has_controls (controls l.compiled) a l.pairs)

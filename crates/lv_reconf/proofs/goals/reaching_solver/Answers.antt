@@ -1,0 +1,11 @@
+-- the same clauses, and the goals
+use Rattle.std.proofs.Common.{◌∙◌}
+use Rattle.lv_recovery.specs.Recovers.{meets_goals}
+use Rattle.lv_reconf.proofs.GoalLemmas.{asks_more}
+use Rattle.lv_reconf.proofs.goals.reaching_solver.Goals as goal
+
+pub returns : goal.returns
+returns c =
+    λ present asks.
+    asks_more c.args.compiled.now present (meets_goals c.args.goals.now) c.args.plain.now c.in_ok-solver.solver c.ask_goals.new.solver (c.in_ok-solver.ensures ∙ c.clauses.ensures) asks
+    c.in_ok-ask_goals.ensures

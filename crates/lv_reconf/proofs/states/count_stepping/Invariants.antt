@@ -1,0 +1,17 @@
+-- the states before have such a step, and no clause changed
+use Rattle.std.proofs.Common.{◌≡◌, ◌+◌, Bool, List, drop}
+use Rattle.std.specs.List.{prefix_len}
+use Rattle.lv_base.specs.declared.ids.ValId.{ValId}
+use Rattle.lv_model.specs.declared.state.TrackedState.{TrackedState}
+use Rattle.lv_meaning.specs.declared.facts.Observation.{Observation}
+use Rattle.lv_recovery.specs.Recovers.{some_nominal_step}
+use Rattle.lv_reconf.specs.Narrowing.{Asks}
+use Rattle.lv_reconf.proofs.states.count_stepping.Given as goal
+
+abbrev pub invariant-loop-n : goal.invariant-loop-n
+invariant-loop-n l = record {
+  same : l.solver ≡ l.initial.solver;
+  rest : (present : List Observation) (ends : List ValId → Bool) → Asks l.compiled present ends l.initial.solver
+      → (l.n + prefix_len (λ (s : TrackedState). some_nominal_step l.compiled present s.state l.pairs ends) (drop l.n l.states))
+      ≡ prefix_len (λ (s : TrackedState). some_nominal_step l.compiled present s.state l.pairs ends) l.states;
+}

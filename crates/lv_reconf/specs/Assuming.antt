@@ -1,0 +1,40 @@
+-- Literals that are assumed together, and what they say of the assignment before the step.
+use Rattle.std.specs.Prelude.{◌≡◌, ℕ, Bool, true, nat_lt, ◌&&◌, List, IsTrue, slice_index_or}
+use Rattle.std.specs.List.{list_all}
+use Rattle.lv_base.specs.declared.ids.Lit.{Lit}
+use Rattle.lv_base.specs.declared.ids.ValId.{ValId}
+use Rattle.lv_base.specs.declared.search.Pair.{Pair}
+use Rattle.lv_clauses.specs.Literals.{is_clause, lit_holds}
+use Rattle.lv_model.specs.declared.plant.Plant.{Plant}
+use Rattle.lv_compile.specs.Booleans.{booleans_now, bool_count}
+use Rattle.lv_compile.specs.Laws.{Encode}
+use Rattle.lv_steps.specs.Encoding.{truth_in}
+use Rattle.lv_recovery.specs.Commands.{control_sizes}
+
+-- they are of distinct booleans in range, and none is negative
+pub record AreAssumed (bools : ℕ) (lits : List Lit) : Type 0 where
+  pub clause : IsTrue (is_clause bools lits)
+  pub positive : list_all (λ (l : Lit). l.sign) lits ≡ true
+
+-- the new literals say what the old ones and this one say
+pub record HasMore (bools : ℕ) (old new : List Lit) (lit : Lit) : Type 0 where
+  pub assumed : AreAssumed bools new
+  pub says : (values : List Bool) → list_all (lit_holds values) new ≡ (list_all (lit_holds values) old && lit_holds values lit)
+
+-- the new literals and what is left say what the old ones say and the whole fact
+pub record AssumesSoFar (plant : Plant) (old new : List Lit) (left whole : List ValId → Bool) : Type 0 where
+  pub assumed : AreAssumed (bool_count plant) new
+  pub exact : (values : List Bool) (a : List ValId) → Encode (truth_in values) (booleans_now plant) a
+      → (list_all (lit_holds values) new && left a) ≡ (list_all (lit_holds values) old && whole a)
+
+-- the new literals say what the old ones say and the fact
+pub record Assumes (plant : Plant) (old new : List Lit) (fact : List ValId → Bool) : Type 0 where
+  pub assumed : AreAssumed (bool_count plant) new
+  pub exact : (values : List Bool) (a : List ValId) → Encode (truth_in values) (booleans_now plant) a → list_all (lit_holds values) new ≡ (list_all (lit_holds values) old && fact a)
+
+-- the slot is a control's, and the choice one of its values
+abbrev pub pair_fits : Plant → Pair → Bool
+pair_fits plant p = nat_lt p.choice (slice_index_or (control_sizes plant) p.slot 0)
+
+abbrev pub pairs_fit : Plant → List Pair → Bool
+pairs_fit plant pairs = list_all (pair_fits plant) pairs

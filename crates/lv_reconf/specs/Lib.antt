@@ -1,0 +1,7 @@
+pub mod Commanding
+pub mod Slots
+pub mod Narrowing
+pub mod Assuming
+pub mod Trying
+pub mod Lawful
+pub mod Laws

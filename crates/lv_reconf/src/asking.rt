@@ -1,0 +1,45 @@
+//! The question whether there is some nominal step, asked of a solver.
+#![tactic(auto)]
+
+ghost use Rattle.std.specs.Prelude.{◌≡◌, true, List, Bool, IfOk};
+ghost use Rattle.lv_base.specs.declared.ids.ValId.{ValId};
+ghost use Rattle.lv_compile.specs.Booleans.{bool_count};
+ghost use Rattle.lv_meaning.specs.declared.facts.Observation.{Observation};
+ghost use Rattle.lv_model.specs.Lists.{controls};
+ghost use Rattle.lv_model.specs.Ranges.{plant_ranges};
+ghost use Rattle.lv_recovery.specs.Ranges.{modes_fit};
+ghost use Rattle.lv_recovery.specs.Recovers.{some_nominal_step};
+ghost use Rattle.lv_reconf.specs.Assuming.{pairs_fit};
+ghost use Rattle.lv_reconf.specs.Narrowing.{Asks};
+
+use super::assumptions::assumptions;
+use super::compiled::Compiled;
+use lv_base::{Pair, VarId};
+use lv_model::State;
+use lv_sat::{Answer, Solver};
+use std::alloc::{AllocError, Global};
+
+/// Whether some nominal step from the state, with these values of controls, ends as the solver's clauses ask. It changes
+/// no clause.
+pub fn has_step(
+    alloc: Global,
+    compiled: &Compiled,
+    solver: &mut Solver,
+    vars: &[VarId],
+    state: &State,
+    pairs: &[Pair],
+) -> Result<bool, AllocError>
+    requires bools { solver.old.bools ≡ bool_count compiled.now }
+    requires modes { modes_fit (plant_ranges compiled.now) compiled.now.parts state.now.modes ≡ true }
+    requires controls { vars.now ≡ controls compiled.now }
+    requires pairs { pairs_fit compiled.now pairs.now ≡ true }
+    ensures answer { (present : List Observation) (ends : List ValId → Bool) → Asks compiled.now present ends solver.old →
+        IfOk result (λ answer. answer ≡ some_nominal_step compiled.now present state.now pairs.now ends) }
+    ensures kept { solver.new ≡ solver.old }
+{
+    let lits = assumptions(alloc, compiled, vars, state.modes.as_slice(), pairs)?;
+    match solver.solve(lits.as_slice())? {
+        Answer::Sat(_) => Ok(true),
+        Answer::Unsat { .. } => Ok(false),
+    }
+}

@@ -1,0 +1,4 @@
+pub mod NominalSteps
+pub mod CommandSets
+pub mod CommandReasons
+pub mod RecoveryWalks

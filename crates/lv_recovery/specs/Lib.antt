@@ -1,0 +1,6 @@
+pub mod Recovers
+pub mod Commands
+pub mod Recovery
+pub mod Ranges
+pub mod Laws
+pub mod Example
