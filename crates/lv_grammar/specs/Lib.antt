@@ -1,0 +1,3 @@
+pub mod Descent
+pub mod Laws
+pub mod Example
