@@ -162,7 +162,8 @@ impl Ltms {
 
     /// Whether unit propagation over what is present comes to a contradiction.
     pub fn status(&self) -> Status
-        ensures { TellsStatus self.now result }
+        ensures status { TellsStatus self.now result }
+        ensures trail { ¬ IsRefuted self.now → IsWholeTrail self.now }
     {
         if self.network.arena.has_false() {
             Status::Contradiction

@@ -1,13 +1,16 @@
--- The text of the conflicts of a diagnosis.
+-- The text of the conflicts of a diagnosis or of a recovery.
 use Rattle.std.specs.Prelude.{ℕ, ◌+◌, List, [], ◌∷◌, ◌++◌, length, map, slice_get, codes, decimal}
 use Rattle.std.specs.Option.{option_map_or}
 use Rattle.lv_base.specs.declared.search.Pair.{Pair}
+use Rattle.lv_base.specs.declared.ids.VarId.{VarId}
 use Rattle.lv_model.specs.declared.plant.Plant.{Plant}
 use Rattle.lv_model.specs.declared.plant.ComponentType.{ComponentType}
 use Rattle.lv_model.specs.declared.plant.Move.{Move}
 use Rattle.lv_model.specs.declared.plant.Part.{Part}
+use Rattle.lv_model.specs.Lists.{controls}
 use Rattle.lv_reply.specs.Pieces.{joined}
 use Rattle.lv_reply.specs.Moves.{item_text}
+use Rattle.lv_reply.specs.Variables.{setting_text}
 
 -- the part's n-th move; nothing where there is no such move
 abbrev pub choice_text : List ComponentType → Part → ℕ → List ℕ
@@ -18,16 +21,28 @@ choice_text types p n =
 abbrev pub pair_text : Plant → Pair → List ℕ
 pair_text plant pair = option_map_or (λ (p : Part). choice_text plant.types p pair.choice) (slice_get plant.parts pair.slot) []
 
--- `I: ITEMS`
-abbrev pub conflict_line : Plant → ℕ → List Pair → List ℕ
-conflict_line plant n pairs = decimal n ++ codes ": " ++ joined (map (pair_text plant) pairs) ++ codes "\n"
+-- the value of a control, a number of these, as `v.cmd=open`; nothing where there is no such control
+abbrev pub command_text : Plant → List VarId → Pair → List ℕ
+command_text plant controls pair = option_map_or (λ (c : VarId). setting_text plant c.0 pair.choice) (slice_get controls pair.slot) []
+
+-- `I: ITEMS`, where a pair has this text
+abbrev pub conflict_line : (Pair → List ℕ) → ℕ → List Pair → List ℕ
+conflict_line text n pairs = decimal n ++ codes ": " ++ joined (map text pairs) ++ codes "\n"
 
 -- a line for each conflict, the first with this number
-abbrev pub conflict_lines : Plant → ℕ → List (List Pair) → List ℕ
-conflict_lines plant n [] = []
-conflict_lines plant n (pairs ∷ kept) = conflict_line plant n pairs ++ conflict_lines plant (n + 1) kept
+abbrev pub conflict_lines : (Pair → List ℕ) → ℕ → List (List Pair) → List ℕ
+conflict_lines text n [] = []
+conflict_lines text n (pairs ∷ kept) = conflict_line text n pairs ++ conflict_lines text (n + 1) kept
 
 -- `conflicts N trials T` and the conflicts
+abbrev pub conflicts_by : (Pair → List ℕ) → List (List Pair) → ℕ → List ℕ
+conflicts_by text kept trials =
+    codes "conflicts " ++ decimal (length kept) ++ codes " trials " ++ decimal trials ++ codes "\n" ++ conflict_lines text 1 kept
+
+-- the conflicts of a diagnosis: of moves
 unfoldable pub conflicts_text : Plant → List (List Pair) → ℕ → List ℕ
-conflicts_text plant kept trials =
-    codes "conflicts " ++ decimal (length kept) ++ codes " trials " ++ decimal trials ++ codes "\n" ++ conflict_lines plant 1 kept
+conflicts_text plant kept trials = conflicts_by (pair_text plant) kept trials
+
+-- the conflicts of a recovery: of values of the controls
+unfoldable pub command_conflicts_text : Plant → List (List Pair) → ℕ → List ℕ
+command_conflicts_text plant kept trials = conflicts_by (command_text plant (controls plant)) kept trials

@@ -1,6 +1,9 @@
 pub mod Pieces
 pub mod Moves
+pub mod Variables
 pub mod Diagnosis
 pub mod Conflicts
+pub mod Recovery
+pub mod Labels
 pub mod States
 pub mod Texts

@@ -6,12 +6,11 @@ use Rattle.lv_model.specs.declared.plant.Plant.{Plant}
 use Rattle.lv_model.specs.declared.plant.ComponentType.{ComponentType}
 use Rattle.lv_model.specs.declared.plant.Part.{Part}
 use Rattle.lv_model.specs.declared.state.TrackedState.{TrackedState}
-use Rattle.lv_reply.specs.Pieces.{joined}
-use Rattle.lv_reply.specs.Moves.{mode_name}
+use Rattle.lv_reply.specs.Pieces.{name_at, joined}
 
 -- a part and its mode, as `v=closed`
 abbrev pub part_text : List ComponentType → Part → ValId → List ℕ
-part_text types p mode = p.name ++ codes "=" ++ option_map_or (λ (t : ComponentType). mode_name t.modes mode.0) (slice_get types p.kind) []
+part_text types p mode = p.name ++ codes "=" ++ option_map_or (λ (t : ComponentType). name_at t.modes mode.0) (slice_get types p.kind) []
 
 -- the parts and their modes, in order
 abbrev pub part_texts : List ComponentType → List Part → List ValId → List (List ℕ)

@@ -2,11 +2,13 @@
 use Rattle.std.specs.Prelude.{ℕ, List, [], ◌++◌, codes}
 use Rattle.lv_model.specs.declared.plant.Plant.{Plant}
 use Rattle.lv_reply.specs.declared.reply.Refusal.{Refusal}
-use Rattle.lv_reply.specs.declared.reply.Refusal.TheVariants.{UnknownWord, Form, UnknownName, NoControl, NoObservable, NoValue, NameHeld, NameNotHeld, OutOfLimits, NoQuery, NotUnsettled, NothingListed, TooManyHeld, LineTooLong, ByteNotAllowed, TooManyCommits}
+use Rattle.lv_reply.specs.declared.reply.Refusal.TheVariants.{UnknownWord, Form, UnknownName, NoControl, NoObservable, NoValue, NameHeld, NameNotHeld, OutOfLimits, NoQuery, NotUnsettled, NothingListed, NoGoal, TooManyHeld, LineTooLong, ByteNotAllowed, TooComplex, TooManyCommits}
 use Rattle.lv_reply.specs.declared.reply.Reply.{Reply}
-use Rattle.lv_reply.specs.declared.reply.Reply.TheVariants.{Nothing, Accepted, Refused, Settled, Unsettled, Conflicts, Committed, States}
+use Rattle.lv_reply.specs.declared.reply.Reply.TheVariants.{Nothing, Accepted, Refused, Settled, Unsettled, Conflicts, Committed, States, Recovered, NoRecovery, Undecided, CommandConflicts, Labels, Contradiction}
 use Rattle.lv_reply.specs.Diagnosis.{settled_text, unsettled_text}
-use Rattle.lv_reply.specs.Conflicts.{conflicts_text}
+use Rattle.lv_reply.specs.Conflicts.{conflicts_text, command_conflicts_text}
+use Rattle.lv_reply.specs.Recovery.{recovery_text, undecided_text}
+use Rattle.lv_reply.specs.Labels.{labels_text}
 use Rattle.lv_reply.specs.States.{committed_text, states_text}
 
 -- the code that a refusal is told by
@@ -23,9 +25,11 @@ code_of OutOfLimits = codes "S09"
 code_of NoQuery = codes "S10"
 code_of NotUnsettled = codes "S11"
 code_of NothingListed = codes "S12"
+code_of NoGoal = codes "S13"
 code_of TooManyHeld = codes "S14"
 code_of LineTooLong = codes "S15"
 code_of ByteNotAllowed = codes "S16"
+code_of TooComplex = codes "S17"
 code_of TooManyCommits = codes "S18"
 
 -- `error` and the code
@@ -42,3 +46,9 @@ reply_text plant (Unsettled listed trials) = unsettled_text plant listed trials
 reply_text plant (Conflicts kept trials) = conflicts_text plant kept trials
 reply_text plant (Committed time tracked) = committed_text time tracked
 reply_text plant (States time tracked) = states_text plant time tracked
+reply_text plant (Recovered rank) = recovery_text plant rank
+reply_text plant NoRecovery = codes "no recovery\n"
+reply_text plant (Undecided trials) = undecided_text trials
+reply_text plant (CommandConflicts kept trials) = command_conflicts_text plant kept trials
+reply_text plant (Labels labels) = labels_text plant labels
+reply_text plant Contradiction = codes "contradiction\n"

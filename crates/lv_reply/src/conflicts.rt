@@ -1,14 +1,17 @@
-//! The text of a diagnosis's conflicts: how many were kept in how many trials, and a line for each with its moves.
+//! The text of conflicts: how many were kept in how many trials, and a line for each with its moves or, of a recovery,
+//! its values of controls.
 #![tactic(auto)]
 
-ghost use Rattle.std.specs.Prelude.{◌≡◌, ◌+◌, ◌++◌, IfOk, map, drop, decimal, codes};
-ghost use Rattle.lv_reply.specs.Conflicts.{choice_text, pair_text, conflict_line, conflict_lines, conflicts_text};
+ghost use Rattle.std.specs.Prelude.{ℕ, ◌≡◌, ◌+◌, ◌++◌, List, IfOk, map, drop, decimal, codes};
+ghost use Rattle.lv_base.specs.declared.search.Pair.{Pair};
+ghost use Rattle.lv_reply.specs.Conflicts.{choice_text, pair_text, command_text, conflict_line, conflict_lines, conflicts_by, conflicts_text, command_conflicts_text};
 
 use crate::moves::text_of_item;
 use crate::pieces::{push_joined, push_number};
-use lv_base::{MoveId, Pair, PartId, Seq};
+use crate::recovery::text_of_setting;
+use lv_base::{MoveId, Pair, PartId, Seq, VarId};
 use lv_model::lookup::{move_of, part_of, type_of};
-use lv_model::{ComponentType, Name, Part, Plant};
+use lv_model::{ComponentType, Model, Name, Part, Plant};
 use std::alloc::{AllocError, Global};
 
 /// The part's move of this number; nothing where there is no such move.
@@ -29,38 +32,88 @@ fn text_of_choice(
     }
 }
 
-/// The part and move of a pair; nothing where there is no such part or move.
-fn text_of_pair(alloc: Global, plant: &Plant, pair: Pair) -> Result<Vec<u8>, AllocError>
-    ensures { IfOk result (λ out. out.items ≡ pair_text plant.now pair) }
+/// The value of a control that a pair names; nothing where there is no such control.
+fn text_of_command(
+    alloc: Global,
+    plant: &Plant,
+    controls: &[VarId],
+    pair: Pair,
+) -> Result<Vec<u8>, AllocError>
+    ensures { IfOk result (λ out. out.items ≡ command_text plant.now controls.now pair) }
 {
-    match part_of(plant.parts.as_slice(), PartId(pair.slot)) {
-        Some(part) => text_of_choice(alloc, plant.types.as_slice(), part, pair.choice),
+    match controls.get(pair.slot as usize) {
+        Some(control) => text_of_setting(alloc, plant, *control, pair.choice),
         None => Ok(Vec::new(alloc)),
     }
 }
 
+/// What a pair of a conflict is called.
+trait PairText {
+    ghost text: { Self → Pair → List ℕ };
+
+    fn text(&self, alloc: Global, pair: Pair) -> Result<Vec<u8>, AllocError>
+        ensures { IfOk result (λ out. out.items ≡ text self.now pair) };
+}
+
+/// Pairs of a part and one of its moves.
+#[derive(Drop)]
+struct Choices<'a> {
+    plant: &'a Plant,
+}
+
+impl PairText for Choices<'_> {
+    ghost text = { λ s. pair_text s.plant.now };
+
+    /// Nothing where there is no such part or move.
+    fn text(&self, alloc: Global, pair: Pair) -> Result<Vec<u8>, AllocError> {
+        match part_of(self.plant.parts.as_slice(), PartId(pair.slot)) {
+            Some(part) => text_of_choice(alloc, self.plant.types.as_slice(), part, pair.choice),
+            None => Ok(Vec::new(alloc)),
+        }
+    }
+}
+
+/// Pairs of a place among the controls and a value.
+#[derive(Drop)]
+struct Commands<'a> {
+    plant: &'a Plant,
+    controls: &'a [VarId],
+}
+
+impl PairText for Commands<'_> {
+    ghost text = { λ s. command_text s.plant.now s.controls.now };
+
+    fn text(&self, alloc: Global, pair: Pair) -> Result<Vec<u8>, AllocError> {
+        text_of_command(alloc, self.plant, self.controls, pair)
+    }
+}
+
 /// The texts of the pairs.
-fn texts_of_pairs(alloc: Global, plant: &Plant, pairs: &[Pair]) -> Result<Vec<Name>, AllocError>
-    ensures { IfOk result (λ out. out.items ≡ map (pair_text plant.now) pairs.now) }
+fn texts_of_pairs<T: PairText>(
+    alloc: Global,
+    texts: &T,
+    pairs: &[Pair],
+) -> Result<Vec<Name>, AllocError>
+    ensures { IfOk result (λ out. out.items ≡ map (T.text texts.now) pairs.now) }
 {
     let mut out = Vec::new(alloc);
     for pair in pairs {
-        out.push(Seq::from_vec(text_of_pair(alloc, plant, *pair)?))?;
+        out.push(Seq::from_vec(texts.text(alloc, *pair)?))?;
     }
     Ok(out)
 }
 
 /// Adds the line of a conflict.
-fn push_line(
+fn push_line<T: PairText>(
     alloc: Global,
     out: &mut Vec<u8>,
-    plant: &Plant,
+    texts: &T,
     n: u64,
     pairs: &[Pair],
 ) -> Result<(), AllocError>
-    ensures { IfOk result (λ _. out.new.items ≡ out.old.items ++ conflict_line plant.now n pairs.now) }
+    ensures { IfOk result (λ _. out.new.items ≡ out.old.items ++ conflict_line (T.text texts.now) n pairs.now) }
 {
-    let items = texts_of_pairs(alloc, plant, pairs)?;
+    let items = texts_of_pairs(alloc, texts, pairs)?;
     push_number(out, n)?;
     out.extend_from_slice(b": ")?;
     push_joined(out, items.as_slice())?;
@@ -69,21 +122,39 @@ fn push_line(
 }
 
 /// Adds the lines of the conflicts.
-fn push_lines(
+fn push_lines<T: PairText>(
     alloc: Global,
     out: &mut Vec<u8>,
-    plant: &Plant,
+    texts: &T,
     kept: &[Seq<Pair>],
 ) -> Result<(), AllocError>
-    ensures { IfOk result (λ _. out.new.items ≡ out.old.items ++ conflict_lines plant.now 1 kept.now) }
+    ensures { IfOk result (λ _. out.new.items ≡ out.old.items ++ conflict_lines (T.text texts.now) 1 kept.now) }
 {
     for (i, pairs) in kept.iter().enumerate() {
-        push_line(alloc, out, plant, i as u64 + 1, pairs.as_slice())?;
+        push_line(alloc, out, texts, i as u64 + 1, pairs.as_slice())?;
     }
     Ok(())
 }
 
-/// The text of these conflicts, which were kept in so many trials.
+/// The text of conflicts whose pairs have these texts.
+fn conflicts_by<T: PairText>(
+    alloc: Global,
+    texts: &T,
+    kept: &[Seq<Pair>],
+    trials: u64,
+) -> Result<Vec<u8>, AllocError>
+    ensures { IfOk result (λ out. out.items ≡ conflicts_by (T.text texts.now) kept.now trials) }
+{
+    let mut out = Vec::from_slice(alloc, b"conflicts ")?;
+    push_number(&mut out, kept.len() as u64)?;
+    out.extend_from_slice(b" trials ")?;
+    push_number(&mut out, trials)?;
+    out.extend_from_slice(b"\n")?;
+    push_lines(alloc, &mut out, texts, kept)?;
+    Ok(out)
+}
+
+/// The text of these conflicts of a diagnosis, which were kept in so many trials.
 #[tactic(auto, unfolding(crate::specs::Conflicts::conflicts_text))]
 pub fn conflicts_text(
     alloc: Global,
@@ -93,11 +164,23 @@ pub fn conflicts_text(
 ) -> Result<Vec<u8>, AllocError>
     ensures { IfOk result (λ out. out.items ≡ conflicts_text plant.now kept.now trials) }
 {
-    let mut out = Vec::from_slice(alloc, b"conflicts ")?;
-    push_number(&mut out, kept.len() as u64)?;
-    out.extend_from_slice(b" trials ")?;
-    push_number(&mut out, trials)?;
-    out.extend_from_slice(b"\n")?;
-    push_lines(alloc, &mut out, plant, kept)?;
-    Ok(out)
+    conflicts_by(alloc, &Choices { plant }, kept, trials)
+}
+
+/// The text of these conflicts of a recovery, which were kept in so many trials.
+#[tactic(auto, unfolding(crate::specs::Conflicts::command_conflicts_text))]
+pub fn command_conflicts_text(
+    alloc: Global,
+    model: &Model,
+    kept: &[Seq<Pair>],
+    trials: u64,
+) -> Result<Vec<u8>, AllocError>
+    ensures { IfOk result (λ out. out.items ≡ command_conflicts_text model.now kept.now trials) }
+{
+    let controls = model.controls(alloc)?;
+    let texts = Commands {
+        plant: model.plant(),
+        controls: controls.as_slice(),
+    };
+    conflicts_by(alloc, &texts, kept, trials)
 }

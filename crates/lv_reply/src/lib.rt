@@ -2,24 +2,31 @@
 //!
 //! | part | items |
 //! |---|---|
-//! | what a reply says | `Reply`, `Refusal` |
+//! | what a reply says | `Reply`, `Refusal`, `Label`, `Moment` |
 //! | its text | `reply_text` |
 //!
 //! | file | the text of |
 //! |---|---|
 //! | `diagnosis` | the candidates that a diagnosis lists, settled or not |
-//! | `conflicts` | the conflicts that it kept |
+//! | `conflicts` | the conflicts that it kept, or a recovery |
+//! | `recovery` | a recovery, settled or not |
+//! | `labels` | what propagation finds |
 //! | `states` | the tracked states |
-//! | `moves`, `pieces` | moves and modes by the names of the plant; numbers and commas |
+//! | `moves`, `variables` | moves, variables and values by the names of the plant |
+//! | `pieces` | numbers, names, commas |
 #![tactic(auto)]
 
 mod conflicts;
 mod diagnosis;
+pub mod labels;
 mod moves;
 mod pieces;
+mod recovery;
 pub mod reply;
 mod states;
 mod text;
+mod variables;
 
+pub use labels::{Label, Moment};
 pub use reply::{Refusal, Reply};
 pub use text::reply_text;

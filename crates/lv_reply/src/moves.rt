@@ -2,25 +2,11 @@
 #![tactic(auto)]
 
 ghost use Rattle.std.specs.Prelude.{◌≡◌, ◌++◌, IfOk, decimal, codes};
-ghost use Rattle.lv_reply.specs.Moves.{mode_name, move_text, stay_text, item_text};
+ghost use Rattle.lv_reply.specs.Moves.{move_text, stay_text, item_text};
 
-use crate::pieces::push_number;
-use lv_base::ValId;
+use crate::pieces::{push_name, push_number};
 use lv_model::{Move, MoveKind, Name, Part};
 use std::alloc::{AllocError, Global};
-
-/// Adds the name of a mode; nothing where there is no such mode.
-pub fn push_mode(out: &mut Vec<u8>, modes: &[Name], mode: ValId) -> Result<(), AllocError>
-    ensures { IfOk result (λ _. out.new.items ≡ out.old.items ++ mode_name modes.now mode.0) }
-{
-    match modes.get(mode.0 as usize) {
-        Some(name) => {
-            out.extend_from_slice(name.as_slice())?;
-            Ok(())
-        }
-        None => Ok(()),
-    }
-}
 
 /// A step or a fault of a part.
 pub fn text_of_move(
@@ -33,9 +19,9 @@ pub fn text_of_move(
 {
     let mut out = Vec::from_slice(alloc, part.name.as_slice())?;
     out.extend_from_slice(b" ")?;
-    push_mode(&mut out, modes, m.source)?;
+    push_name(&mut out, modes, m.source.0)?;
     out.extend_from_slice(b">")?;
-    push_mode(&mut out, modes, m.target)?;
+    push_name(&mut out, modes, m.target.0)?;
     out.extend_from_slice(b" #")?;
     push_number(&mut out, m.line as u64)?;
     Ok(out)
@@ -47,7 +33,7 @@ fn text_of_stay(alloc: Global, part: &Part, modes: &[Name], m: &Move) -> Result<
 {
     let mut out = Vec::from_slice(alloc, part.name.as_slice())?;
     out.extend_from_slice(b" ")?;
-    push_mode(&mut out, modes, m.source)?;
+    push_name(&mut out, modes, m.source.0)?;
     out.extend_from_slice(b" stay")?;
     Ok(out)
 }

@@ -5,6 +5,7 @@
 ghost use Rattle.std.specs.Prelude.{◌≡◌};
 ghost use Rattle.lv_reply.specs.Texts.{code_of};
 
+use crate::labels::Label;
 use lv_base::{Pair, Rank, Seq};
 use lv_model::TrackedState;
 
@@ -23,9 +24,9 @@ pub enum Refusal {
     NoObservable,
     /// The variable has no such value.
     NoValue,
-    /// An observation of that name is held.
+    /// An observation, or a goal, of that name is held.
     NameHeld,
-    /// No observation of that name is held.
+    /// No observation, or no goal, of that name is held.
     NameNotHeld,
     /// The number is outside its limits.
     OutOfLimits,
@@ -35,12 +36,16 @@ pub enum Refusal {
     NotUnsettled,
     /// The settled diagnosis lists nothing.
     NothingListed,
-    /// As many observations are held as may be, or the name is too long for one.
+    /// No goal is held.
+    NoGoal,
+    /// As many observations, or goals, are held as may be, or the name is too long for one.
     TooManyHeld,
     /// The line has too many bytes.
     LineTooLong,
     /// A byte of the line begins no token.
     ByteNotAllowed,
+    /// The line nests too deep, or its goal gives too many clauses.
+    TooComplex,
     /// As many commits were made as may be.
     TooManyCommits,
 }
@@ -63,9 +68,11 @@ impl Refusal {
             Refusal::NoQuery => "S10",
             Refusal::NotUnsettled => "S11",
             Refusal::NothingListed => "S12",
+            Refusal::NoGoal => "S13",
             Refusal::TooManyHeld => "S14",
             Refusal::LineTooLong => "S15",
             Refusal::ByteNotAllowed => "S16",
+            Refusal::TooComplex => "S17",
             Refusal::TooManyCommits => "S18",
         }
     }
@@ -89,4 +96,17 @@ pub enum Reply {
     Committed(u64, u64),
     /// The time, and the tracked states.
     States(u64, Seq<TrackedState>),
+    /// A set of commands that recovers: what it costs, and a value for each control.
+    Recovered(Rank),
+    /// No set of commands recovers.
+    NoRecovery,
+    /// A recovery whose budget was used up before: the number of trials.
+    Undecided(u64),
+    /// The conflicts that a recovery kept, in the order of their trials, and the number of all trials. Slots are places
+    /// among the controls, and choices are values.
+    CommandConflicts(Seq<Seq<Pair>>, u64),
+    /// What propagation finds.
+    Labels(Seq<Label>),
+    /// Propagation finds a contradiction.
+    Contradiction,
 }

@@ -4,8 +4,7 @@
 ghost use Rattle.std.specs.Prelude.{◌≡◌, ◌+◌, ◌++◌, IfOk, drop, decimal, codes};
 ghost use Rattle.lv_reply.specs.States.{part_text, part_texts, state_line, state_lines, committed_text, states_text};
 
-use crate::moves::push_mode;
-use crate::pieces::{push_joined, push_number};
+use crate::pieces::{push_joined, push_name, push_number};
 use lv_base::{Seq, ValId};
 use lv_model::lookup::type_of;
 use lv_model::{ComponentType, Name, Part, Plant, TrackedState};
@@ -24,7 +23,7 @@ fn text_of_part(
     out.extend_from_slice(b"=")?;
     match type_of(types, part) {
         Some(t) => {
-            push_mode(&mut out, t.modes.as_slice(), mode)?;
+            push_name(&mut out, t.modes.as_slice(), mode.0)?;
             Ok(out)
         }
         None => Ok(out),

@@ -4,8 +4,10 @@
 ghost use Rattle.std.specs.Prelude.{◌≡◌, IfOk};
 ghost use Rattle.lv_reply.specs.Texts.{refusal_text, reply_text};
 
-use crate::conflicts::conflicts_text;
+use crate::conflicts::{command_conflicts_text, conflicts_text};
 use crate::diagnosis::{settled_text, unsettled_text};
+use crate::labels::labels_text;
+use crate::recovery::{recovery_text, undecided_text};
 use crate::reply::{Refusal, Reply};
 use crate::states::{committed_text, states_text};
 use lv_model::Model;
@@ -36,5 +38,13 @@ pub fn reply_text(alloc: Global, model: &Model, reply: &Reply) -> Result<Vec<u8>
         Reply::Conflicts(kept, trials) => conflicts_text(alloc, plant, kept.as_slice(), *trials),
         Reply::Committed(time, tracked) => committed_text(alloc, *time, *tracked),
         Reply::States(time, tracked) => states_text(alloc, plant, *time, tracked.as_slice()),
+        Reply::Recovered(rank) => recovery_text(alloc, model, rank),
+        Reply::NoRecovery => Vec::from_slice(alloc, b"no recovery\n"),
+        Reply::Undecided(trials) => undecided_text(alloc, *trials),
+        Reply::CommandConflicts(kept, trials) => {
+            command_conflicts_text(alloc, model, kept.as_slice(), *trials)
+        }
+        Reply::Labels(labels) => labels_text(alloc, plant, labels.as_slice()),
+        Reply::Contradiction => Vec::from_slice(alloc, b"contradiction\n"),
     }
 }

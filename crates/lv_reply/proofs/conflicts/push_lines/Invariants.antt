@@ -4,4 +4,4 @@ use Rattle.lv_reply.proofs.conflicts.push_lines.Given as goal
 
 -- what was added, with the lines of the conflicts that are left, is all
 abbrev pub invariant-loop-i : goal.invariant-loop-i
-invariant-loop-i l = l.out.items ++ conflict_lines l.plant (l.i + 1) (drop l.i l.kept) ≡ l.initial.out.items ++ conflict_lines l.plant 1 l.kept
+invariant-loop-i g l = l.out.items ++ conflict_lines (g.T.PairText.text l.texts) (l.i + 1) (drop l.i l.kept) ≡ l.initial.out.items ++ conflict_lines (g.T.PairText.text l.texts) 1 l.kept

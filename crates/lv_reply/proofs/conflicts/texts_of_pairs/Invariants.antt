@@ -1,7 +1,6 @@
 use Rattle.std.proofs.Common.{◌≡◌, ◌++◌, drop, map}
-use Rattle.lv_reply.specs.Conflicts.{pair_text}
 use Rattle.lv_reply.proofs.conflicts.texts_of_pairs.Given as goal
 
 -- what was added and the texts of the pairs that are left are all texts
 abbrev pub invariant-loop-pair : goal.invariant-loop-pair
-invariant-loop-pair l = l.out.items ++ map (pair_text l.plant) (drop l.pair-index l.pairs) ≡ map (pair_text l.plant) l.pairs
+invariant-loop-pair g l = l.out.items ++ map (g.T.PairText.text l.texts) (drop l.pair-index l.pairs) ≡ map (g.T.PairText.text l.texts) l.pairs

@@ -1,0 +1,9 @@
+pub mod ClosureLemmas
+pub mod CountLemmas
+pub mod ClaimLemmas
+pub mod LawLemmas
+pub mod CopyLemmas
+pub mod AssumeLemmas
+pub mod TellLemmas
+pub mod ReadingLemmas
+pub mod MadeLemmas

@@ -1,0 +1,93 @@
+//! The text of a recovery: what it costs, and the controls that don't rest.
+#![tactic(auto)]
+
+ghost use Rattle.std.specs.Prelude.{◌≡◌, ◌+◌, ◌++◌, [], ◌∷◌, IfOk, drop, decimal, codes};
+ghost use Rattle.lv_model.specs.Lists.{controls};
+ghost use Rattle.lv_reply.specs.Variables.{setting_text};
+ghost use Rattle.lv_reply.specs.Recovery.{shown_setting, shown_settings, recovery_text, undecided_text};
+
+use crate::pieces::{push_joined, push_number};
+use crate::variables::push_equation;
+use lv_base::{Rank, Seq, ValId, VarId};
+use lv_model::{Model, Name, Plant};
+use std::alloc::{AllocError, Global};
+
+/// A value that a control is set to.
+pub fn text_of_setting(
+    alloc: Global,
+    plant: &Plant,
+    control: VarId,
+    value: u32,
+) -> Result<Vec<u8>, AllocError>
+    ensures { IfOk result (λ out. out.items ≡ setting_text plant.now control.0 value) }
+{
+    let mut out = Vec::new(alloc);
+    push_equation(&mut out, plant, b"=", control, ValId(value))?;
+    Ok(out)
+}
+
+/// Adds what a control of this value shows: nothing where it rests.
+fn push_shown(
+    alloc: Global,
+    out: &mut Vec<Name>,
+    plant: &Plant,
+    control: VarId,
+    value: u32,
+) -> Result<(), AllocError>
+    ensures { IfOk result (λ _. out.new.items ≡ out.old.items ++ shown_setting plant.now control value) }
+{
+    if value != 0 {
+        out.push(Seq::from_vec(text_of_setting(alloc, plant, control, value)?))?;
+    }
+    Ok(())
+}
+
+/// What the controls of these values show, in order.
+fn shown_settings(
+    alloc: Global,
+    plant: &Plant,
+    controls: &[VarId],
+    values: &[u32],
+) -> Result<Vec<Name>, AllocError>
+    ensures { IfOk result (λ out. out.items ≡ shown_settings plant.now controls.now values.now) }
+{
+    let mut out = Vec::new(alloc);
+    for (i, control) in controls.iter().enumerate() {
+        if i >= values.len() {
+            return Ok(out);
+        }
+        push_shown(alloc, &mut out, plant, *control, values[i])?;
+    }
+    Ok(out)
+}
+
+/// The text of a recovery by the controls' values that are the choices of the rank.
+#[tactic(auto, unfolding(crate::specs::Recovery::recovery_text))]
+pub fn recovery_text(alloc: Global, model: &Model, rank: &Rank) -> Result<Vec<u8>, AllocError>
+    ensures { IfOk result (λ out. out.items ≡ recovery_text model.now rank.now) }
+{
+    let controls = model.controls(alloc)?;
+    let settings = shown_settings(
+        alloc,
+        model.plant(),
+        controls.as_slice(),
+        rank.choices.as_slice(),
+    )?;
+    let mut out = Vec::from_slice(alloc, b"recovery cost ")?;
+    push_number(&mut out, rank.cost.0)?;
+    out.extend_from_slice(b": ")?;
+    push_joined(&mut out, settings.as_slice())?;
+    out.extend_from_slice(b"\n")?;
+    Ok(out)
+}
+
+/// The text of a recovery that isn't settled after so many trials.
+#[tactic(auto, unfolding(crate::specs::Recovery::undecided_text))]
+pub fn undecided_text(alloc: Global, trials: u64) -> Result<Vec<u8>, AllocError>
+    ensures { IfOk result (λ out. out.items ≡ undecided_text trials) }
+{
+    let mut out = Vec::from_slice(alloc, b"unsettled trials ")?;
+    push_number(&mut out, trials)?;
+    out.extend_from_slice(b"\n")?;
+    Ok(out)
+}

@@ -1,0 +1,144 @@
+//! Variables and their values by the names of the plant.
+#![tactic(auto)]
+
+ghost use Rattle.std.specs.Prelude.{◌≡◌, ◌-◌, ◌++◌, [], IfOk, nat_lt, slice_get, codes};
+ghost use Rattle.std.specs.List.{find};
+ghost use Rattle.std.specs.Option.{option_copied, option_map_or};
+ghost use Rattle.lv_model.specs.Lists.{part_width};
+ghost use Rattle.lv_reply.specs.Pieces.{name_at};
+ghost use Rattle.lv_reply.specs.Variables.{own_name, names_of_values, own_values, own_equation, has_variable, part_equation, equation};
+
+use crate::pieces::push_name;
+use lv_base::{ValId, VarId};
+use lv_model::lookup::type_of;
+use lv_model::{ComponentType, Domain, Name, Part, Plant, Variable};
+use std::alloc::AllocError;
+
+/// The names of the values of a domain; none where there is no such domain.
+fn names_of_values(domains: &[Domain], domain: u32) -> &[Name]
+    ensures { result.now ≡ names_of_values domains.now domain }
+{
+    match domains.get(domain as usize) {
+        Some(d) => d.values.as_slice(),
+        None => &[],
+    }
+}
+
+/// The variable of this number of a type, if there is one.
+fn variable_of(variables: &[Variable], n: u32) -> Option<&Variable>
+    ensures { option_copied result ≡ slice_get variables.now n }
+{
+    variables.get(n as usize)
+}
+
+/// The names of the values of a type's n-th variable, of which the mode is the first.
+fn own_values<'a>(domains: &'a [Domain], t: &'a ComponentType, n: u32) -> &'a [Name]
+    ensures { result.now ≡ own_values domains.now t.now n }
+{
+    if n == 0 {
+        return t.modes.as_slice();
+    }
+    match variable_of(t.variables.as_slice(), n - 1) {
+        Some(v) => names_of_values(domains, v.domain),
+        None => &[],
+    }
+}
+
+/// Adds the name of a type's n-th variable, of which the mode is the first.
+fn push_own_name(out: &mut Vec<u8>, t: &ComponentType, n: u32) -> Result<(), AllocError>
+    ensures { IfOk result (λ _. out.new.items ≡ out.old.items ++ own_name t.now n) }
+{
+    if n == 0 {
+        out.extend_from_slice(b"mode")?;
+        return Ok(());
+    }
+    match variable_of(t.variables.as_slice(), n - 1) {
+        Some(v) => {
+            out.extend_from_slice(v.name.as_slice())?;
+            Ok(())
+        }
+        None => Ok(()),
+    }
+}
+
+/// Adds a value of a type's n-th variable, with the sign between.
+fn push_own_equation(
+    out: &mut Vec<u8>,
+    domains: &[Domain],
+    sign: &[u8],
+    t: &ComponentType,
+    n: u32,
+    value: ValId,
+) -> Result<(), AllocError>
+    ensures { IfOk result (λ _. out.new.items ≡ out.old.items ++ own_equation domains.now sign.now t.now n value.0) }
+{
+    push_own_name(out, t, n)?;
+    out.extend_from_slice(sign)?;
+    push_name(out, own_values(domains, t, n), value.0)
+}
+
+/// Whether the part has more than n variables.
+fn is_wider(types: &[ComponentType], part: &Part, n: u32) -> bool
+    ensures { result ≡ nat_lt n (part_width types.now part.now) }
+{
+    match type_of(types, part) {
+        Some(t) => n as usize <= t.variables.len(),
+        None => false,
+    }
+}
+
+/// Whether the variable of this number is the part's.
+fn has_variable(types: &[ComponentType], x: u32, part: &Part) -> bool
+    ensures { result ≡ has_variable types.now x part.now }
+{
+    part.first.0 <= x && is_wider(types, part, x - part.first.0)
+}
+
+/// The part whose variable this is.
+fn owner_of<'a>(types: &[ComponentType], parts: &'a [Part], x: u32) -> Option<&'a Part>
+    ensures { option_copied result ≡ find (has_variable types.now x) parts.now }
+{
+    parts.iter().find(|part| has_variable(types, x, part))
+}
+
+/// Adds a value of a variable of the part, with the sign between.
+fn push_part_equation(
+    out: &mut Vec<u8>,
+    plant: &Plant,
+    sign: &[u8],
+    x: u32,
+    value: ValId,
+    part: &Part,
+) -> Result<(), AllocError>
+    ensures { IfOk result (λ _. out.new.items ≡ out.old.items ++ part_equation plant.now sign.now x value.0 part.now) }
+{
+    out.extend_from_slice(part.name.as_slice())?;
+    out.extend_from_slice(b".")?;
+    match type_of(plant.types.as_slice(), part) {
+        Some(t) => push_own_equation(
+            out,
+            plant.domains.as_slice(),
+            sign,
+            t,
+            x.saturating_sub(part.first.0),
+            value,
+        ),
+        None => Ok(()),
+    }
+}
+
+/// Adds a value of a variable, with the sign between; nothing where there is no such variable.
+pub fn push_equation(
+    out: &mut Vec<u8>,
+    plant: &Plant,
+    sign: &[u8],
+    variable: VarId,
+    value: ValId,
+) -> Result<(), AllocError>
+    ensures { IfOk result (λ _. out.new.items ≡ out.old.items ++ equation plant.now sign.now variable.0 value.0) }
+{
+    match owner_of(plant.types.as_slice(), plant.parts.as_slice(), variable.0) {
+        Some(part) => push_part_equation(out, plant, sign, variable.0, value, part),
+        None => Ok(()),
+    }
+}
