@@ -63,7 +63,7 @@ is_reserved word = (is_named (codes "true") word || is_named (codes "false") wor
 abbrev pub unless_reserved : List ℕ → Option (List ℕ)
 unless_reserved word = if is_reserved word then None else Some word
 
--- the word at a place, as the name of an observation
+-- the word at a place, as the name of an observation or a goal
 abbrev pub name_at : List Lexeme → ℕ → Option (List ℕ)
 name_at line place = option_and_then unless_reserved (word_at line place)
 

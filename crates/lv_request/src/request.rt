@@ -4,14 +4,12 @@
 //! right: the first that is wrong is told. What depends on the state of the session is not judged here.
 #![tactic(auto)]
 
-ghost use Rattle.std.specs.Prelude.{◌≡◌, ◌≤◌, ◌<◌, ◌&&◌, List, IfOk, IfErr, nat_eq, length, Ok};
-ghost use Rattle.lv_base.specs.declared.limits.TheConstants.{TRACKED as MOST_TRACKED};
+ghost use Rattle.std.specs.Prelude.{◌≡◌, IfOk, IfErr, Ok};
 ghost use Rattle.lv_text.specs.Lexemes.{line_reading};
 ghost use Rattle.lv_model.specs.declared.plant.Plant.{Plant};
-ghost use Rattle.lv_base.specs.declared.ids.VarId.{VarId};
-ghost use Rattle.lv_model.specs.Lists.{controls as control_list, variable_count};
-ghost use Rattle.lv_request.specs.declared.request.Request.TheVariants.{Nothing};
-ghost use Rattle.lv_request.specs.Requests.{alone, track_of, budget_of, more_of, command_to, command_of, release_of, seen_as, sighting_of, retracted_of, request_by, asked, asked_by, request_of, Explains, IsSightingIn, IsRequestOf};
+ghost use Rattle.lv_scope.specs.declared.lists.Lists.{Lists as ListsOf};
+ghost use Rattle.lv_scope.specs.Lists.{lists_of};
+ghost use Rattle.lv_request.specs.Requests.{alone, track_of, budget_of, more_of, command_to, command_of, release_of, seen_as, sighting_of, retracted_of, request_by, asked, asked_by, request_of, Explains, IsSightingIn, IsCommandIn, IsRequestOf};
 
 use crate::forms::{has_command_signs, has_observe_signs, has_release_signs, name_at, number_to};
 use crate::names::{control_of, observable_of, value_in};
@@ -19,8 +17,9 @@ use crate::unread::Unread;
 use crate::words::{Word, first_word};
 use lv_base::limits::{BUDGET, TRACKED};
 use lv_base::{Name, Seq, ValId, VarId};
-use lv_model::Model;
+use lv_model::{Model, Plant as PlantLists};
 use lv_reply::Refusal;
+use lv_scope::Lists;
 use lv_text::lexer::Token;
 use lv_text::{TextFault, TokenLine};
 use std::alloc::Global;
@@ -29,7 +28,7 @@ use std::alloc::Global;
 #[derive(Clone, Copy, Debug, PartialEq, Eq)]
 pub struct Command {
     pub place: usize,
-    pub value: u32,
+    pub value: ValId,
 }
 
 /// An observation by its name: the variable, and the value that it was seen to have.
@@ -100,17 +99,20 @@ fn more_of(line: &TokenLine<'_>) -> Result<Request, Refusal>
 }
 
 /// The command of a control, by its names, to a value of its domain.
+#[tactic(auto, using(crate::proofs::RequestLaws::command_fits))]
 fn command_to(
-    model: &Model,
-    controls: &[VarId],
+    plant: &PlantLists,
+    lists: &Lists,
     part: &[u8],
     name: &[u8],
     value: &[u8],
 ) -> Result<Command, Refusal>
-    ensures { result ≡ command_to model.now controls.now part.now name.now value.now }
+    requires { lists.now ≡ lists_of plant.now }
+    ensures command { result ≡ command_to plant.now lists.now part.now name.now value.now }
+    ensures within { IfOk result (IsCommandIn plant.now) }
 {
-    let control = control_of(model, controls, part, name)?;
-    let value = value_in(model.plant(), control.domain, value)?;
+    let control = control_of(plant, lists, part, name)?;
+    let value = value_in(plant, lists, control.var, value)?;
     Ok(Command {
         place: control.place,
         value,
@@ -119,8 +121,10 @@ fn command_to(
 
 /// `command P.C = V`
 #[tactic(auto, unfolding(crate::specs::Requests::command_of))]
-fn command_of(model: &Model, controls: &[VarId], line: &TokenLine<'_>) -> Result<Command, Refusal>
-    ensures { result ≡ command_of model.now controls.now line.now }
+fn command_of(plant: &PlantLists, lists: &Lists, line: &TokenLine<'_>) -> Result<Command, Refusal>
+    requires { lists.now ≡ lists_of plant.now }
+    ensures command { result ≡ command_of plant.now lists.now line.now }
+    ensures within { IfOk result (IsCommandIn plant.now) }
 {
     if !has_command_signs(line) {
         return Err(Refusal::Form);
@@ -128,50 +132,59 @@ fn command_of(model: &Model, controls: &[VarId], line: &TokenLine<'_>) -> Result
     let part = line.word(1).ok_or(Refusal::Form)?;
     let name = line.word(3).ok_or(Refusal::Form)?;
     let value = line.word(5).ok_or(Refusal::Form)?;
-    command_to(model, controls, part, name, value)
+    command_to(plant, lists, part, name, value)
 }
 
 /// `release P.C`: the control's place.
 #[tactic(auto, unfolding(crate::specs::Requests::release_of))]
-fn release_of(model: &Model, controls: &[VarId], line: &TokenLine<'_>) -> Result<usize, Refusal>
-    ensures { result ≡ release_of model.now controls.now line.now }
+fn release_of(plant: &PlantLists, lists: &Lists, line: &TokenLine<'_>) -> Result<usize, Refusal>
+    ensures { result ≡ release_of plant.now lists.now line.now }
 {
     if !has_release_signs(line) {
         return Err(Refusal::Form);
     }
     let part = line.word(1).ok_or(Refusal::Form)?;
     let name = line.word(3).ok_or(Refusal::Form)?;
-    Ok(control_of(model, controls, part, name)?.place)
+    Ok(control_of(plant, lists, part, name)?.place)
 }
 
 /// An observable, by its names, seen to have a value of its domain, under a name.
+#[tactic(auto, using(crate::proofs::RequestLaws::sighting_fits))]
 fn seen_as(
     alloc: Global,
-    model: &Model,
+    plant: &PlantLists,
+    lists: &Lists,
     name: &[u8],
     part: &[u8],
     variable: &[u8],
     value: &[u8],
 ) -> Result<Sighting, Unread>
-    ensures ok { IfOk result (λ s. seen_as model.now name.now part.now variable.now value.now ≡ Ok s) }
-    ensures fault { IfErr result (λ fault. Explains fault (seen_as model.now name.now part.now variable.now value.now)) }
-    ensures within { IfOk result (IsSightingIn (variable_count model.now)) }
+    requires { lists.now ≡ lists_of plant.now }
+    ensures ok { IfOk result (λ s. seen_as plant.now lists.now name.now part.now variable.now value.now ≡ Ok s) }
+    ensures fault { IfErr result (λ fault. Explains fault (seen_as plant.now lists.now name.now part.now variable.now value.now)) }
+    ensures within { IfOk result (IsSightingIn plant.now) }
 {
-    let found = observable_of(model, part, variable)?;
-    let value = value_in(model.plant(), found.domain, value)?;
+    let var = observable_of(plant, lists, part, variable)?;
+    let val = value_in(plant, lists, var, value)?;
     Ok(Sighting {
         name: Seq::from_slice(alloc, name)?,
-        var: VarId(found.number),
-        val: ValId(value),
+        var,
+        val,
     })
 }
 
 /// `observe NAME P.O = V`
 #[tactic(auto, unfolding(crate::specs::Requests::sighting_of))]
-fn sighting_of(alloc: Global, model: &Model, line: &TokenLine<'_>) -> Result<Sighting, Unread>
-    ensures ok { IfOk result (λ s. sighting_of model.now line.now ≡ Ok s) }
-    ensures fault { IfErr result (λ fault. Explains fault (sighting_of model.now line.now)) }
-    ensures within { IfOk result (IsSightingIn (variable_count model.now)) }
+fn sighting_of(
+    alloc: Global,
+    plant: &PlantLists,
+    lists: &Lists,
+    line: &TokenLine<'_>,
+) -> Result<Sighting, Unread>
+    requires { lists.now ≡ lists_of plant.now }
+    ensures ok { IfOk result (λ s. sighting_of plant.now lists.now line.now ≡ Ok s) }
+    ensures fault { IfErr result (λ fault. Explains fault (sighting_of plant.now lists.now line.now)) }
+    ensures within { IfOk result (IsSightingIn plant.now) }
 {
     if !has_observe_signs(line) {
         return Err(Unread::Refused(Refusal::Form));
@@ -180,7 +193,7 @@ fn sighting_of(alloc: Global, model: &Model, line: &TokenLine<'_>) -> Result<Sig
     let part = line.word(2).ok_or(Refusal::Form)?;
     let variable = line.word(4).ok_or(Refusal::Form)?;
     let value = line.word(6).ok_or(Refusal::Form)?;
-    seen_as(alloc, model, name, part, variable, value)
+    seen_as(alloc, plant, lists, name, part, variable, value)
 }
 
 /// `retract NAME`
@@ -199,21 +212,22 @@ fn retracted_of(alloc: Global, line: &TokenLine<'_>) -> Result<Name, Unread>
 /// What a line that begins with this word asks for.
 fn request_by(
     alloc: Global,
-    model: &Model,
-    controls: &[VarId],
+    plant: &PlantLists,
+    lists: &Lists,
     word: Word,
     line: &TokenLine<'_>,
 ) -> Result<Request, Unread>
-    ensures ok { IfOk result (λ request. request_by model.now controls.now word line.now ≡ Ok request) }
-    ensures fault { IfErr result (λ fault. Explains fault (request_by model.now controls.now word line.now)) }
-    ensures within { IfOk result (IsRequestOf model.now) }
+    requires { lists.now ≡ lists_of plant.now }
+    ensures ok { IfOk result (λ request. request_by plant.now lists.now word line.now ≡ Ok request) }
+    ensures fault { IfErr result (λ fault. Explains fault (request_by plant.now lists.now word line.now)) }
+    ensures within { IfOk result (IsRequestOf plant.now) }
 {
     match word {
         Word::Track => Ok(track_of(line)?),
         Word::Budget => Ok(budget_of(line)?),
-        Word::Command => Ok(Request::SetControl(command_of(model, controls, line)?)),
-        Word::Release => Ok(Request::Release(release_of(model, controls, line)?)),
-        Word::Observe => Ok(Request::Observe(sighting_of(alloc, model, line)?)),
+        Word::Command => Ok(Request::SetControl(command_of(plant, lists, line)?)),
+        Word::Release => Ok(Request::Release(release_of(plant, lists, line)?)),
+        Word::Observe => Ok(Request::Observe(sighting_of(alloc, plant, lists, line)?)),
         Word::Retract => Ok(Request::Retract(retracted_of(alloc, line)?)),
         Word::Diagnose => Ok(alone(Request::Diagnose, line)?),
         Word::More => Ok(more_of(line)?),
@@ -228,21 +242,22 @@ fn request_by(
 /// What the tokens of a line ask for.
 fn asked(
     alloc: Global,
-    model: &Model,
-    controls: &[VarId],
+    plant: &PlantLists,
+    lists: &Lists,
     line: &TokenLine<'_>,
 ) -> Result<Request, Unread>
-    ensures ok { IfOk result (λ request. asked model.now controls.now line.now ≡ Ok request) }
-    ensures fault { IfErr result (λ fault. Explains fault (asked model.now controls.now line.now)) }
-    ensures within { IfOk result (IsRequestOf model.now) }
+    requires { lists.now ≡ lists_of plant.now }
+    ensures ok { IfOk result (λ request. asked plant.now lists.now line.now ≡ Ok request) }
+    ensures fault { IfErr result (λ fault. Explains fault (asked plant.now lists.now line.now)) }
+    ensures within { IfOk result (IsRequestOf plant.now) }
 {
     if line.is_empty() {
         return Ok(Request::Nothing);
     }
-    match first_word(line) {
-        Some(word) => request_by(alloc, model, controls, word, line),
-        None => Err(Unread::Refused(Refusal::UnknownWord)),
-    }
+    let Some(word) = first_word(line) else {
+        return Err(Unread::Refused(Refusal::UnknownWord));
+    };
+    request_by(alloc, plant, lists, word, line)
 }
 
 /// The tokens of a line, in the room that is given.
@@ -251,8 +266,8 @@ fn tokens_in<'a>(
     room: &mut Vec<Token>,
     line: &'a [u8],
 ) -> Result<TokenLine<'a>, Unread>
-    ensures ok { (plant : Plant) (controls : List VarId) → IfOk result (λ found. asked_by plant controls (line_reading line.now) ≡ asked plant controls found) }
-    ensures fault { (plant : Plant) (controls : List VarId) → IfErr result (λ fault. Explains fault (asked_by plant controls (line_reading line.now))) }
+    ensures ok { (plant : Plant) (lists : ListsOf) → IfOk result (λ found. asked_by plant lists (line_reading line.now) ≡ asked plant lists found) }
+    ensures fault { (plant : Plant) (lists : ListsOf) → IfErr result (λ fault. Explains fault (asked_by plant lists (line_reading line.now))) }
 {
     match TokenLine::read_into(alloc, room, line) {
         Ok(found) => Ok(found),
@@ -262,23 +277,23 @@ fn tokens_in<'a>(
     }
 }
 
-/// What a line, which is given without its end, asks for, where these are the controls of the model. The tokens are read
-/// into the room that is given, which can be used again.
+/// What a line, which is given without its end, asks for, where these are the lists kept with the model. The tokens are
+/// read into the room that is given, which can be used again.
 #[tactic(auto, unfolding(crate::specs::Requests::request_of))]
 pub fn request_of(
     alloc: Global,
     model: &Model,
-    controls: &[VarId],
+    lists: &Lists,
     room: &mut Vec<Token>,
     line: &[u8],
 ) -> Result<Request, Unread>
-    requires { controls.now ≡ control_list model.now }
+    requires { lists.now ≡ lists_of model.now }
     ensures ok { IfOk result (λ request. request_of model.now line.now ≡ Ok request) }
     ensures fault { IfErr result (λ fault. Explains fault (request_of model.now line.now)) }
     ensures within { IfOk result (IsRequestOf model.now) }
 {
     let found = tokens_in(alloc, room, line)?;
-    let request = asked(alloc, model, controls, &found);
+    let request = asked(alloc, model.plant(), lists, &found);
     *room = found.into_room();
     request
 }
