@@ -1,5 +1,5 @@
 -- The state of a session over a plant stays one, whatever is asked for.
-use Rattle.std.proofs.Common.{◌≡◌, ℕ, ◌+◌, ◌≤◌, Bool, true, false, cond, nat_eq, nat_le, slice_set, List, [], ◌∷◌, ◌++◌, length, map, filter, Result, Ok, Err, IfOk, OnErr, refl, sym, ◌∙◌, ap, subst, arith, All}
+use Rattle.std.proofs.Common.{◌≡◌, ℕ, zero, suc, ◌+◌, ◌<◌, ◌≤◌, Bool, true, false, cond, nat_eq, nat_le, slice_get, slice_index_or, slice_set, Some, List, [], ◌∷◌, ◌++◌, length, map, filter, Result, Ok, Err, IfOk, OnErr, refl, sym, ◌∙◌, ap, subst, arith, All}
 use Rattle.std.proofs.lemmas.Bool.{leb-false}
 use Rattle.std.proofs.lemmas.List.{length-map, length-set}
 use Rattle.std.proofs.lemmas.List.Elements.{All-cons, All-append, All-nil, All-head, All-tail, All-filter}
@@ -9,7 +9,14 @@ use Rattle.lv_base.specs.declared.rank.Rank.{Rank}
 use Rattle.lv_base.specs.declared.limits.TheConstants.{COMMITS, TRACKED}
 use Rattle.lv_model.specs.declared.plant.Plant.{Plant}
 use Rattle.lv_model.specs.declared.plant.Part.{Part}
-use Rattle.lv_model.specs.Lists.{controls, variable_count}
+use Rattle.lv_model.specs.Lists.{sizes, controls, variable_count, IsVariable}
+use Rattle.lv_model.proofs.Controls.{controls-in_range}
+use Rattle.lv_model.proofs.Reading.{All-at}
+use Rattle.lv_meaning.specs.Facts.{commanded}
+use Rattle.lv_ident.specs.Literals.{HasValue}
+use Rattle.lv_scope.proofs.ScopeLemmas.{below_size}
+use Rattle.lv_scope.proofs.PositiveLemmas.{variable_has_value}
+use Rattle.lv_model.specs.Ranges.{plant_ranges}
 use Rattle.lv_model.specs.WellFormed.{is_well_formed}
 use Rattle.lv_walk.specs.declared.outcome.Outcome.{Outcome}
 use Rattle.lv_walk.specs.declared.outcome.Outcome.TheVariants.{Settled, Unsettled}
@@ -36,15 +43,41 @@ rest_whole cs = length-map cs (λ (c : VarId). rest)
 mode_for_each : (ps : List Part) → length (map (λ (p : Part). p.start) ps) ≡ length ps
 mode_for_each ps = length-map ps (λ (p : Part). p.start)
 
-pub start_kept : (plant : Plant) → IsStateOf plant (start plant)
-start_kept plant = record {
+-- the values of the controls
+
+value_set : (sizes : List ℕ) (cs : List VarId) (vs : List ValId) (place : ℕ) (value : ValId) → ((x : VarId) → slice_get cs place ≡ Some x → value.0 < slice_index_or sizes x.0 0)
+    → All (HasValue sizes) (commanded cs vs) → All (HasValue sizes) (commanded cs (slice_set vs place value))
+value_set sizes [] vs place value has all = All-nil (HasValue sizes)
+value_set sizes (c ∷ cs) [] place value has all = All-nil (HasValue sizes)
+value_set sizes (c ∷ cs) (v ∷ vs) zero value has all =
+    All-cons (HasValue sizes) (record { var = c; val = value }) (commanded cs vs) (record { below = has c refl }) (All-tail (HasValue sizes) (record { var = c; val = v }) (commanded cs vs) all)
+value_set sizes (c ∷ cs) (v ∷ vs) (suc place) value has all =
+    All-cons (HasValue sizes) (record { var = c; val = v }) (commanded cs (slice_set vs place value)) (All-head (HasValue sizes) (record { var = c; val = v }) (commanded cs vs) all)
+    (value_set sizes cs vs place value has (All-tail (HasValue sizes) (record { var = c; val = v }) (commanded cs vs) all))
+
+values_rest : (plant : Plant) → is_well_formed plant ≡ true → (cs : List VarId) → All (IsVariable (variable_count plant)) cs → All (HasValue (sizes plant)) (commanded cs (map (λ (c : VarId). rest) cs))
+values_rest plant h [] all = All-nil (HasValue (sizes plant))
+values_rest plant h (c ∷ cs) all =
+    All-cons (HasValue (sizes plant)) (record { var = c; val = rest }) (commanded cs (map (λ (c : VarId). rest) cs))
+    (record { below = variable_has_value plant h c.0 (All-head (IsVariable (variable_count plant)) c cs all).below })
+    (values_rest plant h cs (All-tail (IsVariable (variable_count plant)) c cs all))
+
+values_at_rest : (plant : Plant) → is_well_formed plant ≡ true → All (HasValue (sizes plant)) (commanded (controls plant) (map (λ (c : VarId). rest) (controls plant)))
+values_at_rest plant h = values_rest plant h (controls plant) (controls-in_range plant h)
+
+rests : (plant : Plant) → is_well_formed plant ≡ true → (place : ℕ) (x : VarId) → slice_get (controls plant) place ≡ Some x → 0 < slice_index_or (sizes plant) x.0 0
+rests plant h place x here = variable_has_value plant h x.0 (All-at (IsVariable (variable_count plant)) (controls plant) place x (controls-in_range plant h) here).below
+
+pub start_kept : (plant : Plant) → is_well_formed plant ≡ true → IsStateOf plant (start plant)
+start_kept plant h = record {
   controls_whole = rest_whole (controls plant);
+  values = values_at_rest plant h;
   modes = All-cons (HasModes (length plant.parts)) (start_state plant) [] (record { modes = mode_for_each plant.parts }) (All-nil (HasModes (length plant.parts)));
   costs = All-cons (StateCosts 0) (start_state plant) [] (record { most = omega arith }) (All-nil (StateCosts 0));
   time = omega arith;
   k = omega arith;
-  present = All-nil (IsSightingIn (variable_count plant));
-  next = All-nil (IsSightingIn (variable_count plant));
+  present = All-nil (IsSightingIn plant);
+  next = All-nil (IsSightingIn plant);
 }
 
 costs_map : (plant : Plant) (time : ℕ) (listed : List Rank) → All (RankCosts time) listed → All (StateCosts time) (map (target_state plant) listed)
@@ -57,11 +90,13 @@ module _ (plant : Plant) (state : SessionState) (h : is_well_formed plant ≡ tr
   -- what no other field is about may change
   numbers_kept : (k budget : ℕ) (query : Query) (ended : Bool) → k ≤ TRACKED → IsStateOf plant (record state { k = k; budget = budget; query = query; is_ended = ended })
   numbers_kept k budget query ended few =
-      record { controls_whole = is.controls_whole; modes = is.modes; costs = is.costs; time = is.time; k = few; present = is.present; next = is.next }
+      record { controls_whole = is.controls_whole; values = is.values; modes = is.modes; costs = is.costs; time = is.time; k = few; present = is.present; next = is.next }
 
-  control_kept : (place : ℕ) (value : ValId) → IsStateOf plant (record state { controls = slice_set state.controls place value; query = Absent })
-  control_kept place value = record {
+  control_kept : (place : ℕ) (value : ValId) → ((x : VarId) → slice_get (controls plant) place ≡ Some x → value.0 < slice_index_or (sizes plant) x.0 0)
+      → IsStateOf plant (record state { controls = slice_set state.controls place value; query = Absent })
+  control_kept place value has = record {
     controls_whole = length-set state.controls place value ∙ is.controls_whole;
+    values = value_set (sizes plant) (controls plant) state.controls place value has is.values;
     modes = is.modes;
     costs = is.costs;
     time = is.time;
@@ -70,12 +105,12 @@ module _ (plant : Plant) (state : SessionState) (h : is_well_formed plant ≡ tr
     next = is.next;
   }
 
-  held_kept : (present next : List Sighting) → All (IsSightingIn (variable_count plant)) present → All (IsSightingIn (variable_count plant)) next
+  held_kept : (present next : List Sighting) → All (IsSightingIn plant) present → All (IsSightingIn plant) next
       → IsStateOf plant (record state { present = present; next = next; query = Absent })
   held_kept present next in_present in_next =
-      record { controls_whole = is.controls_whole; modes = is.modes; costs = is.costs; time = is.time; k = is.k; present = in_present; next = in_next }
+      record { controls_whole = is.controls_whole; values = is.values; modes = is.modes; costs = is.costs; time = is.time; k = is.k; present = in_present; next = in_next }
 
-  observe_kept : (s : Sighting) → IsSightingIn (variable_count plant) s → IsStateOf plant (observe state s).state
+  observe_kept : (s : Sighting) → IsSightingIn plant s → IsStateOf plant (observe state s).state
   observe_kept s within = by (is_held state s.name) (has_no_room state s.name)
     where
       by : (a b : Bool)
@@ -84,8 +119,8 @@ module _ (plant : Plant) (state : SessionState) (h : is_well_formed plant ≡ tr
       by false true = is
       by false false =
           held_kept state.present (state.next ++ (s ∷ [])) is.present
-          (All-append (IsSightingIn (variable_count plant)) state.next (s ∷ []) is.next
-          (All-cons (IsSightingIn (variable_count plant)) s [] within (All-nil (IsSightingIn (variable_count plant)))))
+          (All-append (IsSightingIn plant) state.next (s ∷ []) is.next
+          (All-cons (IsSightingIn plant) s [] within (All-nil (IsSightingIn plant))))
 
   retract_kept : (name : List ℕ) → IsStateOf plant (retract state name).state
   retract_kept name = by (is_held state name)
@@ -94,8 +129,8 @@ module _ (plant : Plant) (state : SessionState) (h : is_well_formed plant ≡ tr
           → IsStateOf plant (cond b (cleared (record state { present = filter (lacks_name name) state.present; next = filter (lacks_name name) state.next })) (unchanged state (Refused NameNotHeld))).state
       by true =
           held_kept (filter (lacks_name name) state.present) (filter (lacks_name name) state.next)
-          (All-filter (lacks_name name) (IsSightingIn (variable_count plant)) state.present is.present)
-          (All-filter (lacks_name name) (IsSightingIn (variable_count plant)) state.next is.next)
+          (All-filter (lacks_name name) (IsSightingIn plant) state.present is.present)
+          (All-filter (lacks_name name) (IsSightingIn plant) state.next is.next)
       by false = is
 
   more_kept : (q : Query) (n : ℕ) → IsStateOf plant (more q plant state n).state
@@ -115,12 +150,13 @@ module _ (plant : Plant) (state : SessionState) (h : is_well_formed plant ≡ tr
       let before : state.time + 1 ≤ COMMITS = omega (arith, leb-false COMMITS state.time early) in
       record {
         controls_whole = rest_whole (controls plant);
+        values = values_at_rest plant h;
         modes = targets_have_modes plant listed l.moves;
         costs = first_all (StateCosts (state.time + 1)) (map (target_state plant) listed) (costs_map plant (state.time + 1) listed l.costs);
         time = before;
         k = is.k;
         present = is.next;
-        next = All-nil (IsSightingIn (variable_count plant));
+        next = All-nil (IsSightingIn plant);
       }
 
   taken_kept : (listed : List Rank) → IsListOf plant state listed → IsStateOf plant (taken_over plant state listed).state
@@ -145,8 +181,8 @@ module _ (plant : Plant) (state : SessionState) (h : is_well_formed plant ≡ tr
   request_kept Nothing within = is
   request_kept (Track n) within = numbers_kept n state.budget Absent state.is_ended within
   request_kept (SetBudget n) within = numbers_kept state.k n state.query state.is_ended is.k
-  request_kept (SetControl c) within = control_kept c.place (record { 0 = c.value })
-  request_kept (Release place) within = control_kept place rest
+  request_kept (SetControl c) within = control_kept c.place c.value (λ x here. below_size (plant_ranges plant) x.0 c.value.0 (within.value x here))
+  request_kept (Release place) within = control_kept place rest (λ x here. rests plant h place x here)
   request_kept (Observe s) within = observe_kept s within
   request_kept (Retract name) within = retract_kept name
   request_kept Diagnose within = numbers_kept state.k state.budget (Diagnosis state.budget) state.is_ended is.k
@@ -154,7 +190,7 @@ module _ (plant : Plant) (state : SessionState) (h : is_well_formed plant ≡ tr
   request_kept Commit within = commit_kept state.query
   request_kept Conflicts within = conflicts_kept state.query
   request_kept States within = is
-  request_kept Reset within = start_kept plant
+  request_kept Reset within = start_kept plant h
   request_kept Quit within = numbers_kept state.k state.budget state.query true is.k
 
 -- whether a request was carried out or memory was wanting

@@ -1,7 +1,7 @@
 pub mod Transcripts
-pub mod Serving
 pub mod Writing
 pub mod Listed
 pub mod Keeping
 pub mod StepLaws
 pub mod Asking
+pub mod CurrentLemmas

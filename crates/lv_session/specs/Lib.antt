@@ -1,4 +1,5 @@
 pub mod Session
 pub mod States
+pub mod Current
 pub mod Transcript
 pub mod Laws

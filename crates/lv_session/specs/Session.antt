@@ -106,7 +106,7 @@ commanded state place value = cleared (record state { controls = slice_set state
 
 -- `command`
 abbrev pub set_control : SessionState → Command → Stepped
-set_control state c = commanded state c.place (record { 0 = c.value })
+set_control state c = commanded state c.place c.value
 
 -- `release`
 abbrev pub release : SessionState → ℕ → Stepped

@@ -1,49 +1,75 @@
 //! Diagnoses of the state as it is: asked for, gone on with, shown, and taken over.
 //!
-//! A query that is current is the walk along the candidates with the sum of its trials. It is walked anew where it is
-//! needed: what it came to follows from the state.
+//! What a diagnosis comes to is the walk of its definition; the search that is kept beside the state has come to the same,
+//! and goes on from there.
 #![tactic(auto)]
 
-ghost use Rattle.std.specs.Prelude.{◌≡◌, ◌≤◌, ◌+◌, ◌<◌, ◌^◌, IfOk, OnErr, length};
+ghost use Rattle.std.specs.Prelude.{◌≡◌, ◌≤◌, ◌+◌, ◌<◌, ◌^◌, IfOk, OnOk, OnErr, length};
 ghost use Rattle.lv_base.specs.declared.limits.TheConstants.{TRACKED, BUDGET};
-ghost use Rattle.lv_meaning.specs.Diagnosis.{told};
-ghost use Rattle.lv_session.specs.Session.{facts_of, walked, trials, diagnosis_reply, diagnosed, more, conflicts, taken_over, commit};
+ghost use Rattle.lv_steps.specs.System.{IsSystemOf};
+ghost use Rattle.lv_session.specs.declared.query.Query.TheVariants.{Diagnosis as IsDiagnosis};
+ghost use Rattle.lv_session.specs.declared.running.Running.TheVariants.{Diagnosis as KeptDiagnosis};
+ghost use Rattle.lv_walk.specs.declared.outcome.Outcome.TheVariants.{Unsettled};
+ghost use Rattle.lv_session.specs.Session.{facts_of, trials, walked, diagnosis_reply, diagnosed, more, conflicts, taken_over, commit};
 ghost use Rattle.lv_session.specs.States.{IsStateOf, IsListOf};
+ghost use Rattle.lv_session.specs.Current.{come_to, IsDiagnosisAt, IsKeptOf, IsCurrent};
 
 use crate::observations::observations_of;
 use crate::query::Query;
+use crate::running::{Diagnosed, Running};
 use crate::state::{State, resting_values};
 use lv_base::limits::COMMITS;
-use lv_base::{Rank, Seq};
+use lv_base::{Conflict, Pair, Rank, Seq};
+use lv_ident::identify;
 use lv_meaning::Facts;
-use lv_meaning::walk::{Diagnosis, walk};
 use lv_model::Model;
 use lv_reply::{Refusal, Reply};
+use lv_steps::StepSystem;
 use lv_tracker::Tracked;
 use lv_walk::Outcome;
 use std::alloc::{AllocError, Global};
 use std::mem;
 
-/// How many trials a diagnosis made.
-fn trials(walked: &Diagnosis) -> u64
-    requires { length walked.now.listed ≤ TRACKED }
-    ensures trials { result ≡ trials (told walked.now) }
-    ensures room { result + BUDGET < 2 ^ 64 }
+/// Copies of ranks.
+fn copied_ranks(alloc: Global, ranks: &[Rank]) -> Result<Vec<Rank>, AllocError>
+    ensures { IfOk result (λ out. out.items ≡ ranks.now) }
 {
-    walked.listed.as_slice().len() as u64 + walked.kept.as_slice().len() as u64
+    let mut out = Vec::new(alloc);
+    for rank in ranks {
+        out.push(rank.copied(alloc)?)?;
+    }
+    Ok(out)
 }
 
-/// What a diagnosis replies.
-fn reply_of(walked: Diagnosis) -> Reply
-    requires { length walked.listed ≤ TRACKED }
-    ensures { result ≡ diagnosis_reply (told walked) }
+/// Copies of conflicts.
+fn copied_conflicts(alloc: Global, conflicts: &[Conflict]) -> Result<Vec<Seq<Pair>>, AllocError>
+    ensures { IfOk result (λ out. out.items ≡ conflicts.now) }
 {
-    match walked.outcome {
-        Outcome::Settled => Reply::Settled(walked.listed),
-        Outcome::Unsettled => {
-            let trials = trials(&walked);
-            Reply::Unsettled(walked.listed, trials)
-        }
+    let mut out = Vec::new(alloc);
+    for conflict in conflicts {
+        out.push(Seq::from_slice(alloc, conflict.pairs())?)?;
+    }
+    Ok(out)
+}
+
+/// How many trials a diagnosis made.
+fn trials(run: &Diagnosed<'_>) -> u64
+    requires { length run.now.query.standing.listed ≤ TRACKED }
+    ensures trials { result ≡ trials (come_to run.now) }
+    ensures room { result + BUDGET < 2 ^ 64 }
+{
+    run.query.listed().len() as u64 + run.query.conflicts().len() as u64
+}
+
+/// What a diagnosis that has run replies.
+fn reply_of(alloc: Global, run: &Diagnosed<'_>) -> Result<Reply, AllocError>
+    requires { length run.now.query.standing.listed ≤ TRACKED }
+    ensures { IfOk result (λ reply. reply ≡ diagnosis_reply (come_to run.now)) }
+{
+    let listed = Seq::from_vec(copied_ranks(alloc, run.query.listed())?);
+    match run.outcome {
+        Outcome::Settled => Ok(Reply::Settled(listed)),
+        Outcome::Unsettled => Ok(Reply::Unsettled(listed, trials(run))),
     }
 }
 
@@ -59,83 +85,187 @@ impl State {
         })
     }
 
-    /// The walk of a diagnosis with so many trials.
-    #[tactic(auto, unfolding(crate::specs::Session::walked))]
-    fn walked(&self, alloc: Global, model: &Model, n: u64) -> Result<Diagnosis, AllocError>
-        requires { IsStateOf model.now self.now }
-        ensures walked { IfOk result (λ d. told d ≡ walked model.now self.now n) }
-        ensures listed { IfOk result (λ d. IsListOf model.now self.now d.listed) }
+    /// A diagnosis of the state that has run with so many trials.
+    fn diagnosis_run<'a>(
+        &self,
+        alloc: Global,
+        model: &'a Model,
+        system: &StepSystem,
+        n: u64,
+    ) -> Result<Diagnosed<'a>, AllocError>
+        requires state { IsStateOf model.now self.now }
+        requires system { IsSystemOf model.now system.now }
+        ensures at { IfOk result (λ run. IsDiagnosisAt model.now self.now n run) }
+        ensures listed { IfOk result (λ run. IsListOf model.now self.now run.query.standing.listed) }
     {
         let _plant = model.plant();
         let facts = self.facts(alloc)?;
-        walk(alloc, model, &facts, self.tracked.as_slice(), self.k, n)
+        let mut query = identify(alloc, model, system, self.tracked.as_slice(), facts, self.k)?;
+        let outcome = query.run(n)?;
+        Ok(Diagnosed { query, outcome })
     }
 
     /// A diagnosis with so many trials, which becomes the current query.
-    pub(crate) fn diagnose(
+    pub(crate) fn diagnose<'a>(
+        &mut self,
+        alloc: Global,
+        model: &'a Model,
+        system: &StepSystem,
+        running: &mut Running<'a>,
+        n: u64,
+    ) -> Result<Reply, AllocError>
+        requires state { IsStateOf model.now self.old }
+        requires system { IsSystemOf model.now system.now }
+        ensures ok { IfOk result (λ reply. record { state = self.new; reply = reply } ≡ diagnosed model.now self.old n) }
+        ensures err { OnErr result (self.new ≡ self.old) }
+        ensures running { OnOk result (IsCurrent model.now self.new running.new) }
+    {
+        let run = self.diagnosis_run(alloc, model, system, n)?;
+        let reply = reply_of(alloc, &run)?;
+        *running = Running::Diagnosis(run);
+        self.query = Query::Diagnosis(n);
+        Ok(reply)
+    }
+
+    /// Runs a diagnosis that isn't settled on, with the sum of all trials.
+    fn run_on(
+        &self,
+        alloc: Global,
+        model: &Model,
+        run: &mut Diagnosed<'_>,
+        sum: u64,
+        n: u64,
+    ) -> Result<Reply, AllocError>
+        requires state { IsStateOf model.now self.now }
+        requires at { IsDiagnosisAt model.now self.now sum run.old }
+        requires unsettled { run.old.outcome ≡ Unsettled }
+        requires few { n ≤ BUDGET }
+        ensures reply { IfOk result (λ reply. reply ≡ diagnosis_reply (walked model.now self.now (sum + n))) }
+        ensures at { OnOk result (IsDiagnosisAt model.now self.now (sum + n) run.new) }
+        ensures room { sum + n < 2 ^ 64 }
+    {
+        let _plant = model.plant();
+        let _trials = trials(run);
+        run.outcome = run.query.run(n)?;
+        reply_of(alloc, run)
+    }
+
+    /// More trials for a diagnosis that isn't settled, which goes on with the sum of all.
+    fn go_on(
         &mut self,
         alloc: Global,
         model: &Model,
+        run: &mut Diagnosed<'_>,
+        sum: u64,
         n: u64,
     ) -> Result<Reply, AllocError>
-        requires { IsStateOf model.now self.old }
-        ensures ok { IfOk result (λ reply. record { state = self.new; reply = reply } ≡ diagnosed model.now self.old n) }
+        requires state { IsStateOf model.now self.old }
+        requires at { IsDiagnosisAt model.now self.old sum run.old }
+        requires unsettled { run.old.outcome ≡ Unsettled }
+        requires few { n ≤ BUDGET }
+        ensures ok { IfOk result (λ reply. record { state = self.new; reply = reply } ≡ diagnosed model.now self.old (sum + n)) }
         ensures err { OnErr result (self.new ≡ self.old) }
+        ensures query { OnOk result (self.new.query ≡ IsDiagnosis (sum + n)) }
+        ensures at { OnOk result (IsDiagnosisAt model.now self.new (sum + n) run.new) }
     {
-        let walked = self.walked(alloc, model, n)?;
-        self.query = Query::Diagnosis(n);
-        Ok(reply_of(walked))
+        let reply = self.run_on(alloc, model, run, sum, n)?;
+        self.query = Query::Diagnosis(sum + n);
+        Ok(reply)
     }
 
-    /// The current query with more trials, if it isn't settled.
-    pub(crate) fn more(&mut self, alloc: Global, model: &Model, n: u64) -> Result<Reply, AllocError>
+    /// The diagnosis with more trials, if it isn't settled.
+    fn more_of(
+        &mut self,
+        alloc: Global,
+        model: &Model,
+        run: &mut Diagnosed<'_>,
+        sum: u64,
+        n: u64,
+    ) -> Result<Reply, AllocError>
         requires state { IsStateOf model.now self.old }
+        requires query { self.old.query ≡ IsDiagnosis sum }
+        requires at { IsDiagnosisAt model.now self.old sum run.old }
         requires few { n ≤ BUDGET }
         ensures ok { IfOk result (λ reply. record { state = self.new; reply = reply } ≡ more self.old.query model.now self.old n) }
         ensures err { OnErr result (self.new ≡ self.old) }
+        ensures current { OnOk result (IsKeptOf self.new.query model.now self.new (KeptDiagnosis run.new)) }
+    {
+        match run.outcome {
+            Outcome::Settled => Ok(Reply::Refused(Refusal::NotUnsettled)),
+            Outcome::Unsettled => self.go_on(alloc, model, run, sum, n),
+        }
+    }
+
+    /// The current query with more trials, if it isn't settled.
+    pub(crate) fn more(
+        &mut self,
+        alloc: Global,
+        model: &Model,
+        running: &mut Running<'_>,
+        n: u64,
+    ) -> Result<Reply, AllocError>
+        requires state { IsStateOf model.now self.old }
+        requires running { IsCurrent model.now self.old running.old }
+        requires few { n ≤ BUDGET }
+        ensures ok { IfOk result (λ reply. record { state = self.new; reply = reply } ≡ more self.old.query model.now self.old n) }
+        ensures err { OnErr result (self.new ≡ self.old) }
+        ensures running { OnOk result (IsCurrent model.now self.new running.new) }
     {
         match self.query {
             Query::Absent => Ok(Reply::Refused(Refusal::NotUnsettled)),
-            Query::Diagnosis(sum) => {
-                let walked = self.walked(alloc, model, sum)?;
-                match walked.outcome {
-                    Outcome::Settled => Ok(Reply::Refused(Refusal::NotUnsettled)),
-                    Outcome::Unsettled => self.diagnose(alloc, model, trials(&walked) + n),
-                }
-            }
+            Query::Diagnosis(sum) => match running {
+                Running::Diagnosis(run) => self.more_of(alloc, model, run, sum, n),
+                Running::Nothing => Ok(Reply::Refused(Refusal::NotUnsettled)),
+            },
         }
     }
 
     /// The conflicts that the current query kept.
-    pub(crate) fn conflicts(&self, alloc: Global, model: &Model) -> Result<Reply, AllocError>
-        requires { IsStateOf model.now self.now }
+    pub(crate) fn conflicts(
+        &self,
+        alloc: Global,
+        model: &Model,
+        running: &Running<'_>,
+    ) -> Result<Reply, AllocError>
+        requires state { IsStateOf model.now self.now }
+        requires running { IsCurrent model.now self.now running.now }
         ensures { IfOk result (λ reply. record { state = self.now; reply = reply } ≡ conflicts self.now.query model.now self.now) }
     {
+        let _plant = model.plant();
         match self.query {
             Query::Absent => Ok(Reply::Refused(Refusal::NoQuery)),
-            Query::Diagnosis(sum) => {
-                let walked = self.walked(alloc, model, sum)?;
-                let trials = trials(&walked);
-                Ok(Reply::Conflicts(walked.kept, trials))
-            }
+            Query::Diagnosis(_) => match running {
+                Running::Diagnosis(run) => {
+                    let kept = copied_conflicts(alloc, run.query.conflicts())?;
+                    Ok(Reply::Conflicts(Seq::from_vec(kept), trials(run)))
+                }
+                Running::Nothing => Ok(Reply::Refused(Refusal::NoQuery)),
+            },
         }
     }
 
     /// Takes a settled diagnosis over, if one is current.
-    pub(crate) fn commit(&mut self, alloc: Global, model: &Model) -> Result<Reply, AllocError>
-        requires { IsStateOf model.now self.old }
+    pub(crate) fn commit(
+        &mut self,
+        alloc: Global,
+        model: &Model,
+        running: &Running<'_>,
+    ) -> Result<Reply, AllocError>
+        requires state { IsStateOf model.now self.old }
+        requires running { IsCurrent model.now self.old running.now }
         ensures ok { IfOk result (λ reply. record { state = self.new; reply = reply } ≡ commit self.old.query model.now self.old) }
         ensures err { OnErr result (self.new ≡ self.old) }
     {
+        let _plant = model.plant();
         match self.query {
             Query::Absent => Ok(Reply::Refused(Refusal::NoQuery)),
-            Query::Diagnosis(sum) => {
-                let walked = self.walked(alloc, model, sum)?;
-                match walked.outcome {
-                    Outcome::Settled => self.take_over(alloc, model, walked.listed.as_slice()),
+            Query::Diagnosis(_) => match running {
+                Running::Diagnosis(run) => match run.outcome {
+                    Outcome::Settled => self.take_over(alloc, model, run.query.listed()),
                     Outcome::Unsettled => Ok(Reply::Refused(Refusal::NoQuery)),
-                }
-            }
+                },
+                Running::Nothing => Ok(Reply::Refused(Refusal::NoQuery)),
+            },
         }
     }
 

@@ -4,11 +4,12 @@
 //! | file | what it is |
 //! |---|---|
 //! | `session` | a session: its state and what a line does |
+//! | `workings` | what is kept beside the state |
 //! | `state` | the state, and what a request does to it |
 //! | `observations` | the observations held, by their names |
 //! | `diagnoses` | diagnoses asked for, gone on with, shown and taken over |
 //! | `query` | the current query |
-//! | `serve` | the lines of a whole text, and the texts of their replies written |
+//! | `running` | what is kept of it from line to line |
 //! | `flush` | what was written handed on |
 //! | `laws` | what holds of steps and transcripts |
 //!
@@ -21,12 +22,12 @@ pub mod flush;
 pub mod laws;
 mod observations;
 pub mod query;
-pub mod serve;
+pub mod running;
 pub mod session;
 pub mod state;
+pub mod workings;
 
 pub use flush::flush_after;
 pub use query::Query;
-pub use serve::write_transcript;
 pub use session::Session;
 pub use state::State;

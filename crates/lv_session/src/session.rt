@@ -6,29 +6,25 @@ ghost use Rattle.lv_session.specs.Session.{start, stepped};
 ghost use Rattle.lv_reply.specs.Texts.{reply_text};
 
 use crate::state::State;
-use lv_base::VarId;
+use crate::workings::{Workings, answer};
 use lv_model::Model;
 use lv_reply::{Reply, reply_text};
-use lv_request::{Unread, request_of};
-use lv_text::Token;
 use std::alloc::{AllocError, Global};
 use std::marker;
 
-/// A session over a model. The controls of the model are kept beside the state, and the room of a line's tokens, so that
-/// a line needs neither anew.
+/// A session over a model.
 #[derive(Drop)]
 pub struct Session<'a> {
     model: &'a Model,
     alloc: Global,
-    controls: Vec<VarId>,
-    room: Vec<Token>,
+    workings: Workings<'a>,
     state: State,
     is_out_of_memory: bool,
 }
 
 impl<'a> marker::Model for Session<'a> {
     ghost use Rattle.lv_session.specs.Session.{RunningSession};
-    ghost use Rattle.lv_session.specs.States.{IsSession};
+    ghost use Rattle.lv_session.specs.Current.{IsSession};
     ghost use Rattle.std.specs.Coded.{codes};
     ghost use Rattle.lv_formula.specs.contracts.Condition as condition;
 
@@ -38,7 +34,7 @@ impl<'a> marker::Model for Session<'a> {
 
     ghost view = { λ s. record { plant = s.model.now; state = s.state; is_out_of_memory = s.is_out_of_memory } };
 
-    ghost invariant = { λ s. IsSession s.model.now s.controls.items s.state };
+    ghost invariant = { λ s. IsSession s.model.now s.workings s.state s.is_out_of_memory };
 }
 
 impl<'a> Session<'a> {
@@ -46,13 +42,13 @@ impl<'a> Session<'a> {
     pub fn new(alloc: Global, model: &'a Model) -> Result<Session<'a>, AllocError>
         ensures { IfOk result (λ session. session ≡ record { plant = model.now; state = start model.now; is_out_of_memory = false }) }
     {
-        let controls = model.controls(alloc)?;
+        let _plant = model.plant();
+        let workings = Workings::new(alloc, model)?;
         let state = State::start(alloc, model)?;
         Ok(Session {
             model,
             alloc,
-            controls,
-            room: Vec::new(alloc),
+            workings,
             state,
             is_out_of_memory: false,
         })
@@ -69,30 +65,18 @@ impl<'a> Session<'a> {
         if self.is_out_of_memory {
             return Err(AllocError);
         }
-        match self.answer(line) {
+        match answer(
+            self.alloc,
+            self.model,
+            &mut self.workings,
+            &mut self.state,
+            line,
+        ) {
             Ok(reply) => Ok(reply),
             Err(error) => {
                 self.is_out_of_memory = true;
                 Err(error)
             }
-        }
-    }
-
-    /// Does what a line asks for.
-    fn answer(&mut self, line: &[u8]) -> Result<Reply, AllocError>
-        ensures reply { IfOk result (λ reply. reply ≡ (stepped self.old.plant self.old.state line.now).reply) }
-        ensures state { OnOk result (self.new ≡ record self.old { state = (stepped self.old.plant self.old.state line.now).state }) }
-        ensures err { OnErr result (self.new ≡ self.old) }
-    {
-        if self.state.is_ended() {
-            return Ok(Reply::Nothing);
-        }
-        let _plant = self.model.plant();
-        let controls = self.controls.as_slice();
-        match request_of(self.alloc, self.model, controls, &mut self.room, line) {
-            Ok(request) => self.state.carry_out(self.alloc, self.model, request),
-            Err(Unread::Refused(refusal)) => Ok(Reply::Refused(refusal)),
-            Err(Unread::Memory) => Err(AllocError),
         }
     }
 

@@ -1,18 +1,22 @@
 //! The state of a session, and what a request does to it.
 #![tactic(auto)]
 
-ghost use Rattle.std.specs.Prelude.{◌≡◌, IfOk, OnErr};
+ghost use Rattle.std.specs.Prelude.{◌≡◌, IfOk, OnOk, OnErr};
 ghost use Rattle.lv_request.specs.Requests.{IsRequestOf};
 ghost use Rattle.lv_session.specs.Session.{start, resting, cleared, track, set_budget, set_control, release, commanded, reset, quit, carried_out};
 ghost use Rattle.lv_reply.specs.declared.reply.Reply.TheVariants.{States};
+ghost use Rattle.lv_steps.specs.System.{IsSystemOf};
 ghost use Rattle.lv_session.specs.States.{IsStateOf};
+ghost use Rattle.lv_session.specs.Current.{IsCurrent, IsCaredFor};
 
 use crate::query::Query;
+use crate::running::Running;
 use lv_base::limits::{LISTED, TRIALS};
 use lv_base::{Cost, Seq, ValId};
 use lv_model::{Model, State as Modes, TrackedState};
 use lv_reply::Reply;
 use lv_request::{Command, Request, Sighting};
+use lv_steps::StepSystem;
 use lv_tracker::Tracked;
 use std::alloc::{AllocError, Global};
 use std::marker;
@@ -74,17 +78,22 @@ impl State {
         self.is_ended
     }
 
-    /// Does what is asked for. After want of memory the state is as it was.
-    pub fn carry_out(
+    /// Does what is asked for, where this is kept of the current query. After want of memory the state is as it was.
+    pub fn carry_out<'a>(
         &mut self,
         alloc: Global,
-        model: &Model,
+        model: &'a Model,
+        system: &StepSystem,
+        running: &mut Running<'a>,
         request: Request,
     ) -> Result<Reply, AllocError>
         requires state { IsStateOf model.now self.old }
         requires request { IsRequestOf model.now request }
+        requires system { IsSystemOf model.now system.now }
+        requires running { IsCurrent model.now self.old running.old }
         ensures ok { IfOk result (λ reply. record { state = self.new; reply = reply } ≡ carried_out model.now self.old request) }
         ensures err { OnErr result (self.new ≡ self.old) }
+        ensures running { OnOk result (IsCaredFor request model.now self.new running.old running.new) }
     {
         match request {
             Request::Nothing => Ok(Reply::Nothing),
@@ -94,10 +103,13 @@ impl State {
             Request::Release(place) => Ok(self.release(place)),
             Request::Observe(sighting) => self.observe(sighting),
             Request::Retract(name) => Ok(self.retract(name.as_slice())),
-            Request::Diagnose => self.diagnose(alloc, model, self.budget),
-            Request::More(n) => self.more(alloc, model, n),
-            Request::Commit => self.commit(alloc, model),
-            Request::Conflicts => self.conflicts(alloc, model),
+            Request::Diagnose => {
+                let budget = self.budget;
+                self.diagnose(alloc, model, system, running, budget)
+            }
+            Request::More(n) => self.more(alloc, model, running, n),
+            Request::Commit => self.commit(alloc, model, running),
+            Request::Conflicts => self.conflicts(alloc, model, running),
             Request::States => self.states(alloc),
             Request::Reset => self.reset(alloc, model),
             Request::Quit => Ok(self.quit()),
@@ -139,7 +151,7 @@ impl State {
     fn set_control(&mut self, command: Command) -> Reply
         ensures { record { state = self.new; reply = result } ≡ set_control self.old command }
     {
-        self.command(command.place, ValId(command.value))
+        self.command(command.place, command.value)
     }
 
     fn release(&mut self, place: usize) -> Reply

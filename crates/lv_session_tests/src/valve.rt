@@ -3,9 +3,8 @@
 #![tactic(auto)]
 
 use lv_checker::model_of;
-use lv_io::MemSink;
 use lv_model::Model;
-use lv_session::{Session, write_transcript};
+use lv_session::Session;
 use std::alloc::{AllocError, Global};
 
 /// A valve that follows its command or is stuck, with its inflow present.
@@ -67,21 +66,5 @@ fn lines_of_a_session(rt: HostRuntime) -> Result<(), AllocError> {
     assert!(rt; replies(&mut session, "command v.cmd = some", "error S06\n")?);
     assert!(rt; replies(&mut session, "command v.cmd", "error S02\n")?);
     assert!(rt; replies(&mut session, "diagnose", OPENED)?);
-    Ok(())
-}
-
-#[test]
-fn a_whole_text(rt: HostRuntime) -> Result<(), AllocError> {
-    let alloc = rt.alloc();
-    let model = valve(alloc)?;
-    let mut out = MemSink::new(alloc, 4096, Vec::new(alloc));
-    let written = write_transcript(
-        alloc,
-        &model,
-        b"jump\r\n\n# x\ncommand v.cmd=none",
-        &mut out,
-    );
-    assert!(rt; written.is_ok());
-    assert!(rt; out.text() == b"error S01\nok\n".as_slice());
     Ok(())
 }

@@ -1,0 +1,107 @@
+-- What is kept of the current query stays that of the state, whatever is asked for.
+use Rattle.std.proofs.Common.{◌≡◌, ℕ, ◌+◌, Bool, true, false, cond, nat_eq, nat_le, List, [], ◌∷◌, ◌++◌, length, filter, Result, Ok, Err, IfOk, OnOk, sym, ◌∙◌, ap, subst, refl}
+use Rattle.lv_base.specs.declared.limits.TheConstants.{COMMITS}
+use Rattle.lv_base.specs.declared.rank.Rank.{Rank}
+use Rattle.lv_model.specs.declared.plant.Plant.{Plant}
+use Rattle.lv_walk.specs.declared.outcome.Outcome.{Outcome}
+use Rattle.lv_walk.specs.declared.outcome.Outcome.TheVariants.{Settled, Unsettled}
+use Rattle.lv_tracker.specs.Tracked.{advanced}
+use Rattle.lv_reply.specs.declared.reply.Refusal.TheVariants.{NameHeld, NameNotHeld, NothingListed, TooManyHeld, TooManyCommits}
+use Rattle.lv_reply.specs.declared.reply.Reply.{Reply}
+use Rattle.lv_reply.specs.declared.reply.Reply.TheVariants.{Refused, Committed}
+use Rattle.lv_request.specs.declared.request.Sighting.{Sighting}
+use Rattle.lv_request.specs.declared.request.Request.{Request}
+use Rattle.lv_request.specs.declared.request.Request.TheVariants.{Nothing, Track, SetBudget, SetControl, Release, Observe, Retract, Diagnose, More, Commit, Conflicts, States, Reset, Quit}
+use Rattle.lv_session.specs.declared.query.Query.{Query}
+use Rattle.lv_session.specs.declared.query.Query.TheVariants.{Absent, Diagnosis}
+use Rattle.lv_session.specs.declared.running.Running.{Running}
+use Rattle.lv_session.specs.declared.running.Running.TheVariants as kept
+use Rattle.lv_session.specs.Session.{SessionState, Stepped, unchanged, cleared, walked, is_held, has_no_room, lacks_name, observe, retract, commit, commit_by, conflicts, taken_over, advanced_to, carried_out}
+use Rattle.lv_session.specs.Current.{IsKeptOf, IsCurrent, IsCaredFor}
+
+same_walk : (plant : Plant) (state : SessionState) (budget : ℕ) (ended : Bool) (sum : ℕ) → walked plant (record state { budget = budget; is_ended = ended }) sum ≡ walked plant state sum
+unfolding walked
+same_walk plant state budget ended sum = refl
+
+module _ (plant : Plant) (state : SessionState) (running : Running) (is : IsCurrent plant state running) where
+  -- the budget and whether the session has ended are no part of a query
+  pub others_kept : (budget : ℕ) (ended : Bool) → IsCurrent plant (record state { budget = budget; is_ended = ended }) running
+  others_kept budget ended = by state.query running is
+    where
+      by : (q : Query) (r : Running) → IsKeptOf q plant state r → IsKeptOf q plant (record state { budget = budget; is_ended = ended }) r
+      by Absent r h = tt
+      by (Diagnosis sum) kept.Nothing h = h
+      by (Diagnosis sum) (kept.Diagnosis d) h = record { plant_is = h.plant_is; facts_are = h.facts_are; k = h.k; on_walk = h.on_walk; came_to = same_walk plant state budget ended sum ∙ h.came_to }
+
+  observe_current : (s : Sighting) → IsCurrent plant (observe state s).state running
+  observe_current s = by (is_held state s.name) (has_no_room state s.name)
+    where
+      by : (a b : Bool)
+          → IsCurrent plant (cond a (unchanged state (Refused NameHeld)) (cond b (unchanged state (Refused TooManyHeld)) (cleared (record state { next = state.next ++ (s ∷ []) })))).state running
+      by true b = is
+      by false true = is
+      by false false = tt
+
+  retract_current : (name : List ℕ) → IsCurrent plant (retract state name).state running
+  retract_current name = by (is_held state name)
+    where
+      by : (b : Bool)
+          → IsCurrent plant (cond b (cleared (record state { present = filter (lacks_name name) state.present; next = filter (lacks_name name) state.next })) (unchanged state (Refused NameNotHeld))).state running
+      by true = tt
+      by false = is
+
+  taken_current : (listed : List Rank) → IsCurrent plant (taken_over plant state listed).state running
+  taken_current listed = by (nat_eq (length listed) 0) (nat_le COMMITS state.time)
+    where
+      by : (a b : Bool)
+          → IsCurrent plant (cond a (unchanged state (Refused NothingListed)) (cond b (unchanged state (Refused TooManyCommits))
+          (record { state = advanced_to plant state listed; reply = Committed (state.time + 1) (length (advanced plant listed)) }))).state running
+      by true b = is
+      by false true = is
+      by false false = tt
+
+  commit_current : (q : Query) → IsCurrent plant (commit q plant state).state running
+  commit_current Absent = is
+  commit_current (Diagnosis sum) = by (walked plant state sum).outcome
+    where
+      by : (o : Outcome) → IsCurrent plant (commit_by o plant state (walked plant state sum).listed).state running
+      by Settled = taken_current (walked plant state sum).listed
+      by Unsettled = is
+
+  conflicts_current : (q : Query) → IsCurrent plant (conflicts q plant state).state running
+  conflicts_current Absent = is
+  conflicts_current (Diagnosis sum) = is
+
+-- what is kept after a request is that of the state that it leads to
+module _ (plant : Plant) (old : SessionState) (before after : Running) (is : IsCurrent plant old before) where
+  left : (next : SessionState) → IsCurrent plant next before → after ≡ before → IsCurrent plant next after
+  left next now same = subst (IsCurrent plant next) (sym same) now
+
+  cared_for : (request : Request) → IsCaredFor request plant (carried_out plant old request).state before after → IsCurrent plant (carried_out plant old request).state after
+  cared_for Nothing care = left old is care
+  cared_for (Track n) care = tt
+  cared_for (SetBudget n) care = left (record old { budget = n }) (others_kept plant old before is n old.is_ended) care
+  cared_for (SetControl c) care = tt
+  cared_for (Release place) care = tt
+  cared_for (Observe s) care = left (observe old s).state (observe_current plant old before is s) care
+  cared_for (Retract name) care = left (retract old name).state (retract_current plant old before is name) care
+  cared_for Diagnose care = care
+  cared_for (More n) care = care
+  cared_for Commit care = left (commit old.query plant old).state (commit_current plant old before is old.query) care
+  cared_for Conflicts care = left (conflicts old.query plant old).state (conflicts_current plant old before is old.query) care
+  cared_for States care = left old is care
+  cared_for Reset care = tt
+  cared_for Quit care = left (record old { is_ended = true }) (others_kept plant old before is old.budget true) care
+
+  pub stays_current : (next : SessionState) (request : Request) (s : Stepped) → s ≡ carried_out plant old request → next ≡ s.state → IsCaredFor request plant next before after
+      → IsCurrent plant next after
+  stays_current next request s done same care =
+      let e : next ≡ (carried_out plant old request).state = same ∙ ap (λ (t : Stepped). t.state) done in
+      subst (λ (n : SessionState). IsCurrent plant n after) (sym e) (cared_for request (subst (λ (n : SessionState). IsCaredFor request plant n before after) e care))
+
+-- whether a request was carried out or memory was wanting
+pub current_kept : {E : Type 0} (plant : Plant) (old new : SessionState) (before after : Running) (request : Request) (result : Result Reply E) → IsCurrent plant old before
+    → IfOk result (λ reply. ◌≡◌ {A = Stepped} (record { state = new; reply = reply }) (carried_out plant old request)) → OnOk result (IsCaredFor request plant new before after)
+    → OnOk result (IsCurrent plant new after)
+current_kept plant old new before after request (Ok reply) is done care = stays_current plant old before after is new request (record { state = new; reply = reply }) done refl care
+current_kept plant old new before after request (Err fault) is done care = tt

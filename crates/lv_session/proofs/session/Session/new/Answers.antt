@@ -1,0 +1,19 @@
+-- a session begins with no query
+use Rattle.std.proofs.Common.{◌≡◌, true, sym, subst}
+use Rattle.lv_model.specs.declared.plant.Plant.{Plant}
+use Rattle.lv_model.specs.WellFormed.{is_well_formed}
+use Rattle.lv_session.specs.Session.{SessionState}
+use Rattle.lv_session.specs.States.{IsStateOf}
+use Rattle.lv_session.specs.Current.{IsCurrent}
+use Rattle.lv_session.proofs.Keeping.{start_kept}
+use Rattle.lv_session.proofs.session.Session.new.Goals as goal
+
+pub invariant_of-result : goal.invariant_of-result
+invariant_of-result c =
+    let well : is_well_formed c.args.model.now ≡ true = subst (λ (p : Plant). is_well_formed p ≡ true) c.plant-plant.ensures.plant c.plant-plant.ensures.well_formed in
+    record {
+      lists_are = c.in_ok-workings.ensures.lists;
+      system_is = c.in_ok-workings.ensures.system;
+      is_state = subst (IsStateOf c.args.model.now) (sym c.in_ok-state.ensures) (start_kept c.args.model.now well);
+      current = λ _. subst (λ (s : SessionState). IsCurrent c.args.model.now s c.in_ok-workings.workings.running) (sym c.in_ok-state.ensures) tt;
+    }

@@ -1,0 +1,19 @@
+//! What is kept of the current query from line to line, so that it goes on where it stopped.
+#![tactic(auto)]
+
+use lv_ident::Query;
+use lv_walk::Outcome;
+
+/// A diagnosis that has run: its search, and what its last run came to.
+#[derive(Drop)]
+pub struct Diagnosed<'a> {
+    pub(crate) query: Query<'a>,
+    pub(crate) outcome: Outcome,
+}
+
+/// What is kept of the current query. Where no query is current, what is kept means nothing.
+#[derive(Drop)]
+pub enum Running<'a> {
+    Nothing,
+    Diagnosis(Diagnosed<'a>),
+}
