@@ -1,0 +1,8 @@
+pub mod Ends
+pub mod Faults
+pub mod Kept
+pub mod Unfinished
+pub mod Pieces
+pub mod Standing
+pub mod Served
+pub mod Serving

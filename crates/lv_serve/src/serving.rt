@@ -1,0 +1,201 @@
+//! A session between two pieces of its text.
+//!
+//! Replies wait behind one another until the piece is done or enough of them wait, so that a piece of many lines is one
+//! write. Nothing waits while the next piece is waited for.
+#![tactic(auto)]
+
+ghost use Rattle.std.specs.Prelude.{◌≡◌, ◌≢◌, ◌⊎◌, [], ◌∷◌, ◌++◌, ℕ, List, Option, Ok, Err, OnOk, OnErr, IfOk, true, false};
+ghost use Rattle.std.specs.List.{list_any};
+ghost use Rattle.std.specs.Io.KnownBytes.{append_known};
+ghost use Rattle.lv_io.specs.Outside.{HasCause};
+ghost use Rattle.lv_io.specs.Whole.{AddsFront};
+ghost use Rattle.lv_text.specs.Lines.{is_line_feed, lines_of};
+ghost use Rattle.lv_model.specs.declared.plant.Plant.{Plant};
+ghost use Rattle.lv_reply.specs.Texts.{reply_text};
+ghost use Rattle.lv_session.specs.Session.{stepped};
+ghost use Rattle.lv_session.specs.Transcript.{AddsTranscript, AddsFrontOfTranscript};
+ghost use Rattle.lv_serve.specs.Standing.{Standing};
+ghost use Rattle.lv_serve.specs.Ends.{ended};
+ghost use Rattle.lv_serve.specs.Unfinished.{kept_of, shown};
+ghost use Rattle.lv_serve.specs.Serving.{StandsAt, Waits, IsAnswered, IsHandedOn, line_reply};
+
+use crate::unfinished::Unfinished;
+use lv_io::{IoFault, Sink, write_all};
+use lv_model::Model;
+use lv_session::Session;
+use lv_text::lines::first_line;
+use std::alloc::{AllocError, Global};
+use std::marker;
+
+/// How many bytes of replies are written at once, though the piece goes on.
+const ENOUGH: usize = 65_536;
+
+/// A session, the line that hasn't ended, and the replies that wait to be written.
+#[derive(Drop)]
+pub struct Serving<'a> {
+    session: Session<'a>,
+    line: Unfinished,
+    replies: Vec<u8>,
+}
+
+impl<'a> marker::Model for Serving<'a> {
+    ghost use Rattle.std.specs.Coded.{codes};
+    ghost use Rattle.lv_formula.specs.contracts.Condition as condition;
+    ghost use Rattle.lv_serve.specs.Standing.{Standing};
+
+    ghost Value = { Standing };
+
+    ghost coded = { Prim.hlevel (codes, condition.the_row.coded) };
+
+    ghost view = { λ s. record { session = s.session; line = s.line; replies = s.replies.items } };
+}
+
+impl<'a> Serving<'a> {
+    /// A session of which nothing has come.
+    pub fn new(alloc: Global, model: &'a Model) -> Result<Serving<'a>, AllocError>
+        ensures start { IfOk result (λ serving. (text : Option (List ℕ)) → StandsAt model.now [] text serving text) }
+        ensures none { IfOk result (λ serving. serving.replies ≡ []) }
+    {
+        Ok(Serving {
+            session: Session::new(alloc, model)?,
+            line: Unfinished::new(alloc),
+            replies: Vec::new(alloc),
+        })
+    }
+
+    /// A `quit` was accepted.
+    pub fn is_ended(&self) -> bool
+        ensures { result ≡ self.now.session.state.is_ended }
+    {
+        self.session.ended()
+    }
+
+    /// A piece has come: answers each line that ends in it, and writes the replies.
+    pub fn serve_piece<O: Sink>(&mut self, piece: &[u8], out: &mut O) -> Result<(), IoFault>
+        ensures ok { (plant : Plant) (read : List ℕ) (before : Option (List ℕ)) → StandsAt plant read before self.old (O.text out.old)
+            → OnOk result (StandsAt plant (read ++ piece.now) before self.new (O.text out.new)) }
+        ensures none { OnOk result (self.new.replies ≡ []) }
+        ensures err { (plant : Plant) (read : List ℕ) (before : Option (List ℕ)) → StandsAt plant read before self.old (O.text out.old)
+            → OnErr result (AddsFrontOfTranscript plant (ended (read ++ piece.now)) before (O.text out.new)) }
+        ensures flushed { O.is_flushed out.old ≡ true → OnOk result (O.is_flushed out.new ≡ true) }
+        ensures cause { HasCause (O.faults out.old) (O.faults out.new) result }
+    {
+        self.answer_lines(piece, out)?;
+        self.hand_on(out)
+    }
+
+    /// Nothing more comes: answers what stands behind the last line feed, if anything does, and writes the replies.
+    pub fn finish<O: Sink>(&mut self, out: &mut O) -> Result<(), IoFault>
+        ensures ok { (plant : Plant) (read : List ℕ) (before : Option (List ℕ)) → StandsAt plant read before self.old (O.text out.old)
+            → OnOk result (AddsTranscript plant read before (O.text out.new)) }
+        ensures err { (plant : Plant) (read : List ℕ) (before : Option (List ℕ)) → StandsAt plant read before self.old (O.text out.old)
+            → OnErr result (AddsFrontOfTranscript plant read before (O.text out.new)) }
+        ensures flushed { O.is_flushed out.old ≡ true → OnOk result (O.is_flushed out.new ≡ true) }
+        ensures cause { HasCause (O.faults out.old) (O.faults out.new) result }
+    {
+        self.answer_last(out)?;
+        self.hand_on(out)
+    }
+
+    /// Answers what stands behind the last line feed, if anything does.
+    fn answer_last<O: Sink>(&mut self, out: &mut O) -> Result<(), IoFault>
+        ensures ok { (plant : Plant) (read : List ℕ) (before : Option (List ℕ)) → StandsAt plant read before self.old (O.text out.old)
+            → OnOk result (Waits plant (lines_of read) before self.new.replies (O.text out.new)) }
+        ensures err { (plant : Plant) (read : List ℕ) (before : Option (List ℕ)) → StandsAt plant read before self.old (O.text out.old)
+            → OnErr result (AddsFrontOfTranscript plant read before (O.text out.new)) }
+        ensures flushed { O.is_flushed out.old ≡ true → OnOk result (O.is_flushed out.new ≡ true) }
+        ensures cause { HasCause (O.faults out.old) (O.faults out.new) result }
+    {
+        if self.line.is_empty() {
+            return Ok(());
+        }
+        self.answer(out)
+    }
+
+    /// Answers each line that ends in a piece, and keeps what stands behind the last line feed.
+    fn answer_lines<O: Sink>(&mut self, piece: &[u8], out: &mut O) -> Result<(), IoFault>
+        ensures ok { (plant : Plant) (read : List ℕ) (before : Option (List ℕ)) → StandsAt plant read before self.old (O.text out.old)
+            → OnOk result (StandsAt plant (read ++ piece.now) before self.new (O.text out.new)) }
+        ensures err { (plant : Plant) (read : List ℕ) (before : Option (List ℕ)) → StandsAt plant read before self.old (O.text out.old)
+            → OnErr result (AddsFrontOfTranscript plant (ended (read ++ piece.now)) before (O.text out.new)) }
+        ensures flushed { O.is_flushed out.old ≡ true → OnOk result (O.is_flushed out.new ≡ true) }
+        ensures cause { HasCause (O.faults out.old) (O.faults out.new) result }
+    {
+        let mut rest = piece;
+        while let Some((_, whole)) = first_line(rest) {
+            self.end_line(&rest[..whole - 1], out)?;
+            rest = &rest[whole..];
+        }
+        self.line.push(rest)?;
+        Ok(())
+    }
+
+    /// The last bytes of a line have come, and its line feed: answers it.
+    fn end_line<O: Sink>(&mut self, last: &[u8], out: &mut O) -> Result<(), IoFault>
+        requires { list_any is_line_feed last.now ≡ false }
+        ensures ok { (plant : Plant) (read : List ℕ) (before : Option (List ℕ)) → StandsAt plant read before self.old (O.text out.old)
+            → OnOk result (StandsAt plant ((read ++ last.now) ++ 10 ∷ []) before self.new (O.text out.new)) }
+        ensures err { (plant : Plant) (read : List ℕ) (before : Option (List ℕ)) → StandsAt plant read before self.old (O.text out.old)
+            → OnErr result (AddsFrontOfTranscript plant (ended ((read ++ last.now) ++ 10 ∷ [])) before (O.text out.new)) }
+        ensures flushed { O.is_flushed out.old ≡ true → OnOk result (O.is_flushed out.new ≡ true) }
+        ensures cause { HasCause (O.faults out.old) (O.faults out.new) result }
+    {
+        self.line.push(last)?;
+        self.answer(out)
+    }
+
+    /// Answers the line that has come. The replies are written where enough of them wait, or where memory was wanting, so
+    /// that none of those before is lost.
+    fn answer<O: Sink>(&mut self, out: &mut O) -> Result<(), IoFault>
+        ensures ok { OnOk result (IsAnswered self.old self.new (O.text out.old) (O.text out.new)) }
+        ensures err { OnErr result (AddsFront (self.old.replies ++ line_reply self.old) (O.text out.old) (O.text out.new)) }
+        ensures flushed { O.is_flushed out.old ≡ true → OnOk result (O.is_flushed out.new ≡ true) }
+        ensures cause { HasCause (O.faults out.old) (O.faults out.new) result }
+    {
+        let answered = self.put_reply();
+        let waiting = self.replies.len();
+        self.hand_on_if(answered.is_err() || waiting >= ENOUGH, out)?;
+        answered?;
+        Ok(())
+    }
+
+    /// Carries the line out and puts the text of its reply behind those that wait.
+    fn put_reply(&mut self) -> Result<(), AllocError>
+        ensures session { OnOk result (self.new.session ≡ record self.old.session { state = (stepped self.old.session.plant self.old.session.state (shown self.old.line)).state }) }
+        ensures line { OnOk result (self.new.line ≡ kept_of []) }
+        ensures replies { OnOk result (self.new.replies ≡ self.old.replies ++ line_reply self.old) }
+        ensures err { OnErr result (self.new.replies ≡ self.old.replies) }
+    {
+        let reply = self.session.step(self.line.line())?;
+        let text = self.session.text_of(&reply)?;
+        self.replies.extend_from_slice(text.as_slice())?;
+        self.line.clear();
+        Ok(())
+    }
+
+    /// Writes the replies that wait, where that is due.
+    fn hand_on_if<O: Sink>(&mut self, is_due: bool, out: &mut O) -> Result<(), IoFault>
+        ensures ok { OnOk result (IsHandedOn self.old self.new (O.text out.old) (O.text out.new)) }
+        ensures front { AddsFront self.old.replies (O.text out.old) (O.text out.new) }
+        ensures flushed { O.is_flushed out.old ≡ true → OnOk result (O.is_flushed out.new ≡ true) }
+        ensures cause { HasCause (O.faults out.old) (O.faults out.new) result }
+    {
+        if is_due { self.hand_on(out) } else { Ok(()) }
+    }
+
+    /// Writes the replies that wait, and flushes them.
+    fn hand_on<O: Sink>(&mut self, out: &mut O) -> Result<(), IoFault>
+        ensures ok { OnOk result (O.text out.new ≡ append_known (O.text out.old) self.old.replies) }
+        ensures none { OnOk result (self.new ≡ record self.old { replies = [] }) }
+        ensures front { AddsFront self.old.replies (O.text out.old) (O.text out.new) }
+        ensures flushed { O.is_flushed out.old ≡ true → OnOk result (O.is_flushed out.new ≡ true) }
+        ensures cause { HasCause (O.faults out.old) (O.faults out.new) result }
+    {
+        if self.replies.is_empty() {
+            return Ok(());
+        }
+        write_all(out, self.replies.as_slice())?;
+        self.replies.clear();
+        out.flush()
+    }
+}

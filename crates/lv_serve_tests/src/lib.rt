@@ -1,0 +1,5 @@
+//! Tests of serving a session piece by piece.
+#![tactic(auto)]
+
+#[cfg(test)]
+mod pieces;
