@@ -1,7 +1,7 @@
 -- The opens of a run, by how it ended.
 use Rattle.std.proofs.Common.{◌≡◌, ◌≢◌, ◌⊎◌, inl, inr, ℕ, zero, suc, List, [], ◌∷◌, ◌++◌, take, Result, Ok, Err, refl, sym, ◌∙◌, ap, subst, append_assoc, length, arith}
 use Rattle.std.proofs.lemmas.List.{append-nil, take_all}
-use Rattle.std.specs.Prelude.{IsErrAnd}
+use Rattle.std.specs.Prelude.{IfErr, IsErrAnd}
 use Rattle.lv_io.specs.Outside.{Opened}
 use Rattle.lv_io.specs.declared.IoFault.{IoFault}
 use Rattle.lv_io.specs.declared.IoFault.TheVariants.{Failed, Memory}
@@ -55,20 +55,6 @@ at_model a more old new NoOutput ends adds opened = absurd ends
 at_model a more old new LongSession ends adds opened = absurd ends
 at_model a more old new NoMemory ends adds opened = first_at_most a more old new adds.count adds.added
 
-at_session : (a b : Opened) (old middle new : List Opened) (fault : RunFault)
-    → EndsSession fault
-    → middle ≡ old ++ a ∷ []
-    → AddsOpens middle (b ∷ []) new
-    → (fault ≢ NoMemory → new ≡ middle ++ b ∷ [])
-    → HasOpened (a ∷ b ∷ []) old new (status_of fault)
-at_session a b old middle new BadWords ends first adds opened = absurd ends
-at_session a b old middle new (BadModel code line) ends first adds opened = absurd ends
-at_session a b old middle new NoModel ends first adds opened = absurd ends
-at_session a b old middle new NoSession ends first adds opened = both a b old middle new first (opened (λ e. cc))
-at_session a b old middle new NoOutput ends first adds opened = absurd ends
-at_session a b old middle new LongSession ends first adds opened = both a b old middle new first (opened (λ e. cc))
-at_session a b old middle new NoMemory ends first adds opened = first_and_more a b old middle new adds.count first adds.added
-
 handed : (result : Result (Unit {0}) RunFault) (fault : RunFault) → IsErrAnd result (λ e. e ≡ fault) → ended_status result ≡ status_of fault
 handed (Ok x) fault is = absurd is
 handed (Err e) fault is = ap status_of is
@@ -83,33 +69,41 @@ pub opened_at_model : (a : Opened) (more old new : List Opened) (fault : RunFaul
 opened_at_model a more old new fault result ends err adds opened =
     subst (HasOpened (a ∷ more) old new) (sym (handed result fault err)) (at_model a more old new fault ends adds opened)
 
--- where it ended at the session's
-pub opened_at_session : (a b : Opened) (old middle new : List Opened) (fault : RunFault) (result : Result (Unit {0}) RunFault)
-    → EndsSession fault
-    → IsErrAnd result (λ e. e ≡ fault)
-    → middle ≡ old ++ a ∷ []
-    → AddsOpens middle (b ∷ []) new
-    → (fault ≢ NoMemory → new ≡ middle ++ b ∷ [])
-    → HasOpened (a ∷ b ∷ []) old new (ended_status result)
-opened_at_session a b old middle new fault result ends err first adds opened =
-    subst (HasOpened (a ∷ b ∷ []) old new) (sym (handed result fault err)) (at_session a b old middle new fault ends first adds opened)
-
 front_of_both : (a b : Opened) (old middle new : List Opened)
     → middle ≡ old ++ a ∷ []
     → new ≡ middle ++ b ∷ []
     → AddsOpens old (a ∷ b ∷ []) new
 front_of_both a b old middle new first second = record { count = 2; added = both a b old middle new first second }
 
--- where writing failed behind both
-pub opened_at_output : (a b : Opened) (old middle new : List Opened) (status : Status)
+-- where a session was served, or was not
+pub opened_at_session : (a b : Opened) (old middle new : List Opened) (result : Result (Unit {0}) RunFault)
+    → IfErr result EndsSession
     → middle ≡ old ++ a ∷ []
-    → new ≡ middle ++ b ∷ []
-    → (status ≡ OutputFailed) ⊎ (status ≡ OutOfMemory)
-    → HasOpened (a ∷ b ∷ []) old new status
-opened_at_output a b old middle new status first second (inl failed) =
-    subst (HasOpened (a ∷ b ∷ []) old new) (sym failed) (front_of_both a b old middle new first second)
-opened_at_output a b old middle new status first second (inr memory) =
-    subst (HasOpened (a ∷ b ∷ []) old new) (sym memory) (front_of_both a b old middle new first second)
+    → AddsOpens middle (b ∷ []) new
+    → (ended_status result ≢ OutOfMemory → new ≡ middle ++ b ∷ [])
+    → HasOpened (a ∷ b ∷ []) old new (ended_status result)
+opened_at_session a b old middle new (Ok x) ends first adds opened = both a b old middle new first (opened (λ e. cc))
+opened_at_session a b old middle new (Err BadWords) ends first adds opened = absurd ends
+opened_at_session a b old middle new (Err (BadModel code line)) ends first adds opened = absurd ends
+opened_at_session a b old middle new (Err NoModel) ends first adds opened = absurd ends
+opened_at_session a b old middle new (Err NoSession) ends first adds opened = both a b old middle new first (opened (λ e. cc))
+opened_at_session a b old middle new (Err NoOutput) ends first adds opened = front_of_both a b old middle new first (opened (λ e. cc))
+opened_at_session a b old middle new (Err LongSession) ends first adds opened = both a b old middle new first (opened (λ e. cc))
+opened_at_session a b old middle new (Err NoMemory) ends first adds opened = first_and_more a b old middle new adds.count first adds.added
+
+-- where nothing is opened
+none_opened : (old : List Opened) → old ≡ old ++ []
+none_opened old = sym (append-nil old)
+
+pub opens_nothing : (old : List Opened) (status : Status) → HasOpened [] old old status
+opens_nothing old Done = none_opened old
+opens_nothing old WordsRefused = refl
+opens_nothing old ModelRefused = none_opened old
+opens_nothing old ModelUnread = none_opened old
+opens_nothing old SessionUnread = none_opened old
+opens_nothing old OutputFailed = record { count = 0; added = none_opened old }
+opens_nothing old SessionTooLong = none_opened old
+opens_nothing old OutOfMemory = record { count = 0; added = none_opened old }
 
 -- whatever the status, a front of what was asked for was opened
 pub front_opened : (asks old new : List Opened) (status : Status) → HasOpened asks old new status → AddsOpens old asks new

@@ -1,16 +1,22 @@
 -- From what the parts of a call promise to what the whole does.
-use Rattle.std.proofs.Common.{◌≡◌, ◌≢◌, ◌⊎◌, ℕ, List, Option, refl, sym, ◌∙◌, inl, inr, subst}
+use Rattle.std.proofs.Common.{◌≡◌, ◌≢◌, ◌⊎◌, ℕ, List, ◌++◌, take, drop, Option, refl, sym, ◌∙◌, inl, inr, ap, subst}
 use Rattle.std.specs.Prelude.{IsTrue, Result, Ok, Err}
 use Rattle.lv_io.specs.Outside.{Rose}
 use Rattle.lv_io.specs.declared.Role.{Role}
 use Rattle.lv_io.specs.declared.Role.TheVariants.{Model, Second}
 use Rattle.lv_model.specs.declared.plant.Plant.{Plant}
+use Rattle.std.proofs.lemmas.List.{take-append-drop, take-take}
+use Rattle.lv_base.specs.declared.limits.TheConstants.{SESSION_BYTES}
+use Rattle.lv_session.specs.Transcript.{AddsTranscript, AddsFrontOfTranscript}
 use Rattle.lv_session.proofs.Writing.{whole_front}
+use Rattle.lv_serve.specs.Ends.{ended}
+use Rattle.lv_serve.specs.Served.{within_limit}
+use Rattle.lv_serve.proofs.PieceLemmas.{front_of_all, front_of_longer}
 use Rattle.lv_words.specs.Words.{Said, command_of}
 use Rattle.lv_run.specs.Faults.{status_of, ended_status}
 use Rattle.lv_run.specs.Telling.{Tells}
-use Rattle.lv_run.specs.Expected.{Expected, serves, shows, fails, Expects, session_served, model_printed, status_expected, AddsAll, AddsSome, Meets, is_silent}
-use Rattle.lv_run.specs.Top.{Asks, AsksToPrint, HasNoFault}
+use Rattle.lv_run.specs.Expected.{Expected, serves, overruns, shows, fails, Expects, session_served, model_printed, text_made, session_driven, status_expected, AddsAll, AddsSome, AddsRead, Meets, is_silent}
+use Rattle.lv_run.specs.Top.{Asks, AsksForText, to_print, to_generate, to_drive, HasNoFault}
 use Rattle.lv_run.specs.declared.status.Status.{Status}
 use Rattle.lv_run.specs.declared.status.Status.TheVariants.{Done, WordsRefused, ModelRefused, ModelUnread, SessionUnread, OutputFailed, SessionTooLong, OutOfMemory}
 use Rattle.lv_run.specs.declared.fault.RunFault.{RunFault}
@@ -21,14 +27,40 @@ silent_front : (e : Expected) (before after : Option (List ℕ)) → after ≡ b
 silent_front e before after same = subst (AddsSome e before) (sym same) (adds_none e before)
 
 -- all is a front of itself
-all_front : (e : Expected) (before after : Option (List ℕ)) → AddsAll e before after → AddsSome e before after
-all_front (serves plant session) before after all = record {
+transcript_front : (plant : Plant) (text : List ℕ) (before after : Option (List ℕ)) → AddsTranscript plant text before after → AddsFrontOfTranscript plant text before after
+transcript_front plant text before after all = record {
   whole = all.written;
   is_transcript = all.is_transcript;
   front = whole_front all.written before after all.added;
 }
+
+all_front : (e : Expected) (before after : Option (List ℕ)) → AddsAll e before after → AddsSome e before after
+all_front (serves plant session) before after all = transcript_front plant session before after all
+all_front (overruns plant session) before after all = transcript_front plant (within_limit session) before after all
 all_front (shows text) before after added = whole_front text before after added
 all_front (fails fault) before after same = same
+
+-- the lines of what was read are a front of those due
+read_front : (e : Expected) (before after : Option (List ℕ)) → AddsRead e before after → AddsSome e before after
+read_front (serves plant session) before after lines =
+    subst (λ (l : List ℕ). AddsFrontOfTranscript plant l before after) (take-append-drop lines.count session)
+    (front_of_all plant (take lines.count session) (drop lines.count session) before after
+    (transcript_front plant (ended (take lines.count session)) before after lines.written))
+read_front (overruns plant session) before after lines =
+    let inside : take lines.count (take SESSION_BYTES session) ≡ take lines.count session = take-take lines.count SESSION_BYTES session lines.within in
+    subst (λ (l : List ℕ). AddsFrontOfTranscript plant (ended l) before after)
+    (ap (λ (l : List ℕ). l ++ drop lines.count (take SESSION_BYTES session)) (sym inside) ∙ take-append-drop lines.count (take SESSION_BYTES session))
+    (front_of_longer plant (take lines.count session) (drop lines.count (take SESSION_BYTES session)) before after
+    (transcript_front plant (ended (take lines.count session)) before after lines.written))
+read_front (shows text) before after lines = absurd lines
+read_front (fails fault) before after lines = absurd lines
+
+-- only a session that was opened is read
+read_not_refused : (e : Expected) (before after : Option (List ℕ)) → AddsRead e before after → status_expected e ≡ ModelRefused → ⊥
+read_not_refused (serves plant session) before after lines e = absurd (cc)
+read_not_refused (overruns plant session) before after lines e = absurd (cc)
+read_not_refused (shows text) before after lines e = absurd lines
+read_not_refused (fails fault) before after lines e = absurd lines
 
 -- whatever the status, a front of what was expected was written
 front_expected : (e : Expected) (before after : Option (List ℕ)) (status : Status)
@@ -39,9 +71,9 @@ front_expected e before after Done same meets = all_front e before after meets.1
 front_expected e before after WordsRefused same meets = silent_front e before after (same refl)
 front_expected e before after ModelRefused same meets = silent_front e before after (same refl)
 front_expected e before after ModelUnread same meets = silent_front e before after (same refl)
-front_expected e before after SessionUnread same meets = silent_front e before after (same refl)
+front_expected e before after SessionUnread same meets = read_front e before after meets
 front_expected e before after OutputFailed same meets = meets
-front_expected e before after SessionTooLong same meets = silent_front e before after (same refl)
+front_expected e before after SessionTooLong same meets = all_front e before after meets.1
 front_expected e before after OutOfMemory same meets = meets
 
 -- a status that another may only stand for where a write failed or memory was wanting
@@ -78,7 +110,7 @@ module _ {A : Type 0} (shelf shelf_after : Role → ℕ) (out out_after err err_
       neither : (Rose out out_after → ⊥) → (Rose err err_after → ⊥) → (Rose out out_after × A) ⊎ Rose err err_after → ⊥
       neither a b (inl x) = a x.0
       neither a b (inr y) = b y
-  status_due d SessionTooLong model session output meets none = inl (sym meets)
+  status_due d SessionTooLong model session output meets none = inl (sym meets.0)
   status_due d OutOfMemory model session output meets none = inr refl
 
 -- where the model was read without a fault and is refused, so is the call
@@ -94,12 +126,12 @@ refusal_due old new d before after Done model meets is none output memory = sym 
 refusal_due old new d before after WordsRefused model meets is none output memory = sym meets ∙ is
 refusal_due old new d before after ModelRefused model meets is none output memory = refl
 refusal_due old new d before after ModelUnread model meets is none output memory = absurd (none (model refl))
-refusal_due old new d before after SessionUnread model meets is none output memory = absurd (meets.1 is)
+refusal_due old new d before after SessionUnread model meets is none output memory = absurd (read_not_refused d before after meets is)
 refusal_due old new d before after OutputFailed model meets is none output memory = absurd (output refl)
-refusal_due old new d before after SessionTooLong model meets is none output memory = sym meets ∙ is
+refusal_due old new d before after SessionTooLong model meets is none output memory = sym meets.0 ∙ is
 refusal_due old new d before after OutOfMemory model meets is none output memory = absurd (memory refl)
 
--- what is expected of a run that is asked for, and of a model to be printed
+-- what is expected of a run that is asked for, and of a text
 pub expected_run : (file : List ℕ → Option (List ℕ)) (words : List (List ℕ)) (plant : Plant) (session : List ℕ)
     → Asks file words plant session
     → Expects file (command_of words) (serves plant session)
@@ -107,12 +139,13 @@ expected_run file words plant session asks =
     subst (λ (o : Option Said). Expects file o (serves plant session)) (sym asks.asked)
     (session_served asks.text asks.model_told asks.verdict asks.session_told asks.within)
 
-pub expected_print : (file : List ℕ → Option (List ℕ)) (words : List (List ℕ)) (canonical : List ℕ)
-    → AsksToPrint file words canonical
-    → Expects file (command_of words) (shows canonical)
-expected_print file words canonical asks =
-    subst (λ (o : Option Said). Expects file o (shows canonical)) (sym asks.asked)
-    (model_printed asks.text asks.model_told asks.verdict asks.canonical_is)
+pub expected_text : (file : List ℕ → Option (List ℕ)) (words : List (List ℕ)) (text : List ℕ)
+    → AsksForText file words text
+    → Expects file (command_of words) (shows text)
+expected_text file words text (to_print source asked told verdict canonical_is) =
+    subst (λ (o : Option Said). Expects file o (shows text)) (sym asked) (model_printed source told verdict canonical_is)
+expected_text file words text (to_generate asked) = subst (λ (o : Option Said). Expects file o (shows text)) (sym asked) text_made
+expected_text file words text (to_drive asked verdict) = subst (λ (o : Option Said). Expects file o (shows text)) (sym asked) (session_driven verdict)
 
 no_done : (fault : RunFault) → status_of fault ≡ Done → ⊥
 no_done BadWords e = absurd (cc)

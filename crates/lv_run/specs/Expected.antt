@@ -1,5 +1,5 @@
--- What a call of the program comes to where nothing fails: a session that is served, a model that is printed, or a fault.
-use Rattle.std.specs.Prelude.{◌≡◌, ◌≢◌, ℕ, ◌<◌, ◌≤◌, Bool, true, false, List, length, Option, None, Some, Result, Ok, Err, IfSome}
+-- What a call of the program comes to where nothing fails: a session that is served, a text that is written, or a fault.
+use Rattle.std.specs.Prelude.{◌≡◌, ◌≢◌, ℕ, ◌≤◌, Bool, true, false, List, take, Option, None, Some, Result, Ok, Err, IfSome}
 use Rattle.std.specs.Io.KnownBytes.{append_known}
 use Rattle.lv_base.specs.declared.limits.TheConstants.{SESSION_BYTES}
 use Rattle.lv_io.specs.Whole.{AddsFront}
@@ -7,17 +7,24 @@ use Rattle.lv_model.specs.declared.plant.Plant.{Plant}
 use Rattle.lv_reader.specs.declared.code.ModelCode.{ModelCode}
 use Rattle.lv_checker.specs.Verdicts.{Verdict, accepted, refused, IsVerdict}
 use Rattle.lv_session.specs.Transcript.{AddsTranscript, AddsFrontOfTranscript}
-use Rattle.lv_words.specs.Words.{Said, runs, prints}
-use Rattle.lv_run.specs.Inputs.{model_name, IsCanonical}
+use Rattle.lv_serve.specs.Ends.{ended}
+use Rattle.lv_serve.specs.Served.{fits, within_limit}
+use Rattle.lv_gen.specs.Series.{model_text}
+use Rattle.lv_drive.specs.Drives.{drive_text}
+use Rattle.lv_words.specs.Words.{Said, runs, prints, generates, drives}
+use Rattle.lv_words.specs.declared.commands.Kind.{Kind}
+use Rattle.lv_run.specs.Inputs.{model_told, made_text, IsCanonical}
 use Rattle.lv_run.specs.Faults.{status_of}
 use Rattle.lv_run.specs.declared.status.Status.{Status}
 use Rattle.lv_run.specs.declared.status.Status.TheVariants.{Done, WordsRefused, ModelRefused, ModelUnread, SessionUnread, OutputFailed, SessionTooLong, OutOfMemory}
 use Rattle.lv_run.specs.declared.fault.RunFault.{RunFault}
 use Rattle.lv_run.specs.declared.fault.RunFault.TheVariants.{WordsRefused as BadWords, ModelRefused as BadModel, ModelUnread as NoModel, SessionUnread as NoSession, OutputFailed as NoOutput, SessionTooLong as LongSession, OutOfMemory as NoMemory}
 
--- a session over an accepted model is served, a canonical text is shown, or the call ends with a fault before that
+-- a session over an accepted model is served; of one too long the lines that end within the limit are; a text is shown; or
+-- the call ends with a fault before that
 pub data Expected : Type 0 where
   serves : Plant → List ℕ → Expected
+  overruns : Plant → List ℕ → Expected
   shows : List ℕ → Expected
   fails : RunFault → Expected
 
@@ -25,54 +32,89 @@ pub data Expected : Type 0 where
 pub data Expects (file : List ℕ → Option (List ℕ)) : Option Said → Expected → Type 0 where
   words_refused : Expects file None (fails BadWords)
   model_refused : {command : Said} {code : ModelCode} {line : ℕ} → (text : List ℕ)
-      → file (model_name command) ≡ Some text → IsVerdict text (refused code line)
+      → model_told file command ≡ Some text → IsVerdict text (refused code line)
       → Expects file (Some command) (fails (BadModel code line))
   session_served : {model session served : List ℕ} {plant : Plant} → (text : List ℕ)
-      → file model ≡ Some text → IsVerdict text (accepted plant) → file session ≡ Some served → length served ≤ SESSION_BYTES
+      → file model ≡ Some text → IsVerdict text (accepted plant) → file session ≡ Some served → fits plant served ≡ true
       → Expects file (Some (runs model session)) (serves plant served)
   session_too_long : {model session long : List ℕ} {plant : Plant} → (text : List ℕ)
-      → file model ≡ Some text → IsVerdict text (accepted plant) → file session ≡ Some long → SESSION_BYTES < length long
-      → Expects file (Some (runs model session)) (fails LongSession)
+      → file model ≡ Some text → IsVerdict text (accepted plant) → file session ≡ Some long → fits plant long ≡ false
+      → Expects file (Some (runs model session)) (overruns plant long)
   model_printed : {model canonical : List ℕ} {plant : Plant} → (text : List ℕ)
       → file model ≡ Some text → IsVerdict text (accepted plant) → IsCanonical text canonical
       → Expects file (Some (prints model)) (shows canonical)
+  text_made : {kind : Kind} {n : ℕ} → Expects file (Some (generates kind n)) (shows (made_text kind n))
+  session_driven : {n : ℕ} {plant : Plant} → IsVerdict (model_text n) (accepted plant)
+      → Expects file (Some (drives n)) (shows (drive_text plant n))
 
 -- the status of a call in which nothing fails
 abbrev pub status_expected : Expected → Status
 status_expected (serves plant session) = Done
+status_expected (overruns plant session) = SessionTooLong
 status_expected (shows text) = Done
 status_expected (fails fault) = status_of fault
 
--- a transcript or the text was added to the output, or nothing
+-- the transcript due or the text was added to the output, or nothing
 abbrev pub AddsAll : Expected → Option (List ℕ) → Option (List ℕ) → Type 0
 AddsAll (serves plant session) before after = AddsTranscript plant session before after
+AddsAll (overruns plant session) before after = AddsTranscript plant (within_limit session) before after
 AddsAll (shows text) before after = after ≡ append_known before text
 AddsAll (fails fault) before after = after ≡ before
 
 -- a front of it was
 abbrev pub AddsSome : Expected → Option (List ℕ) → Option (List ℕ) → Type 0
 AddsSome (serves plant session) before after = AddsFrontOfTranscript plant session before after
+AddsSome (overruns plant session) before after = AddsFrontOfTranscript plant (within_limit session) before after
 AddsSome (shows text) before after = AddsFront text before after
 AddsSome (fails fault) before after = after ≡ before
 
+-- so many bytes of the session were read, and the transcript of the lines that ended in them was added
+pub record AddsLines (plant : Plant) (session : List ℕ) (before after : Option (List ℕ)) : Type 0 where
+  pub count : ℕ
+  pub within : count ≤ SESSION_BYTES
+  pub written : AddsTranscript plant (ended (take count session)) before after
+
+-- a front was added of the transcript that is due, of the session or of its lines that end within the limit
+pub record AddsDueFront (plant : Plant) (session : List ℕ) (before after : Option (List ℕ)) : Type 0 where
+  pub of_all : fits plant session ≡ true → AddsFrontOfTranscript plant session before after
+  pub of_lines : fits plant session ≡ false → AddsFrontOfTranscript plant (within_limit session) before after
+
+abbrev pub AddsRead : Expected → Option (List ℕ) → Option (List ℕ) → Type 0
+AddsRead (serves plant session) before after = AddsLines plant session before after
+AddsRead (overruns plant session) before after = AddsLines plant session before after
+AddsRead (shows text) before after = ⊥
+AddsRead (fails fault) before after = ⊥
+
+-- what serving a session whose text is told came to
+abbrev pub ServesTold : Plant → List ℕ → Option (List ℕ) → Option (List ℕ) → Result (Unit {0}) RunFault → Type 0
+ServesTold plant session before after (Ok _) = (fits plant session ≡ true) × AddsTranscript plant session before after
+ServesTold plant session before after (Err BadWords) = ⊥
+ServesTold plant session before after (Err (BadModel code line)) = ⊥
+ServesTold plant session before after (Err NoModel) = ⊥
+ServesTold plant session before after (Err NoSession) = AddsLines plant session before after
+ServesTold plant session before after (Err NoOutput) = AddsDueFront plant session before after
+ServesTold plant session before after (Err LongSession) = (fits plant session ≡ false) × AddsTranscript plant (within_limit session) before after
+ServesTold plant session before after (Err NoMemory) = AddsDueFront plant session before after
+
 -- a call that ended with this status kept to what was expected: with a status that no fault of shelf or sink brings, it is
--- the one expected; the words are judged before the model is opened, and the model before the session; where a write failed
--- or memory was wanting, a front of what was expected was written
+-- the one expected; the words are judged before the model is opened, and the model before the session; where the session was not
+-- read to its end, the replies to the lines that ended in what was read were written; where a write failed or memory was wanting,
+-- a front of what was expected was
 abbrev pub Meets : Expected → Option (List ℕ) → Option (List ℕ) → Status → Type 0
 Meets e before after Done = (status_expected e ≡ Done) × AddsAll e before after
 Meets e before after WordsRefused = status_expected e ≡ WordsRefused
 Meets e before after ModelRefused = status_expected e ≡ ModelRefused
 Meets e before after ModelUnread = status_expected e ≢ WordsRefused
-Meets e before after SessionUnread = (status_expected e ≢ WordsRefused) × (status_expected e ≢ ModelRefused)
+Meets e before after SessionUnread = AddsRead e before after
 Meets e before after OutputFailed = AddsSome e before after
-Meets e before after SessionTooLong = status_expected e ≡ SessionTooLong
+Meets e before after SessionTooLong = (status_expected e ≡ SessionTooLong) × AddsAll e before after
 Meets e before after OutOfMemory = AddsSome e before after
 
 -- the words say a command, and the text of its model has this verdict, where the shelf tells it
 pub record HasVerdict (file : List ℕ → Option (List ℕ)) (said : Option Said) (verdict : Verdict) : Type 0 where
   pub command : Said
   pub asked : said ≡ Some command
-  pub is : IfSome (file (model_name command)) (λ text. IsVerdict text verdict)
+  pub is : IfSome (model_told file command) (λ text. IsVerdict text verdict)
 
 pub record IsRefused (file : List ℕ → Option (List ℕ)) (said : Option Said) : Type 0 where
   pub code : ModelCode
@@ -87,7 +129,7 @@ pub record HasModel (bytes : List ℕ) : Type 0 where
 pub record IsAccepted (file : List ℕ → Option (List ℕ)) (said : Option Said) : Type 0 where
   pub command : Said
   pub asked : said ≡ Some command
-  pub is : IfSome (file (model_name command)) HasModel
+  pub is : IfSome (model_told file command) HasModel
 
 -- what is known of the words and the model from the status alone: the model was accepted where the session was opened
 abbrev pub Follows : (List ℕ → Option (List ℕ)) → Option Said → Status → Type 0
@@ -117,9 +159,9 @@ is_silent Done = false
 is_silent WordsRefused = true
 is_silent ModelRefused = true
 is_silent ModelUnread = true
-is_silent SessionUnread = true
+is_silent SessionUnread = false
 is_silent OutputFailed = false
-is_silent SessionTooLong = true
+is_silent SessionTooLong = false
 is_silent OutOfMemory = false
 
 -- a status that the counts of the shelf are as before with

@@ -7,6 +7,8 @@ use Rattle.lv_reader.specs.declared.code.ModelCode.{ModelCode}
 use Rattle.lv_checker.specs.Verdicts.{IsVerdict, refused}
 use Rattle.lv_words.specs.declared.WordsFault.{WordsFault}
 use Rattle.lv_words.specs.declared.WordsFault.TheVariants.{Refused, Memory as NoRoom}
+use Rattle.lv_serve.specs.declared.fault.ServeFault.{ServeFault}
+use Rattle.lv_serve.specs.declared.fault.ServeFault.TheVariants.{Read as Unread, Write as Unwritten, TooLong, Memory as OutOfRoom}
 use Rattle.lv_run.specs.declared.status.Status.{Status}
 use Rattle.lv_run.specs.declared.status.Status.TheVariants.{Done, WordsRefused, ModelRefused, ModelUnread, SessionUnread, OutputFailed, SessionTooLong, OutOfMemory}
 use Rattle.lv_run.specs.declared.fault.RunFault.{RunFault}
@@ -59,6 +61,13 @@ abbrev pub fault_of_words : WordsFault → RunFault
 fault_of_words Refused = BadWords
 fault_of_words NoRoom = NoMemory
 
+-- what a fault of serving ends a run with
+abbrev pub fault_of_serving : ServeFault → RunFault
+fault_of_serving Unread = NoSession
+fault_of_serving Unwritten = NoOutput
+fault_of_serving TooLong = LongSession
+fault_of_serving OutOfRoom = NoMemory
+
 -- a run ends so before the session's file is opened
 abbrev pub EndsModel : RunFault → Type 0
 EndsModel BadWords = ⊥
@@ -69,13 +78,23 @@ EndsModel NoOutput = ⊥
 EndsModel LongSession = ⊥
 EndsModel NoMemory = Unit {0}
 
--- a run ends so where the session is opened and read
+-- a run ends so where the session is opened
+abbrev pub EndsOpening : RunFault → Type 0
+EndsOpening BadWords = ⊥
+EndsOpening (BadModel code at) = ⊥
+EndsOpening NoModel = ⊥
+EndsOpening NoSession = Unit {0}
+EndsOpening NoOutput = ⊥
+EndsOpening LongSession = ⊥
+EndsOpening NoMemory = Unit {0}
+
+-- a run ends so where the session is opened and served
 abbrev pub EndsSession : RunFault → Type 0
 EndsSession BadWords = ⊥
 EndsSession (BadModel code at) = ⊥
 EndsSession NoModel = ⊥
 EndsSession NoSession = Unit {0}
-EndsSession NoOutput = ⊥
+EndsSession NoOutput = Unit {0}
 EndsSession LongSession = Unit {0}
 EndsSession NoMemory = Unit {0}
 

@@ -1,19 +1,32 @@
--- What the program reads: the model that a command names, what becomes of its text, and which opens a call makes.
-use Rattle.std.specs.Prelude.{◌≡◌, ℕ, List, [], ◌∷◌, ◌++◌, take, Option}
+-- What the program reads and makes: the model that a command speaks of, what becomes of its text, and which opens a call makes.
+use Rattle.std.specs.Prelude.{◌≡◌, ℕ, List, [], ◌∷◌, ◌++◌, take, Option, None, Some}
 use Rattle.std.specs.Option.{option_map_or}
 use Rattle.lv_io.specs.Outside.{Opened}
-use Rattle.lv_io.specs.declared.Role.TheVariants.{Model, Second}
+use Rattle.lv_io.specs.declared.Role.TheVariants.{Model as OfModel, Second as OfSecond}
 use Rattle.lv_model.specs.declared.plant.Plant.{Plant}
 use Rattle.lv_reader.specs.declared.statement.ModelText.{ModelText}
 use Rattle.lv_reader.specs.Texts.{ReadsAs}
 use Rattle.lv_checker.specs.Verdicts.{IsVerdict, accepted}
 use Rattle.lv_print.specs.Texts.{canonical_model}
-use Rattle.lv_words.specs.Words.{Said, runs, prints}
+use Rattle.lv_drive.specs.Drives.{drive_text}
+use Rattle.lv_gen.specs.Series.{model_text}
+use Rattle.lv_gen.specs.Session.{session_text}
+use Rattle.lv_words.specs.Words.{Said, runs, prints, generates, drives}
+use Rattle.lv_words.specs.declared.commands.Kind.{Kind}
+use Rattle.lv_words.specs.declared.commands.Kind.TheVariants.{Model, Session}
 
--- the name of the model's file
-abbrev pub model_name : Said → List ℕ
-model_name (runs model session) = model
-model_name (prints model) = model
+-- the text of the model that a command speaks of, over files by their names: that of a file, or the one made for a number;
+-- a text that is made alone speaks of none
+abbrev pub model_told : (List ℕ → Option (List ℕ)) → Said → Option (List ℕ)
+model_told file (runs model session) = file model
+model_told file (prints model) = file model
+model_told file (generates kind n) = None
+model_told file (drives n) = Some (model_text n)
+
+-- the text that is made for a number
+abbrev pub made_text : Kind → ℕ → List ℕ
+made_text Model n = model_text n
+made_text Session n = session_text n
 
 -- the canonical text of the text that these bytes read as
 pub record IsCanonical (bytes canonical : List ℕ) : Type 0 where
@@ -29,15 +42,17 @@ pub record IsPrinted (bytes canonical : List ℕ) : Type 0 where
 
 -- the open of the model's file, and of the session's
 abbrev pub model_open : List ℕ → Opened
-model_open name = record { role = Model; name = name }
+model_open name = record { role = OfModel; name = name }
 
 abbrev pub session_open : List ℕ → Opened
-session_open name = record { role = Second; name = name }
+session_open name = record { role = OfSecond; name = name }
 
 -- the opens that a command asks for, in order
 abbrev pub command_opens : Said → List Opened
 command_opens (runs model session) = model_open model ∷ session_open session ∷ []
 command_opens (prints model) = model_open model ∷ []
+command_opens (generates kind n) = []
+command_opens (drives n) = []
 
 abbrev pub opens_of : Option Said → List Opened
 opens_of said = option_map_or command_opens said []
@@ -46,3 +61,9 @@ opens_of said = option_map_or command_opens said []
 pub record AddsOpens (old listed new : List Opened) : Type 0 where
   pub count : ℕ
   pub added : new ≡ old ++ take count listed
+
+-- the text made for a number gives a model, and the summary of the number's session over it is this
+pub record IsDriven (n : ℕ) (summary : List ℕ) : Type 0 where
+  pub plant : Plant
+  pub verdict : IsVerdict (model_text n) (accepted plant)
+  pub summary_is : summary ≡ drive_text plant n

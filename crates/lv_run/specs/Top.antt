@@ -1,20 +1,23 @@
 -- The premises of the top call's promises, and what it tells.
-use Rattle.std.specs.Prelude.{◌≡◌, ℕ, ◌≤◌, List, length, Option, Some, Result}
+use Rattle.std.specs.Prelude.{◌≡◌, ℕ, true, List, Option, Some, Result}
 use Rattle.lv_io.specs.Outside.{Rose}
 use Rattle.lv_io.specs.declared.Role.{Role}
-use Rattle.lv_base.specs.declared.limits.TheConstants.{SESSION_BYTES}
+use Rattle.lv_serve.specs.Served.{fits}
 use Rattle.lv_model.specs.declared.plant.Plant.{Plant}
 use Rattle.lv_checker.specs.Verdicts.{IsVerdict, accepted}
-use Rattle.lv_words.specs.Words.{Said, runs, prints, command_of}
+use Rattle.lv_gen.specs.Series.{model_text}
+use Rattle.lv_drive.specs.Drives.{drive_text}
+use Rattle.lv_words.specs.Words.{Said, runs, prints, generates, drives, command_of}
+use Rattle.lv_words.specs.declared.commands.Kind.{Kind}
 use Rattle.lv_run.specs.Expected.{Expected, Expects, Meets, TellsVerdict}
-use Rattle.lv_run.specs.Inputs.{IsCanonical}
+use Rattle.lv_run.specs.Inputs.{IsCanonical, made_text}
 use Rattle.lv_run.specs.Faults.{ended_status}
 use Rattle.lv_run.specs.Telling.{Tells}
 use Rattle.lv_run.specs.declared.fault.RunFault.{RunFault}
 use Rattle.lv_run.specs.declared.status.Status.{Status}
 
 -- the words ask for a run of this session over this model, both of which the files hold: the model's text is accepted,
--- and the session is within the limit of its length
+-- and the session is no longer than its limit, or a `quit` that is accepted ends within it
 pub record Asks (file : List ℕ → Option (List ℕ)) (words : List (List ℕ)) (plant : Plant) (session : List ℕ) : Type 0 where
   pub model_name : List ℕ
   pub session_name : List ℕ
@@ -23,17 +26,18 @@ pub record Asks (file : List ℕ → Option (List ℕ)) (words : List (List ℕ)
   pub model_told : file model_name ≡ Some text
   pub verdict : IsVerdict text (accepted plant)
   pub session_told : file session_name ≡ Some session
-  pub within : length session ≤ SESSION_BYTES
+  pub within : fits plant session ≡ true
 
--- the words ask for this canonical text of a model that the files hold, whose text is accepted
-pub record AsksToPrint (file : List ℕ → Option (List ℕ)) (words : List (List ℕ)) (canonical : List ℕ) : Type 0 where
-  pub plant : Plant
-  pub model_name : List ℕ
-  pub text : List ℕ
-  pub asked : command_of words ≡ Some (prints model_name)
-  pub model_told : file model_name ≡ Some text
-  pub verdict : IsVerdict text (accepted plant)
-  pub canonical_is : IsCanonical text canonical
+-- the words ask for a text: the canonical text of a model that the files hold, a text made for a number, or the summary of the
+-- session made for a number over the model made for it; the model's text is accepted
+pub data AsksForText (file : List ℕ → Option (List ℕ)) (words : List (List ℕ)) : List ℕ → Type 0 where
+  to_print : {canonical model : List ℕ} {plant : Plant} → (text : List ℕ) → command_of words ≡ Some (prints model)
+      → file model ≡ Some text → IsVerdict text (accepted plant) → IsCanonical text canonical
+      → AsksForText file words canonical
+  to_generate : {kind : Kind} {n : ℕ} → command_of words ≡ Some (generates kind n)
+      → AsksForText file words (made_text kind n)
+  to_drive : {n : ℕ} {plant : Plant} → command_of words ≡ Some (drives n) → IsVerdict (model_text n) (accepted plant)
+      → AsksForText file words (drive_text plant n)
 
 -- no count of the shelf, of the output and of standard error rose
 pub record HasNoFault (shelf shelf_after : Role → ℕ) (out out_after err err_after : ℕ) : Type 0 where

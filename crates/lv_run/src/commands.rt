@@ -1,26 +1,29 @@
 //! The commands of the program, each over the names of its files.
 #![tactic(auto)]
 
-ghost use Rattle.std.specs.Prelude.{◌≡◌, ◌≢◌, ◌++◌, ◌∷◌, ◌⊎◌, [], Ok, Err, OnOk, None, Some, List, ℕ, true, IfSome, IsTrue};
+ghost use Rattle.std.specs.Prelude.{◌≡◌, ◌≢◌, ◌++◌, ◌∷◌, ◌⊎◌, [], Ok, Err, OnOk, None, Some, List, Option, ℕ, true, IfSome, IsTrue};
 ghost use Rattle.std.specs.Io.KnownBytes.{append_known};
 ghost use Rattle.lv_io.specs.Outside.{HasCause, Rose};
 ghost use Rattle.lv_io.specs.Whole.{AddsFront};
 ghost use Rattle.lv_io.specs.declared.Role.{Role};
 ghost use Rattle.lv_io.specs.declared.Role.TheVariants.{Model as OfModel, Second as OfSecond};
-ghost use Rattle.lv_words.specs.Words.{runs, prints};
+ghost use Rattle.lv_io.specs.Outside.{Opened};
+ghost use Rattle.lv_words.specs.Words.{runs, prints, generates, drives};
 ghost use Rattle.lv_run.specs.Faults.{ended_status};
 ghost use Rattle.lv_run.specs.Inputs.{opens_of};
 ghost use Rattle.lv_run.specs.Expected.{Expected, Expects, Meets, Follows, TellsVerdict, is_silent};
 ghost use Rattle.lv_run.specs.Opens.{HasOpened};
 
 use crate::fault::RunFault;
-use crate::inputs::{load_canonical, load_model, load_session};
+use crate::inputs::{load_canonical, load_model, load_summary, made_text};
+use crate::session::serve_session;
 use crate::status::Status;
 use lv_io::{IoFault, Shelf, Sink, write_all};
-use lv_session::{flush_after, write_transcript};
+use lv_session::flush_after;
+use lv_words::Kind;
 use std::alloc::Global;
 
-/// Reads a model and then a session, and writes the session's transcript.
+/// Reads a model, then serves a session over it.
 pub fn run<F: Shelf, O: Sink>(
     alloc: Global,
     model: &str,
@@ -46,9 +49,7 @@ pub fn run<F: Shelf, O: Sink>(
     ensures out_as_before { ended_status result ≢ Status.OutputFailed → O.faults out.new ≡ O.faults out.old }
 {
     let model = load_model(alloc, shelf, model)?;
-    let session = load_session(alloc, shelf, session)?;
-    write_transcript(alloc, &model, session.as_slice(), out)?;
-    Ok(())
+    serve_session(alloc, &model, session, shelf, out)
 }
 
 /// Reads a model and writes its canonical text.
@@ -77,6 +78,57 @@ pub fn print<F: Shelf, O: Sink>(
 {
     let canonical = load_canonical(alloc, shelf, model)?;
     write_text(canonical.as_slice(), out)?;
+    Ok(())
+}
+
+/// Writes a text that a number stands for.
+pub fn generate<O: Sink>(
+    alloc: Global,
+    kind: Kind,
+    number: u32,
+    out: &mut O,
+) -> Result<(), RunFault>
+    // What is expected, whatever the files.
+    ensures meets { (file : List ℕ → Option (List ℕ)) (e : Expected) → Expects file (Some (generates kind number)) e → Meets e (O.text out.old) (O.text out.new) (ended_status result) }
+    ensures follows { (file : List ℕ → Option (List ℕ)) → Follows file (Some (generates kind number)) (ended_status result) }
+    ensures verdict { (file : List ℕ → Option (List ℕ)) → TellsVerdict file (Some (generates kind number)) result }
+    ensures silent { IsTrue (is_silent (ended_status result)) → O.text out.new ≡ O.text out.old }
+    ensures flushed { ended_status result ≢ Status.OutputFailed → ended_status result ≢ Status.OutOfMemory → O.is_flushed out.old ≡ true → O.is_flushed out.new ≡ true }
+
+    // Nothing is opened or read.
+    ensures opens { (opens : List Opened) → HasOpened (opens_of (Some (generates kind number))) opens opens (ended_status result) }
+    ensures model_read { ended_status result ≢ Status.ModelUnread }
+    ensures session_read { ended_status result ≢ Status.SessionUnread }
+
+    // Whose fault it was.
+    ensures output_failed { ended_status result ≡ Status.OutputFailed → Rose (O.faults out.old) (O.faults out.new) }
+    ensures out_as_before { ended_status result ≢ Status.OutputFailed → O.faults out.new ≡ O.faults out.old }
+{
+    let text = made_text(alloc, kind, number)?;
+    write_text(text.as_slice(), out)?;
+    Ok(())
+}
+
+/// Runs the session of a number over the model of the number, and writes a summary.
+pub fn drive<O: Sink>(alloc: Global, number: u32, out: &mut O) -> Result<(), RunFault>
+    // What is expected, whatever the files.
+    ensures meets { (file : List ℕ → Option (List ℕ)) (e : Expected) → Expects file (Some (drives number)) e → Meets e (O.text out.old) (O.text out.new) (ended_status result) }
+    ensures follows { (file : List ℕ → Option (List ℕ)) → Follows file (Some (drives number)) (ended_status result) }
+    ensures verdict { (file : List ℕ → Option (List ℕ)) → TellsVerdict file (Some (drives number)) result }
+    ensures silent { IsTrue (is_silent (ended_status result)) → O.text out.new ≡ O.text out.old }
+    ensures flushed { ended_status result ≢ Status.OutputFailed → ended_status result ≢ Status.OutOfMemory → O.is_flushed out.old ≡ true → O.is_flushed out.new ≡ true }
+
+    // Nothing is opened or read.
+    ensures opens { (opens : List Opened) → HasOpened (opens_of (Some (drives number))) opens opens (ended_status result) }
+    ensures model_read { ended_status result ≢ Status.ModelUnread }
+    ensures session_read { ended_status result ≢ Status.SessionUnread }
+
+    // Whose fault it was.
+    ensures output_failed { ended_status result ≡ Status.OutputFailed → Rose (O.faults out.old) (O.faults out.new) }
+    ensures out_as_before { ended_status result ≢ Status.OutputFailed → O.faults out.new ≡ O.faults out.old }
+{
+    let text = load_summary(alloc, number)?;
+    write_text(text.as_slice(), out)?;
     Ok(())
 }
 

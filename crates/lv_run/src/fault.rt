@@ -2,12 +2,14 @@
 //! why, and where.
 
 ghost use Rattle.std.specs.Prelude.{◌≡◌, ◌++◌, IfOk, decimal};
-ghost use Rattle.lv_run.specs.Faults.{status_of, line_of, model_line, two_digits, fault_of_sink, fault_of_words};
+ghost use Rattle.lv_run.specs.Faults.{status_of, line_of, model_line, two_digits, fault_of_sink, fault_of_serving, fault_of_words};
+ghost use Rattle.lv_run.specs.declared.fault.RunFault.TheVariants.{OutOfMemory as NoMemory};
 
 use crate::status::Status;
 use itoa::Buffer;
 use lv_io::IoFault;
 use lv_reader::ModelCode;
+use lv_serve::ServeFault;
 use lv_words::WordsFault;
 use std::alloc::{AllocError, Global};
 
@@ -107,6 +109,29 @@ impl From<IoFault> for RunFault {
             IoFault::Failed => RunFault::OutputFailed,
             IoFault::Memory => RunFault::OutOfMemory,
         }
+    }
+}
+
+/// What a fault of serving ends a run with.
+impl From<ServeFault> for RunFault {
+    ghost from_gives = { λ fault ended. ended ≡ fault_of_serving fault };
+
+    fn from(fault: ServeFault) -> RunFault {
+        match fault {
+            ServeFault::Read => RunFault::SessionUnread,
+            ServeFault::Write => RunFault::OutputFailed,
+            ServeFault::TooLong => RunFault::SessionTooLong,
+            ServeFault::Memory => RunFault::OutOfMemory,
+        }
+    }
+}
+
+/// What want of memory ends a run with.
+impl From<AllocError> for RunFault {
+    ghost from_gives = { λ _ ended. ended ≡ NoMemory };
+
+    fn from(_error: AllocError) -> RunFault {
+        RunFault::OutOfMemory
     }
 }
 

@@ -1,21 +1,27 @@
-//! What the program reads: the model's text, the model that it gives or its canonical text, and the session.
+//! What the program reads and makes: the model's text, the model that it gives or its canonical text, and what is made
+//! for a number.
 
-ghost use Rattle.std.specs.Prelude.{◌≡◌, ◌≢◌, ◌++◌, ◌∷◌, ◌<◌, ◌≤◌, [], None, Some, length, IfOk, OnOk, IfErr, IfSome, IsTrue};
+ghost use Rattle.std.specs.Prelude.{◌≡◌, ◌≢◌, ◌++◌, ◌∷◌, [], None, Some, IfOk, OnOk, IfErr, IfSome, IsTrue};
 ghost use Rattle.lv_io.specs.Outside.{Rose};
 ghost use Rattle.lv_io.specs.declared.Role.{Role};
-ghost use Rattle.lv_io.specs.declared.Role.TheVariants.{Model as OfModel, Second as OfSecond};
+ghost use Rattle.lv_io.specs.declared.Role.TheVariants.{Model as OfModel};
 ghost use Rattle.lv_checker.specs.Verdicts.{IsVerdict, accepted};
-ghost use Rattle.lv_run.specs.Inputs.{IsCanonical, IsPrinted, model_open, session_open, AddsOpens};
-ghost use Rattle.lv_run.specs.Faults.{EndsModel, EndsSession, RefusesBy};
+ghost use Rattle.lv_gen.specs.Series.{model_text};
+ghost use Rattle.lv_run.specs.Inputs as Inputs;
+ghost use Rattle.lv_run.specs.Inputs.{IsCanonical, IsPrinted, IsDriven, model_open, AddsOpens};
+ghost use Rattle.lv_run.specs.Faults.{EndsModel, RefusesBy};
 
 use crate::fault::RunFault;
-use lv_base::limits::{MODEL_BYTES, SESSION_BYTES};
+use lv_base::limits::MODEL_BYTES;
 use lv_checker::model_of;
+use lv_drive::drive;
+use lv_gen::{make_model, make_session};
 use lv_io::{ReadFault, Role, Shelf, read_file};
 use lv_model::Model;
 use lv_print::print_model;
 use lv_reader::{ModelCode, ModelFault, read_model};
-use std::alloc::Global;
+use lv_words::Kind;
+use std::alloc::{AllocError, Global};
 
 /// Opens the model's file and reads it to its end. A text over its limit is refused.
 fn load_text<F: Shelf>(alloc: Global, shelf: &mut F, name: &str) -> Result<Vec<u8>, RunFault>
@@ -129,26 +135,24 @@ pub fn load_canonical<F: Shelf>(
     printed_model(alloc, text.as_slice())
 }
 
-/// Opens the session's file and reads it to its end.
-pub fn load_session<F: Shelf>(alloc: Global, shelf: &mut F, name: &str) -> Result<Vec<u8>, RunFault>
-    // What was read.
-    ensures session { IfOk result (λ session. IfSome (F.file shelf.old name.now) (λ text. text ≡ session.items)) }
-    ensures within { IfOk result (λ session. length session.items ≤ SESSION_BYTES) }
-    ensures too_long { result ≡ Err RunFault.SessionTooLong → IfSome (F.file shelf.old name.now) (λ text. SESSION_BYTES < length text) }
-    ensures ends { IfErr result EndsSession }
-
-    // What is recorded.
-    ensures opens { AddsOpens (F.opens shelf.old) (session_open name.now ∷ []) (F.opens shelf.new) }
-    ensures opened { result ≢ Err RunFault.OutOfMemory → F.opens shelf.new ≡ F.opens shelf.old ++ session_open name.now ∷ [] }
-
-    // Whose fault it was.
-    ensures failed { result ≡ Err RunFault.SessionUnread → Rose (F.faults shelf.old OfSecond) (F.faults shelf.new OfSecond) }
-    ensures as_before { result ≢ Err RunFault.SessionUnread → (r : Role) → F.faults shelf.new r ≡ F.faults shelf.old r }
+/// The summary of the session of a number over the model of the number.
+pub fn load_summary(alloc: Global, number: u32) -> Result<Vec<u8>, RunFault>
+    ensures text { IfOk result (λ summary. IsDriven number summary.items) }
+    ensures refused { IfErr result (λ fault. RefusesBy fault (Some (model_text number))) }
+    ensures ends { IfErr result EndsModel }
+    ensures read { result ≢ Err RunFault.ModelUnread }
 {
-    match read_file(alloc, shelf, Role::Second, name, SESSION_BYTES) {
-        Ok(session) => Ok(session),
-        Err(ReadFault::Failed) => Err(RunFault::SessionUnread),
-        Err(ReadFault::TooLong) => Err(RunFault::SessionTooLong),
-        Err(ReadFault::Memory) => Err(RunFault::OutOfMemory),
+    let text = make_model(alloc, number)?;
+    let model = accepted_model(alloc, text.as_slice())?;
+    Ok(drive(alloc, number, &model)?)
+}
+
+/// The text of a kind that a number stands for.
+pub fn made_text(alloc: Global, kind: Kind, number: u32) -> Result<Vec<u8>, AllocError>
+    ensures { IfOk result (λ text. text.items ≡ Inputs.made_text kind number) }
+{
+    match kind {
+        Kind::Model => make_model(alloc, number),
+        Kind::Session => make_session(alloc, number),
     }
 }

@@ -12,10 +12,10 @@ ghost use Rattle.lv_run.specs.Expected.{Expected, Expects, status_expected, Meet
 ghost use Rattle.lv_run.specs.Opens.{HasOpened};
 ghost use Rattle.lv_run.specs.Telling.{Tells};
 ghost use Rattle.lv_session.specs.Transcript.{AddsTranscript};
-ghost use Rattle.lv_run.specs.Top.{Asks, AsksToPrint, HasNoFault, TellsOwnEnd};
+ghost use Rattle.lv_run.specs.Top.{Asks, AsksForText, HasNoFault, TellsOwnEnd};
 ghost use Rattle.lv_model.specs.declared.plant.Plant.{Plant};
 
-use crate::commands::{print, run};
+use crate::commands::{drive, generate, print, run};
 use crate::fault::RunFault;
 use crate::status::Status;
 use crate::telling::report;
@@ -42,10 +42,11 @@ pub fn livingstone<F: Shelf, O: Sink, E: Sink>(
         → HasNoFault (F.faults shelf.old) (F.faults shelf.new) (O.faults out.old) (O.faults out.new) (E.faults err.old) (E.faults err.new)
         → (result ≡ Status.Done) ⊎ (result ≡ Status.OutOfMemory) }
 
-    // The same of a model that is printed: what is written is its canonical text.
-    ensures printed { (canonical : List ℕ) → AsksToPrint (F.file shelf.old) (map string_bytes words.items) canonical → result ≡ Status.Done
-        → (O.text out.new ≡ append_known (O.text out.old) canonical) × (E.text err.new ≡ E.text err.old) }
-    ensures prints { (canonical : List ℕ) → AsksToPrint (F.file shelf.old) (map string_bytes words.items) canonical
+    // The same of a text that the words ask for, the canonical text of a model, one made for a number, or a summary: what
+    // is written is that text.
+    ensures written { (text : List ℕ) → AsksForText (F.file shelf.old) (map string_bytes words.items) text → result ≡ Status.Done
+        → (O.text out.new ≡ append_known (O.text out.old) text) × (E.text err.new ≡ E.text err.old) }
+    ensures writes { (text : List ℕ) → AsksForText (F.file shelf.old) (map string_bytes words.items) text
         → HasNoFault (F.faults shelf.old) (F.faults shelf.new) (O.faults out.old) (O.faults out.new) (E.faults err.old) (E.faults err.new)
         → (result ≡ Status.Done) ⊎ (result ≡ Status.OutOfMemory) }
 
@@ -133,5 +134,7 @@ fn carry_out<F: Shelf, O: Sink>(
             run(alloc, model.as_str(), session.as_str(), shelf, out)
         }
         Command::Print { model } => print(alloc, model.as_str(), shelf, out),
+        Command::Generate { kind, number } => generate(alloc, kind, number, out),
+        Command::Drive { number } => drive(alloc, number, out),
     }
 }

@@ -77,12 +77,14 @@ const USAGE: &str =
     "usage: livingstone run MODEL SESSION, check MODEL CERT, print MODEL, generate KIND N, drive N
 ";
 
-/// A call: its words, the session's text, and the numbers of the calls on the shelf and on the output
-/// that fail. The first three on the shelf open and read the model, the next three the session.
+/// A call: its words, the session's text, how many bytes of a file come at a time, and the numbers of the calls on the
+/// shelf and on the output that fail. Where all comes at once, the first three on the shelf open and read the model, the
+/// next three the session.
 #[derive(Clone, Copy)]
 struct Call<'a> {
     words: &'a [&'a str],
     session: &'a [u8],
+    piece: usize,
     shelf_fails: &'a [u64],
     out_fails: &'a [u64],
     err_fails: &'a [u64],
@@ -93,6 +95,7 @@ fn faultless<'a>(words: &'a [&'a str], session: &'a str) -> Call<'a> {
     Call {
         words,
         session: session.as_bytes(),
+        piece: 4096,
         shelf_fails: &[],
         out_fails: &[],
         err_fails: &[],
@@ -125,7 +128,7 @@ fn carried_out(alloc: Global, call: &Call<'_>) -> Result<Outcome, AllocError> {
         words.push(String::from_str(alloc, word)?)?;
     }
     let shelf_fails = Vec::from_slice(alloc, call.shelf_fails)?;
-    let mut shelf = MemShelf::new(alloc, files, 4096, shelf_fails);
+    let mut shelf = MemShelf::new(alloc, files, call.piece, shelf_fails);
     let mut out = MemSink::new(alloc, 4096, Vec::from_slice(alloc, call.out_fails)?);
     let mut err = MemSink::new(alloc, 7, Vec::from_slice(alloc, call.err_fails)?);
     let status = livingstone(alloc, words, &mut shelf, &mut out, &mut err);
@@ -156,6 +159,18 @@ fn ends_so(
             && model_failed == (status == Status::ModelUnread)
             && session_failed == (status == Status::SessionUnread),
     )
+}
+
+/// Whether a run ends so where all comes at once and where each byte comes alone.
+fn ends_so_in_pieces(
+    alloc: Global,
+    call: &Call<'_>,
+    status: Status,
+    out: &str,
+    err: &str,
+) -> Result<bool, AllocError> {
+    let alone = Call { piece: 1, ..*call };
+    Ok(ends_so(alloc, call, status, out, err)? && ends_so(alloc, &alone, status, out, err)?)
 }
 
 const RUN: &[&str] = &["livingstone", "run", "valve.lv", "a.ses"];
@@ -325,10 +340,11 @@ fn failed_write(rt: HostRuntime) -> Result<(), AllocError> {
     Ok(())
 }
 
+/// Both replies of a piece are one write; the flush behind it fails.
 #[test]
 fn failed_flush(rt: HostRuntime) -> Result<(), AllocError> {
     let call = Call {
-        out_fails: &[3],
+        out_fails: &[2],
         ..faultless(RUN, FIRST)
     };
     assert!(rt; ends_so(rt.alloc(), &call, Status::OutputFailed, COMMANDED, "")?);
@@ -343,5 +359,151 @@ fn failed_write_of_a_line(rt: HostRuntime) -> Result<(), AllocError> {
         ..faultless(&["livingstone", "run", "bad.lv", "a.ses"], FIRST)
     };
     assert!(rt; ends_so(rt.alloc(), &call, Status::OutputFailed, "", "model 1")?);
+    Ok(())
+}
+
+#[test]
+fn every_cut_into_pieces(rt: HostRuntime) -> Result<(), AllocError> {
+    let alloc = rt.alloc();
+    assert!(rt; ends_so_in_pieces(alloc, &faultless(RUN, FIRST), Status::Done, COMMANDED, "")?);
+    assert!(rt;
+        ends_so_in_pieces(
+            alloc,
+            &faultless(RUN, "diagnose"),
+            Status::Done,
+            AT_REST,
+            ""
+        )?
+    );
+    assert!(rt;
+        ends_so_in_pieces(
+            alloc,
+            &faultless(RUN, "# x\nquit\njump\n"),
+            Status::Done,
+            "ok\n",
+            ""
+        )?
+    );
+    assert!(rt;
+        ends_so_in_pieces(
+            alloc,
+            &faultless(RUN, "jump\r\n\njump\r"),
+            Status::Done,
+            "error S01\nerror S01\n",
+            ""
+        )?
+    );
+    Ok(())
+}
+
+/// The model is opened and read in two calls, and the session in one more each; then nothing more comes.
+#[test]
+fn failed_read_at_the_end(rt: HostRuntime) -> Result<(), AllocError> {
+    let alloc = rt.alloc();
+    let ended = Call {
+        shelf_fails: &[6],
+        ..faultless(RUN, FIRST)
+    };
+    assert!(rt;
+        ends_so(
+            alloc,
+            &ended,
+            Status::SessionUnread,
+            COMMANDED,
+            "cannot read session\n"
+        )?
+    );
+    let torn = Call {
+        shelf_fails: &[6],
+        ..faultless(RUN, "command v.cmd = open\ndiagnose")
+    };
+    assert!(rt;
+        ends_so(
+            alloc,
+            &torn,
+            Status::SessionUnread,
+            "ok\n",
+            "cannot read session\n"
+        )?
+    );
+    Ok(())
+}
+
+/// A session of a line of so many bytes `#`, and behind it a line that is no request.
+fn long_comment(alloc: Global, bytes: usize, end: &str) -> Result<Vec<u8>, AllocError> {
+    let mut text = Vec::new(alloc);
+    for _ in 0..bytes {
+        text.push(b'#')?;
+    }
+    text.extend_from_slice(end.as_bytes())?;
+    text.extend_from_slice(b"jump\n")?;
+    Ok(text)
+}
+
+#[test]
+fn line_that_is_too_long(rt: HostRuntime) -> Result<(), AllocError> {
+    let alloc = rt.alloc();
+    let long = long_comment(alloc, 4097, "\n")?;
+    let call = Call {
+        session: long.as_slice(),
+        ..faultless(RUN, "")
+    };
+    assert!(rt; ends_so_in_pieces(alloc, &call, Status::Done, "error S15\nerror S01\n", "")?);
+    let fits = long_comment(alloc, 4096, "\r\n")?;
+    let call = Call {
+        session: fits.as_slice(),
+        ..faultless(RUN, "")
+    };
+    assert!(rt; ends_so_in_pieces(alloc, &call, Status::Done, "error S01\n", "")?);
+    let longer = long_comment(alloc, 4096, "\r#\n")?;
+    let call = Call {
+        session: longer.as_slice(),
+        ..faultless(RUN, "")
+    };
+    assert!(rt; ends_so_in_pieces(alloc, &call, Status::Done, "error S15\nerror S01\n", "")?);
+    Ok(())
+}
+
+/// How many lines the output of a call has, which is done.
+fn lines_of(alloc: Global, words: &[&str]) -> Result<usize, AllocError> {
+    let outcome = carried_out(alloc, &faultless(words, ""))?;
+    if outcome.status != Status::Done {
+        return Ok(0);
+    }
+    Ok(
+        outcome
+            .out
+            .text()
+            .iter()
+            .filter(|byte| **byte == b'\n')
+            .count(),
+    )
+}
+
+#[test]
+fn generated_models(rt: HostRuntime) -> Result<(), AllocError> {
+    let alloc = rt.alloc();
+    assert!(rt; lines_of(alloc, &["livingstone", "generate", "model", "1"])? == 28);
+    assert!(rt; lines_of(alloc, &["livingstone", "generate", "model", "30"])? == 86);
+    assert!(rt; lines_of(alloc, &["livingstone", "generate", "model", "0031"])? == 26);
+    let call = faultless(&["livingstone", "generate", "model", "0"], "");
+    assert!(rt; ends_so(alloc, &call, Status::WordsRefused, "", USAGE)?);
+    Ok(())
+}
+
+/// The session of 31 as an independent reference program runs it.
+const DRIVEN: &str = "drive 31
+replies 123
+errors 4
+settled 20
+unsettled 0
+trials 55
+tracked 1
+";
+
+#[test]
+fn driven_session(rt: HostRuntime) -> Result<(), AllocError> {
+    let call = faultless(&["livingstone", "drive", "31"], "");
+    assert!(rt; ends_so(rt.alloc(), &call, Status::Done, DRIVEN, "")?);
     Ok(())
 }

@@ -1,2 +1,2 @@
 pub mod Parted
-pub mod Values
+pub mod Readings

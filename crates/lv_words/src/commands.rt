@@ -1,17 +1,14 @@
-//! The commands, and their values read by `clap`.
-//!
-//! `clap` is handed the command's name, `--` and the names of files: behind `--` it takes each word as it is, so that it
-//! fails for want of memory alone.
+//! The commands, each over its values.
 #![tactic(auto)]
 
-ghost use Rattle.std.specs.Prelude.{◌≡◌, ◌≢◌, ◌∷◌, [], List, ℕ, Some, None, map, codes, string_bytes, IfOk, IfErr};
-ghost use Rattle.clap.specs.Words.{first_value, found_of, kind_of};
-ghost use Rattle.lv_words.specs.Words.{Said, runs, prints, said_of};
+ghost use Rattle.std.specs.Prelude.{◌≡◌, ◌≢◌, Some, None, map, IfOk};
+ghost use Rattle.lv_words.specs.Words.{runs, prints, said_of, said_of_two, said_of_one, made_of, driven_of};
+ghost use Rattle.lv_words.specs.Words as Words;
 ghost use Rattle.lv_words.specs.Commands.{said_by};
 
 use crate::WordsFault;
-use clap::error::ErrorKind;
-use clap::{Arg, ArgMatches, Command as Parser, Error};
+use crate::numbers::number_of;
+use crate::values::{one_value, two_values};
 use std::alloc::Global;
 
 /// What the program is asked to do.
@@ -29,16 +26,61 @@ pub enum Command {
         /// The name of the model's file.
         model: String,
     },
+    /// The text that a number stands for.
+    Generate {
+        kind: Kind,
+        number: u32,
+    },
+    /// The session that a number stands for run over the model of the number, and a summary of it.
+    Drive {
+        number: u32,
+    },
 }
 
-/// The command of this name over names of files.
+/// Which of the texts that a number stands for.
+#[derive(Clone, Copy, Debug, PartialEq, Eq)]
+pub enum Kind {
+    Model,
+    Session,
+}
+
+/// The command of this name over words that are its values.
 pub fn command_of_names(alloc: Global, command: &str, names: &[&str]) -> Result<Command, WordsFault>
     ensures ok { IfOk result (λ given. said_of command.now (map (λ name. name.now) names.now) ≡ Some (said_by given)) }
     ensures refused { result ≡ Err WordsFault.Refused → said_of command.now (map (λ name. name.now) names.now) ≡ None }
 {
     match names {
-        [model, session] if command == "run" => run_command(alloc, model, session),
-        [model] if command == "print" => print_command(alloc, model),
+        [first, second] => command_of_two(alloc, command, first, second),
+        [first] => command_of_one(alloc, command, first),
+        _ => Err(WordsFault::Refused),
+    }
+}
+
+/// The command of this name over two values.
+fn command_of_two(
+    alloc: Global,
+    command: &str,
+    first: &str,
+    second: &str,
+) -> Result<Command, WordsFault>
+    ensures ok { IfOk result (λ given. said_of_two command.now first.now second.now ≡ Some (said_by given)) }
+    ensures refused { result ≡ Err WordsFault.Refused → said_of_two command.now first.now second.now ≡ None }
+{
+    match command {
+        "run" => run_command(alloc, first, second),
+        "generate" => generate_command(alloc, first, second),
+        _ => Err(WordsFault::Refused),
+    }
+}
+
+/// The command of this name over one value.
+fn command_of_one(alloc: Global, command: &str, first: &str) -> Result<Command, WordsFault>
+    ensures ok { IfOk result (λ given. said_of_one command.now first.now ≡ Some (said_by given)) }
+    ensures refused { result ≡ Err WordsFault.Refused → said_of_one command.now first.now ≡ None }
+{
+    match command {
+        "print" => print_command(alloc, first),
+        "drive" => drive_command(alloc, first),
         _ => Err(WordsFault::Refused),
     }
 }
@@ -48,25 +90,8 @@ fn run_command(alloc: Global, model: &str, session: &str) -> Result<Command, Wor
     ensures ok { IfOk result (λ given. said_by given ≡ runs model.now session.now) }
     ensures refused { result ≢ Err WordsFault.Refused }
 {
-    let words = ["run", "--", model, session];
-    let matches = run_matches(alloc, words.as_slice())?;
-    Ok(Command::Run {
-        model: value_of(alloc, &matches, "model")?,
-        session: value_of(alloc, &matches, "session")?,
-    })
-}
-
-/// What `clap` makes of the words of `run`.
-fn run_matches<'a>(alloc: Global, words: &'a [&'a str]) -> Result<ArgMatches<'a>, Error>
-    ensures ok { (model session : List ℕ) → map (λ word. word.now) words.now ≡ codes "run" ∷ codes "--" ∷ model ∷ session ∷ []
-        → IfOk result (λ m. (first_value (found_of m) (codes "model") ≡ Some model) × (first_value (found_of m) (codes "session") ≡ Some session)) }
-    ensures err { (model session : List ℕ) → map (λ word. word.now) words.now ≡ codes "run" ∷ codes "--" ∷ model ∷ session ∷ []
-        → IfErr result (λ e. kind_of e ≡ ErrorKind.OutOfMemory) }
-{
-    let model = Arg::new(alloc, "model");
-    let session = Arg::new(alloc, "session");
-    let parser = Parser::new(alloc, "run").arg(model)?.arg(session)?;
-    parser.try_get_matches_from(words)
+    let (model, session) = two_values(alloc, model, session)?;
+    Ok(Command::Run { model, session })
 }
 
 /// The command `print` over a file.
@@ -74,42 +99,41 @@ fn print_command(alloc: Global, model: &str) -> Result<Command, WordsFault>
     ensures ok { IfOk result (λ given. said_by given ≡ prints model.now) }
     ensures refused { result ≢ Err WordsFault.Refused }
 {
-    let words = ["print", "--", model];
-    let matches = print_matches(alloc, words.as_slice())?;
-    Ok(Command::Print {
-        model: value_of(alloc, &matches, "model")?,
-    })
+    let model = one_value(alloc, model)?;
+    Ok(Command::Print { model })
 }
 
-/// What `clap` makes of the words of `print`.
-fn print_matches<'a>(alloc: Global, words: &'a [&'a str]) -> Result<ArgMatches<'a>, Error>
-    ensures ok { (model : List ℕ) → map (λ word. word.now) words.now ≡ codes "print" ∷ codes "--" ∷ model ∷ []
-        → IfOk result (λ m. first_value (found_of m) (codes "model") ≡ Some model) }
-    ensures err { (model : List ℕ) → map (λ word. word.now) words.now ≡ codes "print" ∷ codes "--" ∷ model ∷ []
-        → IfErr result (λ e. kind_of e ≡ ErrorKind.OutOfMemory) }
+/// The command `generate` over a kind of text and a number.
+fn generate_command(alloc: Global, kind: &str, number: &str) -> Result<Command, WordsFault>
+    ensures ok { IfOk result (λ given. made_of kind.now number.now ≡ Some (said_by given)) }
+    ensures refused { result ≡ Err WordsFault.Refused → made_of kind.now number.now ≡ None }
 {
-    let model = Arg::new(alloc, "model");
-    let parser = Parser::new(alloc, "print").arg(model)?;
-    parser.try_get_matches_from(words)
+    let (kind, number) = two_values(alloc, kind, number)?;
+    match (kind_of(kind.as_str()), number_of(number.as_bytes())) {
+        (Some(kind), Some(number)) => Ok(Command::Generate { kind, number }),
+        _ => Err(WordsFault::Refused),
+    }
 }
 
-/// The value of an argument, which has one.
-fn value_of(alloc: Global, matches: &ArgMatches<'_>, id: &str) -> Result<String, WordsFault>
-    ensures ok { IfOk result (λ text. first_value (found_of matches.now) id.now ≡ Some (string_bytes text)) }
-    ensures refused { result ≡ Err WordsFault.Refused → first_value (found_of matches.now) id.now ≡ None }
+/// The command `drive` over a number.
+fn drive_command(alloc: Global, number: &str) -> Result<Command, WordsFault>
+    ensures ok { IfOk result (λ given. driven_of number.now ≡ Some (said_by given)) }
+    ensures refused { result ≡ Err WordsFault.Refused → driven_of number.now ≡ None }
 {
-    match matches.get_str(id) {
-        Some(text) => Ok(String::from_str(alloc, text)?),
+    let number = one_value(alloc, number)?;
+    match number_of(number.as_bytes()) {
+        Some(number) => Ok(Command::Drive { number }),
         None => Err(WordsFault::Refused),
     }
 }
 
-impl From<Error> for WordsFault {
-    ghost use Rattle.lv_words.specs.declared.WordsFault.TheVariants.{Memory};
-
-    ghost from_gives = { λ _ fault. fault ≡ Memory };
-
-    fn from(_failed: Error) -> WordsFault {
-        WordsFault::Memory
+/// The kind of text that a word names.
+fn kind_of(word: &str) -> Option<Kind>
+    ensures { result ≡ Words.kind_of word.now }
+{
+    match word {
+        "model" => Some(Kind::Model),
+        "session" => Some(Kind::Session),
+        _ => None,
     }
 }

@@ -5,8 +5,10 @@
 //!
 //! | file | what it is |
 //! |---|---|
-//! | `names` | the names of files among the words behind the command |
-//! | `commands` | the commands, and their values read by `clap` |
+//! | `names` | the values among the words behind the command |
+//! | `commands` | the commands, each over its values |
+//! | `values` | the values of a command, read by `clap` |
+//! | `numbers` | the number of a generated text, as a word |
 #![tactic(auto)]
 
 ghost use Rattle.std.specs.Prelude.{◌≡◌, Some, None, map, string_bytes, IfOk};
@@ -15,9 +17,11 @@ ghost use Rattle.lv_words.specs.Commands.{said_by};
 
 mod commands;
 mod names;
+mod numbers;
+mod values;
 
-pub use commands::Command;
 use commands::command_of_names;
+pub use commands::{Command, Kind};
 use names::names;
 use std::alloc::{AllocError, AllocFailed, Global};
 use thiserror::Error;

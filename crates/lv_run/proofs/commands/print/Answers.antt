@@ -6,7 +6,7 @@ use Rattle.lv_run.proofs.commands.print.Goals as goal
 
 pub returns-in_err-canonical-clause-meets : goal.returns-in_err-canonical-clause-meets
 returns-in_err-canonical-clause-meets g c =
-    ended_at_model (g.F.Shelf.file c.args.shelf.now) (prints c.args.model.now) c.in_err-canonical.field-0.0 _ _
+    ended_at_model (g.F.Shelf.file c.args.shelf.now) (prints c.args.model.now) c.in_err-canonical.field-0.0 _ _ tt
     c.in_err-canonical.ensures.ends c.in_err-canonical.ensures.refused c.from_residual.ensures.1
 
 pub returns-in_err-canonical-clause-follows : goal.returns-in_err-canonical-clause-follows

@@ -6,7 +6,7 @@ use Rattle.lv_run.specs.Inputs.{opens_of}
 use Rattle.lv_run.specs.Expected.{Meets, serves, shows}
 use Rattle.lv_run.specs.Faults.{ended_status}
 use Rattle.lv_run.specs.declared.status.Status.{Status}
-use Rattle.lv_run.proofs.TopLemmas.{reported_meets, status_due, expected_run, expected_print, ended_done, output_cause}
+use Rattle.lv_run.proofs.TopLemmas.{reported_meets, status_due, expected_run, expected_text, ended_done, output_cause}
 use Rattle.lv_run.proofs.OpenLemmas.{all_opened}
 use Rattle.lv_run.proofs.top.livingstone.Goals as goal
 
@@ -42,11 +42,11 @@ returns-clause-headline g c =
       ended_done c.carry_out-ended.result _ _ c.tell_end.result c.tell_end.ensures.status c.tell_end.ensures.told done,
     )
 
-pub returns-clause-printed : goal.returns-clause-printed
-returns-clause-printed g c =
-    λ canonical asks done. (
-      (subst (λ (s : Status). Meets (shows canonical) (g.O.Sink.text c.args.out.now) (g.O.Sink.text c.carry_out-ended.new.out) s) done
-          (returns-clause-meets g c (shows canonical) (expected_print (g.F.Shelf.file c.args.shelf.now) (map (string_bytes {Z = Global}) c.args.words.items) canonical asks))).1,
+pub returns-clause-written : goal.returns-clause-written
+returns-clause-written g c =
+    λ text asks done. (
+      (subst (λ (s : Status). Meets (shows text) (g.O.Sink.text c.args.out.now) (g.O.Sink.text c.carry_out-ended.new.out) s) done
+          (returns-clause-meets g c (shows text) (expected_text (g.F.Shelf.file c.args.shelf.now) (map (string_bytes {Z = Global}) c.args.words.items) text asks))).1,
       ended_done c.carry_out-ended.result _ _ c.tell_end.result c.tell_end.ensures.status c.tell_end.ensures.told done,
     )
 
@@ -55,7 +55,7 @@ returns-clause-complete g c =
     λ plant session asks none. returns-clause-exact g c (serves plant session)
     (expected_run (g.F.Shelf.file c.args.shelf.now) (map (string_bytes {Z = Global}) c.args.words.items) plant session asks) none
 
-pub returns-clause-prints : goal.returns-clause-prints
-returns-clause-prints g c =
-    λ canonical asks none. returns-clause-exact g c (shows canonical)
-    (expected_print (g.F.Shelf.file c.args.shelf.now) (map (string_bytes {Z = Global}) c.args.words.items) canonical asks) none
+pub returns-clause-writes : goal.returns-clause-writes
+returns-clause-writes g c =
+    λ text asks none. returns-clause-exact g c (shows text)
+    (expected_text (g.F.Shelf.file c.args.shelf.now) (map (string_bytes {Z = Global}) c.args.words.items) text asks) none

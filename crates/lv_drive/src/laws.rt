@@ -1,0 +1,9 @@
+//! What holds of the replies that are counted. The functions do nothing; their clauses are the laws.
+#![tactic(auto)]
+
+ghost use Rattle.lv_drive.specs.Drives.{RepliesAreTranscript};
+
+/// The texts of the replies that are counted, one behind the other, are the session's transcript.
+pub fn replies_are_transcript()
+    ensures { RepliesAreTranscript }
+{}

@@ -1,0 +1,66 @@
+//! The session's file, opened and served.
+
+ghost use Rattle.std.specs.Prelude.{◌≡◌, ◌≢◌, ◌++◌, ◌∷◌, [], List, ℕ, Some, true, IfOk, IfErr, IsTrue};
+ghost use Rattle.lv_io.specs.Outside.{Rose};
+ghost use Rattle.lv_io.specs.declared.Role.{Role};
+ghost use Rattle.lv_io.specs.declared.Role.TheVariants.{Second as OfSecond};
+ghost use Rattle.lv_run.specs.Expected.{ServesTold};
+ghost use Rattle.lv_run.specs.Inputs.{session_open, AddsOpens};
+ghost use Rattle.lv_run.specs.Faults.{EndsOpening, EndsSession, ended_status};
+
+use crate::fault::RunFault;
+use crate::status::Status;
+use lv_io::{IoFault, Role, Shelf, Sink, Slot};
+use lv_model::Model;
+use lv_serve::serve;
+use std::alloc::Global;
+
+/// Opens the session's file and serves it over a model.
+pub fn serve_session<F: Shelf, O: Sink>(
+    alloc: Global,
+    model: &Model,
+    session: &str,
+    shelf: &mut F,
+    out: &mut O,
+) -> Result<(), RunFault>
+    // What was written, and flushed.
+    ensures told { (text : List ℕ) → F.file shelf.old session.now ≡ Some text → ServesTold model.now text (O.text out.old) (O.text out.new) result }
+    ensures ends { IfErr result EndsSession }
+    ensures flushed { ended_status result ≢ Status.OutputFailed → ended_status result ≢ Status.OutOfMemory → O.is_flushed out.old ≡ true → O.is_flushed out.new ≡ true }
+
+    // What is recorded.
+    ensures opens { AddsOpens (F.opens shelf.old) (session_open session.now ∷ []) (F.opens shelf.new) }
+    ensures opened { ended_status result ≢ Status.OutOfMemory → F.opens shelf.new ≡ F.opens shelf.old ++ session_open session.now ∷ [] }
+
+    // Whose fault it was.
+    ensures failed { ended_status result ≡ Status.SessionUnread → Rose (F.faults shelf.old OfSecond) (F.faults shelf.new OfSecond) }
+    ensures as_before { ended_status result ≢ Status.SessionUnread → (r : Role) → F.faults shelf.new r ≡ F.faults shelf.old r }
+    ensures output_failed { ended_status result ≡ Status.OutputFailed → Rose (O.faults out.old) (O.faults out.new) }
+    ensures out_as_before { ended_status result ≢ Status.OutputFailed → O.faults out.new ≡ O.faults out.old }
+{
+    let slot = open_session(shelf, session)?;
+    serve(alloc, model, shelf, slot, out)?;
+    Ok(())
+}
+
+/// Opens the session's file.
+fn open_session<F: Shelf>(shelf: &mut F, name: &str) -> Result<Slot, RunFault>
+    ensures role { IfOk result (λ slot. slot.role ≡ Role.Second) }
+    ensures known { IfOk result (λ slot. IsTrue (F.knows shelf.new slot)) }
+    ensures bytes { IfOk result (λ slot. F.rest shelf.new slot ≡ F.file shelf.old name.now) }
+    ensures ends { IfErr result EndsOpening }
+
+    // What is recorded.
+    ensures opens { AddsOpens (F.opens shelf.old) (session_open name.now ∷ []) (F.opens shelf.new) }
+    ensures opened { result ≢ Err RunFault.OutOfMemory → F.opens shelf.new ≡ F.opens shelf.old ++ session_open name.now ∷ [] }
+
+    // Whose fault it was.
+    ensures failed { result ≡ Err RunFault.SessionUnread → Rose (F.faults shelf.old OfSecond) (F.faults shelf.new OfSecond) }
+    ensures as_before { result ≢ Err RunFault.SessionUnread → (r : Role) → F.faults shelf.new r ≡ F.faults shelf.old r }
+{
+    match shelf.open(Role::Second, name) {
+        Ok(slot) => Ok(slot),
+        Err(IoFault::Failed) => Err(RunFault::SessionUnread),
+        Err(IoFault::Memory) => Err(RunFault::OutOfMemory),
+    }
+}
