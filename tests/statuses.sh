@@ -109,8 +109,8 @@ run_in_little_memory() {
     (ulimit -v 32768 && exec "$program" "$@" >"$work/out" 2>"$work/err")
     status=$?
 }
-head -c 67108864 long.ses >limit.ses
-run_in_little_memory run "$model" limit.ses </dev/null
-expect 'a session that is larger than the memory' 8 '' 'out of memory'
+seq 230000 | sed 's/.*/domain d& a/' >large.lv
+run_in_little_memory print large.lv </dev/null
+expect 'a model that is larger than the memory' 8 '' 'out of memory'
 
 verdict

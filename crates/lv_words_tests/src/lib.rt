@@ -1,0 +1,5 @@
+//! Tests of the words of the process.
+#![tactic(auto)]
+
+#[cfg(test)]
+mod accepted;
