@@ -40,6 +40,12 @@ const OPENED: &str = "settled 3
 3 cost 8 from 1: v closed>stuck_open #6
 ";
 
+const CONFLICTS: &str = "conflicts 3 trials 4
+1: v closed>open #1
+2: v closed stay
+3: v closed>stuck_open #6
+";
+
 fn valve(alloc: Global) -> Result<Model, AllocError> {
     match model_of(alloc, VALVE.as_bytes()) {
         Ok(model) => Ok(model),
@@ -54,17 +60,81 @@ fn replies(session: &mut Session<'_>, line: &str, wanted: &str) -> Result<bool, 
     Ok(text.as_slice() == wanted.as_bytes())
 }
 
-#[test]
-fn lines_of_a_session(rt: HostRuntime) -> Result<(), AllocError> {
-    let alloc = rt.alloc();
+/// Whether each line of a text gets the reply that stands at its place.
+fn all_reply(
+    session: &mut Session<'_>,
+    lines: &[&str],
+    wanted: &[&str],
+) -> Result<bool, AllocError> {
+    for (line, reply) in lines.iter().zip(wanted.iter()) {
+        if !replies(session, line, reply)? {
+            return Ok(false);
+        }
+    }
+    Ok(lines.len() == wanted.len())
+}
+
+/// Whether the lines of a new session over the valve get these replies.
+fn session_replies(alloc: Global, lines: &[&str], wanted: &[&str]) -> Result<bool, AllocError> {
     let model = valve(alloc)?;
     let mut session = Session::new(alloc, &model)?;
-    assert!(rt; replies(&mut session, " # nothing", "")?);
-    assert!(rt; replies(&mut session, "command v.cmd = open", "ok\n")?);
-    assert!(rt; replies(&mut session, "command v.inn = some", "error S04\n")?);
-    assert!(rt; replies(&mut session, "command w.cmd = close", "error S03\n")?);
-    assert!(rt; replies(&mut session, "command v.cmd = some", "error S06\n")?);
-    assert!(rt; replies(&mut session, "command v.cmd", "error S02\n")?);
-    assert!(rt; replies(&mut session, "diagnose", OPENED)?);
+    all_reply(&mut session, lines, wanted)
+}
+
+#[test]
+fn lines_of_a_session(rt: HostRuntime) -> Result<(), AllocError> {
+    let right = session_replies(
+        rt.alloc(),
+        &[
+            " # nothing",
+            "command v.cmd = open",
+            "command v.inn = some",
+            "command w.cmd = close",
+            "command v.cmd = some",
+            "command v.cmd",
+            "diagnose",
+        ],
+        &[
+            "",
+            "ok\n",
+            "error S04\n",
+            "error S03\n",
+            "error S06\n",
+            "error S02\n",
+            OPENED,
+        ],
+    )?;
+    assert!(rt; right);
+    Ok(())
+}
+
+#[test]
+fn a_query_that_goes_on(rt: HostRuntime) -> Result<(), AllocError> {
+    let right = session_replies(
+        rt.alloc(),
+        &[
+            "budget 2",
+            "command v.cmd = open",
+            "observe o v.out = zero",
+            "diagnose",
+            "more 1",
+            "more 1",
+            "conflicts",
+            "commit",
+            "states",
+        ],
+        &[
+            "ok\n",
+            "ok\n",
+            "ok\n",
+            "unsettled 0 trials 2\n",
+            "unsettled 1 trials 3\n1 cost 3 from 1: v closed>stuck_closed #3\n",
+            "settled 1\n1 cost 3 from 1: v closed>stuck_closed #3\n",
+            CONFLICTS,
+            "time 1 tracked 1\n",
+            "time 1 tracked 1\n1 cost 3: v=stuck_closed\n",
+        ],
+    )?;
+    assert!(rt; right);
     Ok(())
 }
