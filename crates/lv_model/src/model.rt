@@ -46,6 +46,14 @@ impl Model {
         }
     }
 
+    /// The model of a plant that is known to be well formed. Takes no time.
+    pub fn of_well_formed(plant: Plant) -> Model
+        requires { IsTrue (is_well_formed plant) }
+        ensures { result ≡ plant }
+    {
+        Model { plant }
+    }
+
     /// The plant's lists.
     pub fn plant(&self) -> &Plant
         ensures plant { result.now ≡ self.now }
