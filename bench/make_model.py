@@ -5,7 +5,12 @@
     types LINES    types of 16 modes and 64 moves, in about so many lines, and a part of the first
     laws LINES     two parts and so many laws, each of nearly 4,000 bytes
     shared LINES   a type with so many laws, each of nearly 4,000 bytes, and 256 parts of it
+    domains LINES  so many domains, each of a name of its own, and a part
+    variables LINES   a type with so many variables, and a part of another type
+    names LINES    so many types, each of a name of its own, and a part of the last
+    prices LINES   a part with as many controls as it takes, and so many prices of theirs: at most 61,425
     bytes BYTES    a series whose text has exactly so many bytes, the last of them a comment
+    clauses PARTS  parts of a type with 4,093 clauses each, and laws behind 256 of them up to the limit of 1,048,576 clauses
 """
 
 import sys
@@ -72,6 +77,30 @@ def shared(lines):
     return DOMAINS + VALVE[:-1] + [law] * lines + ["end"] + parts
 
 
+def domains(lines):
+    return ["domain d%d a b" % i for i in range(lines)] + ["type t", "variable x d%d" % (lines - 1), "mode m", "end", "part p t m"]
+
+
+def variables(lines):
+    return ["domain d a b", "type t"] + ["variable x%d d" % i for i in range(lines)] + ["mode m", "end", "type u", "mode m", "end", "part p u m"]
+
+
+def names(lines):
+    out = []
+    for i in range(lines):
+        out += ["type t%d" % i, "mode m", "end"]
+    return out + ["part p t%d m" % (lines - 1)]
+
+
+def prices(lines):
+    """Of 16 values each has a price but the first; more values would have fewer prices within the limit on clauses."""
+    controls = -(-lines // 15)
+    out = ["domain d " + " ".join("v%d" % v for v in range(16)), "type t"]
+    out += ["control c%d d" % i for i in range(controls)]
+    out += ["mode m", "end", "part p t m"]
+    return out + ["price p.c%d = v%d 2" % (i // 15, i % 15 + 1) for i in range(lines)]
+
+
 def series_of_bytes(size):
     """Laws until the next would not leave room for a comment."""
     out = []
@@ -83,12 +112,26 @@ def series_of_bytes(size):
         left -= len(line) + 1
 
 
+def most_clauses(parts):
+    """16 modes, 64 moves without guards, and variables of 32, 20, 18, 4 and 3 values."""
+    sizes = {"many": 32, "twenty": 20, "eighteen": 18, "four": 4, "three": 3}
+    lines = ["domain %s %s" % (name, " ".join("%s%d" % (name[:2], v) for v in range(size))) for name, size in sizes.items()]
+    lines.append("type t")
+    lines += ["variable %s_one %s" % (name, name) for name in sizes]
+    lines += ["mode m%d" % m for m in range(16)]
+    lines += ["fault m%d -> m%d cost %d" % (m, (m + step) % 16, step) for m in range(16) for step in (1, 2, 3)]
+    lines += ["end"] + ["part p%d t m0" % p for p in range(parts)]
+    return lines + ["law p0.four_one = fo0"] * (384 if parts == MOST_PARTS else 0)
+
+
 def main():
     kind, size = sys.argv[1], int(sys.argv[2])
     if kind == "series":
         lines = [line for line, _ in zip(series(min(MOST_PARTS, size // 4)), range(size))]
     else:
-        lines = {"types": types, "laws": laws, "shared": shared, "bytes": series_of_bytes}[kind](size)
+        kinds = {"types": types, "laws": laws, "shared": shared, "domains": domains, "variables": variables, "names": names,
+                 "prices": prices, "bytes": series_of_bytes, "clauses": most_clauses}
+        lines = kinds[kind](size)
     sys.stdout.write("".join(line + "\n" for line in lines))
 
 

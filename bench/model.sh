@@ -1,8 +1,8 @@
 #!/usr/bin/env bash
 # What `print` takes for each byte of a model, in nanoseconds of the processor: the text is read, checked, and written in
 # its canonical form. The texts are those of make_model.py: growing series of valves with laws, growing numbers of types
-# with 16 modes and 64 moves, laws of nearly 4,000 bytes, such laws in a type that 256 parts share, and the longest text
-# that there may be. Behind each stands the time a byte as a multiple of the first of its kind, so that growth beyond the
+# with 16 modes and 64 moves, laws of nearly 4,000 bytes, such laws in a type that 256 parts share, growing numbers of
+# domains, of a type's variables, of types and of prices, and the longest text that there may be. Behind each stands the time a byte as a multiple of the first of its kind, so that growth beyond the
 # text's own can be seen in one run.
 # Builds the program first, and takes the time that it needs for a text of four lines off.
 set -eu
@@ -32,7 +32,7 @@ report() {
     first=$((picoseconds > 0 ? picoseconds : 1))
   fi
   local times=$((picoseconds * 100 / first))
-  printf '%-7s %8d %9d bytes %6d.%03d ns a byte %4d.%02d times the first\n' "$1" "$2" "$bytes" \
+  printf '%-9s %8d %9d bytes %6d.%03d ns a byte %4d.%02d times the first\n' "$1" "$2" "$bytes" \
     $((picoseconds / 1000)) $((picoseconds % 1000)) $((times / 100)) $((times % 100))
 }
 
@@ -52,4 +52,12 @@ report laws 1000 1
 report shared 10 10
 report shared 100 1
 report shared 1000 1
+report domains 10000 10
+report domains 100000 1
+report variables 10000 10
+report variables 100000 1
+report names 10000 10
+report names 100000 1
+report prices 10000 10
+report prices 61425 1
 report bytes 4194304 1

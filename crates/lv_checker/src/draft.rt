@@ -4,8 +4,9 @@
 ghost use Rattle.std.specs.Prelude.{◌≡◌};
 
 use lv_base::{Name, Seq};
+use lv_directory::{NamedPlant, NamedType};
 use lv_formula::{Condition, Range};
-use lv_model::{ComponentType, Domain, ModeFormula, Move, Part, Plant, Price, Variable};
+use lv_model::{Domain, ModeFormula, Move, Part, Price, Variable};
 use lv_reader::ModelCode;
 use std::alloc::{AllocError, AllocFailed};
 
@@ -13,8 +14,8 @@ use std::alloc::{AllocError, AllocFailed};
 /// so that no statement goes over the lists again.
 #[derive(Debug, Drop)]
 pub struct Draft {
-    /// The lists so far.
-    pub plant: Plant,
+    /// The lists so far, with what is found in them by name.
+    pub plant: NamedPlant,
     /// What the variables of the parts range over.
     pub ranges: Seq<Range>,
     /// How many values they have, where clauses are counted.
@@ -32,7 +33,7 @@ pub struct Draft {
 /// A type as far as its lines go. Its moves stand in their order, the stay of each mode among them.
 #[derive(Debug, Drop)]
 pub struct TypeDraft {
-    pub lists: ComponentType,
+    pub lists: NamedType,
     /// How many values the variables of its formulas have, where clauses are counted: the mode first.
     pub sizes: Seq<u32>,
 }

@@ -1,18 +1,21 @@
 //! What a statement adds to the statements before it, or why its place or its names are refused.
 #![tactic(auto)]
 
-ghost use Rattle.std.specs.Prelude.{◌≡◌, IfOk, IfErr, Ok};
-ghost use Rattle.std.specs.Option.{option_copied};
+ghost use Rattle.std.specs.Prelude.{◌≡◌, IfOk, IfErr, Ok, false};
+ghost use Rattle.std.specs.Option.{option_copied, option_map_or};
+ghost use Rattle.lv_reader.specs.declared.statement.Statement.TheVariants.{LawLine};
 ghost use Rattle.lv_checker.specs.Entries.{variable_entry, mode_entry, mode_law_entry, line_number, step_entry, guard_in, fault_entry, end_entry, inside_entry, name_entry, part_entry, own_variable, is_control_of, has_control, priced_entry, price_entry, outside_entry, entry_of, TellsEntry, TellsGuard};
 ghost use Rattle.lv_model.specs.Lists.{is_control};
+ghost use Rattle.lv_model.specs.declared.plant.Variable.{Variable};
 
 use crate::draft::{CheckFault, Draft, Entry};
 use crate::places::{
     domain_place, mode_of_type, mode_place, part_of_name, placed, type_place, variable_numbered,
-    variable_place,
+    variable_of_kind,
 };
 use crate::scope::{system_formula, type_formula, value_of_system, variable_of_part};
 use lv_base::{Class, Cost, Name, Seq, ValId, VarId};
+use lv_directory::{NamedPlant, NamedType};
 use lv_formula::Condition;
 use lv_model::{ComponentType, Domain, ModeFormula, Move, MoveKind, Part, Price, Variable};
 use lv_phrase::Phrase;
@@ -45,15 +48,15 @@ fn all_copied(alloc: Global, names: &[Name]) -> Result<Seq<Name>, AllocError>
 
 fn variable_entry(
     alloc: Global,
-    domains: &[Domain],
+    plant: &NamedPlant,
     class: Class,
     name: &Name,
     domain: &Name,
 ) -> Result<Entry, CheckFault>
-    ensures ok { IfOk result (λ e. variable_entry domains.now class name.now domain.now ≡ Ok e) }
-    ensures fault { IfErr result (λ fault. TellsEntry fault (variable_entry domains.now class name.now domain.now)) }
+    ensures ok { IfOk result (λ e. variable_entry plant.now.domains class name.now domain.now ≡ Ok e) }
+    ensures fault { IfErr result (λ fault. TellsEntry fault (variable_entry plant.now.domains class name.now domain.now)) }
 {
-    let domain = domain_place(domains, domain.as_slice()).ok_or(UNKNOWN)?;
+    let domain = domain_place(plant, domain.as_slice()).ok_or(UNKNOWN)?;
     let name = copied(alloc, name)?;
     Ok(Entry::NewVariable(Variable {
         name,
@@ -70,17 +73,30 @@ fn mode_entry(alloc: Global, of: &ComponentType, name: &Name) -> Result<Entry, C
     Ok(Entry::NewMode(copied(alloc, name)?, number))
 }
 
+#[tactic(auto, unfolding(crate::specs::Entries::inside_entry))]
+fn law_entry(
+    alloc: Global,
+    domains: &[Domain],
+    of: &NamedType,
+    phrase: &Phrase,
+) -> Result<Entry, CheckFault>
+    ensures ok { IfOk result (λ e. inside_entry domains.now of.now (LawLine phrase.now) ≡ Ok e) }
+    ensures fault { IfErr result (λ fault. TellsEntry fault (inside_entry domains.now of.now (LawLine phrase.now))) }
+{
+    Ok(Entry::TypeLaw(type_formula(alloc, domains, of, phrase)?))
+}
+
 fn mode_law_entry(
     alloc: Global,
     domains: &[Domain],
-    of: &ComponentType,
+    of: &NamedType,
     mode: &Name,
     phrase: &Phrase,
 ) -> Result<Entry, CheckFault>
     ensures ok { IfOk result (λ e. mode_law_entry domains.now of.now mode.now phrase.now ≡ Ok e) }
     ensures fault { IfErr result (λ fault. TellsEntry fault (mode_law_entry domains.now of.now mode.now phrase.now)) }
 {
-    let mode = mode_place(of, mode.as_slice()).ok_or(UNKNOWN)?;
+    let mode = mode_place(of.as_type(), mode.as_slice()).ok_or(UNKNOWN)?;
     let condition = type_formula(alloc, domains, of, phrase)?;
     Ok(Entry::ModeLaw(ModeFormula { mode, condition }))
 }
@@ -100,7 +116,7 @@ fn line_number(of: &ComponentType) -> Option<u32>
 fn step_entry(
     alloc: Global,
     domains: &[Domain],
-    of: &ComponentType,
+    of: &NamedType,
     source: &Name,
     target: &Name,
     guard: &Phrase,
@@ -108,10 +124,10 @@ fn step_entry(
     ensures ok { IfOk result (λ e. step_entry domains.now of.now source.now target.now guard.now ≡ Ok e) }
     ensures fault { IfErr result (λ fault. TellsEntry fault (step_entry domains.now of.now source.now target.now guard.now)) }
 {
-    let source = mode_place(of, source.as_slice()).ok_or(UNKNOWN)?;
-    let target = mode_place(of, target.as_slice()).ok_or(UNKNOWN)?;
+    let source = mode_place(of.as_type(), source.as_slice()).ok_or(UNKNOWN)?;
+    let target = mode_place(of.as_type(), target.as_slice()).ok_or(UNKNOWN)?;
     let guard = type_formula(alloc, domains, of, guard)?;
-    let line = line_number(of).ok_or(PASSED)?;
+    let line = line_number(of.as_type()).ok_or(PASSED)?;
     Ok(Entry::NewMove(Move {
         kind: MoveKind::Step,
         source,
@@ -126,7 +142,7 @@ fn step_entry(
 fn guard_in(
     alloc: Global,
     domains: &[Domain],
-    of: &ComponentType,
+    of: &NamedType,
     guard: &Option<Phrase>,
 ) -> Result<Option<Condition>, CheckFault>
     ensures ok { IfOk result (λ g. guard_in domains.now of.now guard.now ≡ Ok g) }
@@ -141,7 +157,7 @@ fn guard_in(
 fn fault_entry(
     alloc: Global,
     domains: &[Domain],
-    of: &ComponentType,
+    of: &NamedType,
     source: &Name,
     target: &Name,
     cost: u64,
@@ -150,10 +166,10 @@ fn fault_entry(
     ensures ok { IfOk result (λ e. fault_entry domains.now of.now source.now target.now cost guard.now ≡ Ok e) }
     ensures fault { IfErr result (λ fault. TellsEntry fault (fault_entry domains.now of.now source.now target.now cost guard.now)) }
 {
-    let source = mode_place(of, source.as_slice()).ok_or(UNKNOWN)?;
-    let target = mode_place(of, target.as_slice()).ok_or(UNKNOWN)?;
+    let source = mode_place(of.as_type(), source.as_slice()).ok_or(UNKNOWN)?;
+    let target = mode_place(of.as_type(), target.as_slice()).ok_or(UNKNOWN)?;
     let guard = guard_in(alloc, domains, of, guard)?;
-    let line = line_number(of).ok_or(PASSED)?;
+    let line = line_number(of.as_type()).ok_or(PASSED)?;
     Ok(Entry::NewMove(Move {
         kind: MoveKind::Fault,
         source,
@@ -178,21 +194,20 @@ fn end_entry(of: &ComponentType) -> Result<Entry, CheckFault>
 #[tactic(auto, unfolding(crate::specs::Entries::inside_entry))]
 fn inside_entry(
     alloc: Global,
-    domains: &[Domain],
-    of: &ComponentType,
+    plant: &NamedPlant,
+    of: &NamedType,
     statement: &Statement,
 ) -> Result<Entry, CheckFault>
-    ensures ok { IfOk result (λ e. inside_entry domains.now of.now statement.now ≡ Ok e) }
-    ensures fault { IfErr result (λ fault. TellsEntry fault (inside_entry domains.now of.now statement.now)) }
+    ensures ok { IfOk result (λ e. inside_entry plant.now.domains of.now statement.now ≡ Ok e) }
+    ensures fault { IfErr result (λ fault. TellsEntry fault (inside_entry plant.now.domains of.now statement.now)) }
 {
+    let domains = plant.as_plant().domains.as_slice();
     match statement {
         Statement::VariableLine(class, name, domain) => {
-            variable_entry(alloc, domains, *class, name, domain)
+            variable_entry(alloc, plant, *class, name, domain)
         }
-        Statement::ModeLine(name) => mode_entry(alloc, of, name),
-        Statement::LawLine(phrase) => {
-            Ok(Entry::TypeLaw(type_formula(alloc, domains, of, phrase)?))
-        }
+        Statement::ModeLine(name) => mode_entry(alloc, of.as_type(), name),
+        Statement::LawLine(phrase) => { law_entry(alloc, domains, of, phrase) }
         Statement::InLine(mode, phrase) => mode_law_entry(alloc, domains, of, mode, phrase),
         Statement::StepLine(source, target, guard) => {
             step_entry(alloc, domains, of, source, target, guard)
@@ -200,7 +215,7 @@ fn inside_entry(
         Statement::FaultLine(source, target, cost, guard) => {
             fault_entry(alloc, domains, of, source, target, *cost, guard)
         }
-        Statement::EndLine => end_entry(of),
+        Statement::EndLine => end_entry(of.as_type()),
         _ => Err(MISPLACED),
     }
 }
@@ -225,8 +240,8 @@ fn part_entry(
     ensures ok { IfOk result (λ e. part_entry draft.now name.now kind.now start.now ≡ Ok e) }
     ensures fault { IfErr result (λ fault. TellsEntry fault (part_entry draft.now name.now kind.now start.now)) }
 {
-    let types = draft.plant.types.as_slice();
-    let kind = type_place(types, kind.as_slice()).ok_or(UNKNOWN)?;
+    let types = draft.plant.as_plant().types.as_slice();
+    let kind = type_place(&draft.plant, kind.as_slice()).ok_or(UNKNOWN)?;
     let start = mode_of_type(types, kind as usize, start.as_slice()).ok_or(UNKNOWN)?;
     let first = variable_numbered(draft.ranges.len()).ok_or(PASSED)?;
     let name = copied(alloc, name)?;
@@ -248,12 +263,10 @@ fn own_variable(variables: &[Variable], place: usize) -> Option<&Variable>
     variables.get(place - 1)
 }
 
-fn is_control_of(of: &ComponentType, word: &[u8]) -> bool
-    ensures { result ≡ is_control_of of.now word.now }
+/// Whether the variable at a place of a type is a control, counted from its mode.
+fn is_control_at(of: &ComponentType, place: usize) -> bool
+    ensures { result ≡ option_map_or (λ (v : Variable). is_control v.class) (own_variable of.now.variables place) false }
 {
-    let Some(place) = variable_place(of.variables.as_slice(), word) else {
-        return false;
-    };
     match own_variable(of.variables.as_slice(), place) {
         Some(variable) => variable.class == Class::Control,
         None => false,
@@ -261,11 +274,14 @@ fn is_control_of(of: &ComponentType, word: &[u8]) -> bool
 }
 
 /// Whether the word names a control of the part.
-fn has_control(types: &[ComponentType], word: &[u8], part: &Part) -> bool
-    ensures { result ≡ has_control types.now word.now part.now }
+fn has_control(plant: &NamedPlant, word: &[u8], part: &Part) -> bool
+    ensures { result ≡ has_control plant.now.types word.now part.now }
 {
-    match types.get(part.kind as usize) {
-        Some(of) => is_control_of(of, word),
+    let Some(of) = plant.as_plant().types.as_slice().get(part.kind as usize) else {
+        return false;
+    };
+    match variable_of_kind(plant, part.kind as usize, word) {
+        Some(place) => is_control_at(of, place),
         None => false,
     }
 }
@@ -294,10 +310,10 @@ fn price_entry(
     ensures ok { IfOk result (λ e. price_entry draft.now part.now control.now value.now cost ≡ Ok e) }
     ensures fault { IfErr result (λ fault. TellsEntry fault (price_entry draft.now part.now control.now value.now cost)) }
 {
-    let types = draft.plant.types.as_slice();
-    let part = part_of_name(draft.plant.parts.as_slice(), part.as_slice()).ok_or(UNKNOWN)?;
-    let variable = variable_of_part(types, control.as_slice(), part).ok_or(UNKNOWN)?;
-    if !has_control(types, control.as_slice(), part) {
+    let plant = &draft.plant;
+    let part = part_of_name(plant, part.as_slice()).ok_or(UNKNOWN)?;
+    let variable = variable_of_part(plant, control.as_slice(), part).ok_or(UNKNOWN)?;
+    if !has_control(plant, control.as_slice(), part) {
         return Err(NO_FIT);
     }
     let value = value_of_system(draft, variable, value.as_slice()).ok_or(NO_FIT)?;
@@ -334,12 +350,7 @@ pub fn entry_of(alloc: Global, draft: &Draft, statement: &Statement) -> Result<E
     ensures fault { IfErr result (λ fault. TellsEntry fault (entry_of draft.now statement.now)) }
 {
     match &draft.current {
-        Some(current) => inside_entry(
-            alloc,
-            draft.plant.domains.as_slice(),
-            &current.lists,
-            statement,
-        ),
+        Some(current) => inside_entry(alloc, &draft.plant, &current.lists, statement),
         None => outside_entry(alloc, draft, statement),
     }
 }

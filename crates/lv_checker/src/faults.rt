@@ -7,7 +7,6 @@ ghost use Rattle.std.specs.Prelude.{◌≡◌, ◌+◌, nat_lt, IfOk, IfErr, Ok}
 ghost use Rattle.std.specs.List.{list_any};
 ghost use Rattle.lv_formula.specs.Tree.{Tree};
 ghost use Rattle.lv_model.specs.Counts.{has_count, guard_has_counts};
-ghost use Rattle.lv_model.specs.Prices.{is_price_of};
 ghost use Rattle.lv_model.specs.Lists.{part_width};
 ghost use Rattle.lv_checker.specs.Faults.{are_distinct, in_use_inside, in_use_outside, is_too_long_inside, is_too_long_outside, is_long_name, passes_inside, share_of, passes_outside, first_of, fault_where, fault_of_entry, unless_faulty, judged};
 ghost use Rattle.lv_checker.specs.Entries.{TellsEntry};
@@ -19,8 +18,7 @@ use lv_base::{Name, find_name, limits};
 use lv_formula::Condition;
 use lv_model::counts::law_count;
 use lv_model::lookup::type_of;
-use lv_model::names::{find_domain, find_part, find_type, find_variable};
-use lv_model::{ComponentType, Move, MoveKind, Part, Price};
+use lv_model::{ComponentType, Move, MoveKind, Part};
 use lv_reader::{ModelCode, Statement};
 use std::alloc::Global;
 
@@ -56,20 +54,12 @@ fn is_in_use_inside(current: &TypeDraft, entry: &Entry) -> bool
 {
     let of = &current.lists;
     match entry {
-        Entry::NewVariable(v) => find_variable(
-            of.variables.as_slice(),
-            v.name.as_slice(),
-        ).is_some(),
-        Entry::NewMode(name, _) => find_name(of.modes.as_slice(), name.as_slice()).is_some(),
+        Entry::NewVariable(v) => of.find_variable(v.name.as_slice()).is_some(),
+        Entry::NewMode(name, _) => {
+            find_name(of.as_type().modes.as_slice(), name.as_slice()).is_some()
+        }
         _ => false,
     }
-}
-
-/// Whether the same value of the same control has a price.
-fn is_priced(prices: &[Price], price: &Price) -> bool
-    ensures { result ≡ list_any (is_price_of price.now.control.0 price.now.value.0) prices.now }
-{
-    prices.iter().any(|p| p.control.0 == price.control.0 && p.value.0 == price.value.0)
 }
 
 /// Whether a name of the model is in use, a value stands twice in its domain, or a value is priced twice.
@@ -79,12 +69,11 @@ fn is_in_use_outside(draft: &Draft, entry: &Entry) -> bool
     let plant = &draft.plant;
     match entry {
         Entry::NewDomain(x) => {
-            find_domain(plant.domains.as_slice(), x.name.as_slice()).is_some()
-                || !are_distinct(x.values.as_slice())
+            plant.find_domain(x.name.as_slice()).is_some() || !are_distinct(x.values.as_slice())
         }
-        Entry::TypeBegins(name) => find_type(plant.types.as_slice(), name.as_slice()).is_some(),
-        Entry::NewPart(p) => find_part(plant.parts.as_slice(), p.name.as_slice()).is_some(),
-        Entry::NewPrice(p) => is_priced(plant.prices.as_slice(), p),
+        Entry::TypeBegins(name) => plant.find_type(name.as_slice()).is_some(),
+        Entry::NewPart(p) => plant.find_part(p.name.as_slice()).is_some(),
+        Entry::NewPrice(p) => plant.is_priced(p.control, p.value),
         _ => false,
     }
 }
@@ -134,7 +123,7 @@ fn is_too_long_outside(draft: &Draft, entry: &Entry) -> bool
 fn passes_inside(current: &TypeDraft, entry: &Entry) -> bool
     ensures { result ≡ passes_inside current.now entry.now }
 {
-    let of = &current.lists;
+    let of = current.lists.as_type();
     match entry {
         Entry::NewVariable(v) => is_long_name(&v.name),
         Entry::NewMode(name, _) => {
@@ -170,8 +159,9 @@ fn are_many_variables(types: &[ComponentType], part: &Part, others: usize) -> bo
 fn part_passes(draft: &Draft, part: &Part) -> bool
     ensures { result ≡ passes_outside draft.now (NewPart part.now) }
 {
-    draft.plant.parts.len() >= limits::PARTS as usize
-        || are_many_variables(draft.plant.types.as_slice(), part, draft.ranges.len())
+    let plant = draft.plant.as_plant();
+    plant.parts.len() >= limits::PARTS as usize
+        || are_many_variables(plant.types.as_slice(), part, draft.ranges.len())
         || u64::from(draft.clauses) + u64::from(share_of(draft, part))
             > u64::from(limits::MODEL_CLAUSES)
         || is_long_name(&part.name)

@@ -1,14 +1,15 @@
 //! What names stand for, by their places in lists.
 #![tactic(auto)]
 
-ghost use Rattle.std.specs.Prelude.{◌≡◌};
-ghost use Rattle.std.specs.Option.{option_copied};
+ghost use Rattle.std.specs.Prelude.{◌≡◌, slice_get};
+ghost use Rattle.std.specs.Option.{option_and_then, option_copied};
+ghost use Rattle.lv_model.specs.declared.plant.ComponentType.{ComponentType};
 ghost use Rattle.lv_checker.specs.Places.{placed, domain_place, type_place, value_place, mode_place, variable_numbered, variable_place, part_of_name, value_of_domain, mode_of_type, value_of_sort};
 
 use lv_base::{Name, ValId, VarId, find_name};
+use lv_directory::{NamedPlant, NamedType};
 use lv_formula::Sort;
-use lv_model::names::{find_domain, find_part, find_type, find_variable};
-use lv_model::{ComponentType, Domain, Part, Variable};
+use lv_model::{ComponentType, Domain, Part};
 
 /// A place in a list, or a number counted from one, as a number of 32 bits.
 pub fn placed(place: usize) -> Option<u32>
@@ -17,16 +18,16 @@ pub fn placed(place: usize) -> Option<u32>
     u32::try_from(place).ok()
 }
 
-pub fn domain_place(domains: &[Domain], word: &[u8]) -> Option<u32>
-    ensures { result ≡ domain_place domains.now word.now }
+pub fn domain_place(plant: &NamedPlant, word: &[u8]) -> Option<u32>
+    ensures { result ≡ domain_place plant.now.domains word.now }
 {
-    placed(find_domain(domains, word)?)
+    placed(plant.find_domain(word)?)
 }
 
-pub fn type_place(types: &[ComponentType], word: &[u8]) -> Option<u32>
-    ensures { result ≡ type_place types.now word.now }
+pub fn type_place(plant: &NamedPlant, word: &[u8]) -> Option<u32>
+    ensures { result ≡ type_place plant.now.types word.now }
 {
-    placed(find_type(types, word)?)
+    placed(plant.find_type(word)?)
 }
 
 /// The value of this name among the names of a domain's values, or of a type's modes.
@@ -50,20 +51,32 @@ pub fn variable_numbered(number: usize) -> Option<VarId>
 }
 
 /// The variable of a type that a word names, counted from its mode.
-pub fn variable_place(variables: &[Variable], word: &[u8]) -> Option<usize>
-    ensures { result ≡ variable_place variables.now word.now }
+pub fn variable_place(of: &NamedType, word: &[u8]) -> Option<usize>
+    ensures { result ≡ variable_place of.now.variables word.now }
 {
     if word == b"mode".as_slice() {
         return Some(0);
     }
-    Some(find_variable(variables, word)? + 1)
+    Some(of.find_variable(word)? + 1)
+}
+
+/// The same of the type at this place.
+pub fn variable_of_kind(plant: &NamedPlant, kind: usize, word: &[u8]) -> Option<usize>
+    ensures { result ≡ option_and_then (λ (t : ComponentType). variable_place t.variables word.now) (slice_get plant.now.types kind) }
+{
+    if word == b"mode".as_slice() {
+        let _of = plant.as_plant().types.as_slice().get(kind)?;
+        return Some(0);
+    }
+    Some(plant.find_variable(kind, word)? + 1)
 }
 
 /// The part of this name.
-pub fn part_of_name<'a>(parts: &'a [Part], word: &[u8]) -> Option<&'a Part>
-    ensures { option_copied result ≡ part_of_name parts.now word.now }
+pub fn part_of_name<'a>(plant: &'a NamedPlant, word: &[u8]) -> Option<&'a Part>
+    ensures { option_copied result ≡ part_of_name plant.now.parts word.now }
 {
-    parts.get(find_part(parts, word)?)
+    let place = plant.find_part(word)?;
+    plant.as_plant().parts.as_slice().get(place)
 }
 
 /// The value of this name of the domain at this place.

@@ -8,9 +8,11 @@ ghost use Rattle.lv_checker.specs.Entries.{type_formula, system_formula};
 
 use crate::draft::{CheckFault, Draft};
 use crate::places::{
-    mode_place, part_of_name, value_of_domain, value_of_sort, variable_numbered, variable_place,
+    mode_place, part_of_name, value_of_domain, value_of_sort, variable_numbered, variable_of_kind,
+    variable_place,
 };
 use lv_base::{ValId, VarId};
+use lv_directory::{NamedPlant, NamedType};
 use lv_formula::range::is_same_sort;
 use lv_formula::{Condition, Path, Sort};
 use lv_model::{ComponentType, Domain, Part};
@@ -32,7 +34,7 @@ fn are_one_sort(left: Option<Sort>, right: Option<Sort>) -> bool
 #[derive(Clone, Copy)]
 struct TypeScope<'a> {
     domains: &'a [Domain],
-    lists: &'a ComponentType,
+    lists: &'a NamedType,
 }
 
 /// What the values of a type's variable are, counted from its mode.
@@ -66,24 +68,20 @@ impl<'a> Scope for TypeScope<'a> {
 
     fn variable(&self, path: &Path) -> Option<VarId> {
         match path {
-            Path::Own(word) => variable_numbered(variable_place(
-                self.lists.variables.as_slice(),
-                word.as_slice(),
-            )?),
+            Path::Own(word) => variable_numbered(variable_place(self.lists, word.as_slice())?),
             Path::OfPart(_, _) => None,
         }
     }
 
     fn value(&self, variable: VarId, name: &[u8]) -> Option<ValId> {
-        let sort = sort_in_type(self.lists, variable.0)?;
-        value_by_sort(self.domains, self.lists, sort, name)
+        let of = self.lists.as_type();
+        let sort = sort_in_type(of, variable.0)?;
+        value_by_sort(self.domains, of, sort, name)
     }
 
     fn same_domain(&self, left: VarId, right: VarId) -> bool {
-        are_one_sort(
-            sort_in_type(self.lists, left.0),
-            sort_in_type(self.lists, right.0),
-        )
+        let of = self.lists.as_type();
+        are_one_sort(sort_in_type(of, left.0), sort_in_type(of, right.0))
     }
 }
 
@@ -94,11 +92,10 @@ struct SystemScope<'a> {
 }
 
 /// The variable of the part that a word names.
-pub fn variable_of_part(types: &[ComponentType], word: &[u8], part: &Part) -> Option<VarId>
-    ensures { result ≡ variable_of_part types.now word.now part.now }
+pub fn variable_of_part(plant: &NamedPlant, word: &[u8], part: &Part) -> Option<VarId>
+    ensures { result ≡ variable_of_part plant.now.types word.now part.now }
 {
-    let of = types.get(part.kind as usize)?;
-    let place = variable_place(of.variables.as_slice(), word)?;
+    let place = variable_of_kind(plant, part.kind as usize, word)?;
     variable_numbered((part.first.0 as usize).saturating_add(place))
 }
 
@@ -108,8 +105,8 @@ fn variable_of_system(draft: &Draft, path: &Path) -> Option<VarId>
     match path {
         Path::Own(_) => None,
         Path::OfPart(part, word) => {
-            let part = part_of_name(draft.plant.parts.as_slice(), part.as_slice())?;
-            variable_of_part(draft.plant.types.as_slice(), word.as_slice(), part)
+            let part = part_of_name(&draft.plant, part.as_slice())?;
+            variable_of_part(&draft.plant, word.as_slice(), part)
         }
     }
 }
@@ -125,12 +122,8 @@ pub fn value_of_system(draft: &Draft, variable: VarId, word: &[u8]) -> Option<Va
     ensures { result ≡ value_of_system draft.now variable word.now }
 {
     let sort = sort_in_system(draft, variable.0)?;
-    value_of_sort(
-        draft.plant.domains.as_slice(),
-        draft.plant.types.as_slice(),
-        sort,
-        word,
-    )
+    let plant = draft.plant.as_plant();
+    value_of_sort(plant.domains.as_slice(), plant.types.as_slice(), sort, word)
 }
 
 impl<'a> Scope for SystemScope<'a> {
@@ -162,7 +155,7 @@ impl<'a> Scope for SystemScope<'a> {
 pub fn type_formula(
     alloc: Global,
     domains: &[Domain],
-    lists: &ComponentType,
+    lists: &NamedType,
     phrase: &Phrase,
 ) -> Result<Condition, CheckFault>
     ensures ok { IfOk result (λ f. type_formula domains.now lists.now phrase.now ≡ Ok f) }

@@ -7,27 +7,28 @@ ghost use Rattle.lv_checker.specs.Drafts.{begun, stay_in, stands_before, place_a
 
 use crate::draft::{Entry, TypeDraft};
 use lv_base::{Cost, Name, Seq, ValId, limits};
+use lv_directory::NamedType;
 use lv_formula::Condition;
 use lv_model::counts::variable_size;
-use lv_model::{ComponentType, Domain, ModeFormula, Move, MoveKind, Variable};
+use lv_model::{Domain, ModeFormula, Move, MoveKind, Variable};
 use std::alloc::{AllocError, Global};
 
 /// A type that has only its name. In its formulas the mode counts with as many values as a type may have modes.
 pub fn begun(alloc: Global, name: Name) -> Result<TypeDraft, AllocError>
     ensures { IfOk result (λ t. t ≡ begun name) }
 {
-    let lists = ComponentType {
-        name,
-        variables: Seq::new(alloc),
-        modes: Seq::new(alloc),
-        laws: Seq::new(alloc),
-        formulas: Seq::new(alloc),
-        moves: Seq::new(alloc),
-    };
+    let sizes = Seq::from_slice(alloc, &[limits::MODES])?;
     Ok(TypeDraft {
-        lists,
-        sizes: Seq::from_slice(alloc, &[limits::MODES])?,
+        lists: NamedType::new(alloc, name),
+        sizes,
     })
+}
+
+fn with_size(mut sizes: Seq<u32>, size: u32) -> Result<Seq<u32>, AllocError>
+    ensures { IfOk result (λ more. more ≡ sizes ++ size ∷ []) }
+{
+    sizes.push(size)?;
+    Ok(sizes)
 }
 
 /// The move that stays in a mode.
@@ -81,48 +82,33 @@ fn place_among(m: &Move, moves: &[Move]) -> usize
     }
 }
 
-/// Puts a move in its place.
-fn put_in_place(moves: &mut Vec<Move>, m: Move) -> Result<(), AllocError>
-    ensures { OnOk result (moves.new.items ≡ with_move_in_place m moves.old.items) }
-{
-    let place = place_among(&m, moves.as_slice());
-    moves.insert(place, m)?;
-    Ok(())
-}
-
-/// The moves with a new one in its place.
-fn with_move_in_place(moves: Seq<Move>, m: Move) -> Result<Seq<Move>, AllocError>
-    ensures { IfOk result (λ more. more ≡ with_move_in_place m moves) }
-{
-    let mut moves = moves.into_vec();
-    put_in_place(&mut moves, m)?;
-    Ok(Seq::from_vec(moves))
-}
-
 fn with_variable(
-    mut draft: TypeDraft,
+    draft: TypeDraft,
     domains: &[Domain],
     variable: Variable,
 ) -> Result<TypeDraft, AllocError>
     ensures { IfOk result (λ t. t ≡ with_variable domains.now draft variable) }
 {
-    draft.sizes.push(variable_size(domains, &variable))?;
-    draft.lists.variables.push(variable)?;
-    Ok(draft)
+    let sizes = with_size(draft.sizes, variable_size(domains, &variable))?;
+    Ok(TypeDraft {
+        lists: draft.lists.with_variable(variable)?,
+        sizes,
+    })
 }
 
-fn with_mode_name(mut lists: ComponentType, name: Name) -> Result<ComponentType, AllocError>
+fn with_mode_name(mut lists: NamedType, name: Name) -> Result<NamedType, AllocError>
     ensures { IfOk result (λ t. t ≡ record lists { modes = lists.modes ++ name ∷ [] }) }
 {
-    lists.modes.push(name)?;
+    lists.push_mode(name)?;
     Ok(lists)
 }
 
-fn with_lists_move(mut lists: ComponentType, m: Move) -> Result<ComponentType, AllocError>
+/// A type with a new move in its place.
+fn with_lists_move(lists: NamedType, m: Move) -> Result<NamedType, AllocError>
     ensures { IfOk result (λ t. t ≡ record lists { moves = with_move_in_place m lists.moves }) }
 {
-    lists.moves = with_move_in_place(lists.moves, m)?;
-    Ok(lists)
+    let place = place_among(&m, lists.as_type().moves.as_slice());
+    lists.with_move(place, m)
 }
 
 /// A mode with its stay.
@@ -139,14 +125,14 @@ fn with_mode(draft: TypeDraft, name: Name, mode: u32) -> Result<TypeDraft, Alloc
 fn with_type_law(mut draft: TypeDraft, law: Condition) -> Result<TypeDraft, AllocError>
     ensures { IfOk result (λ t. t ≡ with_type_law draft law) }
 {
-    draft.lists.laws.push(law)?;
+    draft.lists.push_law(law)?;
     Ok(draft)
 }
 
 fn with_mode_law(mut draft: TypeDraft, law: ModeFormula) -> Result<TypeDraft, AllocError>
     ensures { IfOk result (λ t. t ≡ with_mode_law draft law) }
 {
-    draft.lists.formulas.push(law)?;
+    draft.lists.push_formula(law)?;
     Ok(draft)
 }
 

@@ -7,19 +7,23 @@ use Rattle.lv_model.specs.declared.plant.ComponentType.{ComponentType}
 use Rattle.lv_model.specs.declared.plant.Variable.{Variable}
 use Rattle.lv_model.specs.declared.plant.Part.{Part}
 use Rattle.lv_model.specs.Names.{variable_named}
+use Rattle.lv_names.specs.Places.{first_places}
 use Rattle.lv_directory.specs.declared.directory.Directory.{Directory}
+use Rattle.lv_directory.specs.Priced.{priced}
 
-abbrev pub variable_names : List Variable → List (List ℕ)
-variable_names = map (λ (v : Variable). v.name)
+-- the first places of the names of a type's variables
+abbrev pub variable_places : List Variable → List (List ℕ × ℕ)
+variable_places variables = first_places (map (λ (v : Variable). v.name) variables)
 
--- the names of the plant's lists, in the order of the lists
+-- the first places of the names of the plant's lists, and what its prices are of
 abbrev pub names_of : Plant → Directory
 names_of plant =
     record {
-      domains = map (λ (d : Domain). d.name) plant.domains;
-      types = map (λ (t : ComponentType). t.name) plant.types;
-      parts = map (λ (p : Part). p.name) plant.parts;
-      variables = map (λ (t : ComponentType). variable_names t.variables) plant.types;
+      domains = first_places (map (λ (d : Domain). d.name) plant.domains);
+      types = first_places (map (λ (t : ComponentType). t.name) plant.types);
+      parts = first_places (map (λ (p : Part). p.name) plant.parts);
+      variables = map (λ (t : ComponentType). variable_places t.variables) plant.types;
+      prices = priced plant.prices;
     }
 
 -- the place of a name among the variables of the type at a place

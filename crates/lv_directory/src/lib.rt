@@ -3,7 +3,8 @@
 //!
 //! | file | what it holds |
 //! |---|---|
-//! | `directory` | `Directory`: a table of names for each list of a plant that has names |
+//! | `priced` | `PricedValues`: which values of which controls have a price |
+//! | `directory` | `Directory`: a table of names for each list of a plant that has names, and what is priced |
 //! | `named_type` | `NamedType`: a component type, its variables found by name |
 //! | `named_plant` | `NamedPlant`: a plant, its domains, types, parts and their variables found by name |
 #![tactic(auto)]
@@ -11,7 +12,9 @@
 pub mod directory;
 pub mod named_plant;
 pub mod named_type;
+pub mod priced;
 
 pub use directory::Directory;
 pub use named_plant::NamedPlant;
 pub use named_type::NamedType;
+pub use priced::PricedValues;

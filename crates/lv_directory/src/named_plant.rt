@@ -1,19 +1,21 @@
 //! A plant that is being put together, with its domains, types, parts and their variables found by name.
 #![tactic(auto)]
 
-ghost use Rattle.std.specs.Prelude.{◌≡◌, ◌<◌, ◌^◌, [], ◌∷◌, ◌++◌, None, IfOk, IfSome, OnOk, position};
+ghost use Rattle.std.specs.Prelude.{◌≡◌, ◌-◌, ◌<◌, ◌^◌, [], ◌∷◌, ◌++◌, IfOk, IfSome, OnOk, position};
+ghost use Rattle.std.specs.List.{list_any};
+ghost use Rattle.lv_model.specs.Prices.{is_price_of};
 ghost use Rattle.lv_model.specs.Names.{domain_named, type_named, part_named};
 ghost use Rattle.lv_directory.specs.Names.{variable_at};
 
 use crate::directory::Directory;
 use crate::named_type::NamedType;
-use lv_base::{Name, Seq};
+use lv_base::{Name, Seq, ValId, VarId};
 use lv_formula::Condition;
 use lv_model::{Domain, Part, Plant, Price};
 use std::alloc::{AllocError, Global};
 use std::marker::Model;
 
-/// A plant in none of whose lists two have one name, seen by contracts as the plant.
+/// A plant, seen by contracts as the plant.
 #[derive(Debug, Drop)]
 pub struct NamedPlant {
     plant: Plant,
@@ -66,33 +68,36 @@ impl NamedPlant {
         self.plant
     }
 
-    /// The place of the domain of this name. Takes no memory.
+    /// The place of the first domain of this name. Takes no memory.
     pub fn find_domain(&self, word: &[u8]) -> Option<usize>
         ensures { result ≡ position (domain_named word.now) self.now.domains }
     {
         self.names.domains.find(word)
     }
 
-    /// The place of the type of this name. Takes no memory.
+    /// The place of the first type of this name. Takes no memory.
     pub fn find_type(&self, word: &[u8]) -> Option<usize>
         ensures { result ≡ position (type_named word.now) self.now.types }
     {
         self.names.types.find(word)
     }
 
-    /// The place of the part of this name. Takes no memory.
+    /// The place of the first part of this name. Takes no memory.
     pub fn find_part(&self, word: &[u8]) -> Option<usize>
         ensures { result ≡ position (part_named word.now) self.now.parts }
     {
         self.names.parts.find(word)
     }
 
-    /// The place of the variable of this name among those of the type at a place, as a part has it. Takes no memory.
+    /// The place of the first variable of this name among those of the type at a place, as a part has it. Takes no memory.
     pub fn find_variable(&self, kind: usize, word: &[u8]) -> Option<usize>
         ensures place { result ≡ variable_at self.now.types kind word.now }
-        ensures within { IfSome result (λ n. n < 2 ^ 63) }
+        ensures within { IfSome result (λ n. n < 2 ^ 64 - 1) }
     {
-        self.names.variables.as_slice().get(kind)?.find(word)
+        let of = self.plant.types.as_slice().get(kind)?;
+        let _count = of.variables.len();
+        let places = self.names.variables.as_slice().get(kind)?;
+        places.find(word)
     }
 
     pub fn set_name(&mut self, name: Name)
@@ -101,23 +106,22 @@ impl NamedPlant {
         self.plant.name = name;
     }
 
-    /// The plant with one more domain, of a new name.
+    /// The plant with one more domain.
     pub fn with_domain(self, domain: Domain) -> Result<NamedPlant, AllocError>
-        requires { position (domain_named domain.name) self.domains ≡ None }
         ensures { IfOk result (λ p. p ≡ record self { domains = self.domains ++ domain ∷ [] }) }
     {
         let NamedPlant {
             mut plant,
             mut names,
         } = self;
-        names.domains.push(domain.name.as_slice())?;
+        let place = plant.domains.len();
+        names.domains.note(domain.name.as_slice(), place)?;
         plant.domains.push(domain)?;
         Ok(NamedPlant { plant, names })
     }
 
-    /// The plant with one more type, of a new name.
+    /// The plant with one more type.
     pub fn with_type(self, of: NamedType) -> Result<NamedPlant, AllocError>
-        requires { position (type_named of.name) self.types ≡ None }
         ensures { IfOk result (λ p. p ≡ record self { types = self.types ++ of ∷ [] }) }
     {
         let NamedPlant {
@@ -125,22 +129,23 @@ impl NamedPlant {
             mut names,
         } = self;
         let (lists, variables) = of.into_parts();
-        names.types.push(lists.name.as_slice())?;
+        let place = plant.types.len();
+        names.types.note(lists.name.as_slice(), place)?;
         names.variables.push(variables)?;
         plant.types.push(lists)?;
         Ok(NamedPlant { plant, names })
     }
 
-    /// The plant with one more part, of a new name.
+    /// The plant with one more part.
     pub fn with_part(self, part: Part) -> Result<NamedPlant, AllocError>
-        requires { position (part_named part.name) self.parts ≡ None }
         ensures { IfOk result (λ p. p ≡ record self { parts = self.parts ++ part ∷ [] }) }
     {
         let NamedPlant {
             mut plant,
             mut names,
         } = self;
-        names.parts.push(part.name.as_slice())?;
+        let place = plant.parts.len();
+        names.parts.note(part.name.as_slice(), place)?;
         plant.parts.push(part)?;
         Ok(NamedPlant { plant, names })
     }
@@ -151,9 +156,23 @@ impl NamedPlant {
         self.plant.laws.push(law)
     }
 
-    pub fn push_price(&mut self, price: Price) -> Result<(), AllocError>
-        ensures { OnOk result (self.new ≡ record self.old { prices = self.old.prices ++ price ∷ [] }) }
+    /// Whether this value of this control has a price. Takes no memory.
+    pub fn is_priced(&self, control: VarId, value: ValId) -> bool
+        ensures { result ≡ list_any (is_price_of control.0 value.0) self.now.prices }
     {
-        self.plant.prices.push(price)
+        self.names.prices.contains(control, value)
+    }
+
+    /// The plant with one more price.
+    pub fn with_price(self, price: Price) -> Result<NamedPlant, AllocError>
+        ensures { IfOk result (λ p. p ≡ record self { prices = self.prices ++ price ∷ [] }) }
+    {
+        let NamedPlant {
+            mut plant,
+            mut names,
+        } = self;
+        names.prices.insert(price.control, price.value)?;
+        plant.prices.push(price)?;
+        Ok(NamedPlant { plant, names })
     }
 }

@@ -1,28 +1,28 @@
 //! A component type that is being put together, with its variables found by name.
 #![tactic(auto)]
 
-ghost use Rattle.std.specs.Prelude.{◌≡◌, ◌<◌, ◌≤◌, ◌^◌, [], ◌∷◌, ◌++◌, None, IfOk, IfSome, OnOk, insert, length, position};
+ghost use Rattle.std.specs.Prelude.{◌≡◌, ◌-◌, ◌<◌, ◌≤◌, ◌^◌, [], ◌∷◌, ◌++◌, IfOk, IfSome, OnOk, insert, length, position};
 ghost use Rattle.lv_model.specs.Names.{variable_named};
-ghost use Rattle.lv_directory.specs.Names.{variable_names};
+ghost use Rattle.lv_directory.specs.Names.{variable_places};
 
 use lv_base::{Name, Seq};
 use lv_formula::Condition;
 use lv_model::{ComponentType, ModeFormula, Move, Variable};
-use lv_names::NameTable;
+use lv_names::FirstPlaces;
 use std::alloc::{AllocError, Global};
 use std::marker::Model;
 
-/// A component type no two of whose variables have one name, seen by contracts as the type.
+/// A component type, seen by contracts as the type.
 #[derive(Debug, Drop)]
 pub struct NamedType {
     lists: ComponentType,
-    variables: NameTable,
+    variables: FirstPlaces,
 }
 
 impl Model for NamedType {
     ghost use Rattle.std.specs.Prelude.{◌≡◌};
     ghost use Rattle.lv_model.specs.declared.plant.ComponentType.{ComponentType as Lists};
-    ghost use Rattle.lv_directory.specs.Names.{variable_names};
+    ghost use Rattle.lv_directory.specs.Names.{variable_places};
     ghost use Rattle.std.specs.Coded.{codes};
     ghost use Rattle.lv_formula.specs.contracts.Condition as condition;
 
@@ -32,7 +32,7 @@ impl Model for NamedType {
 
     ghost view = { λ t. t.lists };
 
-    ghost invariant = { λ t. t.variables ≡ variable_names t.lists.variables };
+    ghost invariant = { λ t. t.variables ≡ variable_places t.lists.variables };
 }
 
 impl NamedType {
@@ -49,7 +49,7 @@ impl NamedType {
                 formulas: Seq::new(alloc),
                 moves: Seq::new(alloc),
             },
-            variables: NameTable::new(alloc),
+            variables: FirstPlaces::new(alloc),
         }
     }
 
@@ -59,29 +59,30 @@ impl NamedType {
         &self.lists
     }
 
-    /// The type, and the table of its variables' names.
-    pub fn into_parts(self) -> (ComponentType, NameTable)
+    /// The type, and the first places of its variables' names.
+    pub fn into_parts(self) -> (ComponentType, FirstPlaces)
         ensures lists { result.0 ≡ self }
-        ensures names { result.1 ≡ variable_names self.variables }
+        ensures names { result.1 ≡ variable_places self.variables }
     {
         (self.lists, self.variables)
     }
 
-    /// The place of the variable of this name. Takes no memory.
+    /// The place of the first variable of this name. Takes no memory.
     pub fn find_variable(&self, word: &[u8]) -> Option<usize>
         ensures place { result ≡ position (variable_named word.now) self.now.variables }
-        ensures within { IfSome result (λ n. n < 2 ^ 63) }
+        ensures within { IfSome result (λ n. n < 2 ^ 64 - 1) }
     {
+        let _count = self.lists.variables.len();
         self.variables.find(word)
     }
 
-    /// The type with one more variable, of a new name.
+    /// The type with one more variable.
     pub fn with_variable(self, variable: Variable) -> Result<NamedType, AllocError>
-        requires { position (variable_named variable.name) self.variables ≡ None }
         ensures { IfOk result (λ t. t ≡ record self { variables = self.variables ++ variable ∷ [] }) }
     {
         let (mut lists, mut variables) = self.into_parts();
-        variables.push(variable.name.as_slice())?;
+        let place = lists.variables.len();
+        variables.note(variable.name.as_slice(), place)?;
         lists.variables.push(variable)?;
         Ok(NamedType { lists, variables })
     }

@@ -1,55 +1,25 @@
--- A list of keys, seen through what each of them holds.
-use Rattle.std.proofs.Common.{◌≡◌, ◌+◌, ℕ, suc, Bool, true, false, cond, not, ◌||◌, nat_lt, List, [], ◌∷◌, ◌++◌, map, length, position, None, Some, refl, sym, ap, ap₂, ◌∙◌, if◌then◌else◌, arith}
-use Rattle.std.proofs.lemmas.List.{length-map, map-append}
-use Rattle.std.specs.List.{position_or_len, list_any, IsDistinct, AllByRecursion}
-use Rattle.indexmap.specs.IndexSet.{insert_key}
+-- A map's entries, seen through what their keys hold.
+use Rattle.std.proofs.Common.{◌≡◌, ℕ, Bool, true, false, cond, List, [], ◌∷◌, ◌++◌, map, Option, None, Some, is_some, refl, sym, ap, ap₂, ◌∙◌, if◌then◌else◌}
+use Rattle.std.proofs.lemmas.List.{map-append}
+use Rattle.std.specs.Map.{lookup}
+use Rattle.indexmap.specs.IndexMap.{insert_entry}
+use Rattle.indexmap.proofs.MapLemmas.{absent_from_lookup, insert_entry-absent}
 
--- what isn't at any place isn't there
-module _ {K : Type 0} (p : K → Bool) where
-  found : (ks : List K) → list_any p ks ≡ true → nat_lt (position_or_len p ks) (length ks) ≡ true
-  found [] h = absurd (cc)
-  found (k ∷ ks) h = by (p k) (found ks) h
-    where
-      by : (b : Bool) → (list_any p ks ≡ true → nat_lt (position_or_len p ks) (length ks) ≡ true) → b || list_any p ks ≡ true
-          → nat_lt (cond (not b) (1 + position_or_len p ks) 0) (suc (length ks)) ≡ true
-      by true rest h = grind arith
-      by false rest h = let below = rest h in grind arith
+nothing : {X : Type 0} (o : Option X) → is_some o ≡ false → o ≡ None
+nothing None h = refl
+nothing (Some x) h = absurd (cc)
 
-  absent : (ks : List K) → position p ks ≡ None → list_any p ks ≡ false
-  absent ks nowhere = by (list_any p ks) refl
-    where
-      placed : (b : Bool) (n : ℕ) → b ≡ true → cond b (Some n) None ≡ None → true ≡ false
-      placed true n b e = absurd (cc)
-      placed false n b e = sym b
+module _ {K V X : Type 0} (f : K → V) where
+  pub lookup-seen : (q : K → Bool) (p : V → Bool) → ((k : K) → q k ≡ p (f k)) → (es : List (K × X)) → lookup q es ≡ lookup p (map (λ e. (f e.0, e.1)) es)
+  lookup-seen q p same [] = refl
+  lookup-seen q p same (e ∷ es) = ap₂ (λ (b : Bool) (o : Option X). cond b (Some e.1) o) (same e.0) (lookup-seen q p same es)
 
-      by : (b : Bool) → list_any p ks ≡ b → b ≡ false
-      by false here = refl
-      by true here = placed (nat_lt (position_or_len p ks) (length ks)) (position_or_len p ks) (found ks here) nowhere
-
-module _ {K V : Type 0} (f : K → V) where
-  module _ (q : K → Bool) (p : V → Bool) (same : (k : K) → q k ≡ p (f k)) where
-    position_or_len-map : (ks : List K) → position_or_len q ks ≡ position_or_len p (map f ks)
-    position_or_len-map [] = refl
-    position_or_len-map (k ∷ ks) = rw (same k, position_or_len-map ks) refl
-
-    pub position-map : (ks : List K) → position q ks ≡ position p (map f ks)
-    position-map ks = rw (position_or_len-map ks, length-map ks f) refl
-
-    -- a key that is new goes last
-    pub pushed : (eq : K → K → Bool) (k : K) (v : V) (old new : List K) (seen : List V) → ((x : K) → eq k x ≡ q x) → f k ≡ v → map f old ≡ seen → new ≡ insert_key eq old k → position p seen ≡ None → map f new ≡ seen ++ v ∷ []
-    pushed eq k v old new seen test holds view inserted nowhere =
-        let new_key : list_any q old ≡ false = absent q old (position-map old ∙ ap (position p) view ∙ nowhere) in
-        ap (map f) (inserted ∙ ap (λ b. if b then old else old ++ k ∷ []) (any_same eq k test old ∙ new_key)) ∙ map-append f old (k ∷ []) ∙ ap₂ (λ (vs : List V) (w : V). vs ++ w ∷ []) view holds
-      where
-        any_same : (eq : K → K → Bool) (k : K) → ((x : K) → eq k x ≡ q x) → (ks : List K) → list_any (eq k) ks ≡ list_any q ks
-        any_same eq k test [] = refl
-        any_same eq k test (x ∷ xs) = ap₂ (λ (b c : Bool). b || c) (test x) (any_same eq k test xs)
-
-  AllByRecursion-map : (P : V → Type 0) (ks : List K) → AllByRecursion (λ k. P (f k)) ks → AllByRecursion P (map f ks)
-  AllByRecursion-map P [] h = h
-  AllByRecursion-map P (k ∷ ks) h = (h.0, AllByRecursion-map P ks h.1)
-
-  pub IsDistinct-map : (eq : V → V → Bool) (ks : List K) → IsDistinct (λ x y. eq (f x) (f y)) ks → IsDistinct eq (map f ks)
-  unfolding IsDistinct
-  IsDistinct-map eq [] h = h
-  IsDistinct-map eq (k ∷ ks) h = (AllByRecursion-map (λ v. eq (f k) v ≡ false) ks h.0, IsDistinct-map eq ks h.1)
+  -- a key that is new goes last
+  pub inserted : (eq : K → K → Bool) (p : V → Bool) (k : K) (v : V) (x : X) (old new : List (K × X)) (table : List (V × X))
+      → ((j : K) → eq k j ≡ p (f j)) → f k ≡ v → map (λ e. (f e.0, e.1)) old ≡ table → new ≡ insert_entry eq old k x → is_some (lookup p table) ≡ false
+      → map (λ e. (f e.0, e.1)) new ≡ table ++ (v, x) ∷ []
+  inserted eq p k v x old new table test holds view is absent =
+      let none : lookup (eq k) old ≡ None = lookup-seen (eq k) p test old ∙ ap (lookup p) view ∙ nothing (lookup p table) absent in
+      ap (map (λ e. (f e.0, e.1))) (is ∙ insert_entry-absent eq k x old (absent_from_lookup (eq k) old none))
+      ∙ map-append (λ e. (f e.0, e.1)) old ((k, x) ∷ [])
+      ∙ ap₂ (λ (es : List (V × X)) (w : V). es ++ (w, x) ∷ []) view holds

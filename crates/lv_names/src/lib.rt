@@ -1,91 +1,65 @@
-//! A table of distinct names, for texts with many of them: a name's place is found in a time that doesn't grow with the
-//! table.
+//! The first places of names, for texts with many of them: a name's place is found in a time that doesn't grow with how
+//! many names there are.
 //!
 //! | call | answer |
 //! |---|---|
-//! | `NameTable::new` | a table without names |
-//! | `push` | adds a name behind the others |
-//! | `find`, `contains` | the place of a name; whether it is there |
-//! | `get`, `len` | the name at a place; how many names there are |
+//! | `FirstPlaces::new` | no names |
+//! | `note` | notes the place of a name, unless it has one |
+//! | `find` | the place of a name |
 #![tactic(auto)]
 
-ghost use Rattle.std.specs.Prelude.{◌≡◌, ◌<◌, ◌^◌, [], ◌∷◌, ◌++◌, None, length, position, is_some, nat_eq, slice_get, IfSome, OnOk, OnErr};
-ghost use Rattle.std.specs.Option.{option_copied};
-ghost use Rattle.std.specs.List.{IsDistinct};
-ghost use Rattle.std.specs.Cmp.Lexicographic.{pointwise};
-ghost use Rattle.lv_base.specs.Names.{is_named};
+ghost use Rattle.std.specs.Prelude.{◌≡◌, [], OnOk, OnErr};
+ghost use Rattle.lv_names.specs.Places.{place_of, noted};
 
-use indexmap::IndexSet;
+use indexmap::IndexMap;
 use std::alloc::{AllocError, Global};
 use std::marker::Model;
 
-/// Distinct names by number: 0 for the one that came first. Contracts see the list of them.
+/// Names with the place at which each was noted first. Contracts see the list of them, in the order in which they were
+/// noted.
 #[derive(Debug, Drop)]
-pub struct NameTable {
+pub struct FirstPlaces {
     alloc: Global,
-    names: IndexSet<Vec<u8>>,
+    places: IndexMap<Vec<u8>, usize>,
 }
 
-impl Model for NameTable {
+impl Model for FirstPlaces {
     ghost use Rattle.std.specs.Prelude.{ℕ, List, map};
 
-    ghost Value = { List (List ℕ) };
+    ghost Value = { List (List ℕ × ℕ) };
 
-    ghost view = { λ t. map (λ name. name.items) t.names.keys };
+    ghost view = { λ t. map (λ e. (e.0.items, e.1)) t.places.entries };
 }
 
-impl NameTable {
-    /// A table without names. It takes its memory as it grows.
-    pub fn new(alloc: Global) -> NameTable
+impl FirstPlaces {
+    /// No names. It takes its memory as it grows.
+    pub fn new(alloc: Global) -> FirstPlaces
         ensures { result ≡ [] }
     {
-        NameTable {
+        FirstPlaces {
             alloc,
-            names: IndexSet::new(alloc),
+            places: IndexMap::new(alloc),
         }
     }
 
-    /// Adds a copy of a name, whose place is the number of those that came before. After want of memory the table is as
-    /// it was.
-    pub fn push(&mut self, name: &[u8]) -> Result<(), AllocError>
-        requires { position (is_named name.now) self.old ≡ None }
-        ensures ok { OnOk result (self.new ≡ self.old ++ name.now ∷ []) }
+    /// Notes that a name is at a place; a name that was noted before keeps the place that it has. After want of memory
+    /// nothing has changed.
+    pub fn note(&mut self, name: &[u8], place: usize) -> Result<(), AllocError>
+        ensures ok { OnOk result (self.new ≡ noted self.old name.now place) }
         ensures err { OnErr result (self.new ≡ self.old) }
     {
+        if self.find(name).is_some() {
+            return Ok(());
+        }
         let key = Vec::from_slice(self.alloc, name)?;
-        self.names.insert(key)?;
+        self.places.insert(key, place)?;
         Ok(())
     }
 
-    /// The place of a name, if it is there. Takes no memory.
+    /// The place of a name, if it was noted. Takes no memory.
     pub fn find(&self, name: &[u8]) -> Option<usize>
-        ensures place { result ≡ position (is_named name.now) self.now }
-        ensures within { IfSome result (λ place. place < 2 ^ 63) }
+        ensures { result ≡ place_of name.now self.now }
     {
-        let _count = self.names.len();
-        self.names.get_index_of(name)
-    }
-
-    /// Whether a name is there. Takes no memory.
-    pub fn contains(&self, name: &[u8]) -> bool
-        ensures { result ≡ is_some (position (is_named name.now) self.now) }
-    {
-        self.find(name).is_some()
-    }
-
-    /// The name at a place.
-    pub fn get(&self, place: usize) -> Option<&[u8]>
-        ensures { option_copied result ≡ slice_get self.now place }
-    {
-        let name = self.names.get_index(place)?;
-        Some(name.as_slice())
-    }
-
-    /// How many names there are. No two of them are equal.
-    pub fn len(&self) -> usize
-        ensures count { result ≡ length self.now }
-        ensures distinct { IsDistinct (pointwise nat_eq) self.now }
-    {
-        self.names.len()
+        self.places.get(name).copied()
     }
 }

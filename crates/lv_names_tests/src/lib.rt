@@ -1,4 +1,4 @@
-//! Tests of `lv_names`, of what no clause says: that names are kept with ample memory, and found.
+//! Tests of `lv_names`, of what no clause says: that names are noted with ample memory, and found.
 #![tactic(auto)]
 
 #[cfg(test)]

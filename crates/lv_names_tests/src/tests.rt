@@ -2,7 +2,7 @@
 
 ghost use Rattle.std.specs.Prelude.{◌<◌};
 
-use lv_names::NameTable;
+use lv_names::FirstPlaces;
 use std::test::Fail;
 
 /// A number as three digits.
@@ -18,21 +18,28 @@ fn digits(number: u16) -> [u8; 3]
 
 #[test]
 fn a_thousand_names_are_found_where_they_came(rt: HostRuntime) -> Result<(), Fail> {
-    let mut names = NameTable::new(rt.alloc());
+    let mut names = FirstPlaces::new(rt.alloc());
     for number in 0..1000u16 {
         let name = digits(number);
         assert!(rt; names.find(name.as_slice()).is_none());
-        names.push(name.as_slice())?;
+        names.note(name.as_slice(), number as usize)?;
     }
-    assert_eq!(rt; names.len(), 1000);
 
     for number in 0..1000u16 {
         let name = digits(number);
         assert_eq!(rt; names.find(name.as_slice()), Some(number as usize));
     }
-    assert!(rt; names.contains(b"999".as_slice()));
-    assert!(rt; !names.contains(b"1000".as_slice()));
-    assert_eq!(rt; names.get(999), Some(b"999".as_slice()));
-    assert_eq!(rt; names.get(1000), None);
+    assert_eq!(rt; names.find(b"1000".as_slice()), None);
+    Ok(())
+}
+
+#[test]
+fn a_name_keeps_its_first_place(rt: HostRuntime) -> Result<(), Fail> {
+    let mut names = FirstPlaces::new(rt.alloc());
+    names.note(b"valve".as_slice(), 3)?;
+    names.note(b"tank".as_slice(), 4)?;
+    names.note(b"valve".as_slice(), 5)?;
+    assert_eq!(rt; names.find(b"valve".as_slice()), Some(3));
+    assert_eq!(rt; names.find(b"tank".as_slice()), Some(4));
     Ok(())
 }

@@ -7,6 +7,6 @@ use Rattle.lv_directory.proofs.named_plant.NamedPlant.find_domain.Goals as goal
 
 pub returns : goal.returns
 returns c =
-    place_found (λ (x : Domain). x.name) c.args.word.now c.self.inside.names.domains c.self.inside.plant.domains c.args.self.now.domains c.find.result c.find.ensures.place
+    place_found (λ (x : Domain). x.name) c.args.word.now c.self.inside.names.domains c.self.inside.plant.domains c.args.self.now.domains c.find.result c.find.ensures
     (ap (λ (names : Directory). names.domains) c.self.invariant)
     (ap (λ (p : Plant). p.domains) c.self.view_is)

@@ -7,6 +7,6 @@ use Rattle.lv_directory.proofs.named_plant.NamedPlant.find_type.Goals as goal
 
 pub returns : goal.returns
 returns c =
-    place_found (λ (x : ComponentType). x.name) c.args.word.now c.self.inside.names.types c.self.inside.plant.types c.args.self.now.types c.find.result c.find.ensures.place
+    place_found (λ (x : ComponentType). x.name) c.args.word.now c.self.inside.names.types c.self.inside.plant.types c.args.self.now.types c.find.result c.find.ensures
     (ap (λ (names : Directory). names.types) c.self.invariant)
     (ap (λ (p : Plant). p.types) c.self.view_is)
