@@ -2,8 +2,10 @@ pub mod ClosureLemmas
 pub mod CountLemmas
 pub mod ClaimLemmas
 pub mod LawLemmas
+pub mod FindingLemmas
 pub mod CopyLemmas
 pub mod AssumeLemmas
 pub mod TellLemmas
 pub mod ReadingLemmas
 pub mod MadeLemmas
+pub mod HoldingLemmas

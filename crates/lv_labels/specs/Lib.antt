@@ -1,7 +1,10 @@
 pub mod Values
 pub mod Literals
 pub mod Labels
+pub mod Finding
+pub mod Example
 pub mod Claims
+pub mod Holding
 pub mod Modes
 pub mod Assuming
 pub mod Copying

@@ -9,7 +9,7 @@ ghost use Rattle.lv_model.specs.declared.plant.Plant.{Plant};
 ghost use Rattle.lv_steps.specs.System.{IsSystemOf};
 ghost use Rattle.lv_labels.specs.Values.{booleans_at, literal_at};
 ghost use Rattle.lv_labels.specs.Literals.{value_at, state_literals};
-ghost use Rattle.lv_labels.specs.Labels.{IsLabelling};
+ghost use Rattle.lv_labels.specs.Finding.{labelling};
 ghost use Rattle.lv_labels.specs.Claims.{Claims, IsClaiming};
 ghost use Rattle.lv_labels.specs.Modes.{are_values, modes_in};
 
@@ -82,7 +82,9 @@ impl FactLabels {
     /// Claims that a variable has a value. Takes no memory.
     pub fn claim(&mut self, moment: Moment, var: VarId, val: ValId)
         requires { val.0 < size_of (booleans_at self.old.values moment) var.0 }
-        ensures { (plant : Plant) (literals : List Lit) → length literals < 2 ^ 32 - 1 → IsClaiming plant literals self.old → IsClaiming plant (value_at plant moment var.0 val.0 ∷ literals) self.new }
+        ensures claiming { (plant : Plant) (literals : List Lit) → length literals < 2 ^ 32 - 1 → IsClaiming plant literals self.old → IsClaiming plant (value_at plant moment var.0 val.0 ∷ literals) self.new }
+        ensures values { self.new.values ≡ self.old.values }
+        ensures modes { self.new.modes ≡ self.old.modes }
     {
         let lit = self.values.literal(moment, var, val);
         add_claim(&mut self.ltms, &mut self.counts, lit);
@@ -91,7 +93,9 @@ impl FactLabels {
     /// Takes back one claim that a variable has a value. Takes no memory.
     pub fn release(&mut self, moment: Moment, var: VarId, val: ValId)
         requires { val.0 < size_of (booleans_at self.old.values moment) var.0 }
-        ensures { (plant : Plant) (literals : List Lit) → IsClaiming plant (value_at plant moment var.0 val.0 ∷ literals) self.old → IsClaiming plant literals self.new }
+        ensures claiming { (plant : Plant) (literals : List Lit) → IsClaiming plant (value_at plant moment var.0 val.0 ∷ literals) self.old → IsClaiming plant literals self.new }
+        ensures values { self.new.values ≡ self.old.values }
+        ensures modes { self.new.modes ≡ self.old.modes }
     {
         let lit = self.values.literal(moment, var, val);
         drop_claim(&mut self.ltms, &mut self.counts, lit);
@@ -102,7 +106,7 @@ impl FactLabels {
     pub fn tell(&mut self, alloc: Global, state: Option<&State>) -> Result<Labelling, AllocError>
         requires { IsTrue (are_values self.old.values.before self.old.modes (modes_in (option_copied state))) }
         ensures same { self.new ≡ self.old }
-        ensures told { (plant : Plant) (literals : List Lit) → IsClaiming plant literals self.old → IfOk result (IsLabelling plant (literals ++ state_literals plant (option_copied state.entry))) }
+        ensures found { (plant : Plant) (literals : List Lit) → IsClaiming plant literals self.old → IfOk result (λ told. told ≡ labelling plant (literals ++ state_literals plant (option_copied state.entry))) }
     {
         let lits = literals_of(
             alloc,

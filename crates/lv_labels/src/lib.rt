@@ -4,6 +4,7 @@
 //! | part | items |
 //! |---|---|
 //! | facts that come and go, and what is found | `FactLabels`, `Labelling` |
+//! | facts given anew with each question | `Labeller` |
 //! | the booleans of variables before a step and after it | `Values` |
 //! | its laws | `laws` |
 #![tactic(auto)]
@@ -12,6 +13,7 @@ mod assuming;
 mod claims;
 mod copying;
 pub mod fact_labels;
+pub mod labeller;
 pub mod labelling;
 pub mod laws;
 mod modes;
@@ -19,5 +21,6 @@ mod reading;
 pub mod values;
 
 pub use fact_labels::FactLabels;
+pub use labeller::Labeller;
 pub use labelling::Labelling;
 pub use values::Values;

@@ -19,8 +19,8 @@ drop_claim-requires-clause-claim c =
       positive = ap (λ (l : Lit). l.sign) c.literal-lit.ensures;
     }
 
-pub returns : goal.returns
-returns c =
+pub returns-clause-claiming : goal.returns-clause-claiming
+returns-clause-claiming c =
     λ plant literals claiming.
     let within : c.literal-lit.result.var.0 < length c.self.inside.counts.items =
     subst (λ (l : Lit). l.var.0 < length c.self.inside.counts.items) (sym c.literal-lit.ensures)

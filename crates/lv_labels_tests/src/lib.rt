@@ -1,0 +1,5 @@
+//! Tests of what propagation finds under facts that come and go.
+#![tactic(auto)]
+
+#[cfg(test)]
+mod valve;
