@@ -1,0 +1,51 @@
+//! Compiles models to clauses. Each of its words is one setting, with its own words behind spaces; what compiling takes is
+//! measured from outside, by bench/compile.sh.
+//!
+//! | setting | what is printed |
+//! |---|---|
+//! | `list FILE` | the clauses of the model in the file, one a line behind its number, literals as numbers from 1 on, with a minus where false |
+//! | `compile FILE ROUNDS` | the model compiled so often: how many booleans, clauses and literals it has |
+//! | `hold FILE COUNT` | how many systems of the model are held at once at the end |
+#![tactic(auto)]
+
+mod clauses;
+mod models;
+
+use clauses::{hold, list, tally_of};
+use lv_io::{HostShelf, Shelf};
+use std::alloc::{AllocError, Global};
+use std::{env, io};
+
+fn main(rt: HostRuntime) -> io::Result<()> {
+    let mut shelf = HostShelf::new(rt.alloc(), &rt);
+    for setting in env::args(&rt)?.skip(1) {
+        let text = answer(rt.alloc(), &mut shelf, setting.as_str())?;
+        print!(rt; "{text}")?;
+    }
+    Ok(())
+}
+
+/// What is printed for a setting.
+fn answer<F: Shelf>(alloc: Global, shelf: &mut F, setting: &str) -> Result<String, AllocError> {
+    let words: Vec<&str> = setting.split_whitespace().collect(alloc)?;
+    match words.as_slice() {
+        ["list", name] => {
+            let model = models::in_file(alloc, shelf, name);
+            list(alloc, &model)
+        }
+        ["compile", name, rounds] => {
+            let model = models::in_file(alloc, shelf, name);
+            tally_of(alloc, &model, number_of(rounds))
+        }
+        ["hold", name, count] => {
+            let model = models::in_file(alloc, shelf, name);
+            hold(alloc, &model, number_of(count))
+        }
+        _ => String::from_str(alloc, "no setting\n"),
+    }
+}
+
+/// The number that a word says; 0 where it says none.
+fn number_of(word: &str) -> u32 {
+    word.parse::<u32>().unwrap_or(0)
+}
