@@ -1,12 +1,15 @@
 -- What the solver's clauses and the assumptions say together: that there is a nominal step.
-use Rattle.std.proofs.Common.{◌≡◌, ◌<◌, ℕ, zero, suc, Bool, true, false, ◌&&◌, nat_lt, List, [], ◌∷◌, length, map, slice_index_or, refl, sym, subst, ap, ◌∙◌, arith}
+use Rattle.std.proofs.Common.{◌≡◌, ◌<◌, ℕ, zero, suc, Bool, true, false, ◌&&◌, nat_lt, List, [], ◌∷◌, ◌++◌, length, map, filter, slice_index_or, Option, Some, None, refl, sym, subst, ap, ◌∙◌, arith}
 use Rattle.std.proofs.lemmas.Bool.{and_parts, and_from, lt-ltb, ltb-true}
-use Rattle.std.proofs.lemmas.List.{length-map}
+use Rattle.std.specs.List.{list_all}
+use Rattle.std.proofs.lemmas.List.{length-map, append-nil}
 use Rattle.lv_base.specs.declared.ids.Lit.{Lit}
 use Rattle.lv_base.specs.declared.ids.ValId.{ValId}
 use Rattle.lv_base.specs.declared.ids.MoveId.{MoveId}
 use Rattle.lv_base.specs.declared.search.Pair.{Pair}
+use Rattle.lv_clauses.specs.Literals.{lit_holds}
 use Rattle.lv_clauses.specs.ClauseMap.{ClauseMap}
+use Rattle.lv_clauses.specs.Marks.{Marks, is_marked}
 use Rattle.lv_sat.specs.declared.answer.Answer.{Answer}
 use Rattle.lv_sat.specs.declared.answer.Answer.TheVariants.{Sat, Unsat}
 use Rattle.lv_sat.specs.Answers.{Answers, IsModel, IsRefutation}
@@ -19,7 +22,8 @@ use Rattle.lv_model.specs.Meaning.{is_step, is_nominal}
 use Rattle.lv_meaning.specs.declared.facts.Observation.{Observation}
 use Rattle.lv_meaning.specs.Facts.{meets}
 use Rattle.lv_meaning.specs.Possible.{value, move_number}
-use Rattle.lv_compile.specs.Laws.{IsEncodedStep}
+use Rattle.lv_compile.specs.Booleans.{booleans_now}
+use Rattle.lv_compile.specs.Laws.{Encode, IsEncodedStep}
 use Rattle.lv_compile.specs.Laws as compiled
 use Rattle.lv_laws.specs.Possible.{are_below}
 use Rattle.lv_steps.specs.Encoding.{truth_in, encoded}
@@ -29,7 +33,9 @@ use Rattle.lv_recovery.specs.Recovers.{has_modes, has_controls, some_nominal_ste
 use Rattle.lv_recovery.specs.Laws.{NominalStep}
 use Rattle.lv_recovery.proofs.NominalSteps.{StepFound, step_found, found_step}
 use Rattle.lv_reconf.specs.Narrowing.{Encodes, Asks}
-use Rattle.lv_reconf.specs.Assuming.{Assumes}
+use Rattle.lv_ident.specs.Refutation.{Refutes}
+use Rattle.lv_reconf.specs.Assuming.{Assumes, MarkedHold, marked_controls}
+use Rattle.lv_reconf.specs.Refuting.{RefutesSteps}
 
 abbrev val_number : ValId → ℕ
 val_number v = v.0
@@ -83,6 +89,40 @@ is_assignment ns xs h = record { whole = length-map xs value ∙ below_length ns
 is_full_choice : (ns xs : List ℕ) → are_below ns xs ≡ true → IsFullChoice ns (map move_number xs)
 is_full_choice ns xs h = record { whole = length-map xs move_number ∙ below_length ns xs h; in_range = move_in_range ns xs h }
 
+-- where no values satisfy the clauses and make literals true that hold of such steps, there is no such step
+module _ (plant : Plant) (present : List Observation) (ends : List ValId → Bool) (set : ClauseMap) (lits : List Lit) (s : State) (pairs : List Pair) (asks : Asks plant present ends set)
+    (hold : (values : List Bool) (a : List ValId) → Encode (truth_in values) (booleans_now plant) a → has_modes plant.parts s.modes a ≡ true → has_controls (controls plant) a pairs ≡ true
+    → list_all (lit_holds values) lits ≡ true) where
+  refuted_by : ((values : List Bool) → IsModel set lits values → ⊥) → some_nominal_step plant present s pairs ends ≡ false
+  refuted_by none = by (some_nominal_step plant present s pairs ends) refl
+    where
+      model : some_nominal_step plant present s pairs ends ≡ true → ⊥
+      model h =
+          let f : StepFound plant present s pairs ends = step_found plant present s pairs ends h in
+          let a : List ValId = map value f.step.before in
+          let b : List ValId = map value f.step.after in
+          let ms : List MoveId = map move_number f.step.moves in
+          let one : IsAssignment (sizes plant) a = is_assignment (sizes plant) f.step.before f.step.before_below in
+          let other : IsAssignment (sizes plant) b = is_assignment (sizes plant) f.step.after f.step.after_below in
+          let choice : IsFullChoice (move_counts plant) ms = is_full_choice (move_counts plant) f.step.moves f.step.moves_below in
+          let values : List Bool = encoded plant a b ms in
+          let code : Encodes plant values a b ms =
+          record { now = encodes_now plant a b ms one other choice; next = encodes_next plant a b ms one other choice; choice = encodes_moves plant a b ms one other choice }
+          in
+          none values
+          (record {
+            len = length-encoded plant a b ms one other choice ∙ sym asks.bools;
+            all_clauses =
+                asks.exact values a b ms code
+                ∙ and_from ((is_step plant a b ms && meets a present) && is_nominal plant ms) (ends b)
+                (and_from (is_step plant a b ms && meets a present) (is_nominal plant ms) (and_from (is_step plant a b ms) (meets a present) f.step.step f.step.observed) f.step.nominal) f.ends_so;
+            all_assumptions = hold values a code.now f.step.modes f.step.commanded;
+          })
+
+      by : (t : Bool) → some_nominal_step plant present s pairs ends ≡ t → t ≡ false
+      by true e = absurd (model e)
+      by false e = refl
+
 module _ (plant : Plant) (present : List Observation) (ends : List ValId → Bool) (set : ClauseMap) (lits : List Lit) (s : State) (pairs : List Pair)
     (asks : Asks plant present ends set) (assumes : Assumes plant [] lits (λ a. has_modes plant.parts s.modes a && has_controls (controls plant) a pairs)) where
   -- values that satisfy clauses and assumptions are a nominal step
@@ -119,34 +159,9 @@ module _ (plant : Plant) (present : List Observation) (ends : List ValId → Boo
 
   -- where there are none there is no such step
   refuted : ((values : List Bool) → IsModel set lits values → ⊥) → some_nominal_step plant present s pairs ends ≡ false
-  refuted none = by (some_nominal_step plant present s pairs ends) refl
-    where
-      model : some_nominal_step plant present s pairs ends ≡ true → ⊥
-      model h =
-          let f : StepFound plant present s pairs ends = step_found plant present s pairs ends h in
-          let a : List ValId = map value f.step.before in
-          let b : List ValId = map value f.step.after in
-          let ms : List MoveId = map move_number f.step.moves in
-          let one : IsAssignment (sizes plant) a = is_assignment (sizes plant) f.step.before f.step.before_below in
-          let other : IsAssignment (sizes plant) b = is_assignment (sizes plant) f.step.after f.step.after_below in
-          let choice : IsFullChoice (move_counts plant) ms = is_full_choice (move_counts plant) f.step.moves f.step.moves_below in
-          let values : List Bool = encoded plant a b ms in
-          let code : Encodes plant values a b ms =
-          record { now = encodes_now plant a b ms one other choice; next = encodes_next plant a b ms one other choice; choice = encodes_moves plant a b ms one other choice }
-          in
-          none values
-          (record {
-            len = length-encoded plant a b ms one other choice ∙ sym asks.bools;
-            all_clauses =
-                asks.exact values a b ms code
-                ∙ and_from ((is_step plant a b ms && meets a present) && is_nominal plant ms) (ends b)
-                (and_from (is_step plant a b ms && meets a present) (is_nominal plant ms) (and_from (is_step plant a b ms) (meets a present) f.step.step f.step.observed) f.step.nominal) f.ends_so;
-            all_assumptions = assumes.exact values a code.now ∙ and_from (has_modes plant.parts s.modes a) (has_controls (controls plant) a pairs) f.step.modes f.step.commanded;
-          })
-
-      by : (t : Bool) → some_nominal_step plant present s pairs ends ≡ t → t ≡ false
-      by true e = absurd (model e)
-      by false e = refl
+  refuted none =
+      refuted_by plant present ends set lits s pairs asks
+      (λ values a code modes commanded. assumes.exact values a code ∙ and_from (has_modes plant.parts s.modes a) (has_controls (controls plant) a pairs) modes commanded) none
 
   module _ (given : List Lit) (same : given ≡ lits) (answer : Answer) (told : Answers set given answer) where
     pub told_sat : (values : List Bool) → answer ≡ Sat values → true ≡ some_nominal_step plant present s pairs ends
@@ -156,3 +171,11 @@ module _ (plant : Plant) (present : List Observation) (ends : List ValId → Boo
     told_unsat core log is =
         let none : IsRefutation set given core log = subst (λ (x : Answer). Answers set given x) is told in
         sym (refuted (λ values m. none.none values (subst (λ (ls : List Lit). IsModel set ls values) (sym same) m)))
+
+  -- the same of a refutation that tells which of the literals it needed
+  pub told_core : MarkedHold plant s.modes pairs lits → (given assumed : List Lit) → given ≡ lits → assumed ≡ [] → (core : Option Marks) → Refutes set given assumed core → RefutesSteps plant present ends s pairs core
+  told_core hold given assumed same none None told =
+      model_is_step told.values (subst (λ (ls : List Lit). IsModel set ls told.values) ((λ i. same i ++ none i) ∙ append-nil lits) told.model)
+  told_core hold given assumed same none (Some marks) told =
+      refuted_by plant present ends set (filter (is_marked marks) lits) s (marked_controls plant marks pairs) asks (hold.each marks)
+      (λ values m. told values (subst (λ (ls : List Lit). IsModel set ls values) (sym ((λ i. filter (is_marked marks) (same i) ++ none i) ∙ append-nil (filter (is_marked marks) lits))) m))

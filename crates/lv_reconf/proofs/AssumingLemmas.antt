@@ -188,7 +188,7 @@ size_in_list f [] k d below = absurd (omega (arith, below))
 size_in_list f (c ∷ cs) zero d below = refl
 size_in_list f (c ∷ cs) (suc k) d below = size_in_list f cs k d (omega (arith, below))
 
-control_at : (cs : List VarId) (a : List ValId) (p : Pair) (d : VarId) → p.slot < length cs → has_control cs a p ≡ nat_eq (number_of a (get_or cs p.slot d).0) p.choice
+pub control_at : (cs : List VarId) (a : List ValId) (p : Pair) (d : VarId) → p.slot < length cs → has_control cs a p ≡ nat_eq (number_of a (get_or cs p.slot d).0) p.choice
 control_at cs a p d below = at cs p.slot below
   where
     at : (xs : List VarId) (k : ℕ) → k < length xs → option_map_or (λ (c : VarId). nat_eq (number_of a c.0) p.choice) (slice_get xs k) false ≡ nat_eq (number_of a (get_or xs k d).0) p.choice

@@ -17,18 +17,21 @@ use Rattle.lv_model.specs.Meaning.{is_step, is_nominal}
 use Rattle.lv_model.specs.WellFormed.{is_well_formed}
 use Rattle.lv_meaning.specs.declared.facts.Observation.{Observation}
 use Rattle.lv_meaning.specs.Facts.{meets}
-use Rattle.lv_compile.specs.Booleans.{bool_count}
+use Rattle.lv_compile.specs.Booleans.{Booleans, booleans_next, bool_count}
+use Rattle.lv_compile.specs.FormulaClauses.{formula_clauses, speaks_of}
+use Rattle.lv_compile.specs.Cleaning.{cleaned}
 use Rattle.lv_compile.specs.ModelClauses.{model_clauses}
 use Rattle.lv_compile.proofs.StepLemmas.{step_exact}
 use Rattle.lv_search.proofs.MemberLemmas.{one_test}
 use Rattle.lv_steps.specs.Encoding.{truth_in}
 use Rattle.lv_steps.specs.Numbering.{IsOver}
-use Rattle.lv_steps.specs.Goals.{goal_speaks, goal_clauses}
+use Rattle.lv_steps.specs.Goals.{goal_clauses}
 use Rattle.lv_steps.proofs.GoalLemmas.{goals_exact}
 use Rattle.lv_steps.specs.System.{SystemValue, IsSystemOf}
 use Rattle.lv_steps.proofs.NumberingLemmas.{numbered_hold, all_present_hold}
 use Rattle.lv_steps.proofs.SystemLemmas.{model_is_a_step}
 use Rattle.lv_recovery.specs.Recovers.{meets_goals}
+use Rattle.lv_reconf.specs.Compiling.{SayGoal}
 use Rattle.lv_reconf.specs.Narrowing.{Encodes, Adds, Narrows, NarrowsSoFar, Asks}
 use Rattle.lv_reconf.proofs.NarrowingLemmas.{narrows_by, adds_narrow}
 
@@ -105,20 +108,27 @@ all_over bools (c ∷ cs) h = let two = and_parts (is_clause bools c) (list_all 
 pub well_of : (given plant : Plant) → given ≡ plant → IsTrue (is_well_formed given) → is_well_formed plant ≡ true
 well_of given plant same well = subst (λ (p : Plant). is_well_formed p ≡ true) same well
 
-module _ (plant : Plant) (s : SystemValue) (is : IsSystemOf plant s) (goal : Tree) (fit : fits (plant_ranges plant) goal ≡ true) (tree : Tree) (same : tree ≡ goal) where
-  pub goal_is_spoken : IsTrue (goal_speaks s tree)
-  goal_is_spoken = subst (λ (t : Tree). goal_speaks s t ≡ true) (sym same) (goals_exact.speaks plant s is goal fit)
+-- a goal's clauses over the booleans after the step say what it says
+module _ (plant : Plant) (s : SystemValue) (is : IsSystemOf plant s) (after : Booleans) (next : after ≡ booleans_next plant)
+    (goal : Tree) (fit : fits (plant_ranges plant) goal ≡ true) (tree : Tree) (same : tree ≡ goal) where
+  of_system : after ≡ s.after
+  of_system = next ∙ sym is.after
 
-  module _ (sign : Bool) (cs : List (List Lit)) (are : cs ≡ goal_clauses s sign tree) where
-    of_goal : cs ≡ goal_clauses s sign goal
-    of_goal = are ∙ ap (goal_clauses s sign) same
+  pub goal_is_spoken : speaks_of after 0 tree ≡ true
+  goal_is_spoken = (λ i. speaks_of (of_system i) 0 (same i)) ∙ goals_exact.speaks plant s is goal fit
 
-    pub goal_over : (bools : ℕ) → bools ≡ bool_count plant → All (IsOver bools) cs
-    goal_over bools counted =
-        all_over bools cs
-        (ap (λ (n : ℕ). list_all (is_clause n) cs) counted ∙ ap (list_all (is_clause (bool_count plant))) of_goal ∙ goals_exact.clauses plant s is goal fit sign)
+  pub goal_is_said : (sign : Bool) (cs : List (List Lit)) → cs ≡ cleaned (formula_clauses after 0 sign tree) → SayGoal plant goal sign cs
+  goal_is_said sign cs are =
+      let of_goal : cs ≡ goal_clauses s sign goal = are ∙ (λ i. cleaned (formula_clauses (of_system i) 0 sign (same i))) in
+      record {
+        over = all_over (bool_count plant) cs (ap (list_all (is_clause (bool_count plant))) of_goal ∙ goals_exact.clauses plant s is goal fit sign);
+        exact = λ values b code. ap (list_all (clause_holds values)) of_goal ∙ goals_exact.exact plant s is (truth_in values) b code goal fit sign;
+      }
 
-    pub goal_narrows : (old new : ClauseMap) → Adds old new cs → Narrows plant old new (λ a b ms. same_truth (truth_of b 0 goal) sign)
-    goal_narrows old new adds =
-        adds_narrow plant old new cs (λ a b ms. same_truth (truth_of b 0 goal) sign) adds
-        (λ values a b ms code. ap (list_all (clause_holds values)) of_goal ∙ goals_exact.exact plant s is (truth_in values) b code.next goal fit sign)
+pub said_over : (plant : Plant) (goal : Tree) (sign : Bool) (cs : List (List Lit)) → SayGoal plant goal sign cs → (bools : ℕ) → bools ≡ bool_count plant → All (IsOver bools) cs
+said_over plant goal sign cs said bools counted = subst (λ (n : ℕ). All (IsOver n) cs) (sym counted) said.over
+
+pub said_narrows : (plant : Plant) (goal : Tree) (sign : Bool) (cs : List (List Lit)) → SayGoal plant goal sign cs → (old new : ClauseMap) → Adds old new cs
+    → Narrows plant old new (λ a b ms. same_truth (truth_of b 0 goal) sign)
+said_narrows plant goal sign cs said old new adds =
+    adds_narrow plant old new cs (λ a b ms. same_truth (truth_of b 0 goal) sign) adds (λ values a b ms code. said.exact values b code.next)

@@ -6,3 +6,7 @@ pub mod AskingLemmas
 pub mod GoalLemmas
 pub mod StateLemmas
 pub mod MissLemmas
+pub mod JudgeLemmas
+pub mod QueryLemmas
+pub mod MarkLemmas
+pub mod ReducingLemmas

@@ -1,7 +1,11 @@
 pub mod Commanding
 pub mod Slots
 pub mod Narrowing
+pub mod Compiling
 pub mod Assuming
 pub mod Trying
+pub mod Refuting
+pub mod Judging
 pub mod Lawful
+pub mod Query
 pub mod Laws

@@ -11,10 +11,13 @@ ghost use Rattle.lv_recovery.specs.Ranges.{modes_fit};
 ghost use Rattle.lv_recovery.specs.Recovers.{some_nominal_step};
 ghost use Rattle.lv_reconf.specs.Assuming.{pairs_fit};
 ghost use Rattle.lv_reconf.specs.Narrowing.{Asks};
+ghost use Rattle.lv_reconf.specs.Refuting.{RefutesSteps};
 
 use super::assumptions::assumptions;
 use super::compiled::Compiled;
 use lv_base::{Pair, VarId};
+use lv_clauses::Marks;
+use lv_ident::refutation::refute;
 use lv_model::State;
 use lv_sat::{Answer, Solver};
 use std::alloc::{AllocError, Global};
@@ -42,4 +45,26 @@ pub fn has_step(
         Answer::Sat(_) => Ok(true),
         Answer::Unsat { .. } => Ok(false),
     }
+}
+
+/// The same question: nothing where there is such a step, else marks of literals, among them those of values with which
+/// there already is none.
+pub fn refuted(
+    alloc: Global,
+    compiled: &Compiled,
+    solver: &mut Solver,
+    vars: &[VarId],
+    state: &State,
+    pairs: &[Pair],
+) -> Result<Option<Marks>, AllocError>
+    requires bools { solver.old.bools ≡ bool_count compiled.now }
+    requires modes { modes_fit (plant_ranges compiled.now) compiled.now.parts state.now.modes ≡ true }
+    requires controls { vars.now ≡ controls compiled.now }
+    requires pairs { pairs_fit compiled.now pairs.now ≡ true }
+    ensures answer { (present : List Observation) (ends : List ValId → Bool) → Asks compiled.now present ends solver.old →
+        IfOk result (λ core. RefutesSteps compiled.now present ends state.now pairs.now core) }
+    ensures kept { solver.new ≡ solver.old }
+{
+    let lits = assumptions(alloc, compiled, vars, state.modes.as_slice(), pairs)?;
+    refute(alloc, solver, lits.as_slice(), &[])
 }

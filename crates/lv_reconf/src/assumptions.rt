@@ -4,14 +4,14 @@
 ghost use Rattle.std.specs.Prelude.{◌≡◌, ◌<◌, ℕ, [], true, nat_eq, ◌&&◌, length, slice_index_or, IfOk, IsTrue};
 ghost use Rattle.std.specs.List.{list_any};
 ghost use Rattle.lv_clauses.specs.Literals.{in_range, same_var};
-ghost use Rattle.lv_compile.specs.Booleans.{booleans_now, bool_count};
+ghost use Rattle.lv_compile.specs.Booleans.{booleans_now, bool_count, value_literal};
 ghost use Rattle.lv_compile.specs.FormulaClauses.{size_of};
 ghost use Rattle.lv_formula.specs.Tree.{number_of};
 ghost use Rattle.lv_model.specs.Lists.{controls};
 ghost use Rattle.lv_model.specs.Ranges.{plant_ranges};
 ghost use Rattle.lv_recovery.specs.Ranges.{modes_fit};
 ghost use Rattle.lv_recovery.specs.Recovers.{has_modes, has_control, has_controls};
-ghost use Rattle.lv_reconf.specs.Assuming.{AreAssumed, HasMore, Assumes, pair_fits, pairs_fit};
+ghost use Rattle.lv_reconf.specs.Assuming.{AddsControls, AddsOne, AreAssumed, Assumes, HasMore, MarkedHold, control_literal, pair_fits, pairs_fit};
 
 use super::compiled::Compiled;
 use lv_base::{Lit, Pair, ValId, VarId};
@@ -27,7 +27,8 @@ fn has_boolean(lits: &[Lit], lit: Lit) -> bool
 /// Assumes a positive literal, if it isn't assumed yet.
 fn assume(lits: &mut Vec<Lit>, lit: Lit) -> Result<(), AllocError>
     requires { lit.sign ≡ true }
-    ensures { (bools : ℕ) → AreAssumed bools lits.old.items → in_range bools lit ≡ true → IfOk result (λ _. HasMore bools lits.old.items lits.new.items lit) }
+    ensures adds { IfOk result (λ _. AddsOne lits.old.items lits.new.items lit) }
+    ensures says { (bools : ℕ) → AreAssumed bools lits.old.items → in_range bools lit ≡ true → IfOk result (λ _. HasMore bools lits.old.items lits.new.items lit) }
 {
     if has_boolean(lits.as_slice(), lit) {
         return Ok(());
@@ -45,7 +46,8 @@ fn assume_value(
 ) -> Result<(), AllocError>
     requires assumed { AreAssumed (bool_count compiled.now) lits.old.items }
     requires there { val.0 < size_of (booleans_now compiled.now) var.0 }
-    ensures { IfOk result (λ _. Assumes compiled.now lits.old.items lits.new.items (λ a. nat_eq (number_of a var.0) val.0)) }
+    ensures adds { IfOk result (λ _. AddsOne lits.old.items lits.new.items (value_literal (booleans_now compiled.now) var.0 val.0 true)) }
+    ensures says { IfOk result (λ _. Assumes compiled.now lits.old.items lits.new.items (λ a. nat_eq (number_of a var.0) val.0)) }
 {
     assume(lits, compiled.has_value(var, val))
 }
@@ -64,6 +66,16 @@ fn assume_modes(compiled: &Compiled, lits: &mut Vec<Lit>, modes: &[ValId]) -> Re
     Ok(())
 }
 
+/// The literal that the control at the pair's slot has its value.
+pub fn control_literal(compiled: &Compiled, vars: &[VarId], pair: Pair) -> Lit
+    requires controls { vars.now ≡ controls compiled.now }
+    requires fits { pair_fits compiled.now pair ≡ true }
+    requires slot { pair.slot < length vars.now }
+    ensures { result ≡ control_literal compiled.now pair }
+{
+    compiled.has_value(vars[pair.slot as usize], ValId(pair.choice))
+}
+
 /// Assumes that the control at the pair's slot has its value.
 fn assume_control(
     compiled: &Compiled,
@@ -75,7 +87,8 @@ fn assume_control(
     requires controls { vars.now ≡ controls compiled.now }
     requires fits { pair_fits compiled.now pair ≡ true }
     requires slot { pair.slot < length vars.now }
-    ensures { IfOk result (λ _. Assumes compiled.now lits.old.items lits.new.items (λ a. has_control (controls compiled.now) a pair)) }
+    ensures adds { IfOk result (λ _. AddsOne lits.old.items lits.new.items (control_literal compiled.now pair)) }
+    ensures says { IfOk result (λ _. Assumes compiled.now lits.old.items lits.new.items (λ a. has_control (controls compiled.now) a pair)) }
 {
     assume_value(compiled, lits, vars[pair.slot as usize], ValId(pair.choice))
 }
@@ -90,7 +103,8 @@ fn assume_controls(
     requires assumed { AreAssumed (bool_count compiled.now) lits.old.items }
     requires controls { vars.now ≡ controls compiled.now }
     requires fit { pairs_fit compiled.now pairs.now ≡ true }
-    ensures { IfOk result (λ _. Assumes compiled.now lits.old.items lits.new.items (λ a. has_controls (controls compiled.now) a pairs.now)) }
+    ensures adds { IfOk result (λ _. AddsControls compiled.now lits.old.items lits.new.items pairs.now) }
+    ensures says { IfOk result (λ _. Assumes compiled.now lits.old.items lits.new.items (λ a. has_controls (controls compiled.now) a pairs.now)) }
 {
     for pair in pairs {
         assume_control(compiled, lits, vars, *pair)?;
@@ -109,7 +123,8 @@ pub fn assumptions(
     requires fit { modes_fit (plant_ranges compiled.now) compiled.now.parts modes.now ≡ true }
     requires controls { vars.now ≡ controls compiled.now }
     requires pairs { pairs_fit compiled.now pairs.now ≡ true }
-    ensures { IfOk result (λ lits. Assumes compiled.now [] lits.items (λ a. has_modes compiled.now.parts modes.now a && has_controls (controls compiled.now) a pairs.now)) }
+    ensures marked { IfOk result (λ lits. MarkedHold compiled.now modes.now pairs.now lits.items) }
+    ensures says { IfOk result (λ lits. Assumes compiled.now [] lits.items (λ a. has_modes compiled.now.parts modes.now a && has_controls (controls compiled.now) a pairs.now)) }
 {
     let mut lits = Vec::new(alloc);
     assume_modes(compiled, &mut lits, modes)?;

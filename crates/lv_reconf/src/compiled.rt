@@ -1,31 +1,40 @@
-//! A model with the system of its clauses, and the literals that a recovery asks for.
+//! What a recovery keeps of a model and its system: the literals that it asks for, and the clauses of goals.
 #![tactic(auto)]
 
-ghost use Rattle.std.specs.Prelude.{◌≡◌, ◌<◌, true, false, slice_index_or};
+ghost use Rattle.std.specs.Prelude.{◌≡◌, ◌<◌, true, false, IfOk, slice_index_or};
 ghost use Rattle.lv_compile.specs.Booleans.{value_literal, booleans_now};
 ghost use Rattle.lv_compile.specs.FormulaClauses.{size_of};
 ghost use Rattle.lv_model.specs.Lists.{move_counts};
+ghost use Rattle.lv_recovery.specs.Ranges.{GoalFits};
 ghost use Rattle.lv_steps.specs.Choices.{choice_literal};
-ghost use Rattle.lv_reconf.specs.Narrowing.{choices_of_plant};
 ghost use Rattle.lv_steps.specs.System.{IsSystemOf};
+ghost use Rattle.lv_reconf.specs.Compiling.{SayGoal};
+ghost use Rattle.lv_reconf.specs.Narrowing.{choices_of_plant};
 
-use lv_base::{Lit, MoveId, PartId, ValId, VarId};
+use lv_base::{Lit, MoveId, PartId, Seq, ValId, VarId};
+use lv_compile::cleaning::cleaned;
+use lv_compile::formula::formula_clauses;
+use lv_compile::value_bools::ValueBools;
+use lv_formula::Condition;
 use lv_model::Model;
-use lv_steps::{Moment, StepSystem};
+use lv_steps::{ChoiceBools, Moment, StepSystem};
+use std::alloc::{AllocError, Global};
 use std::marker;
 
-/// A model and the system of its clauses. Contracts see the plant.
+/// A model and the numbering of the booleans of its system. Contracts see the plant.
 #[derive(Drop)]
 pub struct Compiled<'a> {
     model: &'a Model,
-    system: &'a StepSystem,
+    before: ValueBools,
+    after: ValueBools,
+    choices: ChoiceBools,
 }
 
 impl<'a> marker::Model for Compiled<'a> {
     ghost use Rattle.lv_model.specs.declared.plant.Plant.{Plant};
-    ghost use Rattle.lv_steps.specs.System.{IsSystemOf};
     ghost use Rattle.std.specs.Coded.{codes};
     ghost use Rattle.lv_formula.specs.contracts.Condition as condition;
+    ghost use Rattle.lv_reconf.specs.Compiling.{IsCompiled};
 
     ghost Value = { Plant };
 
@@ -33,15 +42,25 @@ impl<'a> marker::Model for Compiled<'a> {
 
     ghost view = { λ c. c.model.now };
 
-    ghost invariant = { λ c. IsSystemOf c.model.now c.system.now };
+    ghost invariant = { λ c. IsCompiled c.model.now c.before c.after c.choices };
 }
 
 impl<'a> Compiled<'a> {
-    pub fn new(model: &'a Model, system: &'a StepSystem) -> Compiled<'a>
+    /// Of the model's own system, of which it keeps a copy of the numbering.
+    pub fn new(
+        alloc: Global,
+        model: &'a Model,
+        system: &StepSystem,
+    ) -> Result<Compiled<'a>, AllocError>
         requires { IsSystemOf model.now system.now }
-        ensures { result ≡ model.now }
+        ensures { IfOk result (λ c. c ≡ model.now) }
     {
-        Compiled { model, system }
+        Ok(Compiled {
+            model,
+            before: system.bools_at(Moment::Now).copied(alloc)?,
+            after: system.bools_at(Moment::Next).copied(alloc)?,
+            choices: system.choices().copied(alloc)?,
+        })
     }
 
     pub fn model(&self) -> &'a Model
@@ -50,18 +69,12 @@ impl<'a> Compiled<'a> {
         self.model
     }
 
-    pub fn system(&self) -> &'a StepSystem
-        ensures { IsSystemOf self.now result.now }
-    {
-        self.system
-    }
-
     /// The literal that a variable has a value before the step.
     pub fn has_value(&self, var: VarId, val: ValId) -> Lit
         requires { val.0 < size_of (booleans_now self.now) var.0 }
         ensures { result ≡ value_literal (booleans_now self.now) var.0 val.0 true }
     {
-        self.system.lit_of(Moment::Now, var, val)
+        self.before.literal(var.0 as usize, val.0, true)
     }
 
     /// The literal that a part doesn't make a move.
@@ -69,6 +82,20 @@ impl<'a> Compiled<'a> {
         requires { mv.0 < slice_index_or (move_counts self.now) part.0 0 }
         ensures { result ≡ choice_literal (choices_of_plant self.now) part.0 mv.0 false }
     {
-        self.system.choices().literal(part, mv, false)
+        self.choices.literal(part, mv, false)
+    }
+
+    /// Clauses that say that a goal is true after the step, or, in the other sign, that it is false.
+    pub fn goal_clauses(
+        &self,
+        alloc: Global,
+        goal: &Condition,
+        sign: bool,
+    ) -> Result<Vec<Seq<Lit>>, AllocError>
+        requires { GoalFits self.now goal.now }
+        ensures { IfOk result (λ out. SayGoal self.now goal.now sign out.items) }
+    {
+        let raw = formula_clauses(alloc, &self.after, 0, goal.formula(), sign)?;
+        cleaned(alloc, raw.as_slice())
     }
 }

@@ -9,6 +9,7 @@ ghost use Rattle.lv_formula.specs.Tree.{truth_of};
 ghost use Rattle.lv_meaning.specs.declared.facts.Observation.{Observation};
 ghost use Rattle.lv_recovery.specs.Ranges.{ObservationFits, GoalFits};
 ghost use Rattle.lv_recovery.specs.Recovers.{meets_goals};
+ghost use Rattle.lv_steps.specs.System.{IsSystemOf};
 ghost use Rattle.lv_reconf.specs.Narrowing.{Narrows, Asks};
 
 use super::clauses::{add_all, exclude_faults, observe};
@@ -16,19 +17,22 @@ use super::compiled::Compiled;
 use lv_formula::Condition;
 use lv_meaning::Observation;
 use lv_sat::Solver;
+use lv_steps::StepSystem;
 use std::alloc::{AllocError, Global};
 
 /// Nominal steps that meet the observations, whatever they end with.
 pub fn plain_solver(
     alloc: Global,
     compiled: &Compiled,
+    system: &StepSystem,
     present: &[Observation],
 ) -> Result<Solver, AllocError>
-    requires { All (ObservationFits compiled.now) present.now }
+    requires system { IsSystemOf compiled.now system.now }
+    requires fit { All (ObservationFits compiled.now) present.now }
     ensures { IfOk result (λ solver. Asks compiled.now present.now (λ b. true) solver) }
 {
     let _plant = compiled.model().plant();
-    let mut solver = Solver::new(alloc, compiled.system().clauses())?;
+    let mut solver = Solver::new(alloc, system.clauses())?;
     observe(compiled, &mut solver, present)?;
     exclude_faults(compiled, &mut solver)?;
     Ok(solver)
@@ -46,7 +50,7 @@ fn ask_goal(
     requires fits { GoalFits compiled.now goal.now }
     ensures { IfOk result (λ _. Narrows compiled.now solver.old solver.new (λ a b ms. same_truth (truth_of b 0 goal.now) sign)) }
 {
-    let clauses = compiled.system().goal_clauses(alloc, goal.formula(), sign)?;
+    let clauses = compiled.goal_clauses(alloc, goal, sign)?;
     add_all(solver, clauses.as_slice())
 }
 

@@ -1,14 +1,18 @@
-//! Reconfiguration: which command set takes the plant to its goals, found by a best-first search.
+//! Reconfiguration: which command set takes the plant to its goals, found by a best-first search. A query searches the
+//! command sets of a model, the cheapest first; its trial asks solvers about nominal steps, so no assignment is ever tried.
+//! It is proved to come to the walk of a recovery along all command sets.
 //!
 //! | file | what it holds |
 //! |---|---|
-//! | `commands` | the command sets as a grid and a zone |
-//! | `compiled` | a model with the system of its clauses |
+//! | `query` | `recover` and `Query`: the search and what its trials rest on |
+//! | `trial`, `judged` | whether a command set recovers, and the reason of one that doesn't |
+//! | `reaching` | from which tracked states values reach the goals, and what of them is needed where they don't |
+//! | `asking`, `states` | whether there is such a step as a solver's clauses ask for, from one state or from several |
+//! | `setting` | what the questions of a recovery rest on |
+//! | `compiled` | a model with the numbering of its system, and the clauses of goals |
 //! | `clauses`, `goals` | solvers for nominal steps, those that meet all goals, those that miss one |
 //! | `assumptions` | a state and values of controls as literals |
-//! | `asking`, `states` | whether there is such a step, from one state or from several |
-//! | `reaching` | from which tracked states values reach the goals, and what of them is needed where they don't |
-//! | `trial` | from which tracked states they can miss a goal |
+//! | `commands` | the command sets as a grid and a zone |
 //! | `laws` | that the search's candidates are those of the definition |
 #![tactic(auto)]
 
@@ -18,7 +22,12 @@ mod clauses;
 pub mod commands;
 mod compiled;
 mod goals;
+mod judged;
 pub mod laws;
+pub mod query;
 mod reaching;
+mod setting;
 mod states;
-pub mod trial;
+mod trial;
+
+pub use query::{Query, recover};

@@ -3,92 +3,75 @@
 
 ghost use Rattle.std.specs.Prelude.{◌≡◌, ◌+◌, ◌<◌, ◌++◌, [], Bool, true, length, drop, IfOk};
 ghost use Rattle.std.specs.List.{prefix_len};
-ghost use Rattle.lv_model.specs.Lists.{controls};
 ghost use Rattle.lv_model.specs.declared.state.TrackedState.{TrackedState};
-ghost use Rattle.lv_recovery.specs.Ranges.{AimFits};
 ghost use Rattle.lv_recovery.specs.Recovers.{reaches};
 ghost use Rattle.lv_walk.specs.Reason.{reduced};
-ghost use Rattle.lv_reconf.specs.Assuming.{pairs_fit};
-ghost use Rattle.lv_reconf.specs.Narrowing.{Asks};
-ghost use Rattle.lv_reconf.specs.Trying.{looking_at, reaches_at};
+ghost use Rattle.lv_model.specs.Lists.{controls};
+ghost use Rattle.lv_reconf.specs.Assuming.{pair_fits, pairs_fit};
+ghost use Rattle.lv_reconf.specs.Refuting.{IsReducing, RefutesAt, needs};
+ghost use Rattle.lv_reconf.specs.Trying.{asking, looking_at, reaches_at};
 
-use super::asking::has_step;
-use super::compiled::Compiled;
+use super::asking::refuted;
+use super::assumptions::control_literal;
 use super::goals::reaching_solver;
+use super::setting::Setting;
 use super::states::count_stepping;
-use lv_base::{Pair, VarId};
-use lv_recovery::Aim;
+use lv_base::Pair;
+use lv_clauses::{Marks, is_marked};
 use lv_sat::Solver;
 use std::alloc::{AllocError, Global};
 use std::marker::Model;
 
 /// A solver for nominal steps that meet all goals of an aim, and the place of the tracked state that is looked at.
 #[derive(Drop)]
-pub struct Reaching<'a> {
+pub struct Reaching<'s, 'a> {
     alloc: Global,
-    compiled: Compiled<'a>,
-    vars: Vec<VarId>,
-    aim: Aim,
+    setting: &'s Setting<'a>,
     solver: Solver,
     at: usize,
 }
 
-impl<'a> Model for Reaching<'a> {
+impl<'s, 'a> Model for Reaching<'s, 'a> {
     ghost use Rattle.std.specs.Coded.{codes};
     ghost use Rattle.lv_formula.specs.contracts.Condition as condition;
-    ghost use Rattle.lv_reconf.specs.Trying.{ReachingValue, IsReaching};
+    ghost use Rattle.lv_recovery.specs.Recovers.{meets_goals};
+    ghost use Rattle.lv_reconf.specs.Narrowing.{Asks};
+    ghost use Rattle.lv_reconf.specs.Trying.{ReachingValue};
 
     ghost Value = { ReachingValue };
 
     ghost coded = { Prim.hlevel (codes, condition.the_row.coded) };
 
-    ghost view = { λ r. record { plant = r.compiled; aim = r.aim; at = r.at } };
+    ghost view = { λ r. record { plant = r.setting.now.plant; aim = r.setting.now.aim; at = r.at } };
 
-    ghost invariant = { λ r. IsReaching r.compiled r.aim r.vars.items r.solver };
+    ghost invariant = { λ r. Asks r.setting.now.plant r.setting.now.aim.present (meets_goals r.setting.now.aim.goals) r.solver };
 }
 
-impl<'a> Reaching<'a> {
-    /// Of a solver for the nominal steps that meet what is observed.
-    pub fn new(
-        alloc: Global,
-        compiled: Compiled<'a>,
-        aim: Aim,
-        plain: &Solver,
-    ) -> Result<Reaching<'a>, AllocError>
-        requires fits { AimFits compiled aim }
-        requires plain { Asks compiled aim.present (λ b. true) plain.now }
-        ensures { IfOk result (λ r. r ≡ looking_at compiled.entry aim 0) }
+/// Values of which some are left free: those kept so far, and marks of the literals that the last refutation needed, if there
+/// was one.
+#[derive(Drop)]
+struct Reduction {
+    kept: Vec<Pair>,
+    core: Option<Marks>,
+}
+
+impl<'s, 'a> Reaching<'s, 'a> {
+    pub fn new(alloc: Global, setting: &'s Setting<'a>) -> Result<Reaching<'s, 'a>, AllocError>
+        ensures { IfOk result (λ r. r ≡ looking_at setting.now.plant setting.now.aim 0) }
     {
-        let vars = compiled.model().controls(alloc)?;
-        let solver = reaching_solver(alloc, &compiled, plain, aim.goals.as_slice())?;
+        let goals = setting.aim().goals.as_slice();
         Ok(Reaching {
             alloc,
-            compiled,
-            vars,
-            aim,
-            solver,
+            setting,
+            solver: reaching_solver(alloc, setting.compiled(), setting.plain(), goals)?,
             at: 0,
         })
     }
 
-    pub fn compiled(&self) -> &Compiled<'a>
-        ensures { result.now ≡ self.now.plant }
+    pub fn setting(&self) -> &'s Setting<'a>
+        ensures { result.now ≡ asking self.now.plant self.now.aim }
     {
-        &self.compiled
-    }
-
-    /// The controls of the plant.
-    pub fn controls(&self) -> &[VarId]
-        ensures { result.now ≡ controls self.now.plant }
-    {
-        self.vars.as_slice()
-    }
-
-    pub fn aim(&self) -> &Aim
-        ensures aim { result.now ≡ self.now.aim }
-        ensures fits { AimFits self.now.plant self.now.aim }
-    {
-        &self.aim
+        self.setting
     }
 
     /// Looks at the tracked state of this place.
@@ -106,30 +89,76 @@ impl<'a> Reaching<'a> {
     {
         count_stepping(
             self.alloc,
-            &self.compiled,
+            self.setting.compiled(),
             &mut self.solver,
-            self.vars.as_slice(),
-            self.aim.tracked.as_slice(),
+            self.setting.controls(),
+            self.setting.aim().tracked.as_slice(),
             pairs,
         )
     }
 
-    /// Whether these values reach the goals from the state that is looked at.
-    fn reaches(&mut self, pairs: &[Pair]) -> Result<bool, AllocError>
+    /// Whether these values reach the goals from the state that is looked at: nothing where they do, else marks of those of
+    /// them that already don't.
+    fn refuted(&mut self, pairs: &[Pair]) -> Result<Option<Marks>, AllocError>
         requires { pairs_fit self.old.plant pairs.now ≡ true }
-        ensures answer { IfOk result (λ answer. answer ≡ reaches_at self.old pairs.now) }
+        ensures answer { IfOk result (λ core. RefutesAt self.old pairs.now core) }
         ensures kept { self.new ≡ self.old }
     {
-        match self.aim.tracked.as_slice().get(self.at) {
-            Some(s) => has_step(
+        match self.setting.aim().tracked.as_slice().get(self.at) {
+            Some(s) => refuted(
                 self.alloc,
-                &self.compiled,
+                self.setting.compiled(),
                 &mut self.solver,
-                self.vars.as_slice(),
+                self.setting.controls(),
                 &s.state,
                 pairs,
             ),
-            None => Ok(false),
+            None => Ok(Some(Marks::new(self.alloc, 0)?)),
+        }
+    }
+
+    /// Whether the last refutation needed the value.
+    fn is_needed(&self, core: &Option<Marks>, pair: Pair) -> bool
+        requires fits { pair_fits self.now.plant pair ≡ true }
+        requires slot { pair.slot < length (controls self.now.plant) }
+        ensures { result ≡ needs self.now.plant core.now pair }
+    {
+        match core {
+            Some(marks) => {
+                let setting = self.setting;
+                let literal = control_literal(setting.compiled(), setting.controls(), pair);
+                is_marked(marks.as_slice(), literal)
+            }
+            None => true,
+        }
+    }
+
+    /// Leaves the value at this place free where the others still don't reach the goals, and else keeps it. Of a value that
+    /// the last refutation didn't need that is known.
+    fn settle(
+        &mut self,
+        pairs: &[Pair],
+        at: usize,
+        reduction: &mut Reduction,
+    ) -> Result<(), AllocError>
+        requires at { at < length pairs.now }
+        requires so_far { IsReducing self.old pairs.now at reduction.old.kept.items reduction.old.core }
+        ensures so_far { IfOk result (λ _. IsReducing self.old pairs.now (at + 1) reduction.new.kept.items reduction.new.core) }
+        ensures kept { self.new ≡ self.old }
+    {
+        if !self.is_needed(&reduction.core, pairs[at]) {
+            return Ok(());
+        }
+        let others = all_but(self.alloc, reduction.kept.as_slice(), pairs, at)?;
+        match self.refuted(others.as_slice())? {
+            Some(core) => {
+                reduction.core = Some(core);
+                Ok(())
+            }
+            None => {
+                reduction.kept.push(pairs[at])?;
+                Ok(())
+            }
         }
     }
 
@@ -139,14 +168,14 @@ impl<'a> Reaching<'a> {
         ensures reduced { IfOk result (λ out. out.items ≡ reduced (reaches_at self.old) [] pairs.now) }
         ensures kept { self.new ≡ self.old }
     {
-        let mut kept = Vec::new(self.alloc);
-        for (at, pair) in pairs.iter().enumerate() {
-            let others = all_but(self.alloc, kept.as_slice(), pairs, at)?;
-            if self.reaches(others.as_slice())? {
-                kept.push(*pair)?;
-            }
+        let mut reduction = Reduction {
+            kept: Vec::new(self.alloc),
+            core: None,
+        };
+        for at in 0..pairs.len() {
+            self.settle(pairs, at, &mut reduction)?;
         }
-        Ok(kept)
+        Ok(reduction.kept)
     }
 }
 

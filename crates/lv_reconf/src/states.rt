@@ -75,7 +75,7 @@ fn some_steps(
     Ok(false)
 }
 
-/// Whether from some state a nominal step ends with the goal false.
+/// Whether from some state a nominal step ends with the goal false. Where there are no states, no solver is made.
 fn misses(
     alloc: Global,
     compiled: &Compiled,
@@ -93,6 +93,9 @@ fn misses(
     ensures { (present : List Observation) → Asks compiled.now present (λ b. true) plain.now →
         IfOk result (λ answer. answer ≡ list_any (misses_goal compiled.now present pairs.now goal.now) states.now) }
 {
+    if states.is_empty() {
+        return Ok(false);
+    }
     let mut solver = missing_solver(alloc, compiled, plain, goal)?;
     some_steps(alloc, compiled, &mut solver, vars, states, pairs)
 }

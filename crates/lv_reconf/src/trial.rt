@@ -1,37 +1,34 @@
-//! What is asked of command sets: whether from some tracked states their values can miss a goal.
+//! A trial of command sets: whether one recovers, and the reason of one that doesn't.
 #![tactic(auto)]
 
-ghost use Rattle.std.specs.Prelude.{◌≡◌, ◌≤◌, Bool, true, length, IfOk};
-ghost use Rattle.lv_recovery.specs.Ranges.{AimFits};
+ghost use Rattle.std.specs.Prelude.{◌≡◌, ◌≤◌, [], ℕ, List, Bool, true, length, IfOk};
+ghost use Rattle.lv_base.specs.Choices.{pairs_of};
+ghost use Rattle.lv_recovery.specs.Commands.{is_command_set};
+ghost use Rattle.lv_recovery.specs.Recovery.{candidate_recovers, candidate_reason};
+ghost use Rattle.lv_walk.specs.Reason.{reduced};
 ghost use Rattle.lv_reconf.specs.Assuming.{pairs_fit};
-ghost use Rattle.lv_reconf.specs.Trying.{asking, some_can_miss};
-ghost use Rattle.lv_steps.specs.System.{IsSystemOf};
+ghost use Rattle.lv_reconf.specs.Judging.{candidate_commands, Judges};
+ghost use Rattle.lv_reconf.specs.Trying.{looking_at, reaches_at, some_can_miss};
 
-use super::compiled::Compiled;
-use super::goals::plain_solver;
+use super::judged::Judged;
 use super::reaching::Reaching;
+use super::setting::Setting;
 use super::states::some_missed;
-use lv_base::Pair;
-use lv_model::Model;
-use lv_recovery::Aim;
-use lv_sat::Solver;
-use lv_steps::StepSystem;
+use lv_base::{Candidate, Conflict, Pair, pairs_of};
+use lv_search::{Trial, Tried};
 use std::alloc::{AllocError, Global};
 use std::marker;
 
-/// What is asked of command sets, and the solvers for it. Contracts see the plant and the aim.
+/// A trial of command sets in a setting. Contracts see the plant and the aim.
 #[derive(Drop)]
-pub struct ReconfTrial<'a> {
+pub struct ReconfTrial<'s, 'a> {
     alloc: Global,
-    plain: Solver,
-    reaching: Reaching<'a>,
+    reaching: Reaching<'s, 'a>,
 }
 
-impl<'a> marker::Model for ReconfTrial<'a> {
-    ghost use Rattle.std.specs.Prelude.{Bool, true};
+impl<'s, 'a> marker::Model for ReconfTrial<'s, 'a> {
     ghost use Rattle.std.specs.Coded.{codes};
     ghost use Rattle.lv_formula.specs.contracts.Condition as condition;
-    ghost use Rattle.lv_reconf.specs.Narrowing.{Asks};
     ghost use Rattle.lv_reconf.specs.Trying.{Question};
 
     ghost Value = { Question };
@@ -39,29 +36,15 @@ impl<'a> marker::Model for ReconfTrial<'a> {
     ghost coded = { Prim.hlevel (codes, condition.the_row.coded) };
 
     ghost view = { λ t. record { plant = t.reaching.plant; aim = t.reaching.aim } };
-
-    ghost invariant = { λ t. Asks t.reaching.plant t.reaching.aim.present (λ b. true) t.plain };
 }
 
-impl<'a> ReconfTrial<'a> {
-    /// Of the model's own system, and an aim of the model.
-    pub fn new(
-        alloc: Global,
-        model: &'a Model,
-        system: &'a StepSystem,
-        aim: Aim,
-    ) -> Result<ReconfTrial<'a>, AllocError>
-        requires system { IsSystemOf model.now system.now }
-        requires fits { AimFits model.now aim }
-        ensures { IfOk result (λ t. t ≡ asking model.now aim) }
+impl<'s, 'a> ReconfTrial<'s, 'a> {
+    pub fn new(alloc: Global, setting: &'s Setting<'a>) -> Result<ReconfTrial<'s, 'a>, AllocError>
+        ensures { IfOk result (λ t. t ≡ setting.now) }
     {
-        let compiled = Compiled::new(model, system);
-        let plain = plain_solver(alloc, &compiled, aim.present.as_slice())?;
-        let reaching = Reaching::new(alloc, compiled, aim, &plain)?;
         Ok(ReconfTrial {
             alloc,
-            plain,
-            reaching,
+            reaching: Reaching::new(alloc, setting)?,
         })
     }
 
@@ -71,15 +54,82 @@ impl<'a> ReconfTrial<'a> {
         requires fit { pairs_fit self.now.plant pairs.now ≡ true }
         ensures { IfOk result (λ answer. answer ≡ some_can_miss self.now.plant self.now.aim count pairs.now) }
     {
-        let aim = self.reaching.aim();
+        let setting = self.reaching.setting();
+        let aim = setting.aim();
         some_missed(
             self.alloc,
-            self.reaching.compiled(),
-            &self.plain,
-            self.reaching.controls(),
+            setting.compiled(),
+            setting.plain(),
+            setting.controls(),
             &aim.tracked.as_slice()[..count],
             pairs,
             aim.goals.as_slice(),
         )
+    }
+
+    /// The values of a command set, each at its control's slot.
+    fn values_of(&self, candidate: &Candidate) -> Result<Vec<Pair>, AllocError>
+        requires { candidate_commands self.now.plant candidate.now ≡ true }
+        ensures pairs { IfOk result (λ out. out.items ≡ pairs_of candidate.now.choices) }
+        ensures fit { IfOk result (λ out. pairs_fit self.now.plant out.items ≡ true) }
+    {
+        let _plant = self.reaching.setting().compiled().model().plant();
+        pairs_of(self.alloc, candidate.choices.as_slice())
+    }
+
+    /// What is found of the values of a command set: first from how many tracked states they reach the goals, then whether
+    /// from one of these they can miss a goal.
+    fn judge(&mut self, pairs: &[Pair]) -> Result<Judged, AllocError>
+        requires { pairs_fit self.old.plant pairs.now ≡ true }
+        ensures judges { (u : List ℕ) → pairs.now ≡ pairs_of u → IfOk result (λ judged. Judges self.old.plant self.old.aim u judged) }
+        ensures kept { self.new ≡ self.old }
+    {
+        let count = self.reaching.count(pairs)?;
+        if self.can_miss(count, pairs)? {
+            return Ok(Judged::Misses);
+        }
+        if count == self.reaching.setting().aim().tracked.len() {
+            return Ok(Judged::Recovers);
+        }
+        Ok(Judged::Stops(count))
+    }
+
+    /// What is left of the values at the tracked state of this place.
+    fn reduced_at(&mut self, at: usize, pairs: &[Pair]) -> Result<Vec<Pair>, AllocError>
+        requires { pairs_fit self.old.plant pairs.now ≡ true }
+        ensures reduced { IfOk result (λ out. out.items ≡ reduced (reaches_at (looking_at self.old.plant self.old.aim at)) [] pairs.now) }
+        ensures kept { self.new ≡ self.old }
+    {
+        self.reaching.look_at(at);
+        self.reaching.reduced(pairs)
+    }
+}
+
+impl Trial for ReconfTrial<'_, '_> {
+    ghost use Rattle.lv_reconf.specs.Lawful.{inside, apart};
+
+    ghost suits = { λ t c. candidate_commands t.plant c };
+
+    ghost fits = { λ t c. candidate_recovers t.plant t.aim c };
+
+    ghost reason = { λ t c. candidate_reason t.plant t.aim c };
+
+    ghost is_inside = { λ t c suits unfit. inside t.plant t.aim c };
+
+    ghost is_apart = { λ t c d one other cannot can. apart t.plant t.aim c d one other cannot can };
+
+    fn attempt(&mut self, candidate: &Candidate) -> Result<Tried, AllocError> {
+        let pairs = self.values_of(candidate)?;
+        match self.judge(pairs.as_slice())? {
+            Judged::Recovers => Ok(Tried::Fits),
+            Judged::Misses => Ok(Tried::Refused(Conflict::from_pairs(
+                self.alloc,
+                pairs.as_slice(),
+            )?)),
+            Judged::Stops(at) => {
+                let reason = self.reduced_at(at, pairs.as_slice())?;
+                Ok(Tried::Refused(Conflict::from_pairs(self.alloc, reason.as_slice())?))
+            }
+        }
     }
 }

@@ -1,17 +1,20 @@
--- the controls are the plant's, and the solver asks for the goals
-use Rattle.std.proofs.Common.{List, subst, ap, ◌∙◌}
+-- the solver asks for the goals
+use Rattle.std.proofs.Common.{◌≡◌, true, List, sym, subst, ap, ◌∙◌}
 use Rattle.lv_formula.specs.Tree.{Tree}
-use Rattle.lv_model.specs.Lists.{controls}
+use Rattle.lv_model.specs.declared.plant.Plant.{Plant}
+use Rattle.lv_recovery.specs.declared.aim.Aim.{Aim}
 use Rattle.lv_recovery.specs.Recovers.{meets_goals}
 use Rattle.lv_reconf.specs.Narrowing.{Asks}
+use Rattle.lv_reconf.specs.Trying.{Question}
 use Rattle.lv_reconf.proofs.reaching.Reaching.new.Goals as goal
 
 pub invariant_of-result : goal.invariant_of-result
 invariant_of-result c =
-    record {
-      fits = c.requires.fits;
-      controls = c.in_ok-vars.ensures.controls ∙ ap controls c.model.ensures;
-      asks =
-          subst (λ (gs : List Tree). Asks c.args.compiled c.args.aim.present (meets_goals gs) c.in_ok-solver.solver) c.as_slice.ensures
-          (c.in_ok-solver.ensures c.args.aim.present c.requires.plain);
-    }
+    let s : Question = c.args.setting.now in
+    let goals : c.as_slice-goals.result.now ≡ s.aim.goals = c.as_slice-goals.ensures ∙ ap (λ (a : Aim). a.goals) c.aim.ensures.aim in
+    let plain : Asks c.compiled.result.now s.aim.present (λ b. true) c.plain.result.now =
+    subst (λ (p : Plant). Asks p s.aim.present (λ b. true) c.plain.result.now) (sym c.compiled.ensures) c.plain.ensures
+    in
+    subst (λ (p : Plant). Asks p s.aim.present (meets_goals s.aim.goals) c.in_ok-reaching_solver.field-0) c.compiled.ensures
+    (subst (λ (gs : List Tree). Asks c.compiled.result.now s.aim.present (meets_goals gs) c.in_ok-reaching_solver.field-0) goals
+    (c.in_ok-reaching_solver.ensures s.aim.present plain))
