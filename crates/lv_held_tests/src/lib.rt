@@ -1,0 +1,5 @@
+//! Tests of the observations that a session holds.
+#![tactic(auto)]
+
+#[cfg(test)]
+mod observations;
