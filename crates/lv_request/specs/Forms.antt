@@ -8,7 +8,7 @@ use Rattle.lv_text.specs.Lexemes.{Lexeme, is_number, kind_at, word_at, number_at
 use Rattle.lv_reply.specs.declared.reply.Refusal.{Refusal}
 use Rattle.lv_reply.specs.declared.reply.Refusal.TheVariants.{Form, OutOfLimits}
 use Rattle.lv_request.specs.declared.words.Word.{Word}
-use Rattle.lv_request.specs.declared.words.Word.TheVariants.{Track, Budget, Command, Release, Observe, Retract, Diagnose, More, Commit, Conflicts, States, Reset, Quit}
+use Rattle.lv_request.specs.declared.words.Word.TheVariants.{Track, Budget, Command, Release, Observe, Retract, Goal, Drop, Diagnose, Recover, More, Commit, Conflicts, Labels, States, Reset, Quit}
 
 -- the word that a line begins with
 abbrev pub first_word : List Lexeme → Option Word
@@ -19,14 +19,18 @@ first_word line =
     else (if says (codes "release") line 0 then Some Release
     else (if says (codes "observe") line 0 then Some Observe
     else (if says (codes "retract") line 0 then Some Retract
+    else (if says (codes "goal") line 0 then Some Goal
+    else (if says (codes "drop") line 0 then Some Drop
     else (if says (codes "diagnose") line 0 then Some Diagnose
+    else (if says (codes "recover") line 0 then Some Recover
     else (if says (codes "more") line 0 then Some More
     else (if says (codes "commit") line 0 then Some Commit
     else (if says (codes "conflicts") line 0 then Some Conflicts
+    else (if says (codes "labels") line 0 then Some Labels
     else (if says (codes "states") line 0 then Some States
     else (if says (codes "reset") line 0 then Some Reset
     else (if says (codes "quit") line 0 then Some Quit
-    else None))))))))))))
+    else None))))))))))))))))
 
 abbrev pub is_dot : TokenKind → Bool
 is_dot Dot = true

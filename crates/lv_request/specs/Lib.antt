@@ -1,4 +1,5 @@
 pub mod Chain
 pub mod Names
 pub mod Forms
+pub mod Goals
 pub mod Requests

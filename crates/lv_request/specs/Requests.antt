@@ -9,21 +9,23 @@ use Rattle.lv_formula.specs.Fits.{has_value}
 use Rattle.lv_model.specs.declared.plant.Plant.{Plant}
 use Rattle.lv_model.specs.Lists.{controls}
 use Rattle.lv_model.specs.Ranges.{plant_ranges}
+use Rattle.lv_phrase.specs.Nesting.{is_too_deep}
 use Rattle.lv_reply.specs.declared.reply.Refusal.{Refusal}
-use Rattle.lv_reply.specs.declared.reply.Refusal.TheVariants.{UnknownWord, Form, LineTooLong, ByteNotAllowed}
+use Rattle.lv_reply.specs.declared.reply.Refusal.TheVariants.{UnknownWord, Form, LineTooLong, ByteNotAllowed, TooComplex}
 use Rattle.lv_scope.specs.declared.lists.Lists.{Lists}
 use Rattle.lv_scope.specs.Lists.{lists_of}
 use Rattle.lv_request.specs.declared.words.Word.{Word}
-use Rattle.lv_request.specs.declared.words.Word.TheVariants.{Track, Budget, Command as CommandWord, Release, Observe, Retract, Diagnose, More, Commit, Conflicts, States, Reset, Quit}
+use Rattle.lv_request.specs.declared.words.Word.TheVariants.{Track, Budget, Command as CommandWord, Release, Observe, Retract, Goal as GoalWord, Drop as DropWord, Diagnose, Recover, More, Commit, Conflicts, Labels, States, Reset, Quit}
 use Rattle.lv_request.specs.declared.names.Controlled.{Controlled}
 use Rattle.lv_request.specs.declared.request.Command.{Command}
 use Rattle.lv_request.specs.declared.request.Sighting.{Sighting}
 use Rattle.lv_request.specs.declared.request.Request.{Request}
-use Rattle.lv_request.specs.declared.request.Request.TheVariants.{Nothing, Track as ToTrack, SetBudget, SetControl, Release as ToRelease, Observe as ToObserve, Retract as ToRetract, Diagnose as ToDiagnose, More as ToGoOn, Commit as ToCommit, Conflicts as ToShowConflicts, States as ToShowStates, Reset as ToReset, Quit as ToQuit}
+use Rattle.lv_request.specs.declared.request.Request.TheVariants.{Nothing, Track as ToTrack, SetBudget, SetControl, Release as ToRelease, Observe as ToObserve, Retract as ToRetract, SetGoal, DropGoal, Diagnose as ToDiagnose, Recover as ToRecover, More as ToGoOn, Commit as ToCommit, Conflicts as ToShowConflicts, Labels as ToLabel, LabelsFrom, States as ToShowStates, Reset as ToReset, Quit as ToQuit}
 use Rattle.lv_request.specs.declared.unread.Unread.{Unread}
 use Rattle.lv_request.specs.declared.unread.Unread.TheVariants.{Refused, Memory}
 use Rattle.lv_request.specs.Chain.{and_then}
 use Rattle.lv_request.specs.Names.{control_of, observable_of, value_in}
+use Rattle.lv_request.specs.Goals.{goal_of, IsGoalIn}
 use Rattle.lv_request.specs.Forms.{first_word, has_command_signs, has_release_signs, has_observe_signs, name_at, number_to}
 
 -- the word at a place, which has to be one
@@ -80,9 +82,13 @@ sighting_of plant lists line =
     and_then (word line 6) (λ value. seen_as plant lists name part variable value))))
     else Err Form
 
--- `retract NAME`
+-- `retract NAME`, and `drop NAME`
 unfoldable pub retracted_of : List Lexeme → Result (List ℕ) Refusal
 retracted_of line = if nat_eq (length line) 2 then ok_or (name_at line 1) Form else Err Form
+
+-- `labels`, or `labels I`
+abbrev pub labels_of : List Lexeme → Result Request Refusal
+labels_of line = if nat_eq (length line) 1 then Ok ToLabel else and_then (number_to TRACKED line) (λ n. Ok (LabelsFrom n))
 
 -- what a line that begins with this word asks for
 abbrev pub request_by : Plant → Lists → Word → List Lexeme → Result Request Refusal
@@ -92,17 +98,21 @@ request_by plant lists CommandWord line = and_then (command_of plant lists line)
 request_by plant lists Release line = and_then (release_of plant lists line) (λ place. Ok (ToRelease place))
 request_by plant lists Observe line = and_then (sighting_of plant lists line) (λ s. Ok (ToObserve s))
 request_by plant lists Retract line = and_then (retracted_of line) (λ name. Ok (ToRetract name))
+request_by plant lists GoalWord line = and_then (goal_of plant lists line) (λ g. Ok (SetGoal g))
+request_by plant lists DropWord line = and_then (retracted_of line) (λ name. Ok (DropGoal name))
 request_by plant lists Diagnose line = alone ToDiagnose line
+request_by plant lists Recover line = alone ToRecover line
 request_by plant lists More line = more_of line
 request_by plant lists Commit line = alone ToCommit line
 request_by plant lists Conflicts line = alone ToShowConflicts line
+request_by plant lists Labels line = labels_of line
 request_by plant lists States line = alone ToShowStates line
 request_by plant lists Reset line = alone ToReset line
 request_by plant lists Quit line = alone ToQuit line
 
 abbrev pub asked_by_first : Plant → Lists → List Lexeme → Option Word → Result Request Refusal
 asked_by_first plant lists line None = Err UnknownWord
-asked_by_first plant lists line (Some w) = request_by plant lists w line
+asked_by_first plant lists line (Some w) = if is_too_deep line then Err TooComplex else request_by plant lists w line
 
 -- what the tokens of a line ask for
 abbrev pub asked : Plant → Lists → List Lexeme → Result Request Refusal
@@ -136,4 +146,5 @@ IsRequestOf plant (ToTrack n) = n ≤ TRACKED
 IsRequestOf plant (ToGoOn n) = n ≤ BUDGET
 IsRequestOf plant (SetControl c) = IsCommandIn plant c
 IsRequestOf plant (ToObserve s) = IsSightingIn plant s
+IsRequestOf plant (SetGoal g) = IsGoalIn plant g
 IsRequestOf plant request = Unit {0}

@@ -7,17 +7,22 @@
 //! | `words` | which word a line begins with |
 //! | `forms` | how many tokens and which signs it has, its numbers and names |
 //! | `names` | which controls, observables and values names stand for |
+//! | `goals` | the goal that a line names |
+//! | `copying` | copies of formulas |
 //! | `unread` | why a line asks for nothing: a refusal, or want of memory |
 //!
 //! The order of refusals is that of the tests: a line too long, a byte not allowed, an unknown word, another form than the
-//! word's, and then what the line names, from left to right.
+//! word's, and then what the line names, from left to right. That a line nests too deep comes before its form.
 #![tactic(auto)]
 
+pub mod copying;
 pub mod forms;
+pub mod goals;
 pub mod names;
 pub mod request;
 pub mod unread;
 pub mod words;
 
+pub use goals::Goal;
 pub use request::{Command, Request, Sighting, request_of};
 pub use unread::Unread;

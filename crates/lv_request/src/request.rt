@@ -4,20 +4,23 @@
 //! right: the first that is wrong is told. What depends on the state of the session is not judged here.
 #![tactic(auto)]
 
-ghost use Rattle.std.specs.Prelude.{◌≡◌, IfOk, IfErr, Ok};
+ghost use Rattle.std.specs.Prelude.{◌≡◌, false, IfOk, IfErr, Ok};
 ghost use Rattle.lv_text.specs.Lexemes.{line_reading};
 ghost use Rattle.lv_model.specs.declared.plant.Plant.{Plant};
 ghost use Rattle.lv_scope.specs.declared.lists.Lists.{Lists as ListsOf};
 ghost use Rattle.lv_scope.specs.Lists.{lists_of};
-ghost use Rattle.lv_request.specs.Requests.{alone, track_of, budget_of, more_of, command_to, command_of, release_of, seen_as, sighting_of, retracted_of, request_by, asked, asked_by, request_of, Explains, IsSightingIn, IsCommandIn, IsRequestOf};
+ghost use Rattle.lv_phrase.specs.Nesting.{is_too_deep};
+ghost use Rattle.lv_request.specs.Requests.{alone, track_of, budget_of, more_of, command_to, command_of, release_of, seen_as, sighting_of, retracted_of, labels_of, request_by, asked, asked_by, request_of, Explains, IsSightingIn, IsCommandIn, IsRequestOf};
 
 use crate::forms::{has_command_signs, has_observe_signs, has_release_signs, name_at, number_to};
+use crate::goals::{Goal, goal_of};
 use crate::names::{control_of, observable_of, value_in};
 use crate::unread::Unread;
 use crate::words::{Word, first_word};
 use lv_base::limits::{BUDGET, TRACKED};
 use lv_base::{Name, Seq, ValId, VarId};
 use lv_model::{Model, Plant as PlantLists};
+use lv_phrase::is_too_deep;
 use lv_reply::Refusal;
 use lv_scope::Lists;
 use lv_text::lexer::Token;
@@ -54,11 +57,19 @@ pub enum Request {
     Observe(Sighting),
     /// That the observation of this name is taken out.
     Retract(Name),
+    SetGoal(Goal),
+    /// That the goal of this name is taken out.
+    DropGoal(Name),
     Diagnose,
+    Recover,
     /// That the current query goes on with so many more trials.
     More(u64),
     Commit,
     Conflicts,
+    /// What propagation finds under the facts.
+    Labels,
+    /// The same from the tracked state of this number, counted from 1.
+    LabelsFrom(u32),
     States,
     Reset,
     Quit,
@@ -196,7 +207,7 @@ fn sighting_of(
     seen_as(alloc, plant, lists, name, part, variable, value)
 }
 
-/// `retract NAME`
+/// `retract NAME`, and `drop NAME`.
 #[tactic(auto, unfolding(crate::specs::Requests::retracted_of))]
 fn retracted_of(alloc: Global, line: &TokenLine<'_>) -> Result<Name, Unread>
     ensures ok { IfOk result (λ name. retracted_of line.now ≡ Ok name) }
@@ -209,6 +220,17 @@ fn retracted_of(alloc: Global, line: &TokenLine<'_>) -> Result<Name, Unread>
     Ok(Seq::from_slice(alloc, name)?)
 }
 
+/// `labels`, or `labels I`.
+fn labels_of(line: &TokenLine<'_>) -> Result<Request, Refusal>
+    ensures request { result ≡ labels_of line.now }
+    ensures within { (plant : Plant) → IfOk result (IsRequestOf plant) }
+{
+    if line.len() == 1 {
+        return Ok(Request::Labels);
+    }
+    Ok(Request::LabelsFrom(number_to(TRACKED as u64, line)? as u32))
+}
+
 /// What a line that begins with this word asks for.
 fn request_by(
     alloc: Global,
@@ -217,7 +239,8 @@ fn request_by(
     word: Word,
     line: &TokenLine<'_>,
 ) -> Result<Request, Unread>
-    requires { lists.now ≡ lists_of plant.now }
+    requires lists { lists.now ≡ lists_of plant.now }
+    requires shallow { is_too_deep line.now ≡ false }
     ensures ok { IfOk result (λ request. request_by plant.now lists.now word line.now ≡ Ok request) }
     ensures fault { IfErr result (λ fault. Explains fault (request_by plant.now lists.now word line.now)) }
     ensures within { IfOk result (IsRequestOf plant.now) }
@@ -229,10 +252,14 @@ fn request_by(
         Word::Release => Ok(Request::Release(release_of(plant, lists, line)?)),
         Word::Observe => Ok(Request::Observe(sighting_of(alloc, plant, lists, line)?)),
         Word::Retract => Ok(Request::Retract(retracted_of(alloc, line)?)),
+        Word::Goal => Ok(Request::SetGoal(goal_of(alloc, plant, lists, line)?)),
+        Word::Drop => Ok(Request::DropGoal(retracted_of(alloc, line)?)),
         Word::Diagnose => Ok(alone(Request::Diagnose, line)?),
+        Word::Recover => Ok(alone(Request::Recover, line)?),
         Word::More => Ok(more_of(line)?),
         Word::Commit => Ok(alone(Request::Commit, line)?),
         Word::Conflicts => Ok(alone(Request::Conflicts, line)?),
+        Word::Labels => Ok(labels_of(line)?),
         Word::States => Ok(alone(Request::States, line)?),
         Word::Reset => Ok(alone(Request::Reset, line)?),
         Word::Quit => Ok(alone(Request::Quit, line)?),
@@ -257,6 +284,9 @@ fn asked(
     let Some(word) = first_word(line) else {
         return Err(Unread::Refused(Refusal::UnknownWord));
     };
+    if is_too_deep(line) {
+        return Err(Unread::Refused(Refusal::TooComplex));
+    }
     request_by(alloc, plant, lists, word, line)
 }
 

@@ -15,10 +15,14 @@ pub enum Word {
     Release,
     Observe,
     Retract,
+    Goal,
+    Drop,
     Diagnose,
+    Recover,
     More,
     Commit,
     Conflicts,
+    Labels,
     States,
     Reset,
     Quit,
@@ -40,14 +44,22 @@ pub fn first_word(line: &TokenLine<'_>) -> Option<Word>
         Some(Word::Observe)
     } else if line.says(0, b"retract") {
         Some(Word::Retract)
+    } else if line.says(0, b"goal") {
+        Some(Word::Goal)
+    } else if line.says(0, b"drop") {
+        Some(Word::Drop)
     } else if line.says(0, b"diagnose") {
         Some(Word::Diagnose)
+    } else if line.says(0, b"recover") {
+        Some(Word::Recover)
     } else if line.says(0, b"more") {
         Some(Word::More)
     } else if line.says(0, b"commit") {
         Some(Word::Commit)
     } else if line.says(0, b"conflicts") {
         Some(Word::Conflicts)
+    } else if line.says(0, b"labels") {
+        Some(Word::Labels)
     } else if line.says(0, b"states") {
         Some(Word::States)
     } else if line.says(0, b"reset") {

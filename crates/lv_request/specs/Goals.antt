@@ -1,0 +1,54 @@
+-- The goal that a line names: the formula that its tokens are, each name in it given what it stands for over the whole plant.
+use Rattle.std.specs.Prelude.{◌≡◌, ℕ, Bool, true, false, ◌&&◌, List, drop, if◌then◌else◌, Result, Ok, Err}
+use Rattle.std.specs.Option.{ok_or}
+use Rattle.lv_text.specs.Lexemes.{Lexeme}
+use Rattle.lv_formula.specs.Tree.{Tree}
+use Rattle.lv_formula.specs.Fits.{fits}
+use Rattle.lv_model.specs.declared.plant.Plant.{Plant}
+use Rattle.lv_model.specs.Counts.{has_count}
+use Rattle.lv_model.specs.Ranges.{plant_ranges}
+use Rattle.lv_phrase.specs.PhraseTree.{PhraseTree}
+use Rattle.lv_phrase.specs.Resolving.{resolved}
+use Rattle.lv_phrase.specs.declared.resolver.NameFault.{NameFault}
+use Rattle.lv_phrase.specs.declared.resolver.NameFault.TheVariants as name_fault
+use Rattle.lv_grammar.specs.Descent.{phrase_of}
+use Rattle.lv_reply.specs.declared.reply.Refusal.{Refusal}
+use Rattle.lv_reply.specs.declared.reply.Refusal.TheVariants.{Form, UnknownName, NoValue, TooComplex}
+use Rattle.lv_scope.specs.declared.lists.Lists.{Lists}
+use Rattle.lv_scope.specs.Names.{names_over}
+use Rattle.lv_request.specs.declared.goals.Goal.{Goal}
+use Rattle.lv_request.specs.Chain.{and_then}
+use Rattle.lv_request.specs.Forms.{name_at}
+
+-- the tokens behind a goal's name have to be a formula
+abbrev pub phrase_in : List Lexeme → Result PhraseTree Refusal
+phrase_in line = ok_or (phrase_of (drop 2 line)) Form
+
+-- the first side of an equation that stands for nothing fitting is refused
+abbrev pub with_refusal : Result Tree NameFault → Result Tree Refusal
+with_refusal (Ok f) = Ok f
+with_refusal (Err name_fault.UnknownName) = Err UnknownName
+with_refusal (Err name_fault.NoFit) = Err NoValue
+
+abbrev pub formula_of : Plant → Lists → PhraseTree → Result Tree Refusal
+formula_of plant lists phrase = with_refusal (resolved (names_over plant lists.ranges) phrase)
+
+-- the formula gives few enough clauses, in either sign
+abbrev pub is_simple : Lists → Tree → Bool
+is_simple lists f = has_count lists.sizes true f && has_count lists.sizes false f
+
+abbrev pub simple : Lists → Tree → Result Tree Refusal
+simple lists f = if is_simple lists f then Ok f else Err TooComplex
+
+-- a phrase as a goal of this name
+abbrev pub goal_as : Plant → Lists → List ℕ → PhraseTree → Result Goal Refusal
+goal_as plant lists name phrase =
+    and_then (formula_of plant lists phrase) (λ f. and_then (simple lists f) (λ g. Ok (record { name = name; formula = g })))
+
+-- `goal NAME FORMULA`
+unfoldable pub goal_of : Plant → Lists → List Lexeme → Result Goal Refusal
+goal_of plant lists line = and_then (ok_or (name_at line 1) Form) (λ name. and_then (phrase_in line) (λ phrase. goal_as plant lists name phrase))
+
+-- a goal each of whose equations compares a variable of the plant with one of its values, or two variables of one domain
+pub record IsGoalIn (plant : Plant) (g : Goal) : Type 0 where
+  pub fits : fits (plant_ranges plant) g.formula ≡ true
