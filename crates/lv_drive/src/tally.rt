@@ -1,8 +1,9 @@
 //! What the replies of a session come to.
 #![tactic(auto)]
 
-ghost use Rattle.std.specs.Prelude.{◌≡◌, ◌<◌, ◌≤◌, ◌^◌, ◌-◌, ◌+◌, IfOk};
+ghost use Rattle.std.specs.Prelude.{◌≡◌, ◌<◌, ◌≤◌, ◌^◌, ◌-◌, ◌+◌, false, IfOk};
 ghost use Rattle.lv_drive.specs.Tallies.{none_counted, replied, counted, IsSmall};
+ghost use Rattle.lv_session.specs.Session.{start};
 ghost use Rattle.lv_drive.specs.Drives.{tally_of};
 
 use lv_model::Model;
@@ -88,11 +89,11 @@ impl Tally {
     }
 }
 
-/// Runs a session over a model and counts its replies.
-pub fn tally_session(alloc: Global, model: &Model, text: &[u8]) -> Result<Tally, AllocError>
+/// Counts the replies to a text's lines, in a session at its start.
+fn tally_lines(model: &Model, session: &mut Session<'_>, text: &[u8]) -> Result<Tally, AllocError>
+    requires { session.old ≡ record { plant = model.now; state = start model.now; is_out_of_memory = false } }
     ensures { IfOk result (λ tally. tally ≡ tally_of model.now text.now) }
 {
-    let mut session = Session::new(alloc, model)?;
     let mut tally = Tally::none();
     let mut rest = text;
     while let Some(line) = next_line(rest) {
@@ -101,4 +102,12 @@ pub fn tally_session(alloc: Global, model: &Model, text: &[u8]) -> Result<Tally,
         rest = &rest[line.whole..];
     }
     Ok(tally)
+}
+
+/// Runs a session over a model and counts its replies.
+pub fn tally_session(alloc: Global, model: &Model, text: &[u8]) -> Result<Tally, AllocError>
+    ensures { IfOk result (λ tally. tally ≡ tally_of model.now text.now) }
+{
+    let mut session = Session::new(alloc, model)?;
+    tally_lines(model, &mut session, text)
 }

@@ -35,7 +35,7 @@ pub fn livingstone<F: Shelf, O: Sink, E: Sink>(
     // For every accepted model and every session, what is written is its transcript: each settled diagnosis lists the
     // first k, by cost and then written order, of the transitions from the tracked states that some assignment allows
     // with commands and observations; each settled recovery is the first command set that takes every tracked state
-    // nominally to the goals, or 'no recovery' exactly where none does. (No line of a session asks for a recovery yet.)
+    // nominally to the goals, or 'no recovery' exactly where none does.
     ensures headline { (plant : Plant) (session : List ℕ) → Asks (F.file shelf.old) (map string_bytes words.items) plant session → result ≡ Status.Done
         → AddsTranscript plant session (O.text out.old) (O.text out.new) × (E.text err.new ≡ E.text err.old) }
     ensures complete { (plant : Plant) (session : List ℕ) → Asks (F.file shelf.old) (map string_bytes words.items) plant session

@@ -33,7 +33,8 @@ use Rattle.lv_session.specs.declared.running.Diagnosed.{Diagnosed}
 use Rattle.lv_session.specs.declared.running.Running.{Running}
 use Rattle.lv_session.specs.declared.running.Running.TheVariants as kept
 use Rattle.lv_session.specs.Current.{come_to, IsDiagnosisAt, IsKeptOf}
-use Rattle.lv_session.specs.Session.{SessionState, observation_of, facts_of, unchanged, walked, trials, diagnosed, more, more_by, conflicts, commit, commit_by, taken_over}
+use Rattle.lv_held.specs.Held.{observation_of}
+use Rattle.lv_session.specs.Session.{SessionState, facts_of, unchanged, walked, trials, diagnosed, more, more_by, conflicts, commit, commit_by, taken_over}
 use Rattle.lv_session.specs.States.{StateCosts, RankCosts, IsStateOf, IsListOf}
 use Rattle.lv_session.proofs.Listed.{list_of, all_trials}
 

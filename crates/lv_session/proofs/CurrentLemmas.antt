@@ -1,27 +1,35 @@
 -- What is kept of the current query stays that of the state, whatever is asked for.
-use Rattle.std.proofs.Common.{◌≡◌, ℕ, ◌+◌, Bool, true, false, cond, nat_eq, nat_le, List, [], ◌∷◌, ◌++◌, length, filter, Result, Ok, Err, IfOk, OnOk, sym, ◌∙◌, ap, subst, refl}
+use Rattle.std.proofs.Common.{◌≡◌, ℕ, ◌+◌, Bool, true, false, cond, nat_eq, nat_le, ◌-◌, slice_get, Option, None, Some, List, [], ◌∷◌, ◌++◌, length, filter, Result, Ok, Err, IfOk, OnOk, sym, ◌∙◌, ap, subst, refl}
+use Rattle.std.specs.Option.{option_map_or}
 use Rattle.lv_base.specs.declared.limits.TheConstants.{COMMITS}
 use Rattle.lv_base.specs.declared.rank.Rank.{Rank}
 use Rattle.lv_model.specs.declared.plant.Plant.{Plant}
+use Rattle.lv_model.specs.declared.state.TrackedState.{TrackedState}
 use Rattle.lv_walk.specs.declared.outcome.Outcome.{Outcome}
 use Rattle.lv_walk.specs.declared.outcome.Outcome.TheVariants.{Settled, Unsettled}
 use Rattle.lv_tracker.specs.Tracked.{advanced}
-use Rattle.lv_reply.specs.declared.reply.Refusal.TheVariants.{NameHeld, NameNotHeld, NothingListed, TooManyHeld, TooManyCommits}
+use Rattle.lv_reply.specs.declared.reply.Refusal.TheVariants.{NameHeld, NameNotHeld, OutOfLimits, NothingListed, TooManyHeld, TooManyCommits}
 use Rattle.lv_reply.specs.declared.reply.Reply.{Reply}
 use Rattle.lv_reply.specs.declared.reply.Reply.TheVariants.{Refused, Committed}
+use Rattle.lv_request.specs.declared.goals.Goal.{Goal}
 use Rattle.lv_request.specs.declared.request.Sighting.{Sighting}
 use Rattle.lv_request.specs.declared.request.Request.{Request}
-use Rattle.lv_request.specs.declared.request.Request.TheVariants.{Nothing, Track, SetBudget, SetControl, Release, Observe, Retract, Diagnose, More, Commit, Conflicts, States, Reset, Quit}
+use Rattle.lv_request.specs.declared.request.Request.TheVariants.{Nothing, Track, SetBudget, SetControl, Release, Observe, Retract, SetGoal, DropGoal, Diagnose, Recover, More, Commit, Conflicts, Labels, LabelsFrom, States, Reset, Quit}
 use Rattle.lv_session.specs.declared.query.Query.{Query}
-use Rattle.lv_session.specs.declared.query.Query.TheVariants.{Absent, Diagnosis}
+use Rattle.lv_session.specs.declared.query.Query.TheVariants.{Absent, Diagnosis, Recovery}
 use Rattle.lv_session.specs.declared.running.Running.{Running}
 use Rattle.lv_session.specs.declared.running.Running.TheVariants as kept
-use Rattle.lv_session.specs.Session.{SessionState, Stepped, unchanged, cleared, walked, is_held, has_no_room, lacks_name, observe, retract, commit, commit_by, conflicts, taken_over, advanced_to, carried_out}
+use Rattle.lv_held.specs.Held.{lacks_name}
+use Rattle.lv_session.specs.Session.{SessionState, Stepped, unchanged, cleared, walked, recovery, is_held, has_no_room, observe, retract, is_goal, has_no_goal_room, lacks_goal_name, set_goal, drop_goal, labelled, labelled_from, commit, commit_by, conflicts, taken_over, advanced_to, carried_out}
 use Rattle.lv_session.specs.Current.{IsKeptOf, IsCurrent, IsCaredFor}
 
 same_walk : (plant : Plant) (state : SessionState) (budget : ℕ) (ended : Bool) (sum : ℕ) → walked plant (record state { budget = budget; is_ended = ended }) sum ≡ walked plant state sum
 unfolding walked
 same_walk plant state budget ended sum = refl
+
+same_recovery : (plant : Plant) (state : SessionState) (budget : ℕ) (ended : Bool) (sum : ℕ) → recovery plant (record state { budget = budget; is_ended = ended }) sum ≡ recovery plant state sum
+unfolding recovery
+same_recovery plant state budget ended sum = refl
 
 module _ (plant : Plant) (state : SessionState) (running : Running) (is : IsCurrent plant state running) where
   -- the budget and whether the session has ended are no part of a query
@@ -31,7 +39,11 @@ module _ (plant : Plant) (state : SessionState) (running : Running) (is : IsCurr
       by : (q : Query) (r : Running) → IsKeptOf q plant state r → IsKeptOf q plant (record state { budget = budget; is_ended = ended }) r
       by Absent r h = tt
       by (Diagnosis sum) kept.Nothing h = h
+      by (Diagnosis sum) (kept.Recovery r) h = h
       by (Diagnosis sum) (kept.Diagnosis d) h = record { plant_is = h.plant_is; facts_are = h.facts_are; k = h.k; on_walk = h.on_walk; came_to = same_walk plant state budget ended sum ∙ h.came_to }
+      by (Recovery sum) kept.Nothing h = h
+      by (Recovery sum) (kept.Diagnosis d) h = h
+      by (Recovery sum) (kept.Recovery r) h = record { plant_is = h.plant_is; aim_is = h.aim_is; on_walk = h.on_walk; came_to = same_recovery plant state budget ended sum ∙ h.came_to }
 
   observe_current : (s : Sighting) → IsCurrent plant (observe state s).state running
   observe_current s = by (is_held state s.name) (has_no_room state s.name)
@@ -50,6 +62,29 @@ module _ (plant : Plant) (state : SessionState) (running : Running) (is : IsCurr
       by true = tt
       by false = is
 
+  set_goal_current : (g : Goal) → IsCurrent plant (set_goal state g).state running
+  set_goal_current g = by (is_goal state g.name) (has_no_goal_room state g.name)
+    where
+      by : (a b : Bool)
+          → IsCurrent plant (cond a (unchanged state (Refused NameHeld)) (cond b (unchanged state (Refused TooManyHeld)) (cleared (record state { goals = state.goals ++ (g ∷ []) })))).state running
+      by true b = is
+      by false true = is
+      by false false = tt
+
+  drop_goal_current : (name : List ℕ) → IsCurrent plant (drop_goal state name).state running
+  drop_goal_current name = by (is_goal state name)
+    where
+      by : (b : Bool) → IsCurrent plant (cond b (cleared (record state { goals = filter (lacks_goal_name name) state.goals })) (unchanged state (Refused NameNotHeld))).state running
+      by true = tt
+      by false = is
+
+  labelled_current : (n : ℕ) → IsCurrent plant (labelled_from plant state n).state running
+  labelled_current n = by (slice_get state.tracked (n - 1))
+    where
+      by : (o : Option TrackedState) → IsCurrent plant (option_map_or (λ (s : TrackedState). labelled plant state (Some s.state)) o (unchanged state (Refused OutOfLimits))).state running
+      by None = is
+      by (Some s) = is
+
   taken_current : (listed : List Rank) → IsCurrent plant (taken_over plant state listed).state running
   taken_current listed = by (nat_eq (length listed) 0) (nat_le COMMITS state.time)
     where
@@ -67,10 +102,12 @@ module _ (plant : Plant) (state : SessionState) (running : Running) (is : IsCurr
       by : (o : Outcome) → IsCurrent plant (commit_by o plant state (walked plant state sum).listed).state running
       by Settled = taken_current (walked plant state sum).listed
       by Unsettled = is
+  commit_current (Recovery sum) = is
 
   conflicts_current : (q : Query) → IsCurrent plant (conflicts q plant state).state running
   conflicts_current Absent = is
   conflicts_current (Diagnosis sum) = is
+  conflicts_current (Recovery sum) = is
 
 -- what is kept after a request is that of the state that it leads to
 module _ (plant : Plant) (old : SessionState) (before after : Running) (is : IsCurrent plant old before) where
@@ -85,10 +122,15 @@ module _ (plant : Plant) (old : SessionState) (before after : Running) (is : IsC
   cared_for (Release place) care = tt
   cared_for (Observe s) care = left (observe old s).state (observe_current plant old before is s) care
   cared_for (Retract name) care = left (retract old name).state (retract_current plant old before is name) care
+  cared_for (SetGoal g) care = left (set_goal old g).state (set_goal_current plant old before is g) care
+  cared_for (DropGoal name) care = left (drop_goal old name).state (drop_goal_current plant old before is name) care
   cared_for Diagnose care = care
+  cared_for Recover care = care
   cared_for (More n) care = care
   cared_for Commit care = left (commit old.query plant old).state (commit_current plant old before is old.query) care
   cared_for Conflicts care = left (conflicts old.query plant old).state (conflicts_current plant old before is old.query) care
+  cared_for Labels care = left old is care
+  cared_for (LabelsFrom n) care = left (labelled_from plant old n).state (labelled_current plant old before is n) care
   cared_for States care = left old is care
   cared_for Reset care = tt
   cared_for Quit care = left (record old { is_ended = true }) (others_kept plant old before is old.budget true) care

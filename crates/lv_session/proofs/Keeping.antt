@@ -1,12 +1,14 @@
 -- The state of a session over a plant stays one, whatever is asked for.
-use Rattle.std.proofs.Common.{◌≡◌, ℕ, zero, suc, ◌+◌, ◌<◌, ◌≤◌, Bool, true, false, cond, nat_eq, nat_le, slice_get, slice_index_or, slice_set, Some, List, [], ◌∷◌, ◌++◌, length, map, filter, Result, Ok, Err, IfOk, OnErr, refl, sym, ◌∙◌, ap, subst, arith, All}
+use Rattle.std.proofs.Common.{◌≡◌, ℕ, zero, suc, ◌+◌, ◌<◌, ◌≤◌, Bool, true, false, cond, ◌||◌, nat_eq, nat_le, nat_lt, ◌-◌, Option, None, slice_get, slice_index_or, slice_set, Some, List, [], ◌∷◌, ◌++◌, length, map, filter, Result, Ok, Err, IfOk, OnErr, refl, sym, ◌∙◌, ap, subst, arith, All}
+use Rattle.std.specs.Option.{option_map_or}
 use Rattle.std.proofs.lemmas.Bool.{leb-false}
-use Rattle.std.proofs.lemmas.List.{length-map, length-set}
+use Rattle.std.proofs.lemmas.List.{length-map, length-set, length-append}
 use Rattle.std.proofs.lemmas.List.Elements.{All-cons, All-append, All-nil, All-head, All-tail, All-filter}
 use Rattle.lv_base.specs.declared.ids.ValId.{ValId}
 use Rattle.lv_base.specs.declared.ids.VarId.{VarId}
 use Rattle.lv_base.specs.declared.rank.Rank.{Rank}
-use Rattle.lv_base.specs.declared.limits.TheConstants.{COMMITS, TRACKED}
+use Rattle.std.proofs.lemmas.List.Sums.{length-filter, count_by-le-length}
+use Rattle.lv_base.specs.declared.limits.TheConstants.{COMMITS, TRACKED, OBSERVATIONS, NAME_BYTES}
 use Rattle.lv_model.specs.declared.plant.Plant.{Plant}
 use Rattle.lv_model.specs.declared.plant.Part.{Part}
 use Rattle.lv_model.specs.Lists.{sizes, controls, variable_count, IsVariable}
@@ -23,17 +25,23 @@ use Rattle.lv_walk.specs.declared.outcome.Outcome.TheVariants.{Settled, Unsettle
 use Rattle.lv_tracker.specs.Targets.{target_state}
 use Rattle.lv_tracker.specs.Tracked.{start_state, advanced, HasModes}
 use Rattle.lv_tracker.proofs.ListLemmas.{first_all, targets_have_modes}
-use Rattle.lv_reply.specs.declared.reply.Refusal.TheVariants.{NameHeld, NameNotHeld, NothingListed, TooManyHeld, TooManyCommits}
+use Rattle.lv_reply.specs.declared.reply.Refusal.TheVariants.{NameHeld, NameNotHeld, OutOfLimits, NothingListed, NoGoal, TooManyHeld, TooManyCommits}
 use Rattle.lv_reply.specs.declared.reply.Reply.{Reply}
 use Rattle.lv_reply.specs.declared.reply.Reply.TheVariants.{Refused, Committed}
+use Rattle.lv_model.specs.declared.state.TrackedState.{TrackedState}
+use Rattle.lv_recovery.specs.Ranges.{StateFits}
+use Rattle.lv_request.specs.declared.goals.Goal.{Goal}
 use Rattle.lv_request.specs.declared.request.Sighting.{Sighting}
 use Rattle.lv_request.specs.declared.request.Request.{Request}
-use Rattle.lv_request.specs.declared.request.Request.TheVariants.{Nothing, Track, SetBudget, SetControl, Release, Observe, Retract, Diagnose, More, Commit, Conflicts, States, Reset, Quit}
+use Rattle.lv_request.specs.declared.request.Request.TheVariants.{Nothing, Track, SetBudget, SetControl, Release, Observe, Retract, SetGoal, DropGoal, Diagnose, Recover, More, Commit, Conflicts, Labels, LabelsFrom, States, Reset, Quit}
+use Rattle.lv_request.specs.Goals.{IsGoalIn}
 use Rattle.lv_request.specs.Requests.{IsSightingIn, IsRequestOf}
 use Rattle.lv_session.specs.declared.query.Query.{Query}
-use Rattle.lv_session.specs.declared.query.Query.TheVariants.{Absent, Diagnosis}
-use Rattle.lv_session.specs.Session.{SessionState, Stepped, start, rest, unchanged, cleared, walked, is_held, has_no_room, lacks_name, observe, retract, more, more_by, commit, commit_by, conflicts, taken_over, advanced_to, carried_out}
+use Rattle.lv_session.specs.declared.query.Query.TheVariants.{Absent, Diagnosis, Recovery}
+use Rattle.lv_held.specs.Held.{lacks_name}
+use Rattle.lv_session.specs.Session.{SessionState, Stepped, start, rest, unchanged, cleared, walked, recovery, is_held, observe, retract, is_goal, has_no_goal_room, lacks_goal_name, set_goal, drop_goal, recovered, recover, more, more_by, more_recovery_by, labelled, labelled_from, commit, commit_by, conflicts, taken_over, advanced_to, carried_out}
 use Rattle.lv_session.specs.States.{StateCosts, RankCosts, IsStateOf, IsListOf}
+use Rattle.lv_session.proofs.Fitting.{start_fits, all_fit}
 use Rattle.lv_session.proofs.Listed.{list_of}
 
 -- every control rests
@@ -73,12 +81,18 @@ start_kept plant h = record {
   controls_whole = rest_whole (controls plant);
   values = values_at_rest plant h;
   modes = All-cons (HasModes (length plant.parts)) (start_state plant) [] (record { modes = mode_for_each plant.parts }) (All-nil (HasModes (length plant.parts)));
+  fit = All-cons (StateFits plant) (start_state plant) [] (start_fits plant h) (All-nil (StateFits plant));
   costs = All-cons (StateCosts 0) (start_state plant) [] (record { most = omega arith }) (All-nil (StateCosts 0));
   time = omega arith;
   k = omega arith;
   present = All-nil (IsSightingIn plant);
   next = All-nil (IsSightingIn plant);
+  held = omega arith;
+  goals = All-nil (IsGoalIn plant);
 }
+
+kept_few : (test : Sighting → Bool) (ss : List Sighting) → length (filter test ss) ≤ length ss
+kept_few test ss = subst (λ n. n ≤ length ss) (sym (length-filter test ss)) (count_by-le-length test ss)
 
 costs_map : (plant : Plant) (time : ℕ) (listed : List Rank) → All (RankCosts time) listed → All (StateCosts time) (map (target_state plant) listed)
 costs_map plant time [] all = All-nil (StateCosts time)
@@ -90,7 +104,7 @@ module _ (plant : Plant) (state : SessionState) (h : is_well_formed plant ≡ tr
   -- what no other field is about may change
   numbers_kept : (k budget : ℕ) (query : Query) (ended : Bool) → k ≤ TRACKED → IsStateOf plant (record state { k = k; budget = budget; query = query; is_ended = ended })
   numbers_kept k budget query ended few =
-      record { controls_whole = is.controls_whole; values = is.values; modes = is.modes; costs = is.costs; time = is.time; k = few; present = is.present; next = is.next }
+      record { controls_whole = is.controls_whole; values = is.values; modes = is.modes; fit = is.fit; costs = is.costs; time = is.time; k = few; present = is.present; next = is.next; held = is.held; goals = is.goals }
 
   control_kept : (place : ℕ) (value : ValId) → ((x : VarId) → slice_get (controls plant) place ≡ Some x → value.0 < slice_index_or (sizes plant) x.0 0)
       → IsStateOf plant (record state { controls = slice_set state.controls place value; query = Absent })
@@ -98,29 +112,40 @@ module _ (plant : Plant) (state : SessionState) (h : is_well_formed plant ≡ tr
     controls_whole = length-set state.controls place value ∙ is.controls_whole;
     values = value_set (sizes plant) (controls plant) state.controls place value has is.values;
     modes = is.modes;
+    fit = is.fit;
     costs = is.costs;
     time = is.time;
     k = is.k;
     present = is.present;
     next = is.next;
+    held = is.held;
+    goals = is.goals;
   }
 
-  held_kept : (present next : List Sighting) → All (IsSightingIn plant) present → All (IsSightingIn plant) next
+  held_kept : (present next : List Sighting) → All (IsSightingIn plant) present → All (IsSightingIn plant) next → length present + length next ≤ OBSERVATIONS
       → IsStateOf plant (record state { present = present; next = next; query = Absent })
-  held_kept present next in_present in_next =
-      record { controls_whole = is.controls_whole; values = is.values; modes = is.modes; costs = is.costs; time = is.time; k = is.k; present = in_present; next = in_next }
+  held_kept present next in_present in_next few =
+      record { controls_whole = is.controls_whole; values = is.values; modes = is.modes; fit = is.fit; costs = is.costs; time = is.time; k = is.k; present = in_present; next = in_next; held = few; goals = is.goals }
+
+  goals_kept : (goals : List Goal) → All (IsGoalIn plant) goals → IsStateOf plant (record state { goals = goals; query = Absent })
+  goals_kept goals within =
+      record { controls_whole = is.controls_whole; values = is.values; modes = is.modes; fit = is.fit; costs = is.costs; time = is.time; k = is.k; present = is.present; next = is.next; held = is.held; goals = within }
 
   observe_kept : (s : Sighting) → IsSightingIn plant s → IsStateOf plant (observe state s).state
-  observe_kept s within = by (is_held state s.name) (has_no_room state s.name)
+  observe_kept s within = by (is_held state s.name) (nat_le OBSERVATIONS (length state.present + length state.next)) (nat_lt NAME_BYTES (length s.name)) refl
     where
-      by : (a b : Bool)
-          → IsStateOf plant (cond a (unchanged state (Refused NameHeld)) (cond b (unchanged state (Refused TooManyHeld)) (cleared (record state { next = state.next ++ (s ∷ []) })))).state
-      by true b = is
-      by false true = is
-      by false false =
+      by : (a b d : Bool) → nat_le OBSERVATIONS (length state.present + length state.next) ≡ b
+          → IsStateOf plant (cond a (unchanged state (Refused NameHeld)) (cond (b || d) (unchanged state (Refused TooManyHeld)) (cleared (record state { next = state.next ++ (s ∷ []) })))).state
+      by true b d e = is
+      by false true d e = is
+      by false false true e = is
+      by false false false e =
+          let room = leb-false OBSERVATIONS (length state.present + length state.next) e in
+          let longer = length-append state.next (s ∷ []) in
           held_kept state.present (state.next ++ (s ∷ [])) is.present
           (All-append (IsSightingIn plant) state.next (s ∷ []) is.next
           (All-cons (IsSightingIn plant) s [] within (All-nil (IsSightingIn plant))))
+          (omega (arith, room, longer))
 
   retract_kept : (name : List ℕ) → IsStateOf plant (retract state name).state
   retract_kept name = by (is_held state name)
@@ -128,10 +153,44 @@ module _ (plant : Plant) (state : SessionState) (h : is_well_formed plant ≡ tr
       by : (b : Bool)
           → IsStateOf plant (cond b (cleared (record state { present = filter (lacks_name name) state.present; next = filter (lacks_name name) state.next })) (unchanged state (Refused NameNotHeld))).state
       by true =
+          let present = kept_few (lacks_name name) state.present in
+          let next = kept_few (lacks_name name) state.next in
+          let held = is.held in
           held_kept (filter (lacks_name name) state.present) (filter (lacks_name name) state.next)
           (All-filter (lacks_name name) (IsSightingIn plant) state.present is.present)
           (All-filter (lacks_name name) (IsSightingIn plant) state.next is.next)
+          (omega (arith, present, next, held))
       by false = is
+
+  set_goal_kept : (g : Goal) → IsGoalIn plant g → IsStateOf plant (set_goal state g).state
+  set_goal_kept g within = by (is_goal state g.name) (has_no_goal_room state g.name)
+    where
+      by : (a b : Bool)
+          → IsStateOf plant (cond a (unchanged state (Refused NameHeld)) (cond b (unchanged state (Refused TooManyHeld)) (cleared (record state { goals = state.goals ++ (g ∷ []) })))).state
+      by true b = is
+      by false true = is
+      by false false = goals_kept (state.goals ++ (g ∷ [])) (All-append (IsGoalIn plant) state.goals (g ∷ []) is.goals (All-cons (IsGoalIn plant) g [] within (All-nil (IsGoalIn plant))))
+
+  drop_goal_kept : (name : List ℕ) → IsStateOf plant (drop_goal state name).state
+  drop_goal_kept name = by (is_goal state name)
+    where
+      by : (b : Bool) → IsStateOf plant (cond b (cleared (record state { goals = filter (lacks_goal_name name) state.goals })) (unchanged state (Refused NameNotHeld))).state
+      by true = goals_kept (filter (lacks_goal_name name) state.goals) (All-filter (lacks_goal_name name) (IsGoalIn plant) state.goals is.goals)
+      by false = is
+
+  recover_kept : IsStateOf plant (recover plant state).state
+  recover_kept = by (nat_eq (length state.goals) 0)
+    where
+      by : (b : Bool) → IsStateOf plant (cond b (unchanged state (Refused NoGoal)) (recovered plant state state.budget)).state
+      by true = is
+      by false = numbers_kept state.k state.budget (Recovery state.budget) state.is_ended is.k
+
+  labelled_kept : (n : ℕ) → IsStateOf plant (labelled_from plant state n).state
+  labelled_kept n = by (slice_get state.tracked (n - 1))
+    where
+      by : (o : Option TrackedState) → IsStateOf plant (option_map_or (λ (s : TrackedState). labelled plant state (Some s.state)) o (unchanged state (Refused OutOfLimits))).state
+      by None = is
+      by (Some s) = is
 
   more_kept : (q : Query) (n : ℕ) → IsStateOf plant (more q plant state n).state
   more_kept Absent n = is
@@ -140,10 +199,16 @@ module _ (plant : Plant) (state : SessionState) (h : is_well_formed plant ≡ tr
       by : (o : Outcome) → IsStateOf plant (more_by o plant state (sum + n)).state
       by Settled = is
       by Unsettled = numbers_kept state.k state.budget (Diagnosis (sum + n)) state.is_ended is.k
+  more_kept (Recovery sum) n = by (recovery plant state sum).outcome
+    where
+      by : (o : Outcome) → IsStateOf plant (more_recovery_by o plant state (sum + n)).state
+      by Settled = is
+      by Unsettled = numbers_kept state.k state.budget (Recovery (sum + n)) state.is_ended is.k
 
   conflicts_kept : (q : Query) → IsStateOf plant (conflicts q plant state).state
   conflicts_kept Absent = is
   conflicts_kept (Diagnosis sum) = is
+  conflicts_kept (Recovery sum) = is
 
   advanced_kept : (listed : List Rank) → IsListOf plant state listed → nat_le COMMITS state.time ≡ false → IsStateOf plant (advanced_to plant state listed)
   advanced_kept listed l early =
@@ -152,11 +217,14 @@ module _ (plant : Plant) (state : SessionState) (h : is_well_formed plant ≡ tr
         controls_whole = rest_whole (controls plant);
         values = values_at_rest plant h;
         modes = targets_have_modes plant listed l.moves;
+        fit = first_all (StateFits plant) (map (target_state plant) listed) (all_fit plant h listed l.moves);
         costs = first_all (StateCosts (state.time + 1)) (map (target_state plant) listed) (costs_map plant (state.time + 1) listed l.costs);
         time = before;
         k = is.k;
         present = is.next;
         next = All-nil (IsSightingIn plant);
+        held = (let held = is.held in omega (arith, held));
+        goals = is.goals;
       }
 
   taken_kept : (listed : List Rank) → IsListOf plant state listed → IsStateOf plant (taken_over plant state listed).state
@@ -176,6 +244,7 @@ module _ (plant : Plant) (state : SessionState) (h : is_well_formed plant ≡ tr
       by : (o : Outcome) → IsStateOf plant (commit_by o plant state (walked plant state sum).listed).state
       by Settled = taken_kept (walked plant state sum).listed (list_of plant state h is sum)
       by Unsettled = is
+  commit_kept (Recovery sum) = is
 
   pub request_kept : (request : Request) → IsRequestOf plant request → IsStateOf plant (carried_out plant state request).state
   request_kept Nothing within = is
@@ -185,10 +254,15 @@ module _ (plant : Plant) (state : SessionState) (h : is_well_formed plant ≡ tr
   request_kept (Release place) within = control_kept place rest (λ x here. rests plant h place x here)
   request_kept (Observe s) within = observe_kept s within
   request_kept (Retract name) within = retract_kept name
+  request_kept (SetGoal g) within = set_goal_kept g within
+  request_kept (DropGoal name) within = drop_goal_kept name
   request_kept Diagnose within = numbers_kept state.k state.budget (Diagnosis state.budget) state.is_ended is.k
+  request_kept Recover within = recover_kept
   request_kept (More n) within = more_kept state.query n
   request_kept Commit within = commit_kept state.query
   request_kept Conflicts within = conflicts_kept state.query
+  request_kept Labels within = is
+  request_kept (LabelsFrom n) within = labelled_kept n
   request_kept States within = is
   request_kept Reset within = start_kept plant h
   request_kept Quit within = numbers_kept state.k state.budget state.query true is.k

@@ -1,7 +1,10 @@
 pub mod Transcripts
 pub mod Writing
 pub mod Listed
+pub mod Fitting
 pub mod Keeping
 pub mod StepLaws
 pub mod Asking
+pub mod Recovering
+pub mod Labelling
 pub mod CurrentLemmas

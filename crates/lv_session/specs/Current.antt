@@ -1,19 +1,21 @@
 -- The current query, and what is kept of it from line to line.
-use Rattle.std.specs.Prelude.{◌≡◌, ℕ, Bool, false}
+use Rattle.std.specs.Prelude.{◌≡◌, ℕ, Bool, false, Option, IfSome}
 use Rattle.lv_model.specs.declared.plant.Plant.{Plant}
 use Rattle.lv_walk.specs.Walk.{Walked}
 use Rattle.lv_scope.specs.Lists.{lists_of}
 use Rattle.lv_steps.specs.System.{IsSystemOf}
 use Rattle.lv_ident.specs.Query.{IsQueryOf}
 use Rattle.lv_request.specs.declared.request.Request.{Request}
-use Rattle.lv_request.specs.declared.request.Request.TheVariants.{Diagnose, More}
+use Rattle.lv_reconf.specs.Query.{IsQuery as IsRecoveryQuery}
+use Rattle.lv_request.specs.declared.request.Request.TheVariants.{Diagnose, Recover, More}
 use Rattle.lv_session.specs.declared.query.Query.{Query}
-use Rattle.lv_session.specs.declared.query.Query.TheVariants.{Absent, Diagnosis}
+use Rattle.lv_session.specs.declared.query.Query.TheVariants.{Absent, Diagnosis, Recovery}
 use Rattle.lv_session.specs.declared.running.Diagnosed.{Diagnosed}
+use Rattle.lv_session.specs.declared.running.Recovering.{Recovering}
 use Rattle.lv_session.specs.declared.running.Running.{Running}
 use Rattle.lv_session.specs.declared.running.Running.TheVariants as kept
 use Rattle.lv_session.specs.declared.workings.Workings.{Workings}
-use Rattle.lv_session.specs.Session.{SessionState, facts_of, walked}
+use Rattle.lv_session.specs.Session.{SessionState, facts_of, aim_of, walked, recovery}
 use Rattle.lv_session.specs.States.{IsStateOf}
 
 -- what it has come to
@@ -28,11 +30,25 @@ pub record IsDiagnosisAt (plant : Plant) (state : SessionState) (sum : ℕ) (d :
   pub on_walk : IsQueryOf state.tracked d.query
   pub came_to : walked plant state sum ≡ come_to d
 
--- of a diagnosis its search is kept; where no query is current nothing is asked
+-- the same of a recovery
+abbrev pub recovery_come_to : Recovering → Walked
+recovery_come_to r = record { outcome = r.outcome; listed = r.query.standing.listed; kept = r.query.standing.kept }
+
+pub record IsRecoveryAt (plant : Plant) (state : SessionState) (sum : ℕ) (r : Recovering) : Type 0 where
+  pub plant_is : r.query.plant ≡ plant
+  pub aim_is : r.query.aim ≡ aim_of state
+  pub on_walk : IsRecoveryQuery r.query
+  pub came_to : recovery plant state sum ≡ recovery_come_to r
+
+-- of a query its search is kept; where no query is current nothing is asked
 abbrev pub IsKeptOf : Query → Plant → SessionState → Running → Type 0
 IsKeptOf Absent plant state running = Unit {0}
 IsKeptOf (Diagnosis sum) plant state kept.Nothing = ⊥
+IsKeptOf (Diagnosis sum) plant state (kept.Recovery r) = ⊥
 IsKeptOf (Diagnosis sum) plant state (kept.Diagnosis d) = IsDiagnosisAt plant state sum d
+IsKeptOf (Recovery sum) plant state kept.Nothing = ⊥
+IsKeptOf (Recovery sum) plant state (kept.Diagnosis d) = ⊥
+IsKeptOf (Recovery sum) plant state (kept.Recovery r) = IsRecoveryAt plant state sum r
 
 -- what is kept is that of the current query
 abbrev pub IsCurrent : Plant → SessionState → Running → Type 0
@@ -41,12 +57,18 @@ IsCurrent plant state running = IsKeptOf state.query plant state running
 -- a request that runs a query leaves what is kept of it; every other one leaves what was kept
 abbrev pub IsCaredFor : Request → Plant → SessionState → Running → Running → Type 0
 IsCaredFor Diagnose plant next before after = IsCurrent plant next after
+IsCaredFor Recover plant next before after = IsCurrent plant next after
 IsCaredFor (More n) plant next before after = IsCurrent plant next after
 IsCaredFor request plant next before after = after ≡ before
+
+-- what is held to ask for labels, if anything, is of the plant
+abbrev pub IsLabellerOf : Plant → Option Plant → Type 0
+IsLabellerOf plant held = IfSome held (λ (of : Plant). of ≡ plant)
 
 -- the state is one of the plant, whose lists and clauses are kept; as long as memory sufficed, so is its current query
 pub record IsSession (plant : Plant) (w : Workings) (now : SessionState) (is_out_of_memory : Bool) : Type 0 where
   pub lists_are : w.lists ≡ lists_of plant
   pub system_is : IsSystemOf plant w.system
+  pub labeller_is : IsLabellerOf plant w.labeller
   pub is_state : IsStateOf plant now
   pub current : is_out_of_memory ≡ false → IsCurrent plant now w.running

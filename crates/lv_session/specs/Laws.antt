@@ -7,9 +7,9 @@ use Rattle.lv_reply.specs.declared.reply.Reply.{Reply}
 use Rattle.lv_reply.specs.declared.reply.Reply.TheVariants.{Nothing, Refused}
 use Rattle.lv_reply.specs.Texts.{reply_text}
 use Rattle.lv_request.specs.declared.request.Request.{Request}
-use Rattle.lv_request.specs.declared.request.Request.TheVariants.{Track, SetControl, Release, Observe, Retract, More, Commit, Reset}
-use Rattle.lv_session.specs.declared.query.Query.TheVariants.{Absent, Diagnosis}
-use Rattle.lv_session.specs.Session.{SessionState, start, walked, diagnosis_reply, carried_out, stepped}
+use Rattle.lv_request.specs.declared.request.Request.TheVariants.{Track, SetControl, Release, Observe, Retract, SetGoal, DropGoal, More, Commit, Reset}
+use Rattle.lv_session.specs.declared.query.Query.TheVariants.{Absent, Diagnosis, Recovery}
+use Rattle.lv_session.specs.Session.{SessionState, start, walked, recovery, diagnosis_reply, recovery_reply, carried_out, stepped}
 use Rattle.lv_session.specs.Transcript.{IsTranscript}
 
 -- the texts of the replies to lines, one behind the other
@@ -42,6 +42,8 @@ clears (SetControl c) = true
 clears (Release place) = true
 clears (Observe s) = true
 clears (Retract name) = true
+clears (SetGoal g) = true
+clears (DropGoal name) = true
 clears Commit = true
 clears Reset = true
 clears request = false
@@ -51,10 +53,12 @@ abbrev pub NoQuerySurvivesAChange : Type 0
 NoQuerySurvivesAChange = (plant : Plant) (state : SessionState) (request : Request) → clears request ≡ true
     → is_refused (carried_out plant state request).reply ≡ false → (carried_out plant state request).state.query ≡ Absent
 
--- a diagnosis that isn't settled goes on as if it had been asked for with the sum of all its trials
-abbrev pub MoreIsTheSum : Type 0
-MoreIsTheSum = (plant : Plant) (state : SessionState) (sum n : ℕ) → state.query ≡ Diagnosis sum → (walked plant state sum).outcome ≡ Unsettled
-    → (carried_out plant state (More n)).reply ≡ diagnosis_reply (walked plant state (sum + n))
+-- a query that isn't settled goes on as if it had been asked for with the sum of all its trials
+pub record MoreIsTheSum : Type 0 where
+  pub of_diagnosis : (plant : Plant) (state : SessionState) (sum n : ℕ) → state.query ≡ Diagnosis sum → (walked plant state sum).outcome ≡ Unsettled
+      → (carried_out plant state (More n)).reply ≡ diagnosis_reply (walked plant state (sum + n))
+  pub of_recovery : (plant : Plant) (state : SessionState) (sum n : ℕ) → state.query ≡ Recovery sum → (recovery plant state sum).outcome ≡ Unsettled
+      → (carried_out plant state (More n)).reply ≡ recovery_reply (recovery plant state (sum + n))
 
 -- in an ended session a line does nothing
 pub record EndedIsSilent : Type 0 where

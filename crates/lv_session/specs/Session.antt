@@ -1,37 +1,47 @@
 -- The state of a session, and what a line does to it.
-use Rattle.std.specs.Prelude.{ℕ, ◌+◌, Bool, false, true, ◌||◌, not, nat_eq, nat_le, nat_lt, List, [], ◌∷◌, ◌++◌, length, map, filter, slice_set, if◌then◌else◌, Result, Ok, Err}
+use Rattle.std.specs.Prelude.{ℕ, ◌+◌, ◌-◌, Bool, false, true, ◌||◌, not, nat_eq, nat_le, nat_lt, List, [], ◌∷◌, ◌++◌, length, map, filter, slice_get, slice_set, if◌then◌else◌, Option, None, Some, Result, Ok, Err}
 use Rattle.std.specs.List.{list_any}
+use Rattle.std.specs.Option.{option_map_or}
 use Rattle.lv_base.specs.declared.ids.ValId.{ValId}
 use Rattle.lv_base.specs.declared.ids.VarId.{VarId}
 use Rattle.lv_base.specs.declared.rank.Rank.{Rank}
-use Rattle.lv_base.specs.declared.limits.TheConstants.{LISTED, TRIALS, OBSERVATIONS, NAME_BYTES, COMMITS}
+use Rattle.lv_base.specs.declared.limits.TheConstants.{LISTED, TRIALS, OBSERVATIONS, GOALS, NAME_BYTES, COMMITS}
 use Rattle.lv_base.specs.Names.{is_named}
+use Rattle.lv_formula.specs.Tree.{Tree}
 use Rattle.lv_model.specs.declared.plant.Plant.{Plant}
+use Rattle.lv_model.specs.declared.state.State.{State}
 use Rattle.lv_model.specs.declared.state.TrackedState.{TrackedState}
 use Rattle.lv_model.specs.Lists.{controls}
 use Rattle.lv_walk.specs.declared.outcome.Outcome.{Outcome}
 use Rattle.lv_walk.specs.declared.outcome.Outcome.TheVariants.{Settled, Unsettled}
 use Rattle.lv_walk.specs.Walk.{Walked}
 use Rattle.lv_meaning.specs.declared.facts.Facts.{Facts}
-use Rattle.lv_meaning.specs.declared.facts.Observation.{Observation}
 use Rattle.lv_meaning.specs.Candidates.{candidates}
 use Rattle.lv_meaning.specs.Diagnosis.{diagnosis_walk}
+use Rattle.lv_recovery.specs.declared.aim.Aim.{Aim}
+use Rattle.lv_recovery.specs.Recovery.{recovery_walk}
+use Rattle.lv_labels.specs.declared.labelling.Labelling.{Labelling}
+use Rattle.lv_labels.specs.declared.labelling.Labelling.TheVariants as labelling
+use Rattle.lv_labels.specs.Literals.{fact_literals, state_literals}
+use Rattle.lv_labels.specs.Finding.{labelling}
 use Rattle.lv_tracker.specs.Tracked.{start_state, advanced}
 use Rattle.lv_reply.specs.declared.reply.Refusal.{Refusal}
-use Rattle.lv_reply.specs.declared.reply.Refusal.TheVariants.{NameHeld, NameNotHeld, NoQuery, NotUnsettled, NothingListed, TooManyHeld, TooManyCommits}
+use Rattle.lv_reply.specs.declared.reply.Refusal.TheVariants.{NameHeld, NameNotHeld, OutOfLimits, NoQuery, NotUnsettled, NothingListed, NoGoal, TooManyHeld, TooManyCommits}
 use Rattle.lv_reply.specs.declared.reply.Reply.{Reply}
-use Rattle.lv_reply.specs.declared.reply.Reply.TheVariants.{Nothing as Silence, Accepted, Refused, Settled as SettledReply, Unsettled as UnsettledReply, Conflicts as ConflictsReply, Committed, States as StatesReply}
+use Rattle.lv_reply.specs.declared.reply.Reply.TheVariants.{Nothing as Silence, Accepted, Refused, Settled as SettledReply, Unsettled as UnsettledReply, Conflicts as ConflictsReply, Committed, States as StatesReply, Recovered, NoRecovery, Undecided, CommandConflicts, Labels as LabelsReply, Contradiction}
+use Rattle.lv_held.specs.Held.{observation_of, has_name, lacks_name}
+use Rattle.lv_request.specs.declared.goals.Goal.{Goal}
 use Rattle.lv_request.specs.declared.request.Command.{Command}
 use Rattle.lv_request.specs.declared.request.Sighting.{Sighting}
 use Rattle.lv_request.specs.declared.request.Request.{Request}
-use Rattle.lv_request.specs.declared.request.Request.TheVariants.{Nothing, Track, SetBudget, SetControl, Release, Observe, Retract, Diagnose, More, Commit, Conflicts, States, Reset, Quit}
+use Rattle.lv_request.specs.declared.request.Request.TheVariants.{Nothing, Track, SetBudget, SetControl, Release, Observe, Retract, SetGoal, DropGoal, Diagnose, Recover, More, Commit, Conflicts, Labels, LabelsFrom, States, Reset, Quit}
 use Rattle.lv_request.specs.Requests.{request_of}
 use Rattle.lv_session.specs.declared.query.Query.{Query}
-use Rattle.lv_session.specs.declared.query.Query.TheVariants.{Absent, Diagnosis}
+use Rattle.lv_session.specs.declared.query.Query.TheVariants.{Absent, Diagnosis, Recovery}
 
 -- the states that the plant may be in; how many commits were made; how many candidates a diagnosis lists, and the trials of a new
 -- query; the value that each control is commanded to, in written order; the observations of the assignments before and after the
--- step; the current query; and whether the session has ended
+-- step; the goals; the current query; and whether the session has ended
 pub record SessionState : Type 0 where
   pub tracked : List TrackedState
   pub time : ℕ
@@ -40,6 +50,7 @@ pub record SessionState : Type 0 where
   pub controls : List ValId
   pub present : List Sighting
   pub next : List Sighting
+  pub goals : List Goal
   pub query : Query
   pub is_ended : Bool
 
@@ -61,14 +72,12 @@ start plant = record {
   controls = resting plant;
   present = [];
   next = [];
+  goals = [];
   query = Absent;
   is_ended = false;
 }
 
 -- the facts: the controls' values, and what was observed
-abbrev pub observation_of : Sighting → Observation
-observation_of s = record { var = s.var; val = s.val }
-
 abbrev pub facts_of : SessionState → Facts
 facts_of state = record {
   controls = state.controls;
@@ -79,6 +88,21 @@ facts_of state = record {
 -- the walk of a diagnosis with so many trials along the candidates of the tracked states
 unfoldable pub walked : Plant → SessionState → ℕ → Walked
 walked plant state trials = diagnosis_walk plant (facts_of state) state.k trials (candidates plant state.tracked)
+
+-- what is asked of a recovery: from the tracked states, with what is observed now, to the goals
+abbrev pub formula_of : Goal → Tree
+formula_of g = g.formula
+
+abbrev pub aim_of : SessionState → Aim
+aim_of state = record {
+  tracked = state.tracked;
+  present = map observation_of state.present;
+  goals = map formula_of state.goals;
+}
+
+-- the walk of a recovery with so many trials along the command sets
+unfoldable pub recovery : Plant → SessionState → ℕ → Walked
+recovery plant state trials = recovery_walk plant (aim_of state) trials
 
 pub record Stepped : Type 0 where
   pub state : SessionState
@@ -112,13 +136,6 @@ set_control state c = commanded state c.place c.value
 abbrev pub release : SessionState → ℕ → Stepped
 release state place = commanded state place rest
 
--- the observation has this name
-abbrev pub has_name : List ℕ → Sighting → Bool
-has_name name s = is_named name s.name
-
-abbrev pub lacks_name : List ℕ → Sighting → Bool
-lacks_name name s = not (has_name name s)
-
 -- an observation of this name is held, present or next
 abbrev pub is_held : SessionState → List ℕ → Bool
 is_held state name = list_any (has_name name) state.present || list_any (has_name name) state.next
@@ -141,6 +158,35 @@ retract state name =
     then cleared (record state { present = filter (lacks_name name) state.present; next = filter (lacks_name name) state.next })
     else unchanged state (Refused NameNotHeld)
 
+-- the goal has this name
+abbrev pub has_goal_name : List ℕ → Goal → Bool
+has_goal_name name g = is_named name g.name
+
+abbrev pub lacks_goal_name : List ℕ → Goal → Bool
+lacks_goal_name name g = not (has_goal_name name g)
+
+-- a goal of this name is held
+abbrev pub is_goal : SessionState → List ℕ → Bool
+is_goal state name = list_any (has_goal_name name) state.goals
+
+-- no further goal can be held, or none under such a name
+abbrev pub has_no_goal_room : SessionState → List ℕ → Bool
+has_no_goal_room state name = nat_le GOALS (length state.goals) || nat_lt NAME_BYTES (length name)
+
+-- `goal`: one more goal
+abbrev pub set_goal : SessionState → Goal → Stepped
+set_goal state g =
+    if is_goal state g.name then unchanged state (Refused NameHeld)
+    else (if has_no_goal_room state g.name then unchanged state (Refused TooManyHeld)
+    else cleared (record state { goals = state.goals ++ (g ∷ []) }))
+
+-- `drop`: the others stay
+abbrev pub drop_goal : SessionState → List ℕ → Stepped
+drop_goal state name =
+    if is_goal state name
+    then cleared (record state { goals = filter (lacks_goal_name name) state.goals })
+    else unchanged state (Refused NameNotHeld)
+
 -- how many trials were made
 abbrev pub trials : Walked → ℕ
 trials w = length w.listed + length w.kept
@@ -157,19 +203,45 @@ diagnosis_reply w = reply_by w.outcome w
 abbrev pub diagnosed : Plant → SessionState → ℕ → Stepped
 diagnosed plant state sum = record { state = record state { query = Diagnosis sum }; reply = diagnosis_reply (walked plant state sum) }
 
+-- what a recovery that came to this replies: the command set listed, if there is one
+abbrev pub found : List Rank → Reply
+found [] = NoRecovery
+found (r ∷ rs) = Recovered r
+
+abbrev pub recovery_reply_by : Outcome → Walked → Reply
+recovery_reply_by Settled w = found w.listed
+recovery_reply_by Unsettled w = Undecided (trials w)
+
+abbrev pub recovery_reply : Walked → Reply
+recovery_reply w = recovery_reply_by w.outcome w
+
+-- the current query is a recovery with so many trials
+abbrev pub recovered : Plant → SessionState → ℕ → Stepped
+recovered plant state sum = record { state = record state { query = Recovery sum }; reply = recovery_reply (recovery plant state sum) }
+
+-- `recover`: some goal has to be held
+abbrev pub recover : Plant → SessionState → Stepped
+recover plant state = if nat_eq (length state.goals) 0 then unchanged state (Refused NoGoal) else recovered plant state state.budget
+
 abbrev pub more_by : Outcome → Plant → SessionState → ℕ → Stepped
 more_by Settled plant state sum = unchanged state (Refused NotUnsettled)
 more_by Unsettled plant state sum = diagnosed plant state sum
+
+abbrev pub more_recovery_by : Outcome → Plant → SessionState → ℕ → Stepped
+more_recovery_by Settled plant state sum = unchanged state (Refused NotUnsettled)
+more_recovery_by Unsettled plant state sum = recovered plant state sum
 
 -- `more`: a query that isn't settled goes on with the sum of its trials
 abbrev pub more : Query → Plant → SessionState → ℕ → Stepped
 more Absent plant state n = unchanged state (Refused NotUnsettled)
 more (Diagnosis sum) plant state n = more_by (walked plant state sum).outcome plant state (sum + n)
+more (Recovery sum) plant state n = more_recovery_by (recovery plant state sum).outcome plant state (sum + n)
 
 -- `conflicts`: those that the current query kept
 abbrev pub conflicts : Query → Plant → SessionState → Stepped
 conflicts Absent plant state = unchanged state (Refused NoQuery)
 conflicts (Diagnosis sum) plant state = unchanged state (ConflictsReply (walked plant state sum).kept (trials (walked plant state sum)))
+conflicts (Recovery sum) plant state = unchanged state (CommandConflicts (recovery plant state sum).kept (trials (recovery plant state sum)))
 
 -- the listed candidates are taken over: what they lead to is tracked, the next observations become present, the controls rest
 abbrev pub advanced_to : Plant → SessionState → List Rank → SessionState
@@ -196,6 +268,21 @@ commit_by Unsettled plant state listed = unchanged state (Refused NoQuery)
 abbrev pub commit : Query → Plant → SessionState → Stepped
 commit Absent plant state = unchanged state (Refused NoQuery)
 commit (Diagnosis sum) plant state = commit_by (walked plant state sum).outcome plant state (walked plant state sum).listed
+commit (Recovery sum) plant state = unchanged state (Refused NoQuery)
+
+-- what propagation finds, as a reply
+abbrev pub labels_reply : Labelling → Reply
+labels_reply labelling.Contradiction = Contradiction
+labels_reply (labelling.Labels labels) = LabelsReply labels
+
+-- `labels`: what propagation finds under the facts and, if a state is given, its modes
+abbrev pub labelled : Plant → SessionState → Option State → Stepped
+labelled plant state of = unchanged state (labels_reply (labelling plant (fact_literals plant (facts_of state) ++ state_literals plant of)))
+
+-- the same from the tracked state of this number, counted from 1
+abbrev pub labelled_from : Plant → SessionState → ℕ → Stepped
+labelled_from plant state n =
+    option_map_or (λ (s : TrackedState). labelled plant state (Some s.state)) (slice_get state.tracked (n - 1)) (unchanged state (Refused OutOfLimits))
 
 -- `reset`
 abbrev pub reset : Plant → Stepped
@@ -214,10 +301,15 @@ carried_out plant state (SetControl c) = set_control state c
 carried_out plant state (Release place) = release state place
 carried_out plant state (Observe s) = observe state s
 carried_out plant state (Retract name) = retract state name
+carried_out plant state (SetGoal g) = set_goal state g
+carried_out plant state (DropGoal name) = drop_goal state name
 carried_out plant state Diagnose = diagnosed plant state state.budget
+carried_out plant state Recover = recover plant state
 carried_out plant state (More n) = more state.query plant state n
 carried_out plant state Commit = commit state.query plant state
 carried_out plant state Conflicts = conflicts state.query plant state
+carried_out plant state Labels = labelled plant state None
+carried_out plant state (LabelsFrom n) = labelled_from plant state n
 carried_out plant state States = unchanged state (StatesReply state.time state.tracked)
 carried_out plant state Reset = reset plant
 carried_out plant state Quit = quit state

@@ -1,4 +1,4 @@
-//! Diagnoses of the state as it is: asked for, gone on with, shown, and taken over.
+//! Diagnoses of the state as it is: asked for, gone on with, and taken over.
 //!
 //! What a diagnosis comes to is the walk of its definition; the search that is kept beside the state has come to the same,
 //! and goes on from there.
@@ -10,16 +10,16 @@ ghost use Rattle.lv_steps.specs.System.{IsSystemOf};
 ghost use Rattle.lv_session.specs.declared.query.Query.TheVariants.{Diagnosis as IsDiagnosis};
 ghost use Rattle.lv_session.specs.declared.running.Running.TheVariants.{Diagnosis as KeptDiagnosis};
 ghost use Rattle.lv_walk.specs.declared.outcome.Outcome.TheVariants.{Unsettled};
-ghost use Rattle.lv_session.specs.Session.{facts_of, trials, walked, diagnosis_reply, diagnosed, more, conflicts, taken_over, commit};
+ghost use Rattle.lv_session.specs.Session.{facts_of, trials, walked, diagnosis_reply, diagnosed, more, taken_over};
 ghost use Rattle.lv_session.specs.States.{IsStateOf, IsListOf};
 ghost use Rattle.lv_session.specs.Current.{come_to, IsDiagnosisAt, IsKeptOf, IsCurrent};
 
-use crate::observations::observations_of;
 use crate::query::Query;
 use crate::running::{Diagnosed, Running};
 use crate::state::{State, resting_values};
 use lv_base::limits::COMMITS;
-use lv_base::{Conflict, Pair, Rank, Seq};
+use lv_base::{Rank, Seq};
+use lv_held::Held;
 use lv_ident::identify;
 use lv_meaning::Facts;
 use lv_model::Model;
@@ -41,19 +41,8 @@ fn copied_ranks(alloc: Global, ranks: &[Rank]) -> Result<Vec<Rank>, AllocError>
     Ok(out)
 }
 
-/// Copies of conflicts.
-fn copied_conflicts(alloc: Global, conflicts: &[Conflict]) -> Result<Vec<Seq<Pair>>, AllocError>
-    ensures { IfOk result (λ out. out.items ≡ conflicts.now) }
-{
-    let mut out = Vec::new(alloc);
-    for conflict in conflicts {
-        out.push(Seq::from_slice(alloc, conflict.pairs())?)?;
-    }
-    Ok(out)
-}
-
 /// How many trials a diagnosis made.
-fn trials(run: &Diagnosed<'_>) -> u64
+pub(crate) fn trials(run: &Diagnosed<'_>) -> u64
     requires { length run.now.query.standing.listed ≤ TRACKED }
     ensures trials { result ≡ trials (come_to run.now) }
     ensures room { result + BUDGET < 2 ^ 64 }
@@ -75,13 +64,13 @@ fn reply_of(alloc: Global, run: &Diagnosed<'_>) -> Result<Reply, AllocError>
 
 impl State {
     /// The facts of a diagnosis.
-    fn facts(&self, alloc: Global) -> Result<Facts, AllocError>
+    pub(crate) fn facts(&self, alloc: Global) -> Result<Facts, AllocError>
         ensures { IfOk result (λ facts. facts ≡ facts_of self.now) }
     {
         Ok(Facts {
             controls: Seq::from_slice(alloc, self.controls.as_slice())?,
-            present: Seq::from_vec(observations_of(alloc, self.present.as_slice())?),
-            next: Seq::from_vec(observations_of(alloc, self.next.as_slice())?),
+            present: Seq::from_vec(self.present.observations(alloc)?),
+            next: Seq::from_vec(self.next.observations(alloc)?),
         })
     }
 
@@ -174,7 +163,7 @@ impl State {
     }
 
     /// The diagnosis with more trials, if it isn't settled.
-    fn more_of(
+    pub(crate) fn more_of(
         &mut self,
         alloc: Global,
         model: &Model,
@@ -196,81 +185,8 @@ impl State {
         }
     }
 
-    /// The current query with more trials, if it isn't settled.
-    pub(crate) fn more(
-        &mut self,
-        alloc: Global,
-        model: &Model,
-        running: &mut Running<'_>,
-        n: u64,
-    ) -> Result<Reply, AllocError>
-        requires state { IsStateOf model.now self.old }
-        requires running { IsCurrent model.now self.old running.old }
-        requires few { n ≤ BUDGET }
-        ensures ok { IfOk result (λ reply. record { state = self.new; reply = reply } ≡ more self.old.query model.now self.old n) }
-        ensures err { OnErr result (self.new ≡ self.old) }
-        ensures running { OnOk result (IsCurrent model.now self.new running.new) }
-    {
-        match self.query {
-            Query::Absent => Ok(Reply::Refused(Refusal::NotUnsettled)),
-            Query::Diagnosis(sum) => match running {
-                Running::Diagnosis(run) => self.more_of(alloc, model, run, sum, n),
-                Running::Nothing => Ok(Reply::Refused(Refusal::NotUnsettled)),
-            },
-        }
-    }
-
-    /// The conflicts that the current query kept.
-    pub(crate) fn conflicts(
-        &self,
-        alloc: Global,
-        model: &Model,
-        running: &Running<'_>,
-    ) -> Result<Reply, AllocError>
-        requires state { IsStateOf model.now self.now }
-        requires running { IsCurrent model.now self.now running.now }
-        ensures { IfOk result (λ reply. record { state = self.now; reply = reply } ≡ conflicts self.now.query model.now self.now) }
-    {
-        let _plant = model.plant();
-        match self.query {
-            Query::Absent => Ok(Reply::Refused(Refusal::NoQuery)),
-            Query::Diagnosis(_) => match running {
-                Running::Diagnosis(run) => {
-                    let kept = copied_conflicts(alloc, run.query.conflicts())?;
-                    Ok(Reply::Conflicts(Seq::from_vec(kept), trials(run)))
-                }
-                Running::Nothing => Ok(Reply::Refused(Refusal::NoQuery)),
-            },
-        }
-    }
-
-    /// Takes a settled diagnosis over, if one is current.
-    pub(crate) fn commit(
-        &mut self,
-        alloc: Global,
-        model: &Model,
-        running: &Running<'_>,
-    ) -> Result<Reply, AllocError>
-        requires state { IsStateOf model.now self.old }
-        requires running { IsCurrent model.now self.old running.now }
-        ensures ok { IfOk result (λ reply. record { state = self.new; reply = reply } ≡ commit self.old.query model.now self.old) }
-        ensures err { OnErr result (self.new ≡ self.old) }
-    {
-        let _plant = model.plant();
-        match self.query {
-            Query::Absent => Ok(Reply::Refused(Refusal::NoQuery)),
-            Query::Diagnosis(_) => match running {
-                Running::Diagnosis(run) => match run.outcome {
-                    Outcome::Settled => self.take_over(alloc, model, run.query.listed()),
-                    Outcome::Unsettled => Ok(Reply::Refused(Refusal::NoQuery)),
-                },
-                Running::Nothing => Ok(Reply::Refused(Refusal::NoQuery)),
-            },
-        }
-    }
-
     /// Takes what is listed over: it is tracked, the next observations become present, the controls rest.
-    fn take_over(
+    pub(crate) fn take_over(
         &mut self,
         alloc: Global,
         model: &Model,
@@ -292,7 +208,7 @@ impl State {
         self.tracked = tracked;
         self.time += 1;
         self.controls = controls;
-        self.present = mem::replace(&mut self.next, Vec::new(alloc));
+        self.present = mem::replace(&mut self.next, Held::new(alloc));
         self.query = Query::Absent;
         Ok(Reply::Committed(self.time, self.tracked.len() as u64))
     }

@@ -7,7 +7,11 @@
 //! | `workings` | what is kept beside the state |
 //! | `state` | the state, and what a request does to it |
 //! | `observations` | the observations held, by their names |
-//! | `diagnoses` | diagnoses asked for, gone on with, shown and taken over |
+//! | `goals` | the goals held, by their names |
+//! | `diagnoses` | diagnoses asked for, gone on with and taken over |
+//! | `recoveries` | recoveries asked for and gone on with |
+//! | `queries` | the current query gone on with, shown and taken over |
+//! | `labels` | what propagation finds |
 //! | `query` | the current query |
 //! | `running` | what is kept of it from line to line |
 //! | `flush` | what was written handed on |
@@ -19,9 +23,13 @@
 
 mod diagnoses;
 pub mod flush;
+mod goals;
+mod labels;
 pub mod laws;
 mod observations;
+mod queries;
 pub mod query;
+mod recoveries;
 pub mod running;
 pub mod session;
 pub mod state;

@@ -8,4 +8,6 @@ pub enum Query {
     Absent,
     /// A diagnosis, with the trials that it may make, those that were added to it included.
     Diagnosis(u64),
+    /// A recovery, with the trials that it may make, those that were added to it included.
+    Recovery(u64),
 }

@@ -2,6 +2,7 @@
 #![tactic(auto)]
 
 use lv_ident::Query;
+use lv_reconf::Query as RecoveryQuery;
 use lv_walk::Outcome;
 
 /// A diagnosis that has run: its search, and what its last run came to.
@@ -11,9 +12,17 @@ pub struct Diagnosed<'a> {
     pub(crate) outcome: Outcome,
 }
 
+/// A recovery that has run: its search, and what its last run came to.
+#[derive(Drop)]
+pub struct Recovering<'a> {
+    pub(crate) query: RecoveryQuery<'a>,
+    pub(crate) outcome: Outcome,
+}
+
 /// What is kept of the current query. Where no query is current, what is kept means nothing.
 #[derive(Drop)]
 pub enum Running<'a> {
     Nothing,
     Diagnosis(Diagnosed<'a>),
+    Recovery(Recovering<'a>),
 }

@@ -3,6 +3,7 @@
 
 ghost use Rattle.std.specs.Prelude.{◌≡◌, IfOk, OnOk, OnErr, IsErr, true, false};
 ghost use Rattle.lv_session.specs.Session.{start, stepped};
+ghost use Rattle.lv_session.specs.Current.{IsSession};
 ghost use Rattle.lv_reply.specs.Texts.{reply_text};
 
 use crate::state::State;
@@ -12,13 +13,13 @@ use lv_reply::{Reply, reply_text};
 use std::alloc::{AllocError, Global};
 use std::marker;
 
-/// A session over a model.
+/// A session over a model. What it keeps lies apart from it, so that whoever holds one holds little.
 #[derive(Drop)]
 pub struct Session<'a> {
     model: &'a Model,
     alloc: Global,
-    workings: Workings<'a>,
-    state: State,
+    workings: Box<Workings<'a>>,
+    state: Box<State>,
     is_out_of_memory: bool,
 }
 
@@ -32,9 +33,28 @@ impl<'a> marker::Model for Session<'a> {
 
     ghost coded = { Prim.hlevel (codes, condition.the_row.coded) };
 
-    ghost view = { λ s. record { plant = s.model.now; state = s.state; is_out_of_memory = s.is_out_of_memory } };
+    ghost view = { λ s. record { plant = s.model.now; state = s.state.value; is_out_of_memory = s.is_out_of_memory } };
 
-    ghost invariant = { λ s. IsSession s.model.now s.workings s.state s.is_out_of_memory };
+    ghost invariant = { λ s. IsSession s.model.now s.workings.value s.state.value s.is_out_of_memory };
+}
+
+/// A session of what it keeps, each part in a box of its own.
+fn of_kept<'a>(
+    alloc: Global,
+    model: &'a Model,
+    workings: Workings<'a>,
+    state: State,
+) -> Result<Session<'a>, AllocError>
+    requires { IsSession model.now workings state false }
+    ensures { IfOk result (λ session. session ≡ record { plant = model.now; state = state; is_out_of_memory = false }) }
+{
+    Ok(Session {
+        model,
+        alloc,
+        workings: Box::new(alloc, workings)?,
+        state: Box::new(alloc, state)?,
+        is_out_of_memory: false,
+    })
 }
 
 impl<'a> Session<'a> {
@@ -45,13 +65,7 @@ impl<'a> Session<'a> {
         let _plant = model.plant();
         let workings = Workings::new(alloc, model)?;
         let state = State::start(alloc, model)?;
-        Ok(Session {
-            model,
-            alloc,
-            workings,
-            state,
-            is_out_of_memory: false,
-        })
+        of_kept(alloc, model, workings, state)
     }
 
     /// Does what a line asks for, which is given without its end, and answers the reply. Once memory was wanting, each

@@ -7,15 +7,17 @@ ghost use Rattle.lv_session.specs.Session.{start, resting, cleared, track, set_b
 ghost use Rattle.lv_reply.specs.declared.reply.Reply.TheVariants.{States};
 ghost use Rattle.lv_steps.specs.System.{IsSystemOf};
 ghost use Rattle.lv_session.specs.States.{IsStateOf};
-ghost use Rattle.lv_session.specs.Current.{IsCurrent, IsCaredFor};
+ghost use Rattle.lv_session.specs.Current.{IsCurrent, IsCaredFor, IsLabellerOf};
 
 use crate::query::Query;
 use crate::running::Running;
 use lv_base::limits::{LISTED, TRIALS};
 use lv_base::{Cost, Seq, ValId};
+use lv_held::Held;
+use lv_labels::Labeller;
 use lv_model::{Model, State as Modes, TrackedState};
 use lv_reply::Reply;
-use lv_request::{Command, Request, Sighting};
+use lv_request::{Command, Goal, Request};
 use lv_steps::StepSystem;
 use lv_tracker::Tracked;
 use std::alloc::{AllocError, Global};
@@ -29,18 +31,23 @@ pub struct State {
     pub(crate) k: u32,
     pub(crate) budget: u64,
     pub(crate) controls: Vec<ValId>,
-    pub(crate) present: Vec<Sighting>,
-    pub(crate) next: Vec<Sighting>,
+    pub(crate) present: Held,
+    pub(crate) next: Held,
+    pub(crate) goals: Vec<Goal>,
     pub(crate) query: Query,
     pub(crate) is_ended: bool,
 }
 
 impl marker::Model for State {
     ghost use Rattle.lv_session.specs.Session.{SessionState};
+    ghost use Rattle.std.specs.Coded.{codes};
+    ghost use Rattle.lv_formula.specs.contracts.Condition as condition;
 
     ghost Value = { SessionState };
 
-    ghost view = { λ s. record { tracked = s.tracked; time = s.time; k = s.k; budget = s.budget; controls = s.controls.items; present = s.present.items; next = s.next.items; query = s.query; is_ended = s.is_ended } };
+    ghost coded = { Prim.hlevel (codes, condition.the_row.coded) };
+
+    ghost view = { λ s. record { tracked = s.tracked; time = s.time; k = s.k; budget = s.budget; controls = s.controls.items; present = s.present; next = s.next; goals = s.goals.items; query = s.query; is_ended = s.is_ended } };
 }
 
 /// The value at which a control rests, for each control.
@@ -64,8 +71,9 @@ impl State {
             k: LISTED,
             budget: TRIALS,
             controls,
-            present: Vec::new(alloc),
-            next: Vec::new(alloc),
+            present: Held::new(alloc),
+            next: Held::new(alloc),
+            goals: Vec::new(alloc),
             query: Query::Absent,
             is_ended: false,
         })
@@ -85,15 +93,18 @@ impl State {
         model: &'a Model,
         system: &StepSystem,
         running: &mut Running<'a>,
+        labeller: &mut Option<Labeller<'a>>,
         request: Request,
     ) -> Result<Reply, AllocError>
         requires state { IsStateOf model.now self.old }
         requires request { IsRequestOf model.now request }
         requires system { IsSystemOf model.now system.now }
         requires running { IsCurrent model.now self.old running.old }
+        requires labeller { IsLabellerOf model.now labeller.old }
         ensures ok { IfOk result (λ reply. record { state = self.new; reply = reply } ≡ carried_out model.now self.old request) }
         ensures err { OnErr result (self.new ≡ self.old) }
         ensures running { OnOk result (IsCaredFor request model.now self.new running.old running.new) }
+        ensures labeller { IsLabellerOf model.now labeller.new }
     {
         match request {
             Request::Nothing => Ok(Reply::Nothing),
@@ -103,13 +114,18 @@ impl State {
             Request::Release(place) => Ok(self.release(place)),
             Request::Observe(sighting) => self.observe(sighting),
             Request::Retract(name) => Ok(self.retract(name.as_slice())),
+            Request::SetGoal(goal) => self.set_goal(goal),
+            Request::DropGoal(name) => Ok(self.drop_goal(name.as_slice())),
             Request::Diagnose => {
                 let budget = self.budget;
                 self.diagnose(alloc, model, system, running, budget)
             }
+            Request::Recover => self.recover(alloc, model, system, running),
             Request::More(n) => self.more(alloc, model, running, n),
             Request::Commit => self.commit(alloc, model, running),
             Request::Conflicts => self.conflicts(alloc, model, running),
+            Request::Labels => self.labels(alloc, model, system, labeller),
+            Request::LabelsFrom(n) => self.labels_from(alloc, model, system, labeller, n),
             Request::States => self.states(alloc),
             Request::Reset => self.reset(alloc, model),
             Request::Quit => Ok(self.quit()),
@@ -197,7 +213,10 @@ fn copy_of(alloc: Global, tracked: &TrackedState) -> Result<TrackedState, AllocE
 }
 
 /// Copies of tracked states.
-fn copies(alloc: Global, tracked: &[TrackedState]) -> Result<Vec<TrackedState>, AllocError>
+pub(crate) fn copies(
+    alloc: Global,
+    tracked: &[TrackedState],
+) -> Result<Vec<TrackedState>, AllocError>
     ensures { IfOk result (λ copies. copies.items ≡ tracked.now) }
 {
     let mut out = Vec::new(alloc);

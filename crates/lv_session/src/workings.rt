@@ -6,10 +6,11 @@ ghost use Rattle.lv_scope.specs.Lists.{lists_of};
 ghost use Rattle.lv_steps.specs.System.{IsSystemOf};
 ghost use Rattle.lv_session.specs.Session.{stepped};
 ghost use Rattle.lv_session.specs.States.{IsStateOf};
-ghost use Rattle.lv_session.specs.Current.{IsCurrent};
+ghost use Rattle.lv_session.specs.Current.{IsCurrent, IsLabellerOf};
 
 use crate::running::Running;
 use crate::state::State;
+use lv_labels::Labeller;
 use lv_model::Model;
 use lv_reply::Reply;
 use lv_request::{Unread, request_of};
@@ -19,13 +20,14 @@ use lv_text::Token;
 use std::alloc::{AllocError, Global};
 
 /// The model's clauses, and the lists by which names are looked up, both for the session's life; the room of a line's
-/// tokens; and what the current query has come to.
+/// tokens; what the current query has come to; and once labels were asked for, what answers that.
 #[derive(Drop)]
 pub struct Workings<'a> {
     pub(crate) lists: Lists,
     pub(crate) system: StepSystem,
     pub(crate) room: Vec<Token>,
     pub(crate) running: Running<'a>,
+    pub(crate) labeller: Option<Labeller<'a>>,
 }
 
 impl<'a> Workings<'a> {
@@ -33,12 +35,14 @@ impl<'a> Workings<'a> {
     pub(crate) fn new(alloc: Global, model: &'a Model) -> Result<Workings<'a>, AllocError>
         ensures lists { IfOk result (λ w. w.lists ≡ lists_of model.now) }
         ensures system { IfOk result (λ w. IsSystemOf model.now w.system) }
+        ensures labeller { IfOk result (λ w. IsLabellerOf model.now w.labeller) }
     {
         Ok(Workings {
             lists: Lists::of(alloc, model)?,
             system: compile(alloc, model)?,
             room: Vec::new(alloc),
             running: Running::Nothing,
+            labeller: None,
         })
     }
 }
@@ -57,10 +61,12 @@ pub(crate) fn answer<'a>(
     requires system { IsSystemOf model.now workings.old.system }
     requires state { IsStateOf model.now state.old }
     requires running { IsCurrent model.now state.old workings.old.running }
+    requires labeller { IsLabellerOf model.now workings.old.labeller }
     ensures ok { IfOk result (λ reply. record { state = state.new; reply = reply } ≡ stepped model.now state.old line.now) }
     ensures err { OnErr result (state.new ≡ state.old) }
     ensures kept { IsStateOf model.now state.new }
     ensures running { OnOk result (IsCurrent model.now state.new workings.new.running) }
+    ensures labeller { IsLabellerOf model.now workings.new.labeller }
     ensures lists { workings.new.lists ≡ workings.old.lists }
     ensures system { workings.new.system ≡ workings.old.system }
 {
@@ -74,6 +80,7 @@ pub(crate) fn answer<'a>(
             model,
             &workings.system,
             &mut workings.running,
+            &mut workings.labeller,
             request,
         ),
         Err(Unread::Refused(refusal)) => Ok(Reply::Refused(refusal)),

@@ -8,12 +8,13 @@ use Rattle.lv_session.specs.Current.{IsCurrent}
 use Rattle.lv_session.proofs.Keeping.{start_kept}
 use Rattle.lv_session.proofs.session.Session.new.Goals as goal
 
-pub invariant_of-result : goal.invariant_of-result
-invariant_of-result c =
+pub of_kept-requires : goal.of_kept-requires
+of_kept-requires c =
     let well : is_well_formed c.args.model.now ≡ true = subst (λ (p : Plant). is_well_formed p ≡ true) c.plant-plant.ensures.plant c.plant-plant.ensures.well_formed in
     record {
       lists_are = c.in_ok-workings.ensures.lists;
       system_is = c.in_ok-workings.ensures.system;
+      labeller_is = c.in_ok-workings.ensures.labeller;
       is_state = subst (IsStateOf c.args.model.now) (sym c.in_ok-state.ensures) (start_kept c.args.model.now well);
       current = λ _. subst (λ (s : SessionState). IsCurrent c.args.model.now s c.in_ok-workings.workings.running) (sym c.in_ok-state.ensures) tt;
     }

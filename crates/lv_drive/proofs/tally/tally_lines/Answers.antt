@@ -1,10 +1,10 @@
 -- One more reply is counted, and at the end all are.
 use Rattle.std.proofs.Common.{rules}
 use Rattle.lv_drive.proofs.Tallying.{tallied_at_start, tallied_more, tallied_all}
-use Rattle.lv_drive.proofs.tally.tally_session.Goals as goal
+use Rattle.lv_drive.proofs.tally.tally_lines.Goals as goal
 
 pub loop-line-init : goal.loop-line-init
-loop-line-init c = record { tallied = tallied_at_start _ _ _ _ c.in_ok-session.ensures c.none-tally.ensures }
+loop-line-init c = record { tallied = tallied_at_start _ _ _ _ c.requires c.none-tally.ensures }
 
 pub loop-line-preserved : goal.loop-line-preserved
 loop-line-preserved c = record {

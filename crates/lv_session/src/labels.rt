@@ -1,0 +1,135 @@
+//! What propagation finds in the state as it is.
+#![tactic(auto)]
+
+ghost use Rattle.std.specs.Prelude.{◌≡◌, ◌-◌, ◌++◌, None, IfOk, slice_get};
+ghost use Rattle.std.specs.Option.{option_copied};
+ghost use Rattle.lv_steps.specs.System.{IsSystemOf};
+ghost use Rattle.lv_labels.specs.Literals.{fact_literals, state_literals};
+ghost use Rattle.lv_labels.specs.Finding.{labelling};
+ghost use Rattle.lv_labels.specs.Holding.{HasOwnModes};
+ghost use Rattle.lv_session.specs.Session.{facts_of, labels_reply, labelled, labelled_from};
+ghost use Rattle.lv_session.specs.States.{IsStateOf};
+ghost use Rattle.lv_session.specs.Current.{IsLabellerOf};
+
+use crate::state::State;
+use lv_labels::{Labeller, Labelling};
+use lv_model::{Model, State as Modes, TrackedState};
+use lv_reply::{Refusal, Reply};
+use lv_steps::StepSystem;
+use std::alloc::{AllocError, Global};
+
+/// What propagation finds, as a reply.
+fn labels_reply(labelling: Labelling) -> Reply
+    ensures { result ≡ labels_reply labelling }
+{
+    match labelling {
+        Labelling::Contradiction => Reply::Contradiction,
+        Labelling::Labels(labels) => Reply::Labels(labels),
+    }
+}
+
+/// The labeller that is held, or where none is a new one.
+fn taken<'a>(
+    alloc: Global,
+    model: &'a Model,
+    system: &StepSystem,
+    held: &mut Option<Labeller<'a>>,
+) -> Result<Labeller<'a>, AllocError>
+    requires system { IsSystemOf model.now system.now }
+    requires held { IsLabellerOf model.now held.old }
+    ensures labeller { IfOk result (λ labeller. labeller ≡ model.now) }
+    ensures held { IsLabellerOf model.now held.new }
+{
+    match held.take() {
+        Some(labeller) => Ok(labeller),
+        None => Labeller::new(alloc, model, system),
+    }
+}
+
+/// The tracked state of this number, counted from 1.
+fn numbered(tracked: &[TrackedState], n: u32) -> Option<&TrackedState>
+    ensures { option_copied result ≡ slice_get tracked.now (n - 1) }
+{
+    tracked.get((n as usize).saturating_sub(1))
+}
+
+impl State {
+    /// What propagation finds under the facts and, if a state is given, its modes.
+    fn told(
+        &self,
+        alloc: Global,
+        model: &Model,
+        labeller: &mut Labeller<'_>,
+        of: Option<&Modes>,
+    ) -> Result<Labelling, AllocError>
+        requires state { IsStateOf model.now self.now }
+        requires labeller { labeller.old ≡ model.now }
+        requires modes { HasOwnModes model.now (option_copied of) }
+        ensures found { IfOk result (λ told. told ≡ labelling model.now (fact_literals model.now (facts_of self.now) ++ state_literals model.now (option_copied of.entry))) }
+        ensures labeller { labeller.new ≡ model.now }
+    {
+        let _plant = model.plant();
+        let facts = self.facts(alloc)?;
+        labeller.tell(&facts, of)
+    }
+
+    /// The same as a reply, asked of the labeller that is held from line to line.
+    fn labelled<'a>(
+        &self,
+        alloc: Global,
+        model: &'a Model,
+        system: &StepSystem,
+        held: &mut Option<Labeller<'a>>,
+        of: Option<&Modes>,
+    ) -> Result<Reply, AllocError>
+        requires state { IsStateOf model.now self.now }
+        requires system { IsSystemOf model.now system.now }
+        requires held { IsLabellerOf model.now held.old }
+        requires modes { HasOwnModes model.now (option_copied of) }
+        ensures reply { IfOk result (λ reply. record { state = self.now; reply = reply } ≡ labelled model.now self.now (option_copied of.entry)) }
+        ensures held { IsLabellerOf model.now held.new }
+    {
+        let mut labeller = taken(alloc, model, system, held)?;
+        let told = self.told(alloc, model, &mut labeller, of);
+        *held = Some(labeller);
+        Ok(labels_reply(told?))
+    }
+
+    /// `labels`
+    pub(crate) fn labels<'a>(
+        &self,
+        alloc: Global,
+        model: &'a Model,
+        system: &StepSystem,
+        held: &mut Option<Labeller<'a>>,
+    ) -> Result<Reply, AllocError>
+        requires state { IsStateOf model.now self.now }
+        requires system { IsSystemOf model.now system.now }
+        requires held { IsLabellerOf model.now held.old }
+        ensures reply { IfOk result (λ reply. record { state = self.now; reply = reply } ≡ labelled model.now self.now None) }
+        ensures held { IsLabellerOf model.now held.new }
+    {
+        self.labelled(alloc, model, system, held, None)
+    }
+
+    /// `labels I`: with the modes of the tracked state of this number, counted from 1.
+    pub(crate) fn labels_from<'a>(
+        &self,
+        alloc: Global,
+        model: &'a Model,
+        system: &StepSystem,
+        held: &mut Option<Labeller<'a>>,
+        n: u32,
+    ) -> Result<Reply, AllocError>
+        requires state { IsStateOf model.now self.now }
+        requires system { IsSystemOf model.now system.now }
+        requires held { IsLabellerOf model.now held.old }
+        ensures reply { IfOk result (λ reply. record { state = self.now; reply = reply } ≡ labelled_from model.now self.now n) }
+        ensures held { IsLabellerOf model.now held.new }
+    {
+        match numbered(self.tracked.as_slice(), n) {
+            Some(s) => self.labelled(alloc, model, system, held, Some(&s.state)),
+            None => Ok(Reply::Refused(Refusal::OutOfLimits)),
+        }
+    }
+}
