@@ -1,0 +1,363 @@
+//! Diagnoses of a valve that is closed at the start. Its variables are its mode, its command, its inflow and its outflow; its
+//! moves from closed are to open, the stay, and the faults that leave it stuck closed and stuck open.
+ghost use Rattle.std.specs.Prelude.{◌≡◌, ◌<◌, true, All, IfOk, length};
+ghost use Rattle.lv_model.specs.Lists.{move_counts};
+ghost use Rattle.lv_meaning.specs.Facts.{FactsFit};
+ghost use Rattle.lv_meaning.specs.Candidates.{IsTracked};
+ghost use Rattle.lv_search.specs.Standing.{trials_of, all_suit};
+ghost use Rattle.lv_steps.specs.System.{IsSystemOf};
+ghost use Rattle.lv_ident.specs.Literals.{FactsInRange};
+ghost use Rattle.lv_ident.specs.Zones.{is_full_choice};
+
+use crate::fitting::{are_in_range, fit};
+use lv_base::{Conflict, Cost, Pair, Rank, Seq, ValId, VarId};
+use lv_checker::model_of;
+use lv_ident::{IdentTrial, Query, identify};
+use lv_meaning::{Facts, Observation};
+use lv_model::{Model, Part, State, TrackedState};
+use lv_steps::{StepSystem, compile};
+use lv_walk::Outcome;
+use std::alloc::{AllocError, Global};
+
+/// A valve that follows its command or is stuck, with its inflow present.
+const VALVE: &str = "model valve
+domain flow zero some
+domain order none open close
+type valve
+control cmd order
+variable inn flow
+observable out flow
+mode closed
+mode open
+mode stuck_closed
+mode stuck_open
+in closed out = zero
+in open out = inn
+in stuck_closed out = zero
+in stuck_open out = inn
+step closed -> open when cmd = open
+step open -> closed when cmd = close
+fault closed -> stuck_closed cost 3
+fault open -> stuck_open cost 5
+fault open -> stuck_closed cost 4
+fault closed -> stuck_open cost 8
+end
+part v valve closed
+law v.inn = some
+";
+
+const NOTHING_OUT: Observation = Observation {
+    var: VarId(3),
+    val: ValId(0),
+};
+
+/// What a diagnosis is to come to: what each candidate listed costs, and its move; the moves that each are a conflict.
+#[derive(Clone, Copy)]
+struct Wanted<'a> {
+    listed: &'a [(u64, u32)],
+    refused: &'a [u32],
+}
+
+/// Of the command to open, after which nothing flows.
+const AFTER_COMMAND: Wanted<'static> = Wanted {
+    listed: &[(3, 2)],
+    refused: &[0, 1, 3],
+};
+
+/// Of a valve that rests and isn't looked at.
+const AFTER_NOTHING: Wanted<'static> = Wanted {
+    listed: &[(0, 1), (3, 2), (8, 3)],
+    refused: &[0],
+};
+
+fn valve(alloc: Global) -> Result<Model, AllocError> {
+    match model_of(alloc, VALVE.as_bytes()) {
+        Ok(model) => Ok(model),
+        Err(_) => Err(AllocError),
+    }
+}
+
+/// The command to open, and that nothing flows.
+fn opened(alloc: Global) -> Result<Facts, AllocError> {
+    Ok(Facts {
+        controls: Seq::from_slice(alloc, &[ValId(1)])?,
+        present: Seq::new(alloc),
+        next: Seq::from_slice(alloc, &[NOTHING_OUT])?,
+    })
+}
+
+/// No command and no observation.
+fn nothing(alloc: Global) -> Result<Facts, AllocError> {
+    Ok(Facts {
+        controls: Seq::from_slice(alloc, &[ValId(0)])?,
+        present: Seq::new(alloc),
+        next: Seq::new(alloc),
+    })
+}
+
+/// Of each part its first mode.
+fn first_modes(alloc: Global, parts: &[Part]) -> Result<Vec<ValId>, AllocError>
+    ensures { IfOk result (λ modes. length modes.items ≡ length parts.now) }
+{
+    parts.iter().map(|_| ValId(0)).collect(alloc)
+}
+
+/// The state in which each part is in its first mode.
+fn first_state(alloc: Global, model: &Model) -> Result<TrackedState, AllocError>
+    ensures { IfOk result (IsTracked (length model.now.parts)) }
+{
+    let modes = first_modes(alloc, model.plant().parts.as_slice())?;
+    Ok(TrackedState {
+        state: State {
+            modes: Seq::from_vec(modes),
+        },
+        cost: Cost(0),
+    })
+}
+
+fn closed(alloc: Global, model: &Model) -> Result<Vec<TrackedState>, AllocError>
+    ensures one { IfOk result (λ out. length out.items ≡ 1) }
+    ensures states { IfOk result (λ out. All (IsTracked (length model.now.parts)) out.items) }
+{
+    let mut out = Vec::new(alloc);
+    out.push(first_state(alloc, model)?)?;
+    Ok(out)
+}
+
+fn is_listed(rank: &Rank, cost: u64, mv: u32) -> bool {
+    rank.cost == Cost(cost) && rank.source == 0 && rank.choices.as_slice() == [mv].as_slice()
+}
+
+fn are_listed(listed: &[Rank], wanted: &[(u64, u32)]) -> bool {
+    listed.len() == wanted.len()
+        && listed
+            .iter()
+            .zip(wanted.iter())
+            .all(|(rank, w)| is_listed(rank, w.0, w.1))
+}
+
+fn are_kept(conflicts: &[Conflict], moves: &[u32]) -> bool {
+    conflicts.len() == moves.len()
+        && conflicts.iter().zip(moves.iter()).all(|(conflict, mv)| {
+            conflict.pairs()
+                == [Pair {
+                    slot: 0,
+                    choice: *mv,
+                }]
+                .as_slice()
+        })
+}
+
+fn has_come_to(query: &Query<'_>, wanted: Wanted<'_>) -> bool {
+    query.trials() == 4
+        && are_listed(query.listed(), wanted.listed)
+        && are_kept(query.conflicts(), wanted.refused)
+}
+
+fn settles(query: &mut Query<'_>) -> Result<bool, AllocError>
+    requires suit { all_suit (is_full_choice query.old.plant) query.old.standing ≡ true }
+    requires start { trials_of query.old.standing ≡ 0 }
+{
+    Ok(query.run(10)? == Outcome::Settled)
+}
+
+/// Whether it isn't settled after one trial, but with further ones.
+fn settles_later(query: &mut Query<'_>) -> Result<bool, AllocError>
+    requires suit { all_suit (is_full_choice query.old.plant) query.old.standing ≡ true }
+    requires start { trials_of query.old.standing ≡ 0 }
+{
+    let before = query.run(1)?;
+    let is_under_way = query.trials() == 1
+        && query.listed().is_empty()
+        && are_kept(query.conflicts(), &[0]);
+    let after = query.run(3)?;
+    Ok(before == Outcome::Unsettled && is_under_way && after == Outcome::Settled)
+}
+
+/// How a diagnosis is run.
+#[derive(Clone, Copy)]
+enum Runs {
+    One,
+    Two,
+}
+
+fn settled_by(query: &mut Query<'_>, runs: Runs) -> Result<bool, AllocError>
+    requires suit { all_suit (is_full_choice query.old.plant) query.old.standing ≡ true }
+    requires start { trials_of query.old.standing ≡ 0 }
+{
+    match runs {
+        Runs::One => settles(query),
+        Runs::Two => settles_later(query),
+    }
+}
+
+fn query_comes_to(
+    alloc: Global,
+    model: &Model,
+    system: &StepSystem,
+    facts: Facts,
+    runs: Runs,
+    wanted: Wanted<'_>,
+) -> Result<bool, AllocError>
+    requires system { IsSystemOf model.now system.now }
+    requires fit { FactsFit model.now facts }
+    requires in_range { FactsInRange model.now facts }
+{
+    let tracked = closed(alloc, model)?;
+    let mut query = identify(alloc, model, system, tracked.as_slice(), facts, 4)?;
+    Ok(settled_by(&mut query, runs)? && has_come_to(&query, wanted))
+}
+
+fn facts_are_of(alloc: Global, model: &Model, facts: &Facts) -> Result<bool, AllocError>
+    ensures fit { IfOk result (λ are. are ≡ true → FactsFit model.now facts.now) }
+    ensures in_range { IfOk result (λ are. are ≡ true → FactsInRange model.now facts.now) }
+{
+    if fit(alloc, model, facts)? {
+        return are_in_range(alloc, model, facts);
+    }
+    Ok(false)
+}
+
+fn facts_come_to(
+    alloc: Global,
+    model: &Model,
+    facts: Facts,
+    runs: Runs,
+    wanted: Wanted<'_>,
+) -> Result<bool, AllocError>
+    requires fit { FactsFit model.now facts }
+    requires in_range { FactsInRange model.now facts }
+{
+    let system = compile(alloc, model)?;
+    query_comes_to(alloc, model, &system, facts, runs, wanted)
+}
+
+fn model_comes_to(
+    alloc: Global,
+    model: &Model,
+    facts: Facts,
+    runs: Runs,
+    wanted: Wanted<'_>,
+) -> Result<bool, AllocError> {
+    if facts_are_of(alloc, model, &facts)? {
+        return facts_come_to(alloc, model, facts, runs, wanted);
+    }
+    Ok(false)
+}
+
+fn comes_to(
+    alloc: Global,
+    facts: Facts,
+    runs: Runs,
+    wanted: Wanted<'_>,
+) -> Result<bool, AllocError> {
+    let model = valve(alloc)?;
+    model_comes_to(alloc, &model, facts, runs, wanted)
+}
+
+/// Whether the move is possible; None where there is no such move.
+fn is_possible(
+    trial: &mut IdentTrial<'_>,
+    counts: &[usize],
+    mv: u32,
+) -> Result<Option<bool>, AllocError>
+    requires { counts.now ≡ move_counts trial.old.plant }
+    ensures { trial.new ≡ trial.old }
+{
+    if !counts.is_empty() && (mv as usize) < counts[0] {
+        let pair = Pair {
+            slot: 0,
+            choice: mv,
+        };
+        return Ok(Some(trial.possible(&[pair])?));
+    }
+    Ok(None)
+}
+
+/// Where the valve was commanded to open and nothing flows after it: of the moves from closed just the fault that leaves it
+/// stuck closed is possible, to stay stuck open isn't, and there is no eleventh move.
+fn moves_are_right(trial: &mut IdentTrial<'_>, counts: &[usize]) -> Result<bool, AllocError>
+    requires { counts.now ≡ move_counts trial.old.plant }
+{
+    Ok(
+        is_possible(trial, counts, 0)? == Some(false)
+            && is_possible(trial, counts, 1)? == Some(false)
+            && is_possible(trial, counts, 2)? == Some(true)
+            && is_possible(trial, counts, 3)? == Some(false)
+            && is_possible(trial, counts, 9)? == Some(false)
+            && is_possible(trial, counts, 10)? == None,
+    )
+}
+
+fn trial_is_right(
+    alloc: Global,
+    model: &Model,
+    system: &StepSystem,
+    facts: Facts,
+) -> Result<bool, AllocError>
+    requires system { IsSystemOf model.now system.now }
+    requires fit { FactsFit model.now facts }
+    requires in_range { FactsInRange model.now facts }
+{
+    let mut trial = IdentTrial::new(alloc, model, system, facts)?;
+    moves_are_right(&mut trial, system.choices().counts())
+}
+
+fn facts_try(alloc: Global, model: &Model, facts: Facts) -> Result<bool, AllocError>
+    requires fit { FactsFit model.now facts }
+    requires in_range { FactsInRange model.now facts }
+{
+    let system = compile(alloc, model)?;
+    trial_is_right(alloc, model, &system, facts)
+}
+
+fn model_tries(alloc: Global, model: &Model, facts: Facts) -> Result<bool, AllocError> {
+    if facts_are_of(alloc, model, &facts)? {
+        return facts_try(alloc, model, facts);
+    }
+    Ok(false)
+}
+
+fn command_is_diagnosed(alloc: Global, runs: Runs) -> Result<bool, AllocError> {
+    let facts = opened(alloc)?;
+    comes_to(alloc, facts, runs, AFTER_COMMAND)
+}
+
+fn rest_is_diagnosed(alloc: Global) -> Result<bool, AllocError> {
+    let facts = nothing(alloc)?;
+    comes_to(alloc, facts, Runs::One, AFTER_NOTHING)
+}
+
+fn moves_are_tried(alloc: Global) -> Result<bool, AllocError> {
+    let facts = opened(alloc)?;
+    let model = valve(alloc)?;
+    model_tries(alloc, &model, facts)
+}
+
+#[test]
+fn nothing_flows_after_a_command(rt: HostRuntime) -> Result<(), AllocError> {
+    let right = command_is_diagnosed(rt.alloc(), Runs::One)?;
+    assert!(rt; right);
+    Ok(())
+}
+
+#[test]
+fn the_same_in_two_runs(rt: HostRuntime) -> Result<(), AllocError> {
+    let right = command_is_diagnosed(rt.alloc(), Runs::Two)?;
+    assert!(rt; right);
+    Ok(())
+}
+
+#[test]
+fn a_valve_that_rests(rt: HostRuntime) -> Result<(), AllocError> {
+    let right = rest_is_diagnosed(rt.alloc())?;
+    assert!(rt; right);
+    Ok(())
+}
+
+#[test]
+fn moves_tried_alone(rt: HostRuntime) -> Result<(), AllocError> {
+    let right = moves_are_tried(rt.alloc())?;
+    assert!(rt; right);
+    Ok(())
+}
