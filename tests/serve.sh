@@ -60,7 +60,24 @@ expect_files 'a made model' 0 "$root/tests/generated/31.lv" /dev/null
 run generate session 031 </dev/null
 expect_files 'a made session' 0 "$root/tests/generated/31.ses" /dev/null
 
-run drive 31 </dev/null
-expect_files 'a driven session' 0 "$root/tests/generated/31.out" /dev/null
+for number in 1 2 31; do
+    run drive "$number" </dev/null
+    expect_files "driven session $number" 0 "$root/tests/generated/$number.out" /dev/null
+done
+
+# What a driven session counts is what its made text, run over its made model, gives; and it counts the same again.
+"$program" generate model 31 >"$work/made.lv"
+"$program" generate session 31 >"$work/made.ses"
+"$program" run "$work/made.lv" "$work/made.ses" >"$work/made.out" </dev/null
+counted() { sed -n "s/^$1 //p" "$root/tests/generated/31.out"; }
+if [ "$(counted replies)" = $((101 + $(grep -c '^command' "$work/made.ses"))) ] &&
+    [ $(($(counted settled) + $(counted unsettled))) = 20 ] &&
+    [ "$(counted errors)" = "$(grep -c '^error' "$work/made.out")" ] &&
+    [ "$(counted replies)" = "$(grep -cE '^(ok|error|settled|unsettled|conflicts|time) ?' "$work/made.out")" ]; then
+    passed=$((passed + 1))
+else
+    failed=$((failed + 1))
+    echo 'FAILED: the counts of a driven session'
+fi
 
 verdict

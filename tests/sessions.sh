@@ -6,12 +6,11 @@
 . "$(dirname "$(readlink -f "${BASH_SOURCE[0]}")")/common.sh"
 
 for session in "$root"/tests/sessions/*.ses; do
-    case "$session" in
-    */series.ses) model="$root/tests/sessions/series.lv" ;;
-    *) model="$root/examples/valve.lv" ;;
-    esac
+    name="$(basename "$session" .ses)"
+    model="$root/tests/sessions/${name%%[0-9_]*}.lv"
+    [ -e "$model" ] || model="$root/examples/valve.lv"
     run run "$model" "$session" </dev/null
-    expect_files "sessions/$(basename "$session" .ses)" 0 "${session%.ses}.out" /dev/null
+    expect_files "sessions/$name" 0 "${session%.ses}.out" /dev/null
 done
 
 verdict
