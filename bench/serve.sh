@@ -50,3 +50,6 @@ took = time.monotonic() - begun
 print(f"{'pieces of %d bytes' % piece:<40} {took * 1e9 / len(text):6.0f} ns a byte")
 PY
 done
+
+# A session that is made and driven, with the start of the process.
+printf '%-40s %6d ms\n' 'drive 30' "$(taken_by drive 30)"
