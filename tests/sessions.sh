@@ -13,4 +13,18 @@ for session in "$root"/tests/sessions/*.ses; do
     expect_files "sessions/$name" 0 "${session%.ses}.out" /dev/null
 done
 
+# As many commits as may be made, and one more, which alone is refused.
+{
+    echo 'track 1'
+    yes $'diagnose\ncommit' | head -n 2000002
+} >"$work/commits.ses"
+run run "$root/examples/valve.lv" "$work/commits.ses" </dev/null
+if [ "$status" = 0 ] && [ "$(grep -c '^time' "$work/out")" = 1000000 ] && [ "$(grep '^error' "$work/out")" = 'error S18' ] &&
+    [ "$(tail -1 "$work/out")" = 'error S18' ]; then
+    passed=$((passed + 1))
+else
+    failed=$((failed + 1))
+    echo "FAILED: a million commits: status $status"
+fi
+
 verdict
