@@ -13,3 +13,13 @@ taken_by() {
   taken=$({ time "$program" "$@" >/dev/null; } 2>&1)
   echo $((10#${taken/./}))
 }
+
+# what the benchmarks over rows of valves begin with: their folder, the sizes given or these, a folder of their own, which
+# goes in the end, and the program
+prepare() {
+  here="$(cd "$(dirname "$0")" && pwd)"
+  sizes="${*:-8 16 32 64 128 256}"
+  work="$(mktemp -d)"
+  trap 'rm -rf "$work"' EXIT
+  build livingstone_cli run absent absent || true
+}

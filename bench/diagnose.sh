@@ -5,11 +5,7 @@
 # beside; then the number of candidates listed, and of trials and conflicts. Builds the program first. Sizes may be given.
 set -eu
 . "$(dirname "$0")/common.sh"
-here="$(cd "$(dirname "$0")" && pwd)"
-sizes="${*:-8 16 32 64 128 256}"
-work="$(mktemp -d)"
-trap 'rm -rf "$work"' EXIT
-build livingstone_cli run absent absent || true
+prepare "$@"
 : >"$work/none.ses"
 
 printf '%-10s %6s %4s %10s %10s %7s %9s %7s\n' plant valves k 'plant ms' 'query ms' listed conflicts trials

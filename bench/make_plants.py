@@ -4,7 +4,8 @@ row, in a fan behind one, in a ladder of two rows, and a propulsion branch. `mak
 KIND.lv and KIND.ses there."""
 import sys
 
-TYPE = """domain flow zero some
+# what each valve has, up to the mode open
+VALVE = """domain flow zero some
 domain order none open close
 type valve
 control cmd order
@@ -12,7 +13,9 @@ variable inn flow
 observable out flow
 mode closed
 mode open
-mode stuck_closed
+"""
+
+TYPE = VALVE + """mode stuck_closed
 mode stuck_open
 in closed out = zero
 in open out = inn
@@ -75,4 +78,5 @@ def main():
             out.write("\n".join(["track %d" % k] + session(kind, n) + ["diagnose", "conflicts"]) + "\n")
 
 
-main()
+if __name__ == "__main__":
+    main()

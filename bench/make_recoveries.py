@@ -5,15 +5,9 @@ before does, with the goal that something comes out of the last. `make_recoverie
 `none` (a valve may be stuck closed, so that there is no recovery from several states)."""
 import sys
 
-TYPE = """domain flow zero some
-domain order none open close
-type valve
-control cmd order
-variable inn flow
-observable out flow
-mode closed
-mode open
-mode stuck
+from make_plants import VALVE, row
+
+TYPE = VALVE + """mode stuck
 in closed out = zero
 in open out = inn
 in stuck out = %s
@@ -27,8 +21,7 @@ end
 
 def main():
     kind, n, folder = sys.argv[1], int(sys.argv[2]), sys.argv[3]
-    lines = ["part v%d valve closed" % i for i in range(1, n + 1)]
-    lines += ["law v1.inn = some"] + ["law v%d.inn = v%d.out" % (i, i - 1) for i in range(2, n + 1)]
+    lines = row(n)
     for i in range(1, n + 1):
         lines.append("price v%d.cmd = open %d" % (i, 1 + (i * 3) % 7 if kind == "unequal" else 1))
     with open("%s/%s.lv" % (folder, kind), "w") as out:
@@ -40,4 +33,5 @@ def main():
                 out.write("\n".join(session + more) + "\n")
 
 
-main()
+if __name__ == "__main__":
+    main()

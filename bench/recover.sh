@@ -5,11 +5,7 @@
 # conflicts and of trials. Builds the program first. Sizes may be given.
 set -eu
 . "$(dirname "$0")/common.sh"
-here="$(cd "$(dirname "$0")" && pwd)"
-sizes="${*:-8 16 32 64 128 256}"
-work="$(mktemp -d)"
-trap 'rm -rf "$work"' EXIT
-build livingstone_cli run absent absent || true
+prepare "$@"
 
 printf '%-8s %6s %7s %10s %11s %9s %7s  %s\n' prices valves tracked 'before ms' 'recover ms' conflicts trials reply
 for kind in equal unequal none; do
