@@ -8,6 +8,7 @@
 //! | `push` | puts one last, whose name no other has |
 //! | `take_out` | takes out the one of a name |
 //! | `observations` | what was observed, without the names |
+//! | `facts` | control values and what was observed, as facts |
 #![tactic(auto)]
 
 ghost use Rattle.std.specs.Prelude.{◌≡◌, ◌^◌, ◌<◌, false, [], ◌∷◌, ◌++◌, length, map, filter, IfOk, OnOk, OnErr};
@@ -15,7 +16,8 @@ ghost use Rattle.std.specs.List.{list_any};
 ghost use Rattle.lv_held.specs.Held.{observation_of, has_name, lacks_name};
 
 use indexmap::IndexMap;
-use lv_meaning::Observation;
+use lv_base::{Seq, ValId};
+use lv_meaning::{Facts, Observation};
 use lv_request::Sighting;
 use std::alloc::{AllocError, Global};
 use std::marker::Model;
@@ -91,4 +93,20 @@ impl Held {
     {
         self.table.values().copied().collect(alloc)
     }
+}
+
+/// The facts that the values of the controls and what was observed are, before a step and after it.
+pub fn facts(
+    alloc: Global,
+    controls: &[ValId],
+    present: &Held,
+    next: &Held,
+) -> Result<Facts, AllocError>
+    ensures { IfOk result (λ facts. facts ≡ record { controls = controls.now; present = map observation_of present.now; next = map observation_of next.now }) }
+{
+    Ok(Facts {
+        controls: Seq::from_slice(alloc, controls)?,
+        present: Seq::from_vec(present.observations(alloc)?),
+        next: Seq::from_vec(next.observations(alloc)?),
+    })
 }

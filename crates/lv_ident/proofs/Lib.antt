@@ -1,4 +1,3 @@
-pub mod MaskLemmas
 pub mod OnceLemmas
 pub mod RefuteLemmas
 pub mod MeaningLemmas
@@ -7,5 +6,3 @@ pub mod TrialLemmas
 pub mod ReasonLemmas
 pub mod ReducingLemmas
 pub mod QueryLemmas
-pub mod SlotLemmas
-pub mod ZoneLemmas

@@ -1,23 +1,12 @@
--- That the zones of a diagnosis have exactly the candidates of the definition, and what its kept conflicts are.
+-- What the kept conflicts of a diagnosis are.
 use Rattle.std.specs.Prelude.{◌≡◌, ℕ, true, not, [], List}
 use Rattle.std.specs.List.{list_all}
 use Rattle.lv_base.specs.declared.rank.Rank.{Rank}
 use Rattle.lv_model.specs.declared.plant.Plant.{Plant}
-use Rattle.lv_model.specs.declared.state.TrackedState.{TrackedState}
 use Rattle.lv_walk.specs.Laws.{each_is_needed, none_in_another}
 use Rattle.lv_meaning.specs.declared.facts.Facts.{Facts}
 use Rattle.lv_meaning.specs.Possible.{is_possible}
-use Rattle.lv_meaning.specs.Candidates.{candidates}
 use Rattle.lv_meaning.specs.Diagnosis.{diagnosis_walk}
-use Rattle.lv_search.specs.Members.{ranked_members, sources_differ}
-use Rattle.lv_search.specs.Standing.{suit_all}
-use Rattle.lv_ident.specs.Zones.{move_slots, zones_from, is_full_choice}
-
--- the members of the zones are the candidates, in the same order; no two zones have one source; each candidate has a move for each part
-pub record ZonesHoldTheCandidates : Type 0 where
-  pub same : (plant : Plant) (tracked : List TrackedState) → ranked_members (move_slots plant) (zones_from plant 0 tracked) ≡ candidates plant tracked
-  pub differ : (plant : Plant) (tracked : List TrackedState) → sources_differ (zones_from plant 0 tracked) ≡ true
-  pub full : (plant : Plant) (tracked : List TrackedState) → suit_all (is_full_choice plant) (candidates plant tracked) ≡ true
 
 -- the kept conflicts of a diagnosis aren't possible; of each no choice can be left out, without which the others are possible; none has
 -- all choices of another

@@ -1,5 +1,3 @@
-pub mod Zones
-pub mod Slots
 pub mod Literals
 pub mod Refutation
 pub mod Reducing

@@ -1,12 +1,7 @@
 //! Laws of identification. The functions do nothing; their clauses are the laws, and a caller that needs one calls it.
 #![tactic(auto)]
 
-ghost use Rattle.lv_ident.specs.Laws.{ZonesHoldTheCandidates, KeptAreMinimal};
-
-/// The members of the zones of tracked states, in the order of their ranks, are exactly the candidates of these states.
-pub fn zones_hold_the_candidates()
-    ensures { ZonesHoldTheCandidates }
-{}
+ghost use Rattle.lv_ident.specs.Laws.{KeptAreMinimal};
 
 /// Each conflict that a diagnosis keeps isn't possible, and none of its choices can be left out; no kept conflict has all
 /// choices of another.

@@ -8,20 +8,14 @@
 //! | `trial` | `IdentTrial`: whether a candidate is possible, and the reason of one that isn't |
 //! | `refutation` | the one question that a trial asks of the solver |
 //! | `literals` | facts and moves as literals |
-//! | `grid` | what the moves of each part cost |
-//! | `zones` | the candidates of each tracked state, as a zone |
-//! | `laws` | that the search's candidates are those of the definition, and what kept conflicts are |
+//! | `laws` | what kept conflicts are |
 #![tactic(auto)]
 
-pub mod grid;
 pub mod laws;
 pub mod literals;
 pub mod query;
 pub mod refutation;
 pub mod trial;
-pub mod zones;
 
-pub use grid::grid_of;
 pub use query::{Query, identify};
 pub use trial::IdentTrial;
-pub use zones::zones_of;

@@ -11,16 +11,15 @@ ghost use Rattle.lv_meaning.specs.Diagnosis.{diagnosis_walk};
 ghost use Rattle.lv_search.specs.Standing.{trials_of, all_suit};
 ghost use Rattle.lv_ident.specs.Literals.{FactsInRange};
 ghost use Rattle.lv_ident.specs.Query.{IsQueryOf};
-ghost use Rattle.lv_ident.specs.Zones.{is_full_choice};
+ghost use Rattle.lv_zones.specs.Moves.{is_full_choice};
 
-use crate::grid::grid_of;
 use crate::trial::IdentTrial;
-use crate::zones::zones_of;
 use lv_base::{Conflict, Rank, Seq};
 use lv_meaning::Facts;
 use lv_model::{Model, TrackedState};
 use lv_search::{Outcome, Search, Split};
 use lv_steps::StepSystem;
+use lv_zones::{move_grid, zones_of};
 use std::alloc::{AllocError, Global};
 use std::marker;
 
@@ -77,7 +76,7 @@ pub fn identify<'a>(
     ensures start { IfOk result (λ query. query ≡ record { plant = model.now; facts = facts; standing = record { k = k; listed = []; kept = []; left = candidates model.now tracked.now } }) }
     ensures query { IfOk result (λ query. IsQueryOf tracked.now query) }
 {
-    let grid = grid_of(alloc, model)?;
+    let grid = move_grid(alloc, model)?;
     let zones = zones_of(alloc, model, tracked)?;
     let search = Search::new(alloc, grid, zones, k)?;
     let trial = IdentTrial::new(alloc, model, system, copied(alloc, &facts)?)?;

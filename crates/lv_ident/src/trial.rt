@@ -15,7 +15,7 @@ ghost use Rattle.lv_meaning.specs.Candidates.{is_possible_candidate};
 ghost use Rattle.lv_meaning.specs.Diagnosis.{reason_of};
 ghost use Rattle.lv_ident.specs.Literals.{FactsInRange, HasMove, marked_pairs, pair_literal, plant_choices};
 ghost use Rattle.lv_ident.specs.Reducing.{IsPartial, IsReducing};
-ghost use Rattle.lv_ident.specs.Zones.{is_full_choice};
+ghost use Rattle.lv_zones.specs.Moves.{is_full_choice};
 
 use crate::literals::{each_once, fact_literals, push_pairs};
 use crate::refutation::refute;

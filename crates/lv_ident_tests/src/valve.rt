@@ -7,7 +7,7 @@ ghost use Rattle.lv_meaning.specs.Candidates.{IsTracked};
 ghost use Rattle.lv_search.specs.Standing.{trials_of, all_suit};
 ghost use Rattle.lv_steps.specs.System.{IsSystemOf};
 ghost use Rattle.lv_ident.specs.Literals.{FactsInRange};
-ghost use Rattle.lv_ident.specs.Zones.{is_full_choice};
+ghost use Rattle.lv_zones.specs.Moves.{is_full_choice};
 
 use crate::fitting::{are_in_range, fit};
 use lv_base::{Conflict, Cost, Pair, Rank, Seq, ValId, VarId};

@@ -1,5 +1,3 @@
-pub mod ZoneLemmas
-pub mod SlotLemmas
 pub mod NarrowingLemmas
 pub mod AssumingLemmas
 pub mod AskingLemmas

@@ -1,5 +1,3 @@
-pub mod Commanding
-pub mod Slots
 pub mod Narrowing
 pub mod Compiling
 pub mod Assuming
@@ -8,4 +6,3 @@ pub mod Refuting
 pub mod Judging
 pub mod Lawful
 pub mod Query
-pub mod Laws

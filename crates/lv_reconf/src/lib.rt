@@ -12,18 +12,14 @@
 //! | `compiled` | a model with the numbering of its system, and the clauses of goals |
 //! | `clauses`, `goals` | solvers for nominal steps, those that meet all goals, those that miss one |
 //! | `assumptions` | a state and values of controls as literals |
-//! | `commands` | the command sets as a grid and a zone |
-//! | `laws` | that the search's candidates are those of the definition |
 #![tactic(auto)]
 
 mod asking;
 mod assumptions;
 mod clauses;
-pub mod commands;
 mod compiled;
 mod goals;
 mod judged;
-pub mod laws;
 pub mod query;
 mod reaching;
 mod setting;

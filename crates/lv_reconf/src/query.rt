@@ -10,7 +10,6 @@ ghost use Rattle.lv_recovery.specs.Recovery.{recovery_walk};
 ghost use Rattle.lv_reconf.specs.Judging.{candidate_commands};
 ghost use Rattle.lv_reconf.specs.Query.{IsQuery};
 
-use super::commands::{grid_of, zone_of};
 use super::setting::Setting;
 use super::trial::ReconfTrial;
 use lv_base::{Conflict, Rank};
@@ -18,6 +17,7 @@ use lv_model::Model;
 use lv_recovery::Aim;
 use lv_search::{Outcome, Search};
 use lv_steps::StepSystem;
+use lv_zones::{command_grid, command_zone};
 use std::alloc::{AllocError, Global};
 use std::marker;
 
@@ -46,9 +46,9 @@ fn search_of(alloc: Global, model: &Model) -> Result<Search, AllocError>
     ensures { IfOk result (λ s. s ≡ record { standing = record { k = 1; listed = []; kept = []; left = command_sets model.now }; splits = [] }) }
 {
     let _plant = model.plant();
-    let grid = grid_of(alloc, model)?;
+    let grid = command_grid(alloc, model)?;
     let mut zones = Vec::new(alloc);
-    zones.push(zone_of(alloc, model)?)?;
+    zones.push(command_zone(alloc, model)?)?;
     Search::new(alloc, grid, zones, 1)
 }
 

@@ -20,7 +20,7 @@ use Rattle.lv_meaning.specs.Facts.{commanded, now_facts}
 use Rattle.lv_ident.specs.Literals.{HasValue}
 use Rattle.lv_compile.specs.Booleans.{booleans_now}
 use Rattle.lv_compile.specs.FormulaClauses.{size_of}
-use Rattle.lv_reconf.proofs.SlotLemmas.{few_controls}
+use Rattle.lv_zones.proofs.ControlLemmas.{few_controls}
 use Rattle.lv_recovery.specs.Ranges.{modes_fit, StateFits}
 use Rattle.lv_reply.specs.declared.reply.Refusal.TheVariants.{OutOfLimits}
 use Rattle.lv_reply.specs.declared.reply.Reply.TheVariants.{Refused}

@@ -19,7 +19,7 @@ use crate::running::{Diagnosed, Running};
 use crate::state::{State, resting_values};
 use lv_base::limits::COMMITS;
 use lv_base::{Rank, Seq};
-use lv_held::Held;
+use lv_held::{Held, facts};
 use lv_ident::identify;
 use lv_meaning::Facts;
 use lv_model::Model;
@@ -67,11 +67,12 @@ impl State {
     pub(crate) fn facts(&self, alloc: Global) -> Result<Facts, AllocError>
         ensures { IfOk result (λ facts. facts ≡ facts_of self.now) }
     {
-        Ok(Facts {
-            controls: Seq::from_slice(alloc, self.controls.as_slice())?,
-            present: Seq::from_vec(self.present.observations(alloc)?),
-            next: Seq::from_vec(self.next.observations(alloc)?),
-        })
+        facts(
+            alloc,
+            self.controls.as_slice(),
+            &self.present,
+            &self.next,
+        )
     }
 
     /// A diagnosis of the state that has run with so many trials.

@@ -17,13 +17,14 @@ ghost use Rattle.lv_session.specs.Current.{recovery_come_to, IsRecoveryAt, IsKep
 use crate::goals::formulas_of;
 use crate::query::Query;
 use crate::running::{Recovering, Running};
-use crate::state::{State, copies};
+use crate::state::State;
 use lv_base::{Rank, Seq};
 use lv_model::Model;
 use lv_reconf::recover;
 use lv_recovery::Aim;
 use lv_reply::{Refusal, Reply};
 use lv_steps::StepSystem;
+use lv_tracker::copies;
 use lv_walk::Outcome;
 use std::alloc::{AllocError, Global};
 

@@ -12,14 +12,14 @@ ghost use Rattle.lv_session.specs.Current.{IsCurrent, IsCaredFor, IsLabellerOf};
 use crate::query::Query;
 use crate::running::Running;
 use lv_base::limits::{LISTED, TRIALS};
-use lv_base::{Cost, Seq, ValId};
+use lv_base::{Seq, ValId};
 use lv_held::Held;
 use lv_labels::Labeller;
-use lv_model::{Model, State as Modes, TrackedState};
+use lv_model::Model;
 use lv_reply::Reply;
 use lv_request::{Command, Goal, Request};
 use lv_steps::StepSystem;
-use lv_tracker::Tracked;
+use lv_tracker::{Tracked, copies};
 use std::alloc::{AllocError, Global};
 use std::marker;
 
@@ -198,30 +198,4 @@ impl State {
         let tracked = copies(alloc, self.tracked.as_slice())?;
         Ok(Reply::States(self.time, Seq::from_vec(tracked)))
     }
-}
-
-/// A copy of a tracked state.
-fn copy_of(alloc: Global, tracked: &TrackedState) -> Result<TrackedState, AllocError>
-    ensures { IfOk result (λ copy. copy ≡ tracked.now) }
-{
-    Ok(TrackedState {
-        state: Modes {
-            modes: Seq::from_slice(alloc, tracked.state.modes.as_slice())?,
-        },
-        cost: Cost(tracked.cost.0),
-    })
-}
-
-/// Copies of tracked states.
-pub(crate) fn copies(
-    alloc: Global,
-    tracked: &[TrackedState],
-) -> Result<Vec<TrackedState>, AllocError>
-    ensures { IfOk result (λ copies. copies.items ≡ tracked.now) }
-{
-    let mut out = Vec::new(alloc);
-    for state in tracked {
-        out.push(copy_of(alloc, state)?)?;
-    }
-    Ok(out)
 }

@@ -1,7 +1,7 @@
 //! What a session keeps beside its state, and what a line does to both.
 #![tactic(auto)]
 
-ghost use Rattle.std.specs.Prelude.{◌≡◌, IfOk, OnOk, OnErr};
+ghost use Rattle.std.specs.Prelude.{◌≡◌, IfOk, None, OnOk, OnErr};
 ghost use Rattle.lv_scope.specs.Lists.{lists_of};
 ghost use Rattle.lv_steps.specs.System.{IsSystemOf};
 ghost use Rattle.lv_session.specs.Session.{stepped};
@@ -30,6 +30,21 @@ pub struct Workings<'a> {
     pub(crate) labeller: Option<Labeller<'a>>,
 }
 
+/// What is kept where no line was served yet.
+fn unused<'a>(alloc: Global, lists: Lists, system: StepSystem) -> Workings<'a>
+    ensures lists { result.lists ≡ lists }
+    ensures system { result.system ≡ system }
+    ensures labeller { result.labeller ≡ None }
+{
+    Workings {
+        lists,
+        system,
+        room: Vec::new(alloc),
+        running: Running::Nothing,
+        labeller: None,
+    }
+}
+
 impl<'a> Workings<'a> {
     /// What is kept with a model.
     pub(crate) fn new(alloc: Global, model: &'a Model) -> Result<Workings<'a>, AllocError>
@@ -37,13 +52,9 @@ impl<'a> Workings<'a> {
         ensures system { IfOk result (λ w. IsSystemOf model.now w.system) }
         ensures labeller { IfOk result (λ w. IsLabellerOf model.now w.labeller) }
     {
-        Ok(Workings {
-            lists: Lists::of(alloc, model)?,
-            system: compile(alloc, model)?,
-            room: Vec::new(alloc),
-            running: Running::Nothing,
-            labeller: None,
-        })
+        let lists = Lists::of(alloc, model)?;
+        let system = compile(alloc, model)?;
+        Ok(unused(alloc, lists, system))
     }
 }
 
