@@ -24,7 +24,7 @@ use lv_reconf::recover;
 use lv_recovery::Aim;
 use lv_reply::{Refusal, Reply};
 use lv_steps::StepSystem;
-use lv_tracker::copies;
+use lv_tracker::copies_of;
 use lv_walk::Outcome;
 use std::alloc::{AllocError, Global};
 
@@ -64,7 +64,7 @@ impl State {
         ensures { IfOk result (λ aim. aim ≡ aim_of self.now) }
     {
         Ok(Aim {
-            tracked: Seq::from_vec(copies(alloc, self.tracked.as_slice())?),
+            tracked: Seq::from_vec(copies_of(alloc, self.tracked.as_slice())?),
             present: Seq::from_vec(self.present.observations(alloc)?),
             goals: Seq::from_vec(formulas_of(alloc, self.goals.as_slice())?),
         })

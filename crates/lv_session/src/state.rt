@@ -19,7 +19,7 @@ use lv_model::Model;
 use lv_reply::Reply;
 use lv_request::{Command, Goal, Request};
 use lv_steps::StepSystem;
-use lv_tracker::{Tracked, copies};
+use lv_tracker::{Tracked, copies_of};
 use std::alloc::{AllocError, Global};
 use std::marker;
 
@@ -195,7 +195,7 @@ impl State {
     fn states(&self, alloc: Global) -> Result<Reply, AllocError>
         ensures { IfOk result (λ reply. reply ≡ States self.now.time self.now.tracked) }
     {
-        let tracked = copies(alloc, self.tracked.as_slice())?;
+        let tracked = copies_of(alloc, self.tracked.as_slice())?;
         Ok(Reply::States(self.time, Seq::from_vec(tracked)))
     }
 }

@@ -20,7 +20,7 @@ fn copy_of(alloc: Global, tracked: &TrackedState) -> Result<TrackedState, AllocE
 }
 
 /// Copies of tracked states, in their order.
-pub fn copies(alloc: Global, tracked: &[TrackedState]) -> Result<Vec<TrackedState>, AllocError>
+pub fn copies_of(alloc: Global, tracked: &[TrackedState]) -> Result<Vec<TrackedState>, AllocError>
     ensures { IfOk result (λ copies. copies.items ≡ tracked.now) }
 {
     let mut out = Vec::new(alloc);

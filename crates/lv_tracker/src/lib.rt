@@ -15,6 +15,6 @@ pub mod laws;
 pub mod targets;
 pub mod tracked;
 
-pub use copies::copies;
+pub use copies::copies_of;
 pub use targets::target_states;
 pub use tracked::Tracked;
