@@ -1,1 +1,4 @@
 pub mod RangeLemmas
+pub mod LogLemmas
+pub mod DerivingLemmas
+pub mod NumberLemmas

@@ -1,2 +1,4 @@
 pub mod Following
 pub mod Blocks
+pub mod Deriving
+pub mod Laws

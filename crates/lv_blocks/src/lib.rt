@@ -7,9 +7,11 @@
 //! |---|---|
 //! | `following` | whether a line follows from numbered clauses |
 //! | `block` | `Block`: the clauses of a block, which grow by its good lines |
+//! | `laws` | what lines that follow promise |
 #![tactic(auto)]
 
 pub mod block;
 mod following;
+pub mod laws;
 
 pub use block::Block;
