@@ -1,0 +1,6 @@
+pub mod Counting
+pub mod Stated
+pub mod Space
+pub mod Units
+pub mod Judging
+pub mod Laws
