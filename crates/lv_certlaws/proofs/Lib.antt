@@ -1,0 +1,12 @@
+pub mod Exclusion
+pub mod Refuting
+pub mod Saying
+pub mod Blocks
+pub mod Shown
+pub mod Options
+pub mod Sound
+pub mod Candidacy
+pub mod Ahead
+pub mod DiagnosisLines
+pub mod DiagnosisPlaces
+pub mod DiagnosisWhole
