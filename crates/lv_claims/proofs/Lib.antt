@@ -1,0 +1,5 @@
+pub mod NumberLemmas
+pub mod CountLemmas
+pub mod PairLemmas
+pub mod PartLemmas
+pub mod GoalLemmas
