@@ -10,3 +10,7 @@ pub mod Ahead
 pub mod DiagnosisLines
 pub mod DiagnosisPlaces
 pub mod DiagnosisWhole
+pub mod Nominal
+pub mod Blocked
+pub mod Aiming
+pub mod Recovering
