@@ -14,3 +14,8 @@ pub mod Nominal
 pub mod Blocked
 pub mod Aiming
 pub mod Recovering
+pub mod Stages
+pub mod RecoveryStages
+pub mod RecoveryLines
+pub mod RecoveryPlaces
+pub mod RecoveryWhole
