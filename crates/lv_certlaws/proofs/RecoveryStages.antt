@@ -1,5 +1,5 @@
 -- What the lines of a recovery come to while its values are shown from state to state and from goal to goal.
-use Rattle.std.proofs.Common.{◌≡◌, ℕ, ◌+◌, ◌-◌, ◌≤◌, true, nat_eq, List, [], ◌∷◌, ◌++◌, length, Option, Some, slice_get, refl, sym, subst, ap, ap₂, arith}
+use Rattle.std.proofs.Common.{◌≡◌, ℕ, ◌+◌, ◌-◌, ◌≤◌, true, nat_eq, List, [], ◌∷◌, ◌++◌, length, Option, Some, slice_get, refl, sym, subst, ap, ap₂, arith, ◌&&◌}
 use Rattle.std.specs.Prelude.{map}
 use Rattle.std.specs.Option.{option_map_or, option_and_then}
 use Rattle.std.specs.Cmp.Lexicographic.{pointwise}
@@ -78,7 +78,7 @@ answer_is : (plant : Plant) (u : List ℕ) (j : Judged) → j.listed ≡ command
 answer_is plant u j listed = ap (λ rs. option_map_or (λ (r : Rank). r.choices) (slice_get rs 0) []) listed
 
 module _ (plant : Plant) where
-  -- a clause more, other values before a step, or another aim change nothing of this
+  -- another block of clauses, or other values before a step, change nothing of this
   own_staged : (task : Task) (state more passed : ℕ) (j : Judged) (own : Clauses) → IsStaged plant task state more passed j → IsStaged plant task state more passed (record j { own = own })
   own_staged task state more passed j own staged =
       record {
@@ -187,10 +187,11 @@ module _ (plant : Plant) where
       let from = anded (with_proof plant j goal rest) (at_number j.stated.tracked s.state) k aimed.2 in
       let x : TrackedState = from.0 in
       let opened : Judged = record j { own = clauses_of_miss plant j goal x } in
-      let both = cond_some (ends_empty rest) opened k from.2 in
+      let both = cond_some (is_command_set plant (answer_values j) && ends_empty rest) opened k from.2 in
+      let empty : ends_empty rest ≡ true = (and_parts (is_command_set plant (answer_values j)) (ends_empty rest) both.0).1 in
       let never : NeverMisses plant j.stated (answer_values j) x goal =
       never_missed plant h j.stated staged.pending.known x.state (pairs_of (answer_values j)) goal (number_among j.stated.goals s.goal goal aimed.1)
-      (λ values whole hold. block_refutes Recovery plant values whole n opened final rest (subst (λ (y : Judged). judge_lines Recovery plant n y rest ≡ comes_to final) (sym both.1) later) both.0 hold) in
+      (λ values whole hold. block_refutes Recovery plant values whole n opened final rest (subst (λ (y : Judged). judge_lines Recovery plant n y rest ≡ comes_to final) (sym both.1) later) empty hold) in
       let never_so : NeverMisses plant j.stated u x goal = subst (λ vs. NeverMisses plant j.stated vs x goal) (answer_is plant u j staged.pending.listed) never in
       let state_is = staged.state_is in
       let state_here : s.state - 1 ≡ staged.done = omega (arith, state_is) in

@@ -26,7 +26,7 @@ use Rattle.lv_compile.specs.Booleans.{bool_count}
 use Rattle.lv_compile.specs.FormulaClauses.{Clauses}
 use Rattle.lv_compile.specs.ModelClauses.{model_clauses}
 use Rattle.lv_recovery.specs.Recovers.{has_modes, has_controls, meets_goals}
-use Rattle.lv_recovery.specs.Commands.{control_sizes, command_rank}
+use Rattle.lv_recovery.specs.Commands.{control_sizes, is_command_set, command_rank}
 use Rattle.lv_zones.specs.Moves.{move_slots, zones_from}
 use Rattle.lv_zones.specs.Commands.{control_slots, command_zone}
 use Rattle.lv_blocks.specs.Following.{literal_of, follows}
@@ -193,7 +193,7 @@ abbrev pub clauses_of_miss : Plant → Judged → Tree → TrackedState → Clau
 clauses_of_miss plant j goal s = nominal_units plant s.state.modes j.stated.literals (pairs_of (answer_values j)) ++ goal_clauses plant false goal
 
 abbrev pub with_proof : Plant → Judged → Tree → List Line → TrackedState → Option Judged
-with_proof plant j goal rest s = if ends_empty rest then Some (record j { own = clauses_of_miss plant j goal s }) else None
+with_proof plant j goal rest s = if is_command_set plant (answer_values j) && ends_empty rest then Some (record j { own = clauses_of_miss plant j goal s }) else None
 
 abbrev pub judge_proof : Plant → Judged → List ℕ → List Line → Option Judged
 judge_proof plant j (s ∷ (g ∷ [])) rest = option_and_then (λ goal. option_and_then (with_proof plant j goal rest) (at_number j.stated.tracked s)) (at_number j.stated.goals g)

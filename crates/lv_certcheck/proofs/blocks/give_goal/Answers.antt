@@ -1,0 +1,12 @@
+-- a goal that fits speaks of values that have booleans
+use Rattle.std.proofs.Common.{◌≡◌, ◌∙◌, true, ap, subst, sym}
+use Rattle.lv_formula.specs.Tree.{Tree}
+use Rattle.lv_compile.specs.FormulaClauses.{speaks_of}
+use Rattle.lv_steps.proofs.GoalLemmas.{goals_exact}
+use Rattle.lv_certcheck.specs.Settings.{plant_of}
+use Rattle.lv_certcheck.proofs.blocks.give_goal.Goals as goal
+
+pub goal_clauses-requires : goal.goal_clauses-requires
+goal_clauses-requires c =
+    ap (speaks_of c.args.setting.now.system.now.after 0) c.formula.ensures
+    ∙ goals_exact.speaks (plant_of c.args.setting.now) c.args.setting.now.system.now c.requires.setting.system_is c.args.goal.now c.requires.fits.equations

@@ -1,0 +1,13 @@
+use Rattle.std.proofs.Common.{◌≡◌, ◌++◌, drop, map}
+use Rattle.lv_model.specs.Lists.{controls}
+use Rattle.lv_meaning.specs.Facts.{commanded}
+use Rattle.lv_compile.specs.Booleans.{booleans_now}
+use Rattle.lv_validity.specs.Stated.{observed_literal}
+use Rattle.lv_certcheck.specs.Settings.{plant_of}
+use Rattle.lv_certcheck.proofs.judge.Judge.control_literals.Given as goal
+
+-- with those that are left, these are all
+abbrev pub invariant-loop-k : goal.invariant-loop-k
+invariant-loop-k l =
+    l.lits.items ++ map (observed_literal (booleans_now (plant_of l.self.setting))) (commanded (drop l.k l.control-items) (drop l.k l.values))
+    ≡ map (observed_literal (booleans_now (plant_of l.self.setting))) (commanded (controls (plant_of l.self.setting)) l.values)

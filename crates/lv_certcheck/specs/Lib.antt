@@ -1,0 +1,4 @@
+pub mod Settings
+pub mod Stating
+pub mod Giving
+pub mod Verdicts

@@ -1,0 +1,129 @@
+//! The verdict on a certificate.
+#![tactic(auto)]
+
+ghost use Rattle.std.specs.Prelude.{◌≡◌, IfOk};
+ghost use Rattle.lv_validity.specs.Judging as Judging;
+ghost use Rattle.lv_certcheck.specs.Settings.{IsSetting, plant_of};
+ghost use Rattle.lv_certcheck.specs.Giving.{Fits};
+ghost use Rattle.lv_certcheck.specs.Verdicts.{judged_of, verdict, IsVerdictOn};
+
+use crate::judge::Judge;
+use crate::judged::Judged;
+use crate::setting::Setting;
+use crate::stated::Stated;
+use lv_blocks::Block;
+use lv_boxes::{Grid, Zone};
+use lv_cert::{Cert, CertFault, Line, Question, read_cert};
+use lv_claims::Counts;
+use lv_model::Model;
+use lv_scope::Lists;
+use lv_space::Space;
+use lv_steps::{StepSystem, compile};
+use lv_zones::{command_grid, command_zone, move_grid};
+use std::alloc::{AllocError, Global};
+
+/// What a certificate is worth.
+#[derive(Clone, Copy, Debug, PartialEq, Eq)]
+pub enum Verdict {
+    /// No line is bad: what it lists is the answer to what it states.
+    Valid,
+    /// The first bad line, counted from 1.
+    Invalid(u64),
+}
+
+/// What the first line asks.
+fn question_of(lines: &[Line]) -> Question
+    ensures { result ≡ Judging.question_of lines.now }
+{
+    match lines {
+        [Line::Certificate(question), ..] => *question,
+        _ => Question::Diagnosis,
+    }
+}
+
+/// The space before any line: a diagnosis has no zones yet, a recovery has the zone of all command sets.
+fn first_space(alloc: Global, model: &Model, question: Question) -> Result<Space, AllocError>
+    ensures { IfOk result (λ space. space ≡ (Judging.unjudged model.now question).space) }
+{
+    let mut zones: Vec<Zone> = Vec::new(alloc);
+    match question {
+        Question::Diagnosis => Space::new(alloc, move_grid(alloc, model)?, zones),
+        Question::Recovery => {
+            zones.push(command_zone(alloc, model)?)?;
+            Space::new(alloc, command_grid(alloc, model)?, zones)
+        }
+    }
+}
+
+/// What is judged before any line.
+fn unjudged<'a>(
+    alloc: Global,
+    setting: &Setting<'a>,
+    question: Question,
+) -> Result<Judged<'a>, AllocError>
+    requires { IsSetting setting.now }
+    ensures judged { IfOk result (λ j. judged_of j ≡ Judging.unjudged (plant_of setting.now) question) }
+    ensures fits { IfOk result (λ j. Fits (plant_of setting.now) setting.now.system.now j) }
+{
+    let k = match question {
+        Question::Diagnosis => 0,
+        Question::Recovery => 1,
+    };
+    Ok(Judged {
+        stated: Stated::new(alloc, k),
+        space: first_space(alloc, setting.model, question)?,
+        listed: Vec::new(alloc),
+        excluded: Vec::new(alloc),
+        block: Block::new(alloc, setting.system)?,
+        aimed: None,
+        before: None,
+    })
+}
+
+/// The verdict on lines in a setting.
+fn judge_lines(judge: &Judge<'_>, lines: &[Line]) -> Result<Verdict, AllocError>
+    requires setting { IsSetting judge.now.setting }
+    requires question { judge.now.question ≡ Judging.question_of lines.now }
+    ensures { IfOk result (λ v. v ≡ verdict (plant_of judge.now.setting) lines.now) }
+{
+    let mut judged = unjudged(judge.alloc, &judge.setting, judge.question)?;
+    for (at, line) in lines.iter().enumerate() {
+        if !judge.line(&mut judged, &lines[at + 1..], line)? {
+            return Ok(Verdict::Invalid(at as u64 + 1));
+        }
+    }
+    Ok(Verdict::Valid)
+}
+
+/// The verdict on a certificate in its form.
+pub fn check_cert(alloc: Global, model: &Model, cert: &Cert) -> Result<Verdict, AllocError>
+    ensures { IfOk result (λ v. v ≡ verdict model.now cert.now.lines) }
+{
+    let system = compile(alloc, model)?;
+    let lists = Lists::of(alloc, model)?;
+    let counts = Counts::of(alloc, model)?;
+    let lines = cert.lines.as_slice();
+    let setting = Setting {
+        model,
+        system: &system,
+        lists: &lists,
+        counts: &counts,
+    };
+    let judge = Judge {
+        alloc,
+        question: question_of(lines),
+        setting,
+    };
+    judge_lines(&judge, lines)
+}
+
+/// The verdict on bytes: the first line out of form or order comes before every bad one.
+pub fn check_text(alloc: Global, model: &Model, bytes: &[u8]) -> Result<Verdict, AllocError>
+    ensures { IfOk result (λ v. IsVerdictOn model.now bytes.now v) }
+{
+    match read_cert(alloc, bytes) {
+        Ok(cert) => check_cert(alloc, model, &cert),
+        Err(CertFault::Form(line)) => Ok(Verdict::Invalid(line)),
+        Err(CertFault::Memory) => Err(AllocError),
+    }
+}

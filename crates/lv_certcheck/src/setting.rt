@@ -1,0 +1,21 @@
+//! What a certificate is judged by: the model, its clauses, and how many things of a kind it has.
+#![tactic(auto)]
+
+ghost use Rattle.std.specs.Prelude.{◌≡◌, IfOk};
+ghost use Rattle.lv_scope.specs.Lists.{lists_of};
+ghost use Rattle.lv_steps.specs.System.{IsSystemOf};
+ghost use Rattle.lv_claims.specs.Counts.{IsCountsOf};
+
+use lv_claims::Counts;
+use lv_model::Model;
+use lv_scope::Lists;
+use lv_steps::StepSystem;
+
+/// A model with what is made of it once.
+#[derive(Clone, Copy)]
+pub struct Setting<'a> {
+    pub model: &'a Model,
+    pub system: &'a StepSystem,
+    pub lists: &'a Lists,
+    pub counts: &'a Counts,
+}

@@ -1,0 +1,246 @@
+//! Whether values before and after a step show what is to be shown.
+#![tactic(auto)]
+
+ghost use Rattle.std.specs.Prelude.{◌≡◌, true, false, nat_eq, length, slice_get, All, IfOk, map};
+ghost use Rattle.std.specs.Option.{option_map_or};
+ghost use Rattle.lv_base.specs.declared.ids.ValId.{ValId as Value};
+ghost use Rattle.lv_clauses.specs.Literals.{same_truth};
+ghost use Rattle.lv_formula.specs.Tree.{number_of};
+ghost use Rattle.lv_model.specs.WellFormed.{Reads};
+ghost use Rattle.lv_meaning.specs.Facts as Facts;
+ghost use Rattle.lv_meaning.specs.Facts.{meets, commanded};
+ghost use Rattle.lv_meaning.specs.Possible.{move_number};
+ghost use Rattle.lv_recovery.specs.Recovers as Recovers;
+ghost use Rattle.lv_recovery.specs.Ranges.{GoalFits};
+ghost use Rattle.lv_validity.specs.Judging as Judging;
+ghost use Rattle.lv_certcheck.specs.Settings.{IsSetting, plant_of};
+ghost use Rattle.lv_certcheck.specs.Giving.{Fits, IsWhole};
+ghost use Rattle.lv_certcheck.specs.Verdicts.{judged_of};
+
+use crate::judged::{Aimed, Judged};
+use crate::setting::Setting;
+use lv_base::{MoveId, Rank, ValId, VarId};
+use lv_cert::Question;
+use lv_claims::{has_controls, has_modes, is_nominal_pair};
+use lv_formula::Condition;
+use lv_meaning::facts::meets_all;
+use lv_model::TrackedState;
+use std::alloc::{AllocError, Global};
+
+/// The number of the variable's value; 0 where there is no such variable.
+fn number_at(a: &[ValId], var: VarId) -> u32
+    ensures { result ≡ number_of a.now var.0 }
+{
+    match a.get(var.0 as usize) {
+        Some(value) => value.0,
+        None => 0,
+    }
+}
+
+/// Whether the control has the value of this place, if there is one.
+fn has_command(control: VarId, values: &[ValId], k: usize, a: &[ValId]) -> bool
+    ensures { result ≡ option_map_or (λ (v : Value). nat_eq (number_of a.now control.0) v.0) (slice_get values.now k) true }
+{
+    match values.get(k) {
+        Some(value) => number_at(a, control) == value.0,
+        None => true,
+    }
+}
+
+/// Whether each control with a value has it.
+fn meets_commands(controls: &[VarId], values: &[ValId], a: &[ValId]) -> bool
+    ensures { result ≡ meets a.now (commanded controls.now values.now) }
+{
+    for (k, control) in controls.iter().enumerate() {
+        if !has_command(*control, values, k, a) {
+            return false;
+        }
+    }
+    true
+}
+
+/// Whether values before and after meet the facts.
+fn meets_facts(setting: &Setting<'_>, judged: &Judged<'_>, a: &[ValId], b: &[ValId]) -> bool
+    requires setting { IsSetting setting.now }
+    requires fits { Fits (plant_of setting.now) setting.now.system.now judged.now }
+    requires now { IsWhole (plant_of setting.now) a.now }
+    requires next { IsWhole (plant_of setting.now) b.now }
+    ensures { result ≡ Facts.meets_facts (plant_of setting.now) judged.now.stated.facts a.now b.now }
+{
+    let facts = &judged.stated.facts;
+    meets_commands(
+        setting.counts.controls.as_slice(),
+        facts.controls.as_slice(),
+        a,
+    ) && meets_all(a, facts.present.as_slice())
+        && meets_all(b, facts.next.as_slice())
+}
+
+fn moves_of(alloc: Global, choices: &[u32]) -> Result<Vec<MoveId>, AllocError>
+    ensures { IfOk result (λ out. out.items ≡ map move_number choices.now) }
+{
+    choices.iter().map(|n| MoveId(*n)).collect(alloc)
+}
+
+/// Whether the values are a step by the moves of the candidate that meets the facts.
+fn is_step_of(
+    alloc: Global,
+    setting: &Setting<'_>,
+    judged: &Judged<'_>,
+    a: &[ValId],
+    b: &[ValId],
+    rank: &Rank,
+) -> Result<bool, AllocError>
+    requires setting { IsSetting setting.now }
+    requires fits { Fits (plant_of setting.now) setting.now.system.now judged.now }
+    requires now { IsWhole (plant_of setting.now) a.now }
+    requires next { IsWhole (plant_of setting.now) b.now }
+    ensures { IfOk result (λ is. is ≡ Judging.is_step_of (plant_of setting.now) judged.now.stated.facts a.now b.now rank.now) }
+{
+    if rank.choices.len() != setting.model.plant().parts.len() {
+        return Ok(false);
+    }
+    let moves = moves_of(alloc, rank.choices.as_slice())?;
+    Ok(setting.model.is_step(a, b, moves.as_slice()) && meets_facts(setting, judged, a, b))
+}
+
+/// Whether the values are a step by the moves of the last candidate listed that meets the facts.
+fn shows_listed(
+    alloc: Global,
+    setting: &Setting<'_>,
+    judged: &Judged<'_>,
+    a: &[ValId],
+    b: &[ValId],
+) -> Result<bool, AllocError>
+    requires setting { IsSetting setting.now }
+    requires fits { Fits (plant_of setting.now) setting.now.system.now judged.now }
+    requires now { IsWhole (plant_of setting.now) a.now }
+    requires next { IsWhole (plant_of setting.now) b.now }
+    ensures { IfOk result (λ is. is ≡ Judging.shows_listed (plant_of setting.now) (judged_of judged.now) a.now b.now) }
+{
+    match judged.last() {
+        Some(rank) => is_step_of(alloc, setting, judged, a, b, rank),
+        None => Ok(false),
+    }
+}
+
+/// Whether the values are a step without faults from the state, with these values of the controls, that meets what was
+/// seen.
+fn is_aimed_step(
+    setting: &Setting<'_>,
+    judged: &Judged<'_>,
+    values: &[u32],
+    a: &[ValId],
+    b: &[ValId],
+    state: &TrackedState,
+) -> bool
+    requires setting { IsSetting setting.now }
+    requires fits { Fits (plant_of setting.now) setting.now.system.now judged.now }
+    requires now { IsWhole (plant_of setting.now) a.now }
+    requires next { IsWhole (plant_of setting.now) b.now }
+    ensures { result ≡ Judging.is_aimed_step (plant_of setting.now) (judged_of judged.now) values.now a.now b.now state.now }
+{
+    let parts = setting.model.plant().parts.as_slice();
+    has_modes(parts, state.state.modes.as_slice(), a)
+        && has_controls(setting.counts.controls.as_slice(), a, values)
+        && meets_all(a, judged.stated.facts.present.as_slice())
+        && is_nominal_pair(setting.model, a, b)
+}
+
+/// Whether all goals are true.
+fn meets_goals(goals: &[Condition], b: &[ValId]) -> bool
+    requires { All (Reads (length b.now) 0) goals.now }
+    ensures { result ≡ Recovers.meets_goals goals.now b.now }
+{
+    goals.iter().all(|goal| goal.holds(b, 0))
+}
+
+/// Whether the values are such a step from the tracked state of this place.
+fn is_step_from(
+    setting: &Setting<'_>,
+    judged: &Judged<'_>,
+    place: usize,
+    values: &[u32],
+    a: &[ValId],
+    b: &[ValId],
+) -> bool
+    requires setting { IsSetting setting.now }
+    requires fits { Fits (plant_of setting.now) setting.now.system.now judged.now }
+    requires now { IsWhole (plant_of setting.now) a.now }
+    requires next { IsWhole (plant_of setting.now) b.now }
+    ensures { result ≡ option_map_or (Judging.is_aimed_step (plant_of setting.now) (judged_of judged.now) values.now a.now b.now) (slice_get judged.now.stated.tracked place) false }
+{
+    match judged.stated.tracked.get(place) {
+        Some(state) => is_aimed_step(setting, judged, values, a, b, state),
+        None => false,
+    }
+}
+
+/// Whether all goals that are stated are true.
+fn meets_stated(setting: &Setting<'_>, judged: &Judged<'_>, b: &[ValId]) -> bool
+    requires fits { Fits (plant_of setting.now) setting.now.system.now judged.now }
+    requires next { IsWhole (plant_of setting.now) b.now }
+    ensures { result ≡ Recovers.meets_goals judged.now.stated.goals b.now }
+{
+    let _plant = setting.model.plant();
+    meets_goals(judged.stated.goals.as_slice(), b)
+}
+
+fn same_truth(one: bool, other: bool) -> bool
+    ensures { result ≡ same_truth one other }
+{
+    if one { other } else { !other }
+}
+
+/// Whether the values are such a step as is aimed at, with the goals all true behind it, or not.
+fn is_as_aimed(
+    setting: &Setting<'_>,
+    judged: &Judged<'_>,
+    a: &[ValId],
+    b: &[ValId],
+    aimed: &Aimed,
+) -> bool
+    requires setting { IsSetting setting.now }
+    requires fits { Fits (plant_of setting.now) setting.now.system.now judged.now }
+    requires now { IsWhole (plant_of setting.now) a.now }
+    requires next { IsWhole (plant_of setting.now) b.now }
+    ensures { result ≡ Judging.is_as_aimed (plant_of setting.now) (judged_of judged.now) a.now b.now aimed.now }
+{
+    is_step_from(setting, judged, aimed.place, aimed.values.as_slice(), a, b)
+        && same_truth(meets_stated(setting, judged, b), aimed.reaches)
+}
+
+fn shows_aimed(setting: &Setting<'_>, judged: &Judged<'_>, a: &[ValId], b: &[ValId]) -> bool
+    requires setting { IsSetting setting.now }
+    requires fits { Fits (plant_of setting.now) setting.now.system.now judged.now }
+    requires now { IsWhole (plant_of setting.now) a.now }
+    requires next { IsWhole (plant_of setting.now) b.now }
+    ensures { result ≡ Judging.shows_aimed (plant_of setting.now) (judged_of judged.now) a.now b.now }
+{
+    match &judged.aimed {
+        Some(aimed) => is_as_aimed(setting, judged, a, b, aimed),
+        None => false,
+    }
+}
+
+/// Whether the values behind a step show, with those before it, what is to be shown.
+pub fn shows(
+    alloc: Global,
+    question: Question,
+    setting: &Setting<'_>,
+    judged: &Judged<'_>,
+    b: &[ValId],
+) -> Result<bool, AllocError>
+    requires setting { IsSetting setting.now }
+    requires fits { Fits (plant_of setting.now) setting.now.system.now judged.now }
+    requires next { IsWhole (plant_of setting.now) b.now }
+    ensures { IfOk result (λ is. is ≡ option_map_or (Judging.shows question (plant_of setting.now) (judged_of judged.now) b.now) judged.now.before false) }
+{
+    let Some(a) = &judged.before else {
+        return Ok(false);
+    };
+    match question {
+        Question::Diagnosis => shows_listed(alloc, setting, judged, a.as_slice(), b),
+        Question::Recovery => Ok(shows_aimed(setting, judged, a.as_slice(), b)),
+    }
+}
