@@ -1,7 +1,9 @@
 mod ListLemmas
 mod TrailLemmas
 mod SeenLemmas
+mod PartLemmas
 mod AnalysisLemmas
 mod CutLemmas
 mod MeasureLemmas
 mod SearchLemmas
+mod FrontLemmas

@@ -14,8 +14,9 @@ use Rattle.lv_reflog.specs.declared.log.Step.{Step}
 use Rattle.lv_reflog.specs.Following.{clause_of, follows_by_hints, first_bad_after, first_bad_step, IsImplied}
 use Rattle.lv_reflog.proofs.SoundLemmas.{checked}
 use Rattle.lv_sat.specs.declared.trail.Entry.{Entry}
-use Rattle.lv_sat.specs.Answers.{IsModel, IsSublist, IsRefutation, last_clause, nothing, left_out, taken}
-use Rattle.lv_sat.specs.Trail.{among, lits_of, left_of, is_open, IsForced, IsTrail, IsTurned, IsSearch, IsExtended, IsReached, turned, values_of}
+use Rattle.lv_sat.specs.Answers.{IsModel, IsSublist, IsRefutation, last_clause, nothing as no_literals, left_out, taken}
+use Rattle.lv_sat.specs.Front.{AreValues, IsFront, IsRefuted}
+use Rattle.lv_sat.specs.Trail.{among, lits_of, unforced, left_of, is_open, IsForced, IsChain, IsTrail, IsTurned, IsSearch, IsGrown, IsExtended, IsPropagated, IsReached, Reaches, turned, values_of}
 use Rattle.lv_sat.specs.declared.search.Reached.{Reached}
 use Rattle.lv_sat.specs.declared.search.Reached.TheVariants.{Values, False}
 use Rattle.lv_sat.specs.Analysis.{sees, denial, IsDerived, IsTurning, Derives}
@@ -24,6 +25,7 @@ use Rattle.lv_sat.proofs.ListLemmas.{among_member, among_contained, all_from, cl
 use Rattle.lv_sat.proofs.SeenLemmas.{from_filter, filter_none, from_map}
 use Rattle.lv_sat.specs.declared.analysis.Flip.{Flip}
 use Rattle.lv_sat.proofs.TrailLemmas.{lits_push, cut_contained, trail_push, front_of, front_then, none_at, not_so}
+use Rattle.lv_sat.proofs.PartLemmas.{part_then, part_self, part_member}
 use Rattle.lv_sat.proofs.AnalysisLemmas.{front_among}
 use Rattle.lv_sat.proofs.MeasureLemmas.{above_longer, above_turned}
 
@@ -74,19 +76,35 @@ pub valid_push : (cs : ClauseMap) (log : List Step) (s : Step) → first_bad_ste
 valid_push cs log s e follows = valid_after cs [] log s e follows
 
 -- a choice more
-pub extended_choice : (cs : ClauseMap) (log : List Step) (old mid entries more : List Entry) (a marks now : Marks) (found : Option Hint) (l : Lit) → IsExtended cs log old a mid None → IsExtended cs log mid marks entries found
+pub extended_choice : (cs : ClauseMap) (log : List Step) (old mid entries more : List Entry) (a marks now : Marks) (found : Option Hint) (l : Lit) → IsExtended cs log old a mid None → IsPropagated cs log mid marks entries found
     → is_open marks l ≡ true → now ≡ marked marks l → more ≡ entries ++ record { lit = l; reason = None } ∷ [] → IsExtended cs log old now more None
 extended_choice cs log old mid entries more a marks now found l first next free now_is grown =
     record {
       trail =
           subst (λ m. IsTrail cs log m more) (sym now_is)
-          (subst (IsTrail cs log (marked marks l)) (sym grown) (trail_push cs log marks entries next.trail (record { lit = l; reason = None }) free (λ h is. absurd (none_at h is))));
-      front = front_then old entries more (front_then old mid entries first.front next.front) (front_of entries more (record { lit = l; reason = None } ∷ []) grown);
+          (subst (IsTrail cs log (marked marks l)) (sym grown) (trail_push cs log marks entries next.extended.trail (record { lit = l; reason = None }) free (λ h is. absurd (none_at h is))));
+      front = front_then old entries more (front_then old mid entries first.front next.extended.front) (front_of entries more (record { lit = l; reason = None } ∷ []) grown);
       refuted = λ h is. absurd (none_at h is);
     }
 
-pub reached_false : (cs : ClauseMap) (log : List Step) (old mid entries : List Entry) (a marks : Marks) (h : Hint) → IsExtended cs log old a mid None → IsExtended cs log mid marks entries (Some h) → IsReached cs log old marks entries (False h)
-reached_false cs log old mid entries a marks h first next = record { trail = next.trail; front = front_then old mid entries first.front next.front; reaches = next.refuted h refl }
+pub reached_false : (cs : ClauseMap) (log : List Step) (old mid entries : List Entry) (a marks : Marks) (h : Hint) → IsExtended cs log old a mid None → IsPropagated cs log mid marks entries (Some h) → IsReached cs log old marks entries (False h)
+reached_false cs log old mid entries a marks h first next = record { trail = next.extended.trail; front = front_then old mid entries first.front next.extended.front; reaches = next.extended.refuted h refl }
+
+pub reached_by : (cs : ClauseMap) (log : List Step) (old mid entries : List Entry) (a marks : Marks) (found : Option Hint) (reached : Reached) → IsExtended cs log old a mid None → IsPropagated cs log mid marks entries found
+    → Reaches cs log marks entries reached → IsReached cs log old marks entries reached
+reached_by cs log old mid entries a marks found reached first next reaches = record { trail = next.extended.trail; front = front_then old mid entries first.front next.extended.front; reaches = reaches }
+
+-- what a search leaves is cut back to what it began with, by the clauses given alone
+pub trail_back : (cs : ClauseMap) (log : List Step) (before marks after : Marks) (start entries left : List Entry) → IsTrail cs log before start → log ≡ [] → IsGrown cs start marks entries → left ≡ take (length start) entries
+    → ((sets : ClauseMap) (steps : List Step) → IsTrail sets steps marks entries → IsTrail sets steps after left) → IsTrail cs [] after left
+trail_back cs log before marks after start entries left here blank grown is cut =
+    let cut_here : IsTrail cs grown.log after left = cut cs grown.log grown.trail in
+    record {
+      len = cut_here.len;
+      same = cut_here.same;
+      room = cut_here.room;
+      chain = subst (λ (es : List Entry). IsChain cs [] es) (sym (is ∙ grown.begins)) (subst (λ (steps : List Step). IsChain cs steps start) blank here.chain);
+    }
 
 -- the values of marks
 value_at : (marks : Marks) (v : ℕ) → get_or (values_of marks) v false ≡ mark_is (get_or marks v None) true
@@ -104,10 +122,6 @@ marked_holds marks l e = ap (λ b. same_truth b l.sign) (value_at marks l.var.0)
     by_mark (Some false) true f = absurd (cc)
     by_mark (Some false) false f = refl
 
-lits_len : (entries : List Entry) → length (lits_of entries) ≡ length entries
-lits_len [] = refl
-lits_len (e ∷ es) = ap suc (lits_len es)
-
 values_len : (marks : Marks) → length (values_of marks) ≡ length marks
 values_len [] = refl
 values_len (m ∷ ms) = ap suc (values_len ms)
@@ -117,7 +131,7 @@ neg_twice [] = refl
 neg_twice (l ∷ ls) = ap₂ (λ k ks. k ∷ ks) (neg_neg l) (neg_twice ls)
 
 part_of : (p : Lit → Bool) (ls : List Lit) → IsSublist (filter p ls) ls
-part_of p [] = nothing
+part_of p [] = no_literals
 part_of p (l ∷ ls) = by_value (p l) refl (part_of p ls)
   where
     by_value : (b : Bool) → p l ≡ b → IsSublist (filter p ls) ls → IsSublist (cond (p l) (l ∷ filter p ls) (filter p ls)) (l ∷ ls)
@@ -131,79 +145,96 @@ got_seam (y ∷ xs) x = got_seam xs x
 got_last : {X : Type 0} (xs : List X) (x : X) → slice_get (xs ++ x ∷ []) (length (xs ++ x ∷ []) - 1) ≡ Some x
 got_last xs x = ap (slice_get (xs ++ x ∷ [])) (omega (arith, length-append xs (x ∷ []))) ∙ got_seam xs x
 
-module _ (cs : ClauseMap) (assumptions : List Lit) (log : List Step) where
-  long_enough : (entries : List Entry) → take (length assumptions) (lits_of entries) ≡ assumptions → length assumptions ≤ length (lits_of entries)
-  long_enough entries e = grind (arith, ap (λ (ls : List Lit). length ls) e, length-take (length assumptions) (lits_of entries))
+long_enough : {X : Type 0} (start entries : List X) → take (length start) entries ≡ start → length start ≤ length entries
+long_enough start entries e = grind (arith, ap length e, length-take (length start) entries)
 
-  front_lits : (entries : List Entry) → take (length assumptions) (lits_of entries) ≡ assumptions → lits_of (take (length assumptions) entries) ≡ assumptions
-  front_lits entries e = sym (take-map (λ (k : Entry). k.lit) (length assumptions) entries) ∙ e
+-- a clause of negations of assumptions refutes
+pub refutes : (cs : ClauseMap) (assumptions core : List Lit) (log : List Step) → IsRefuted cs assumptions log → IfSome (last_clause log) (λ clause. core ≡ map neg clause) → IsRefutation cs assumptions core log
+refutes cs assumptions core log here told =
+    record {
+      part = subst (λ ls. IsSublist ls assumptions) (sym core_is) (part_then (filter (sees derived.seen) (lits_of here.kept)) (lits_of here.kept) assumptions (part_of (sees derived.seen) (lits_of here.kept)) here.part);
+      valid = valid_new;
+      ends = last_is ∙ ap Some (derived.clause ∙ sym (ap (map neg) core_is));
+      none = λ values model. false_for values model (any_member (lit_holds values) derived.step.clause (implied.holds values model.all_clauses model.len));
+    }
+  where
+    derived : IsDerived cs here.earlier log here.kept
+    derived = here.derived
 
-  pub search_extended : (a marks : Marks) (old entries : List Entry) → IsSearch cs assumptions log a old → IsTrail cs log marks entries → entries ≡ old ++ drop (length old) entries → IsSearch cs assumptions log marks entries
+    last_is : last_clause log ≡ Some derived.step.clause
+    last_is =
+        ap (λ (steps : List Step). last_clause steps) derived.added
+        ∙ ap (option_map (λ (t : Step). t.clause)) (got_last here.earlier derived.step)
+
+    core_is : core ≡ filter (sees derived.seen) (lits_of here.kept)
+    core_is =
+        subst (λ (o : Option (List Lit)). IfSome o (λ clause. core ≡ map neg clause)) last_is told
+        ∙ ap (map neg) derived.clause
+        ∙ neg_twice (filter (sees derived.seen) (lits_of here.kept))
+
+    valid_new : first_bad_step cs log ≡ None
+    valid_new = ap (first_bad_step cs) derived.added ∙ valid_push cs here.earlier derived.step here.valid derived.follows
+
+    all_implied : All (IsImplied cs) (here.earlier ++ derived.step ∷ [])
+    all_implied =
+        subst (All (IsImplied cs)) (ap (λ (steps : List Step). take (length steps) steps) derived.added ∙ take-length (here.earlier ++ derived.step ∷ [])) (checked cs log None (sym valid_new))
+
+    implied : IsImplied cs derived.step
+    implied = subst (IsImplied cs) (get_or-append_seam here.earlier derived.step [] derived.step) (all_implied (length here.earlier) derived.step (omega (arith, length-append here.earlier (derived.step ∷ []))))
+
+    false_for : (values : List Bool) → IsModel cs assumptions values → (m : Lit) × Contains derived.step.clause m × (lit_holds values m ≡ true) → ⊥
+    false_for values model found =
+        lit_or_neg values found.0 found.2
+        (all_member (lit_holds values) assumptions (neg found.0) model.all_assumptions
+        (part_member (lits_of here.kept) assumptions here.part (neg found.0)
+        (from_filter (sees derived.seen) (lits_of here.kept) (neg found.0) (from_map (filter (sees derived.seen) (lits_of here.kept)) found.0 (subst (λ ls. Contains ls found.0) derived.clause found.1)))))
+
+-- values that make the front true make the assumptions true
+pub model_of : (cs : ClauseMap) (assumptions : List Lit) (start : List Entry) (values : List Bool) → IsFront assumptions start → AreValues cs start values → IsModel cs assumptions values
+model_of cs assumptions start values front found =
+    record {
+      len = found.len;
+      all_clauses = found.all_clauses;
+      all_assumptions = all_from (lit_holds values) assumptions (λ l h. found.all_entries l (all_member (among (lits_of start)) assumptions l front.all_true h));
+    }
+
+-- what is refuted of the front is of assumptions
+pub refuted_of : (cs : ClauseMap) (assumptions : List Lit) (start : List Entry) (log : List Step) → IsFront assumptions start → IsRefuted cs (lits_of (unforced start)) log → IsRefuted cs assumptions log
+refuted_of cs assumptions start log front here =
+    record { earlier = here.earlier; kept = here.kept; valid = here.valid; derived = here.derived; part = part_then (lits_of here.kept) (lits_of (unforced start)) assumptions here.part front.part }
+
+module _ (cs : ClauseMap) (start : List Entry) (log : List Step) where
+  pub search_extended : (a marks : Marks) (old entries : List Entry) → IsSearch cs start log a old → IsTrail cs log marks entries → entries ≡ old ++ drop (length old) entries → IsSearch cs start log marks entries
   search_extended a marks old entries before trail front =
       record {
         trail = trail;
-        assumed =
-            ap (λ (es : List Entry). take (length assumptions) (lits_of es)) front
-            ∙ ap (take (length assumptions)) (map-append (λ (e : Entry). e.lit) old (drop (length old) entries))
-            ∙ take-append-le (length assumptions) (lits_of old) (lits_of (drop (length old) entries)) (long_enough old before.assumed)
-            ∙ before.assumed;
+        begins = ap (take (length start)) front ∙ take-append-le (length start) old (drop (length old) entries) (long_enough start old before.begins) ∙ before.begins;
         valid = before.valid;
       }
 
-  pub floor_fits : (marks : Marks) (entries : List Entry) → IsSearch cs assumptions log marks entries → length assumptions ≤ length entries
-  floor_fits marks entries here = omega (arith, long_enough entries here.assumed, lits_len entries)
+  pub floor_fits : (marks : Marks) (entries : List Entry) → IsSearch cs start log marks entries → length start ≤ length entries
+  floor_fits marks entries here = long_enough start entries here.begins
 
-  pub model_found : (marks : Marks) (entries : List Entry) (values : List Bool) → IsSearch cs assumptions log marks entries → values ≡ values_of marks → satisfies values cs.slots ≡ true → IsModel cs assumptions values
-  model_found marks entries values here is all_true =
+  pub values_found : (marks : Marks) (entries : List Entry) (values : List Bool) → IsSearch cs start log marks entries → values ≡ values_of marks → satisfies values cs.slots ≡ true → AreValues cs start values
+  values_found marks entries values here is all_true =
       record {
         len = ap (λ (vs : List Bool). length vs) is ∙ values_len marks ∙ here.trail.len;
         all_clauses = all_true;
-        all_assumptions = all_from (lit_holds values) assumptions (λ l h. ap (λ vs. lit_holds vs l) is ∙ marked_holds marks l (here.trail.same l ∙ front_among cs log entries here.trail.chain (length assumptions) l (ap (λ ls. among ls l) (front_lits entries here.assumed) ∙ among_member assumptions l h)));
+        all_entries = λ l e. ap (λ vs. lit_holds vs l) is ∙ marked_holds marks l (here.trail.same l ∙ front_among cs log entries here.trail.chain (length start) l (ap (λ (es : List Entry). among (lits_of es) l) here.begins ∙ e));
       }
 
-  -- a clause of negations of assumptions refutes
-  pub refutation_found : (marks : Marks) (entries : List Entry) (new : List Step) (core : List Lit) → IsSearch cs assumptions log marks entries → IsDerived cs log new entries (length assumptions)
-      → IfSome (last_clause new) (λ clause. core ≡ map neg clause) → IsRefutation cs assumptions core new
-  refutation_found marks entries new core here derived told =
+  pub refutation_found : (marks : Marks) (entries : List Entry) (new : List Step) → IsSearch cs start log marks entries → IsDerived cs log new (unforced (take (length start) entries)) → IsRefuted cs (lits_of (unforced start)) new
+  refutation_found marks entries new here derived =
       record {
-        part = subst (λ ls. IsSublist ls assumptions) (sym core_is) (part_of (sees derived.seen) assumptions);
-        valid = valid_new;
-        ends = last_is ∙ ap Some (clause_is ∙ sym (ap (map neg) core_is));
-        none = λ values model. false_for values model (any_member (lit_holds values) derived.step.clause (implied.holds values model.all_clauses model.len));
+        earlier = log;
+        kept = unforced start;
+        valid = here.valid;
+        derived = subst (λ (es : List Entry). IsDerived cs log new (unforced es)) here.begins derived;
+        part = part_self (lits_of (unforced start));
       }
-    where
-      clause_is : derived.step.clause ≡ map neg (filter (sees derived.seen) assumptions)
-      clause_is = derived.clause ∙ ap (λ ls. map neg (filter (sees derived.seen) ls)) (front_lits entries here.assumed)
-
-      last_is : last_clause new ≡ Some derived.step.clause
-      last_is =
-          ap (λ (steps : List Step). last_clause steps) derived.added
-          ∙ ap (option_map (λ (t : Step). t.clause)) (got_last log derived.step)
-
-      core_is : core ≡ filter (sees derived.seen) assumptions
-      core_is =
-          subst (λ (o : Option (List Lit)). IfSome o (λ clause. core ≡ map neg clause)) last_is told
-          ∙ ap (map neg) clause_is
-          ∙ neg_twice (filter (sees derived.seen) assumptions)
-
-      valid_new : first_bad_step cs new ≡ None
-      valid_new = ap (first_bad_step cs) derived.added ∙ valid_push cs log derived.step here.valid derived.follows
-
-      all_implied : All (IsImplied cs) (log ++ derived.step ∷ [])
-      all_implied =
-          subst (All (IsImplied cs)) (ap (λ (steps : List Step). take (length steps) steps) derived.added ∙ take-length (log ++ derived.step ∷ [])) (checked cs new None (sym valid_new))
-
-      implied : IsImplied cs derived.step
-      implied = subst (IsImplied cs) (get_or-append_seam log derived.step [] derived.step) (all_implied (length log) derived.step (omega (arith, length-append log (derived.step ∷ []))))
-
-      false_for : (values : List Bool) → IsModel cs assumptions values → (m : Lit) × Contains derived.step.clause m × (lit_holds values m ≡ true) → ⊥
-      false_for values model found =
-          lit_or_neg values found.0 found.2
-          (all_member (lit_holds values) assumptions (neg found.0) model.all_assumptions
-          (from_filter (sees derived.seen) assumptions (neg found.0) (from_map (filter (sees derived.seen) assumptions) found.0 (subst (λ ls. Contains ls found.0) clause_is found.1))))
 
   -- the clause derived turns the entry
-  pub turn_forced : (marks : Marks) (entries : List Entry) (new : List Step) (flip : Flip) → IsSearch cs assumptions log marks entries → IsTurning cs log new (length assumptions) entries flip → IsTurned cs new entries flip (Earlier (length new - 1))
+  pub turn_forced : (marks : Marks) (entries : List Entry) (new : List Step) (flip : Flip) → IsSearch cs start log marks entries → IsTurning cs log new (length start) entries flip → IsTurned cs new entries flip (Earlier (length new - 1))
   turn_forced marks entries new flip here turning =
       record {
         forced =
@@ -244,26 +275,24 @@ module _ (cs : ClauseMap) (assumptions : List Lit) (log : List Step) where
           (ap (is_clause cs.bools) (sym (lits_push (take flip.place entries) (get_or entries flip.place d)) ∙ ap (λ (es : List Entry). lits_of es) (sym (take_more entries flip.place d turning.within)) ∙ sym (take-map (λ (k : Entry). k.lit) (flip.place + 1) entries)) ∙ clause_take cs.bools (flip.place + 1) (lits_of entries) here.trail.chain.clause)
           (cut_contained entries flip.cut flip.place (get_or entries flip.place d).lit turning.cut.apart.before (among_contained front (get_or entries flip.place d).lit e)) refl)
 
-  pub search_turned : (marks now : Marks) (entries left : List Entry) (new : List Step) (flip : Flip) (d : Entry) → IsSearch cs assumptions log marks entries → IsTurning cs log new (length assumptions) entries flip
+  pub search_turned : (marks now : Marks) (entries left : List Entry) (new : List Step) (flip : Flip) (d : Entry) → IsSearch cs start log marks entries → IsTurning cs log new (length start) entries flip
       → left ≡ take flip.cut entries ++ turned (get_or entries flip.place d) (Earlier (length new - 1)) ∷ []
-      → (IsTrail cs new marks entries → IsTurned cs new entries flip (Earlier (length new - 1)) → IsTrail cs new now left) → IsSearch cs assumptions new now left
+      → (IsTrail cs new marks entries → IsTurned cs new entries flip (Earlier (length new - 1)) → IsTrail cs new now left) → IsSearch cs start new now left
   search_turned marks now entries left new flip d here turning is made =
       let within : flip.cut < length entries = omega (arith, turning.within, turning.cut.apart.before) in
       record {
         trail = made (subst (λ (steps : List Step). IsTrail cs steps marks entries) (sym turning.derived.added) (trail_grows cs log turning.derived.step marks entries here.trail)) (turn_forced marks entries new flip here turning);
-        assumed =
-            ap (λ (es : List Entry). take (length assumptions) (lits_of es)) is
-            ∙ ap (take (length assumptions)) (lits_push (take flip.cut entries) (turned (get_or entries flip.place d) (Earlier (length new - 1))))
-            ∙ take-append-le (length assumptions) (lits_of (take flip.cut entries)) (neg (get_or entries flip.place d).lit ∷ []) (omega (arith, turning.cut.apart.above, within, lits_len (take flip.cut entries), length-take-le flip.cut entries (omega (arith, within))))
-            ∙ ap (take (length assumptions)) (sym (take-map (λ (k : Entry). k.lit) flip.cut entries))
-            ∙ take-take (length assumptions) flip.cut (lits_of entries) turning.cut.apart.above
-            ∙ here.assumed;
+        begins =
+            ap (take (length start)) is
+            ∙ take-append-le (length start) (take flip.cut entries) (turned (get_or entries flip.place d) (Earlier (length new - 1)) ∷ []) (omega (arith, turning.cut.apart.above, within, length-take-le flip.cut entries (omega (arith, within))))
+            ∙ take-take (length start) flip.cut entries turning.cut.apart.above
+            ∙ here.begins;
         valid = ap (first_bad_step cs) turning.derived.added ∙ valid_push cs log turning.derived.step here.valid turning.derived.follows;
       }
 
   -- fewer trails are above
   pub search_falls : (marks : Marks) (old entries left : List Entry) (new : List Step) (flip : Flip) (d : Entry) → IsTrail cs log marks entries → entries ≡ old ++ drop (length old) entries
-      → IsTurning cs log new (length assumptions) entries flip → left ≡ take flip.cut entries ++ turned (get_or entries flip.place d) (Earlier (length new - 1)) ∷ [] → above cs.bools left < above cs.bools old
+      → IsTurning cs log new (length start) entries flip → left ≡ take flip.cut entries ++ turned (get_or entries flip.place d) (Earlier (length new - 1)) ∷ [] → above cs.bools left < above cs.bools old
   search_falls marks old entries left new flip d trail front turning is =
       omega (
         arith,
@@ -274,24 +303,29 @@ module _ (cs : ClauseMap) (assumptions : List Lit) (log : List Step) where
       )
 
   -- the ends and the turn of the loop
-  module _ (a marks : Marks) (old entries : List Entry) (before : IsSearch cs assumptions log a old) where
-    pub values_end : (values : List Bool) (reached : Reached) → reached ≡ Values values → IsReached cs log old marks entries reached → IsModel cs assumptions values
+  module _ (a marks : Marks) (old entries : List Entry) (before : IsSearch cs start log a old) where
+    pub values_end : (values : List Bool) (reached : Reached) → reached ≡ Values values → IsReached cs log old marks entries reached → AreValues cs start values
     values_end values reached is told =
         let here : IsReached cs log old marks entries (Values values) = subst (IsReached cs log old marks entries) is told in
-        model_found marks entries values (search_extended a marks old entries before here.trail here.front) here.reaches.0 here.reaches.2
+        values_found marks entries values (search_extended a marks old entries before here.trail here.front) here.reaches.0 here.reaches.2
 
-    pub refuted_end : (reached : Reached) (flip : Option Flip) (shown : List Entry) (new : List Step) (core : List Lit) → IsReached cs log old marks entries reached → shown ≡ entries → flip ≡ None
-        → Derives cs log new (length assumptions) shown flip → IfSome (last_clause new) (λ clause. core ≡ map neg clause) → IsRefutation cs assumptions core new
-    refuted_end reached flip shown new core here same none derived told =
-        refutation_found marks entries new core (search_extended a marks old entries before here.trail here.front)
-        (subst (λ (es : List Entry). IsDerived cs log new es (length assumptions)) same (subst (Derives cs log new (length assumptions) shown) none derived)) told
+    pub refuted_end : (reached : Reached) (flip : Option Flip) (shown : List Entry) (new : List Step) → IsReached cs log old marks entries reached → shown ≡ entries → flip ≡ None
+        → Derives cs log new (length start) shown flip → IsRefuted cs (lits_of (unforced start)) new
+    refuted_end reached flip shown new here same none derived =
+        refutation_found marks entries new (search_extended a marks old entries before here.trail here.front)
+        (subst (λ (es : List Entry). IsDerived cs log new (unforced (take (length start) es))) same (subst (Derives cs log new (length start) shown) none derived))
+
+    pub grown_end : (reached : Reached) → IsReached cs log old marks entries reached → IsGrown cs start marks entries
+    grown_end reached here =
+        let search : IsSearch cs start log marks entries = search_extended a marks old entries before here.trail here.front in
+        record { log = log; trail = search.trail; begins = search.begins }
 
     module _ (reached : Reached) (flip : Flip) (found : Option Flip) (shown left : List Entry) (new : List Step) (d : Entry) (here : IsReached cs log old marks entries reached) (same : shown ≡ entries) (some : found ≡ Some flip)
-        (derived : Derives cs log new (length assumptions) shown found) (is : left ≡ take flip.cut entries ++ turned (get_or entries flip.place d) (Earlier (length new - 1)) ∷ []) where
-      turning : IsTurning cs log new (length assumptions) entries flip
-      turning = subst (λ (es : List Entry). IsTurning cs log new (length assumptions) es flip) same (subst (Derives cs log new (length assumptions) shown) some derived)
+        (derived : Derives cs log new (length start) shown found) (is : left ≡ take flip.cut entries ++ turned (get_or entries flip.place d) (Earlier (length new - 1)) ∷ []) where
+      turning : IsTurning cs log new (length start) entries flip
+      turning = subst (λ (es : List Entry). IsTurning cs log new (length start) es flip) same (subst (Derives cs log new (length start) shown) some derived)
 
-      pub turn_keeps : (now : Marks) → ((sets : ClauseMap) (steps : List Step) → IsTrail sets steps marks entries → IsTurned sets steps entries flip (Earlier (length new - 1)) → IsTrail sets steps now left) → IsSearch cs assumptions new now left
+      pub turn_keeps : (now : Marks) → ((sets : ClauseMap) (steps : List Step) → IsTrail sets steps marks entries → IsTurned sets steps entries flip (Earlier (length new - 1)) → IsTrail sets steps now left) → IsSearch cs start new now left
       turn_keeps now made = search_turned marks now entries left new flip d (search_extended a marks old entries before here.trail here.front) turning is (made cs new)
 
       pub turn_falls : above cs.bools left < above cs.bools old

@@ -144,7 +144,7 @@ marked_other marks l m differs e = ap (λ (o : Option Bool). mark_is o m.sign) (
 pub marked_self : (marks : Marks) (l : Lit) → l.var.0 < length marks → is_marked (marked marks l) l ≡ true
 marked_self marks l within = ap (λ (o : Option Bool). mark_is o l.sign) (get_or-set_same marks l.var.0 (Some l.sign) None within) ∙ same_truth-self l.sign
 
-all_apart : (l : Lit) (ls : List Lit) (m : Lit) → list_all (λ k. not (same_var l k)) ls ≡ true → Contains ls m → m.var.0 ≢ l.var.0
+pub all_apart : (l : Lit) (ls : List Lit) (m : Lit) → list_all (λ k. not (same_var l k)) ls ≡ true → Contains ls m → m.var.0 ≢ l.var.0
 all_apart l [] m e h same = absurd (omega (arith, h.1))
 all_apart l (x ∷ xs) m e h same = by_place (Contains-cases x m xs h) (λ more. all_apart l xs m (and_right (not (same_var l x)) (list_all (λ k. not (same_var l k)) xs) e) more same)
   where

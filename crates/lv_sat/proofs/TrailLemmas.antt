@@ -18,10 +18,10 @@ use Rattle.lv_reflog.specs.declared.log.Hint.{Hint}
 use Rattle.lv_reflog.specs.declared.log.Step.{Step}
 use Rattle.lv_reflog.specs.Following.{clause_of}
 use Rattle.lv_sat.specs.declared.trail.Entry.{Entry}
-use Rattle.lv_sat.specs.Trail.{same_lit, among, lits_of, is_open, IsForced, IsFalse, IsChain, IsTrail, IsTurned, IsExtended, turned}
+use Rattle.lv_sat.specs.Trail.{same_lit, among, lits_of, is_open, IsForced, IsFalse, IsChain, IsTrail, IsTurned, IsExtended, IsPropagated, turned}
 use Rattle.lv_sat.specs.declared.analysis.Flip.{Flip}
 use Rattle.lv_sat.proofs.SeenLemmas.{in_filter, filter_same, contains_take}
-use Rattle.lv_sat.proofs.ListLemmas.{eq_isnt, lt_from, same_lit-self, among_push, among_member, among_contained, clause_range, clause_front, clause_take, clause_last, clause_push, lt_is}
+use Rattle.lv_sat.proofs.ListLemmas.{eq_isnt, lt_from, same_lit-self, among_push, among_member, among_contained, clause_range, clause_take, clause_last, clause_push, lt_is}
 
 none_from : (o : Option Bool) → is_none o ≡ true → o ≡ None
 none_from None e = refl
@@ -93,6 +93,42 @@ module _ (cs : ClauseMap) (log : List Step) where
         chain = record { clause = refl; forced = λ place d h within. absurd (omega (arith, within)) };
       }
 
+  -- an entry more, of a boolean in range that no entry has
+  pub chain_push : (entries : List Entry) → IsChain cs log entries → (e : Entry) → in_range cs.bools e.lit ≡ true → ((m : Lit) → Contains (lits_of entries) m → m.var.0 ≡ e.lit.var.0 → ⊥)
+      → ((h : Hint) → e.reason ≡ Some h → IsForced cs.slots log (lits_of entries) e.lit h) → IsChain cs log (entries ++ e ∷ [])
+  chain_push entries chain e within apart reason =
+      record {
+        clause = ap (is_clause cs.bools) (lits_push entries e) ∙ clause_push cs.bools (lits_of entries) e.lit chain.clause within apart;
+        forced = λ place d h below is. by_place place d h is (cases_lt place (length entries)) below;
+      }
+    where
+      by_place : (place : ℕ) (d : Entry) (h : Hint) → (get_or (entries ++ e ∷ []) place d).reason ≡ Some h → (place < length entries) ⊎ (length entries ≤ place) → place < length (entries ++ e ∷ [])
+          → IsForced cs.slots log (lits_of (take place (entries ++ e ∷ []))) (get_or (entries ++ e ∷ []) place d).lit h
+      by_place place d h is (inl before) below =
+          let same : get_or (entries ++ e ∷ []) place d ≡ get_or entries place d = get_or_append_left entries (e ∷ []) d place before in
+          let front : take place (entries ++ e ∷ []) ≡ take place entries = take-append-le place entries (e ∷ []) (omega (arith, before)) in
+          subst (λ (k : Entry). IsForced cs.slots log (lits_of (take place (entries ++ e ∷ []))) k.lit h) (sym same)
+          (subst (λ (es : List Entry). IsForced cs.slots log (lits_of es) (get_or entries place d).lit h) (sym front) (chain.forced place d h before (sym (ap (λ (k : Entry). k.reason) same) ∙ is)))
+      by_place place d h is (inr past) below =
+          let here : place ≡ length entries = grind (arith, below, past, length-append entries (e ∷ [])) in
+          let same : get_or (entries ++ e ∷ []) place d ≡ e = ap (λ k. get_or (entries ++ e ∷ []) k d) here ∙ get_or-append_seam entries e [] d in
+          let front : take place (entries ++ e ∷ []) ≡ entries = ap (λ k. take k (entries ++ e ∷ [])) here ∙ take-append_seam entries (e ∷ []) in
+          subst (λ (k : Entry). IsForced cs.slots log (lits_of (take place (entries ++ e ∷ []))) k.lit h) (sym same)
+          (subst (λ (es : List Entry). IsForced cs.slots log (lits_of es) e.lit h) (sym front) (reason h (sym (ap (λ (k : Entry). k.reason) same) ∙ is)))
+
+  pub chain_take : (entries : List Entry) → IsChain cs log entries → (count : ℕ) → count ≤ length entries → IsChain cs log (take count entries)
+  chain_take entries chain count fits =
+      record {
+        clause = ap (is_clause cs.bools) (sym (take-map (λ (k : Entry). k.lit) count entries)) ∙ clause_take cs.bools count (lits_of entries) chain.clause;
+        forced =
+            λ k b h below is.
+            let early : k < count = omega (arith, below, length-take-le count entries fits) in
+            let same : get_or (take count entries) k b ≡ get_or entries k b = get_or-take count entries k b early in
+            let fronts : take k (take count entries) ≡ take k entries = take-take k count entries (omega (arith, early)) in
+            subst (λ (j : Entry). IsForced cs.slots log (lits_of (take k (take count entries))) j.lit h) (sym same)
+            (subst (λ (es : List Entry). IsForced cs.slots log (lits_of es) (get_or entries k b).lit h) (sym fronts) (chain.forced k b h (omega (arith, early, fits)) (sym (ap (λ (j : Entry). j.reason) same) ∙ is)));
+      }
+
   module _ (marks : Marks) (entries : List Entry) (trail : IsTrail cs log marks entries) where
     -- what is among the entries is of no free boolean
     pub busy : (l m : Lit) → is_free marks l ≡ true → Contains (lits_of entries) m → m.var.0 ≡ l.var.0 → ⊥
@@ -108,13 +144,7 @@ module _ (cs : ClauseMap) (log : List Step) where
               ∙ ap (λ b. b || same_lit e.lit l) (trail.same l)
               ∙ sym (ap (λ ls. among ls l) (lits_push entries e) ∙ among_push (lits_of entries) e.lit l);
           room = omega (arith, trail.room, length-set marks e.lit.var.0 (Some e.lit.sign), length-append entries (e ∷ []), count_set marks e.lit.var.0 (Some e.lit.sign) within, one_of (get_or marks e.lit.var.0 None) free);
-          chain =
-              record {
-                clause =
-                    ap (is_clause cs.bools) (lits_push entries e)
-                    ∙ clause_push cs.bools (lits_of entries) e.lit trail.chain.clause (ap (λ n. in_range n e.lit) (sym trail.len) ∙ and_left (in_range (length marks) e.lit) (is_free marks e.lit) is_free_now) (λ m h same. busy e.lit m free h same);
-                forced = λ place d h below is. by_place place d h is (cases_lt place (length entries)) below;
-              };
+          chain = chain_push entries trail.chain e (ap (λ n. in_range n e.lit) (sym trail.len) ∙ and_left (in_range (length marks) e.lit) (is_free marks e.lit) is_free_now) (λ m h same. busy e.lit m free h same) reason;
         }
       where
         free : is_free marks e.lit ≡ true
@@ -123,20 +153,6 @@ module _ (cs : ClauseMap) (log : List Step) where
         within : e.lit.var.0 < length marks
         within = lt_from e.lit.var.0 (length marks) (and_left (in_range (length marks) e.lit) (is_free marks e.lit) is_free_now)
 
-        by_place : (place : ℕ) (d : Entry) (h : Hint) → (get_or (entries ++ e ∷ []) place d).reason ≡ Some h → (place < length entries) ⊎ (length entries ≤ place) → place < length (entries ++ e ∷ [])
-            → IsForced cs.slots log (lits_of (take place (entries ++ e ∷ []))) (get_or (entries ++ e ∷ []) place d).lit h
-        by_place place d h is (inl before) below =
-            let same : get_or (entries ++ e ∷ []) place d ≡ get_or entries place d = get_or_append_left entries (e ∷ []) d place before in
-            let front : take place (entries ++ e ∷ []) ≡ take place entries = take-append-le place entries (e ∷ []) (omega (arith, before)) in
-            subst (λ (k : Entry). IsForced cs.slots log (lits_of (take place (entries ++ e ∷ []))) k.lit h) (sym same)
-            (subst (λ (es : List Entry). IsForced cs.slots log (lits_of es) (get_or entries place d).lit h) (sym front) (trail.chain.forced place d h before (sym (ap (λ (k : Entry). k.reason) same) ∙ is)))
-        by_place place d h is (inr past) below =
-            let here : place ≡ length entries = grind (arith, below, past, length-append entries (e ∷ [])) in
-            let same : get_or (entries ++ e ∷ []) place d ≡ e = ap (λ k. get_or (entries ++ e ∷ []) k d) here ∙ get_or-append_seam entries e [] d in
-            let front : take place (entries ++ e ∷ []) ≡ entries = ap (λ k. take k (entries ++ e ∷ [])) here ∙ take-append_seam entries (e ∷ []) in
-            subst (λ (k : Entry). IsForced cs.slots log (lits_of (take place (entries ++ e ∷ []))) k.lit h) (sym same)
-            (subst (λ (es : List Entry). IsForced cs.slots log (lits_of es) e.lit h) (sym front) (reason h (sym (ap (λ (k : Entry). k.reason) same) ∙ is)))
-
     pub trail_pop : (place : ℕ) (d : Entry) → place + 1 ≡ length entries → IsTrail cs log (set marks (get_or entries place d).lit.var.0 None) (take place entries)
     trail_pop place d last =
         record {
@@ -144,18 +160,7 @@ module _ (cs : ClauseMap) (log : List Step) where
           same = λ l. by_var l (cases_eq l.var.0 e.lit.var.0);
           room =
               omega (arith, trail.room, last, length-set marks e.lit.var.0 None, length-take-le place entries (omega (arith, last)), count_set marks e.lit.var.0 None within, none_of (get_or marks e.lit.var.0 None) busy_here);
-          chain =
-              record {
-                clause = clause_front cs.bools (lits_of front) (e.lit ∷ []) whole_clause;
-                forced =
-                    λ k b h below is.
-                    let size : length front ≡ place = length-take-le place entries (omega (arith, last)) in
-                    let early : k < place = omega (arith, below, size) in
-                    let same : get_or front k b ≡ get_or entries k b = get_or-take place entries k b early in
-                    let fronts : take k front ≡ take k entries = take-take k place entries (omega (arith, early)) in
-                    subst (λ (j : Entry). IsForced cs.slots log (lits_of (take k front)) j.lit h) (sym same)
-                    (subst (λ (es : List Entry). IsForced cs.slots log (lits_of es) (get_or entries k b).lit h) (sym fronts) (trail.chain.forced k b h (omega (arith, early, last)) (sym (ap (λ (j : Entry). j.reason) same) ∙ is)));
-              };
+          chain = chain_take entries trail.chain place (omega (arith, last));
         }
       where
         e : Entry
@@ -252,6 +257,12 @@ front_then old mid new e f =
 pub extended_then : (cs : ClauseMap) (log : List Step) (old mid new : List Entry) (a b : Marks) (found : Option Hint) → IsExtended cs log old a mid None → IsExtended cs log mid b new found → IsExtended cs log old b new found
 extended_then cs log old mid new a b found first next = record { trail = next.trail; front = front_then old mid new first.front next.front; refuted = next.refuted }
 
+pub propagated_self : (cs : ClauseMap) (log : List Step) (marks : Marks) (entries : List Entry) → IsTrail cs log marks entries → IsPropagated cs log entries marks entries None
+propagated_self cs log marks entries trail = record { extended = record { trail = trail; front = front_self entries; refuted = λ h is. absurd (none_at h is) }; forced = refl }
+
+pub propagated_then : (cs : ClauseMap) (log : List Step) (old mid new : List Entry) (a b : Marks) (found : Option Hint) → IsPropagated cs log old a mid None → IsPropagated cs log mid b new found → IsPropagated cs log old b new found
+propagated_then cs log old mid new a b found first next = record { extended = extended_then cs log old mid new a b found first.extended next.extended; forced = next.forced ∙ first.forced }
+
 -- a clause that is seen to be false
 pub look_false : (cs : ClauseMap) (log : List Step) (marks : Marks) (entries : List Entry) (h : Hint) (c : List Lit) → IsTrail cs log marks entries → clause_of cs.slots log h ≡ Some c → look_at marks c ≡ AllFalse
     → IsFalse cs.slots log (lits_of entries) h
@@ -280,31 +291,6 @@ look_unit cs log marks entries h c l trail named seen =
     one [] e = absurd (cc)
     one (x ∷ []) e = ap (λ k. k ∷ []) (cc)
     one (x ∷ (y ∷ ys)) e = absurd (cc)
-
--- one assumption more is taken
-module _ (cs : ClauseMap) (log : List Step) (marks now : Marks) (entries more : List Entry) (assumptions : List Lit) (at : ℕ) (d : Lit) (within : at < length assumptions) (lits : lits_of entries ≡ take at assumptions)
-    (grown : more ≡ entries ++ record { lit = get_or assumptions at d; reason = None } ∷ []) where
-  pub assumed_trail : IsTrail cs log marks entries → is_clause cs.bools assumptions ≡ true → now ≡ marked marks (get_or assumptions at d) → IsTrail cs log now more
-  assumed_trail trail clause marked_now =
-      subst (λ m. IsTrail cs log m more) (sym marked_now)
-      (subst (IsTrail cs log (marked marks l)) (sym grown)
-      (trail_push cs log marks entries trail (record { lit = l; reason = None })
-      (open_apart cs log marks entries l trail (clause_range cs.bools (take at assumptions ++ l ∷ []) l front_clause (among_contained (take at assumptions ++ l ∷ []) l (among_push (take at assumptions) l l ∙ or_right (among (take at assumptions) l) (same_lit l l) (same_lit-self l))))
-      (λ m h. clause_last cs.bools (take at assumptions) l m front_clause (subst (λ ls. Contains ls m) lits h)))
-      (λ h is. absurd (none-some h is))))
-    where
-      l : Lit
-      l = get_or assumptions at d
-
-      front_clause : is_clause cs.bools (take at assumptions ++ l ∷ []) ≡ true
-      front_clause = ap (is_clause cs.bools) (sym (take_more assumptions at d within)) ∙ clause_take cs.bools (at + 1) assumptions clause
-
-  pub assumed_lits : lits_of more ≡ take (at + 1) assumptions
-  assumed_lits =
-      ap (λ (es : List Entry). lits_of es) grown
-      ∙ lits_push entries (record { lit = get_or assumptions at d; reason = None })
-      ∙ ap (λ ls. ls ++ get_or assumptions at d ∷ []) lits
-      ∙ sym (take_more assumptions at d within)
 
 all_some : (ms : Marks) → list_all (λ o. eqb (cond (is_none o) 1 0) 0) ms ≡ true → list_all is_some ms ≡ true
 all_some [] e = refl

@@ -1,5 +1,5 @@
 -- What the analysis of a false clause derives: a clause of negations of entries that were needed.
-use Rattle.std.specs.Prelude.{◌≡◌, ℕ, ◌+◌, ◌<◌, ◌≤◌, Bool, true, false, List, [], ◌∷◌, ◌++◌, map, filter, length, take, Option, Some, None, IsSome, reverse, slice_index_or, slice_set, unwrap_or}
+use Rattle.std.specs.Prelude.{◌≡◌, ℕ, ◌+◌, ◌<◌, ◌≤◌, Bool, true, false, List, [], ◌∷◌, ◌++◌, map, filter, length, take, drop, Option, Some, None, IsSome, reverse, slice_index_or, slice_set, unwrap_or}
 use Rattle.lv_base.specs.declared.ids.Lit.{Lit}
 use Rattle.lv_clauses.specs.Literals.{neg}
 use Rattle.lv_clauses.specs.ClauseMap.{ClauseMap, Slots}
@@ -9,7 +9,7 @@ use Rattle.lv_reflog.specs.declared.log.Step.{Step}
 use Rattle.lv_reflog.specs.Following.{clause_of, ends_well, follows_by_hints}
 use Rattle.lv_sat.specs.declared.trail.Entry.{Entry}
 use Rattle.lv_sat.specs.declared.analysis.Flip.{Flip}
-use Rattle.lv_sat.specs.Trail.{lits_of, among}
+use Rattle.lv_sat.specs.Trail.{lits_of, among, unforced}
 
 -- the literal's boolean was seen
 abbrev pub sees : List Bool → Lit → Bool
@@ -32,10 +32,9 @@ needed seen entries = filter (sees seen) (lits_of entries)
 abbrev pub denial : List Bool → List Entry → List Lit
 denial seen entries = map neg (needed seen entries)
 
--- the number of entries up to the last one needed, or below the floor
-abbrev pub end_of : Option Flip → ℕ → ℕ
-end_of None floor = floor
-end_of (Some flip) floor = flip.place + 1
+-- the entries before the place, and those from it on without a reason
+abbrev pub left_at : ℕ → List Entry → List Entry
+left_at at entries = take at entries ++ unforced (drop at entries)
 
 -- at the place no choice stands
 abbrev pub HasReason : List Entry → ℕ → Type 0
@@ -65,24 +64,24 @@ choice_or (Some h) at other = other
 abbrev pub IsChoiceOr : List Entry → ℕ → Option ℕ → Option ℕ → Type 0
 IsChoiceOr entries at other result = (d : Entry) → result ≡ choice_or (slice_index_or entries at d).reason at other
 
--- the literals that are among the first entries and were seen are marked, and nothing that isn't on the trail is
-pub record Covers (seen : List Bool) (entries : List Entry) (at : ℕ) (marks : Marks) : Type 0 where
-  pub needed : (l : Lit) → among (lits_of (take at entries)) l ≡ true → sees seen l ≡ true → is_marked marks l ≡ true
+-- those of these literals that were seen are marked, and nothing that isn't on the trail is
+pub record Covers (seen : List Bool) (kept : List Lit) (entries : List Entry) (marks : Marks) : Type 0 where
+  pub needed : (l : Lit) → among kept l ≡ true → sees seen l ≡ true → is_marked marks l ≡ true
   pub within : (l : Lit) → is_marked marks l ≡ true → among (lits_of entries) l ≡ true
 
--- the hints taken, the last one first, end well once the entries seen before this place are taken as true
-pub record IsPending (set : ClauseMap) (log : List Step) (entries : List Entry) (at : ℕ) (seen : List Bool) (hints : List Hint) : Type 0 where
+-- the hints taken, the last one first, end well once those of these literals that were seen are taken as true
+pub record IsPending (set : ClauseMap) (log : List Step) (entries : List Entry) (kept : List Lit) (seen : List Bool) (hints : List Hint) : Type 0 where
   pub len : length seen ≡ set.bools
-  pub ends : (marks : Marks) → length marks ≡ set.bools → Covers seen entries at marks → ends_well set.slots log (reverse hints) marks ≡ true
+  pub ends : (marks : Marks) → length marks ≡ set.bools → Covers seen kept entries marks → ends_well set.slots log (reverse hints) marks ≡ true
 
 -- the walk stopped behind an entry that was seen, or at the floor
 pub record IsStopped (set : ClauseMap) (log : List Step) (entries : List Entry) (floor : ℕ) (seen : List Bool) (hints : List Hint) (flip : Flip) : Type 0 where
-  pub pending : IsPending set log entries (flip.place + 1) seen hints
+  pub pending : IsPending set log entries (lits_of (take (flip.place + 1) entries)) seen hints
   pub within : flip.place < length entries
   pub cut : IsCut seen entries floor flip.place flip.cut
 
 abbrev pub StopsAt : ClauseMap → List Step → List Entry → ℕ → List Bool → List Hint → Option Flip → Type 0
-StopsAt set log entries floor seen hints None = IsPending set log entries floor seen hints
+StopsAt set log entries floor seen hints None = IsPending set log entries (lits_of (take floor entries)) seen hints
 StopsAt set log entries floor seen hints (Some flip) = IsStopped set log entries floor seen hints flip
 
 -- an entry that was seen gives way to its reason
@@ -94,26 +93,27 @@ pub record IsUnchanged (old : List Bool) (given : List Hint) (new : List Bool) (
   pub seen : new ≡ old
   pub hints : more ≡ given
 
+-- an entry that wasn't seen or has no reason stays as it is
 abbrev pub GoesPast : Slots → List Step → Bool → Option Hint → List Bool → List Hint → List Bool → List Hint → Type 0
 GoesPast slots log false reason old hints new more = IsUnchanged old hints new more
-GoesPast slots log true None old hints new more = ⊥
+GoesPast slots log true None old hints new more = IsUnchanged old hints new more
 GoesPast slots log true (Some h) old hints new more = GivesWay slots log h old hints new more
 
--- the log has one step more, which follows by its hints: its clause is of negations of the first entries
-pub record IsDerived (set : ClauseMap) (old new : List Step) (entries : List Entry) (at : ℕ) : Type 0 where
+-- the log has one step more, which follows by its hints: its clause is of negations of these entries
+pub record IsDerived (set : ClauseMap) (old new : List Step) (kept : List Entry) : Type 0 where
   pub step : Step
   pub seen : List Bool
   pub added : new ≡ old ++ step ∷ []
-  pub clause : step.clause ≡ denial seen (take at entries)
+  pub clause : step.clause ≡ denial seen kept
   pub follows : follows_by_hints set old step ≡ true
 
 -- the last literal of the clause negates the entry at the place, and none other an entry from the cut on
 pub record IsTurning (set : ClauseMap) (old new : List Step) (floor : ℕ) (entries : List Entry) (flip : Flip) : Type 0 where
-  pub derived : IsDerived set old new entries (flip.place + 1)
+  pub derived : IsDerived set old new (take (flip.place + 1) entries)
   pub within : flip.place < length entries
   pub cut : IsCut derived.seen entries floor flip.place flip.cut
 
--- the clause turns an entry, or it is of negations of entries below the floor alone
+-- the clause turns an entry, or it is of negations of entries below the floor that have no reason
 abbrev pub Derives : ClauseMap → List Step → List Step → ℕ → List Entry → Option Flip → Type 0
-Derives set old new floor entries None = IsDerived set old new entries floor
+Derives set old new floor entries None = IsDerived set old new (unforced (take floor entries))
 Derives set old new floor entries (Some flip) = IsTurning set old new floor entries flip

@@ -2,3 +2,4 @@ pub mod Answers
 pub mod Trail
 pub mod Analysis
 pub mod Measure
+pub mod Front

@@ -25,6 +25,10 @@ among ls l = list_any (λ k. same_lit k l) ls
 abbrev pub lits_of : List Entry → List Lit
 lits_of entries = map (λ (e : Entry). e.lit) entries
 
+-- the entries without a reason: what was assumed or chosen
+abbrev pub unforced : List Entry → List Entry
+unforced entries = filter (λ (e : Entry). is_none e.reason) entries
+
 -- the boolean is in range and unmarked
 abbrev pub is_open : Marks → Lit → Bool
 is_open marks l = in_range (length marks) l && is_free marks l
@@ -66,17 +70,28 @@ turned e h = record { lit = neg e.lit; reason = Some h }
 pub record IsTurned (set : ClauseMap) (log : List Step) (entries : List Entry) (flip : Flip) (h : Hint) : Type 0 where
   pub forced : (d : Entry) → IsForced set.slots log (lits_of (take flip.cut entries)) (neg (slice_index_or entries flip.place d).lit) h
 
--- what the search keeps: a trail that begins with the assumptions, and a valid log
-pub record IsSearch (set : ClauseMap) (assumptions : List Lit) (log : List Step) (marks : Marks) (entries : List Entry) : Type 0 where
+-- what the search keeps: a trail that begins with the entries it started from, and a valid log
+pub record IsSearch (set : ClauseMap) (start : List Entry) (log : List Step) (marks : Marks) (entries : List Entry) : Type 0 where
   pub trail : IsTrail set log marks entries
-  pub assumed : take (length assumptions) (lits_of entries) ≡ assumptions
+  pub begins : take (length start) entries ≡ start
   pub valid : first_bad_step set log ≡ None
+
+-- and what it leaves: such a trail, with some log
+pub record IsGrown (set : ClauseMap) (start : List Entry) (marks : Marks) (entries : List Entry) : Type 0 where
+  pub log : List Step
+  pub trail : IsTrail set log marks entries
+  pub begins : take (length start) entries ≡ start
 
 -- the trail goes on from the old entries; a hint found names a false clause
 pub record IsExtended (set : ClauseMap) (log : List Step) (old : List Entry) (marks : Marks) (entries : List Entry) (found : Option Hint) : Type 0 where
   pub trail : IsTrail set log marks entries
   pub front : entries ≡ old ++ drop (length old) entries
   pub refuted : (h : Hint) → found ≡ Some h → IsFalse set.slots log (lits_of entries) h
+
+-- and all that is new is forced
+pub record IsPropagated (set : ClauseMap) (log : List Step) (old : List Entry) (marks : Marks) (entries : List Entry) (found : Option Hint) : Type 0 where
+  pub extended : IsExtended set log old marks entries found
+  pub forced : unforced entries ≡ unforced old
 
 -- each boolean's value, false where it has no mark
 abbrev pub values_of : Marks → List Bool

@@ -1,14 +1,14 @@
 //! What a false clause teaches. The trail is walked from its end: an entry that was needed gives way to the entries that
-//! forced it, until one is met behind which nothing is needed up to a choice, or the assumptions alone are left. The
-//! negations of the entries needed are then a clause that follows from the reasons used, in the order of the trail, and
-//! the false clause: one step of the log.
+//! forced it, until one is met behind which nothing is needed up to a choice. Where there is none, the walk goes on through
+//! the front, and the assumptions alone are left. The negations of the entries needed are then a clause that follows from
+//! the reasons used, in the order of the trail, and the false clause: one step of the log.
 #![tactic(auto)]
 
-ghost use Rattle.std.specs.Prelude.{◌≡◌, ◌<◌, ◌≤◌, ◌+◌, ◌^◌, true, ◌++◌, ◌∷◌, [], length, take, IfOk, IfSome, IfNone, IsSome, OnOk, option_map, slice_set, unwrap_or};
+ghost use Rattle.std.specs.Prelude.{◌≡◌, ◌<◌, ◌≤◌, ◌+◌, ◌^◌, true, ◌++◌, ◌∷◌, [], length, take, IfOk, IfSome, IfNone, OnOk, option_map, reverse, slice_set, unwrap_or};
 ghost use Rattle.lv_reflog.specs.Following.{clause_of};
-ghost use Rattle.lv_sat.specs.Trail.{IsChain, IsFalse, lits_of};
+ghost use Rattle.lv_sat.specs.Trail.{IsChain, IsFalse, lits_of, unforced};
 ghost use Rattle.lv_sat.specs.Analysis as Analysis;
-ghost use Rattle.lv_sat.specs.Analysis.{denial, seen_all, seen_by, GoesPast, HasReason, IsForcedIfSeen, IsApart, IsChoiceOr, IsCut, Derives, IsPending, StopsAt};
+ghost use Rattle.lv_sat.specs.Analysis.{denial, seen_all, seen_by, GoesPast, HasReason, IsForcedIfSeen, IsApart, IsChoiceOr, IsCut, Derives, IsDerived, IsPending, StopsAt};
 
 use super::trail::Entry;
 use lv_base::Lit;
@@ -25,7 +25,7 @@ pub struct Flip {
 }
 
 /// Adds the step that a false clause teaches to the log. Its clause negates entries: the last of them is answered, with
-/// the first choice behind the others, or all stand before the floor.
+/// the first choice behind the others, or all stand before the floor and have no reason.
 pub fn derive(
     alloc: Global,
     set: &ClauseSet,
@@ -42,23 +42,82 @@ pub fn derive(
     let mut seen = vec![in alloc; false; set.bools() as usize]?;
     let mut hints = Vec::new(alloc);
     take_reason(set, log, hint, &mut seen, &mut hints)?;
-    let flip = walk(set, log, entries, floor, &mut seen, &mut hints)?;
-    hints.reverse();
-    let at = end_of(flip, floor);
-    let clause = negate_seen(alloc, seen.as_slice(), &entries[..at])?;
-    log.push(clause.as_slice(), hints.as_slice())?;
-    Ok(flip)
+    match walk(set, log, entries, floor, &mut seen, &mut hints)? {
+        Some(flip) => {
+            let clause = negate_seen(alloc, seen.as_slice(), &entries[..flip.place + 1])?;
+            add_step(log, clause.as_slice(), &mut hints)?;
+            Ok(Some(flip))
+        }
+        None => {
+            settle(alloc, set, log, &entries[..floor], &mut seen, &mut hints)?;
+            Ok(None)
+        }
+    }
 }
 
-/// The number of entries up to the last one needed, or below the floor.
-fn end_of(flip: Option<Flip>, floor: usize) -> usize
-    requires { IfSome flip (λ f. f.place + 1 < 2 ^ 64) }
-    ensures { result ≡ Analysis.end_of flip floor }
+/// Adds the step that a false clause teaches where no entry is to be turned: its clause negates entries that have no reason.
+pub fn refute(
+    alloc: Global,
+    set: &ClauseSet,
+    log: &mut Log,
+    entries: &[Entry],
+    hint: Hint,
+) -> Result<(), AllocError>
+    requires chain { IsChain set.now log.old entries.now }
+    requires refuted { IsFalse set.now.slots log.old (lits_of entries.now) hint }
+    ensures { OnOk result (IsDerived set.now log.old log.new (unforced entries.now)) }
 {
-    match flip {
-        Some(flip) => flip.place + 1,
-        None => floor,
+    let mut seen = vec![in alloc; false; set.bools() as usize]?;
+    let mut hints = Vec::new(alloc);
+    take_reason(set, log, hint, &mut seen, &mut hints)?;
+    settle(alloc, set, log, entries, &mut seen, &mut hints)
+}
+
+/// Goes back through all entries, and adds the step of those needed that have no reason.
+fn settle(
+    alloc: Global,
+    set: &ClauseSet,
+    log: &mut Log,
+    entries: &[Entry],
+    seen: &mut Vec<bool>,
+    hints: &mut Vec<Hint>,
+) -> Result<(), AllocError>
+    requires chain { IsChain set.now log.old entries.now }
+    requires pending { IsPending set.now log.old entries.now (lits_of entries.now) seen.old.items hints.old.items }
+    ensures { OnOk result (IsDerived set.now log.old log.new (unforced entries.now)) }
+{
+    go_back(set, log, entries, seen, hints)?;
+    let clause = negate_unforced(alloc, seen.as_slice(), entries)?;
+    add_step(log, clause.as_slice(), hints)
+}
+
+/// Adds a step with the hints in the order of the trail, in which the last one taken is the first.
+fn add_step(log: &mut Log, clause: &[Lit], hints: &mut Vec<Hint>) -> Result<(), AllocError>
+    ensures { OnOk result (log.new ≡ log.old ++ record { clause = clause.now; hints = reverse hints.old.items } ∷ []) }
+{
+    hints.reverse();
+    log.push(clause, hints.as_slice())?;
+    Ok(())
+}
+
+/// Walks back through all entries: each that was needed gives way to its reason if it has one.
+fn go_back(
+    set: &ClauseSet,
+    log: &Log,
+    entries: &[Entry],
+    seen: &mut Vec<bool>,
+    hints: &mut Vec<Hint>,
+) -> Result<(), AllocError>
+    requires chain { IsChain set.now log.now entries.now }
+    requires pending { IsPending set.now log.now entries.now (lits_of entries.now) seen.old.items hints.old.items }
+    ensures { OnOk result (IsPending set.now log.now entries.now (lits_of (unforced entries.now)) seen.new.items hints.new.items) }
+{
+    let mut at = entries.len();
+    while at > 0 {
+        at -= 1;
+        pass(set, log, entries[at], seen, hints)?;
     }
+    Ok(())
 }
 
 /// Walks back to the last entry needed behind which a choice stands before the next one needed; None where there is none
@@ -73,7 +132,7 @@ fn walk(
 ) -> Result<Option<Flip>, AllocError>
     requires chain { IsChain set.now log.now entries.now }
     requires floor { floor ≤ length entries.now }
-    requires pending { IsPending set.now log.now entries.now (length entries.now) seen.old.items hints.old.items }
+    requires pending { IsPending set.now log.now entries.now (lits_of entries.now) seen.old.items hints.old.items }
     ensures { IfOk result (λ flip. StopsAt set.now log.now entries.now floor seen.new.items hints.new.items flip) }
 {
     let mut at = entries.len();
@@ -132,7 +191,7 @@ fn choice_at(entries: &[Entry], at: usize, other: Option<usize>) -> Option<usize
     }
 }
 
-/// Goes past an entry, with the literals that forced it seen if it was.
+/// Goes past an entry, with the literals that forced it seen if it was and has a reason.
 fn pass(
     set: &ClauseSet,
     log: &Log,
@@ -140,7 +199,6 @@ fn pass(
     seen: &mut Vec<bool>,
     hints: &mut Vec<Hint>,
 ) -> Result<(), AllocError>
-    requires { Analysis.sees seen.old.items entry.lit ≡ true → IsSome entry.reason }
     ensures { OnOk result (GoesPast set.now.slots log.now (Analysis.sees seen.old.items entry.lit) entry.reason seen.old.items hints.old.items seen.new.items hints.new.items) }
 {
     if !sees(seen.as_slice(), entry.lit) {
@@ -210,6 +268,19 @@ fn negate_seen(alloc: Global, seen: &[bool], entries: &[Entry]) -> Result<Vec<Li
     let mut clause = Vec::new(alloc);
     for entry in entries {
         if sees(seen, entry.lit) {
+            clause.push(negation(entry.lit))?;
+        }
+    }
+    Ok(clause)
+}
+
+/// The negations of the entries seen that have no reason, in their order.
+fn negate_unforced(alloc: Global, seen: &[bool], entries: &[Entry]) -> Result<Vec<Lit>, AllocError>
+    ensures { IfOk result (λ clause. clause.items ≡ denial seen.now (unforced entries.now)) }
+{
+    let mut clause = Vec::new(alloc);
+    for entry in entries {
+        if entry.reason.is_none() && sees(seen, entry.lit) {
             clause.push(negation(entry.lit))?;
         }
     }

@@ -10,13 +10,17 @@
 //! | what a false clause teaches | `analysis` |
 //! | which clauses to look at | `watches` |
 //! | what to choose next | `order` |
+//! | both together | `guide` |
 //! | what clauses force | `propagation` |
+//! | the assumptions on the trail | `front` |
 //! | the search | `search` |
 #![tactic(auto)]
 
 mod analysis;
 pub mod answer;
 pub mod effort;
+mod front;
+mod guide;
 mod order;
 mod propagation;
 mod search;

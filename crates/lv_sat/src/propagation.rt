@@ -3,7 +3,7 @@
 #![tactic(auto)]
 
 ghost use Rattle.std.specs.Prelude.{◌≡◌, ◌-◌, ◌<◌, IfOk};
-ghost use Rattle.lv_sat.specs.Trail.{IsTrail, IsExtended};
+ghost use Rattle.lv_sat.specs.Trail.{IsTrail, IsPropagated};
 
 use super::analysis::find_clause;
 use super::trail::Trail;
@@ -32,7 +32,7 @@ pub fn propagate(
     trail: &mut Trail,
 ) -> Result<Option<Hint>, AllocError>
     requires { IsTrail set.now log.now trail.old.marks.items trail.old.entries.items }
-    ensures { IfOk result (λ found. IsExtended set.now log.now trail.old.entries.items trail.new.marks.items trail.new.entries.items found) }
+    ensures { IfOk result (λ found. IsPropagated set.now log.now trail.old.entries.items trail.new.marks.items trail.new.entries.items found) }
 {
     let mut at = from;
     while at < trail.entries().len() {
@@ -54,7 +54,7 @@ fn visit(
     trail: &mut Trail,
 ) -> Result<Option<Hint>, AllocError>
     requires { IsTrail set.now log.now trail.old.marks.items trail.old.entries.items }
-    ensures { IfOk result (λ found. IsExtended set.now log.now trail.old.entries.items trail.new.marks.items trail.new.entries.items found) }
+    ensures { IfOk result (λ found. IsPropagated set.now log.now trail.old.entries.items trail.new.marks.items trail.new.entries.items found) }
 {
     let mut row = watches.take_row(turned);
     let found = visit_row(set, log, watches, &mut row, turned, trail);
@@ -72,7 +72,7 @@ fn visit_row(
     trail: &mut Trail,
 ) -> Result<Option<Hint>, AllocError>
     requires { IsTrail set.now log.now trail.old.marks.items trail.old.entries.items }
-    ensures { IfOk result (λ found. IsExtended set.now log.now trail.old.entries.items trail.new.marks.items trail.new.entries.items found) }
+    ensures { IfOk result (λ found. IsPropagated set.now log.now trail.old.entries.items trail.new.marks.items trail.new.entries.items found) }
 {
     let mut at = 0;
     while at < row.len() {
@@ -140,7 +140,7 @@ pub fn visit_all(
     trail: &mut Trail,
 ) -> Result<Option<Hint>, AllocError>
     requires { IsTrail set.now log.now trail.old.marks.items trail.old.entries.items }
-    ensures { IfOk result (λ found. IsExtended set.now log.now trail.old.entries.items trail.new.marks.items trail.new.entries.items found) }
+    ensures { IfOk result (λ found. IsPropagated set.now log.now trail.old.entries.items trail.new.marks.items trail.new.entries.items found) }
 {
     for hint in hints {
         if let Some(found) = examine(set, log, trail, *hint)? {
@@ -158,7 +158,7 @@ fn examine(
     hint: Hint,
 ) -> Result<Option<Hint>, AllocError>
     requires { IsTrail set.now log.now trail.old.marks.items trail.old.entries.items }
-    ensures { IfOk result (λ found. IsExtended set.now log.now trail.old.entries.items trail.new.marks.items trail.new.entries.items found) }
+    ensures { IfOk result (λ found. IsPropagated set.now log.now trail.old.entries.items trail.new.marks.items trail.new.entries.items found) }
 {
     match find_clause(set, log, hint) {
         None => Ok(None),

@@ -1,23 +1,24 @@
-//! The search: a loop over the trail. Choices are added, and what clauses force, until each boolean is marked or a clause
-//! is false. A false clause teaches a clause that turns the last choice that it rests on; where it rests on assumptions
-//! alone, there are no values.
+//! The search: a loop over the trail, which begins with the assumptions and what they force. Choices are added, and what
+//! clauses force, until each boolean is marked or a clause is false. A false clause teaches a clause that turns the last
+//! choice that it rests on; where it rests on assumptions alone, there are no values.
 #![tactic(auto)]
 
-ghost use Rattle.std.specs.Prelude.{◌≡◌, ◌<◌, ◌≤◌, ◌-◌, ◌+◌, ◌++◌, ◌∷◌, [], true, false, length, map, take, count_by, IsTrue, IfOk, OnOk, IfSome, IfNone, is_some, is_none, ℕ};
+ghost use Rattle.std.specs.Prelude.{◌≡◌, ◌<◌, ◌≤◌, ◌-◌, ◌+◌, ◌++◌, ◌∷◌, [], true, false, List, length, map, None, count_by, IsTrue, IfOk, OnOk, IfSome, IfNone, is_some, is_none, ℕ};
 ghost use Rattle.std.specs.List.{list_all};
 ghost use Rattle.lv_clauses.specs.Literals.{neg, is_clause};
 ghost use Rattle.lv_clauses.specs.ClauseMap.{ClauseMap, satisfies};
-ghost use Rattle.lv_clauses.specs.Marks.{nothing};
+ghost use Rattle.lv_reflog.specs.Following.{first_bad_step};
 ghost use Rattle.lv_sat.specs.Answers.{Answers, last_clause};
-ghost use Rattle.lv_sat.specs.Trail.{is_open, IsTrail, IsExtended, IsReached, IsFalsified, TellsFalse, Reaches, lits_of};
+ghost use Rattle.lv_sat.specs.Front.{Finds, IsKept, IsRefuted};
+ghost use Rattle.lv_sat.specs.Trail.{is_open, IsTrail, IsReached, IsFalsified, IsGrown, TellsFalse, Reaches};
 
 use super::analysis::derive;
 use super::answer::Answer;
-use super::effort::Effort;
+use super::front::{Front, forget, stand};
+use super::guide::{Guide, learn, take_back};
 use super::order::Order;
-use super::propagation::{propagate, visit_all};
+use super::propagation::propagate;
 use super::trail::{Entry, Trail};
-use super::watches::Watches;
 use lv_base::{ClauseId, Lit, Seq};
 use lv_clauses::{ClauseSet, clause_holds, negation};
 use lv_reflog::{Hint, Log};
@@ -32,41 +33,103 @@ pub enum Reached {
     False(Hint),
 }
 
-/// What leads the search and is no part of what it shows: which clauses to look at, and what to choose.
-#[derive(Drop)]
-pub struct Guide {
-    pub watches: Watches,
-    pub order: Order,
-    pub effort: Effort,
-}
-
-/// Whether some values satisfy the clauses and make the assumptions true. The trail is made anew in the room that it
-/// has.
+/// Whether some values satisfy the clauses and make the assumptions true. The front is left for the next call.
 pub fn search(
     alloc: Global,
     set: &ClauseSet,
     guide: &mut Guide,
-    trail: &mut Trail,
+    front: &mut Front,
     assumptions: &[Lit],
 ) -> Result<Answer, AllocError>
-    requires { IsTrue (is_clause set.now.bools assumptions.now) }
-    ensures { IfOk result (λ answer. Answers set.now assumptions.now answer) }
+    requires clause { IsTrue (is_clause set.now.bools assumptions.now) }
+    requires kept { IsKept set.now front.old.levels.items front.old.trail.marks.items front.old.trail.entries.items }
+    ensures answer { IfOk result (λ answer. Answers set.now assumptions.now answer) }
+    ensures kept { IsKept set.now front.new.levels.items front.new.trail.marks.items front.new.trail.entries.items }
 {
-    begin(guide, trail);
-    trail.restart(set.bools())?;
-    assume_all(trail, set.bools(), assumptions)?;
+    guide.watches.clear_learned();
+    match find_answer(alloc, set, guide, front, assumptions) {
+        Ok(answer) => Ok(answer),
+        Err(error) => {
+            forget(guide, front);
+            Err(error)
+        }
+    }
+}
+
+/// The answer, where memory suffices.
+fn find_answer(
+    alloc: Global,
+    set: &ClauseSet,
+    guide: &mut Guide,
+    front: &mut Front,
+    assumptions: &[Lit],
+) -> Result<Answer, AllocError>
+    requires clause { IsTrue (is_clause set.now.bools assumptions.now) }
+    requires kept { IsKept set.now front.old.levels.items front.old.trail.marks.items front.old.trail.entries.items }
+    ensures answer { IfOk result (λ answer. Answers set.now assumptions.now answer) }
+    ensures kept { OnOk result (IsKept set.now front.new.levels.items front.new.trail.marks.items front.new.trail.entries.items) }
+{
     let mut log = Log::new(alloc)?;
-    let mut from = 0;
+    if !stand(alloc, set, &mut log, guide, front, assumptions)? {
+        return refutation(alloc, log);
+    }
+    match complete(alloc, set, &mut log, guide, &mut front.trail)? {
+        Some(values) => Ok(Answer::Sat(values)),
+        None => refutation(alloc, log),
+    }
+}
+
+/// The refutation that a log ends in.
+fn refutation(alloc: Global, log: Log) -> Result<Answer, AllocError>
+    requires { 0 < length log }
+    ensures { (set : ClauseMap) (assumptions : List Lit) → IsRefuted set assumptions log → IfOk result (λ answer. Answers set assumptions answer) }
+{
+    let core = negate_last(alloc, &log)?;
+    Ok(Answer::Unsat { core, log })
+}
+
+/// Whether the trail can be completed to values that satisfy the clauses. It is left as it was.
+fn complete(
+    alloc: Global,
+    set: &ClauseSet,
+    log: &mut Log,
+    guide: &mut Guide,
+    trail: &mut Trail,
+) -> Result<Option<Seq<bool>>, AllocError>
+    requires trail { IsTrail set.now log.old trail.old.marks.items trail.old.entries.items }
+    requires log { log.old ≡ [] }
+    ensures found { IfOk result (λ found. Finds set.now trail.old.entries.items log.new found) }
+    ensures entries { OnOk result (trail.new.entries.items ≡ trail.old.entries.items) }
+    ensures trail { OnOk result (IsTrail set.now [] trail.new.marks.items trail.new.entries.items) }
+{
+    let len = trail.entries().len();
+    let found = seek(alloc, set, log, guide, trail)?;
+    take_back(guide, trail, len);
+    Ok(found)
+}
+
+/// Whether the trail can be completed to values that satisfy the clauses. Choices are added behind it, and each clause
+/// that becomes false turns one.
+fn seek(
+    alloc: Global,
+    set: &ClauseSet,
+    log: &mut Log,
+    guide: &mut Guide,
+    trail: &mut Trail,
+) -> Result<Option<Seq<bool>>, AllocError>
+    requires trail { IsTrail set.now log.old trail.old.marks.items trail.old.entries.items }
+    requires valid { first_bad_step set.now log.old ≡ None }
+    ensures found { IfOk result (λ found. Finds set.now trail.old.entries.items log.new found) }
+    ensures trail { OnOk result (IsGrown set.now trail.old.entries.items trail.new.marks.items trail.new.entries.items) }
+{
+    let floor = trail.entries().len();
+    let mut from = floor;
     'conflicts: loop {
-        match extend(alloc, set, &log, guide, from, trail)? {
-            Reached::Values(values) => return Ok(Answer::Sat(values)),
+        match extend(alloc, set, log, guide, from, trail)? {
+            Reached::Values(values) => return Ok(Some(values)),
             Reached::False(hint) => {
-                let floor = assumptions.len();
-                match derive(alloc, set, &mut log, trail.entries(), floor, hint)? {
-                    None => {
-                        let core = negate_last(alloc, &log)?;
-                        return Ok(Answer::Unsat { core, log });
-                    }
+                match derive(alloc, set, log, trail.entries(), floor, hint)? {
+                    None => return Ok(None),
                     Some(flip) => {
                         let last = log.len() - 1;
                         let clause = log.step(last).clause.as_slice();
@@ -78,58 +141,6 @@ pub fn search(
             }
         }
     }
-}
-
-/// Forgets what was learned for other assumptions, and notes what the trail ended with.
-fn begin(guide: &mut Guide, trail: &Trail) {
-    guide.effort = guide.effort.with(trail.entries());
-    guide.watches.clear_learned();
-    put_back_all(&mut guide.order, trail.entries());
-}
-
-/// Notes a clause learned, and that the entries from a place on are taken back.
-fn learn(
-    guide: &mut Guide,
-    entries: &[Entry],
-    clause: &[Lit],
-    step: usize,
-    cut: usize,
-) -> Result<(), AllocError>
-    requires { cut ≤ length entries.now }
-{
-    guide.effort = guide.effort.with(&entries[cut..]).with_conflict();
-    touch_all(&mut guide.order, clause);
-    put_back_all(&mut guide.order, &entries[cut..]);
-    guide.watches.add_learned(clause, step)
-}
-
-fn touch_all(order: &mut Order, clause: &[Lit]) {
-    for lit in clause {
-        order.touch(lit.var);
-    }
-}
-
-fn put_back_all(order: &mut Order, entries: &[Entry]) {
-    for entry in entries {
-        order.put_back(entry.lit);
-    }
-}
-
-/// Takes the assumptions as true.
-fn assume_all(trail: &mut Trail, bools: u32, assumptions: &[Lit]) -> Result<(), AllocError>
-    requires clause { IsTrue (is_clause bools assumptions.now) }
-    requires marks { trail.old.marks.items ≡ nothing bools }
-    requires entries { trail.old.entries.items ≡ [] }
-    ensures trail { OnOk result ((set : ClauseMap) → set.bools ≡ bools → IsTrail set [] trail.new.marks.items trail.new.entries.items) }
-    ensures lits { OnOk result (lits_of trail.new.entries.items ≡ assumptions.now) }
-{
-    for lit in assumptions {
-        trail.push(Entry {
-            lit: *lit,
-            reason: None,
-        })?;
-    }
-    Ok(())
 }
 
 /// Adds choices to the trail, and what clauses force, until each boolean is marked or a clause is false. The entries from
@@ -145,9 +156,6 @@ fn extend(
     requires { IsTrail set.now log.now trail.old.marks.items trail.old.entries.items }
     ensures { IfOk result (λ reached. IsReached set.now log.now trail.old.entries.items trail.new.marks.items trail.new.entries.items reached) }
 {
-    if let Some(hint) = visit_short(set, log, &guide.watches, from, trail)? {
-        return Ok(Reached::False(hint));
-    }
     let mut from = from;
     'choices: loop {
         if let Some(hint) = propagate(set, log, &mut guide.watches, from, trail)? {
@@ -159,22 +167,6 @@ fn extend(
             None => return judge(alloc, set, log, trail),
         }
     }
-}
-
-/// Adds what clauses of at most one literal force; or finds a false one. They are looked at first of all, and what they
-/// force is not taken back.
-fn visit_short(
-    set: &ClauseSet,
-    log: &Log,
-    watches: &Watches,
-    from: usize,
-    trail: &mut Trail,
-) -> Result<Option<Hint>, AllocError>
-    requires { IsTrail set.now log.now trail.old.marks.items trail.old.entries.items }
-    ensures { IfOk result (λ found. IsExtended set.now log.now trail.old.entries.items trail.new.marks.items trail.new.entries.items found) }
-{
-    let hints = if from == 0 { watches.short() } else { &[] };
-    visit_all(set, log, hints, trail)
 }
 
 /// A literal of a boolean that is in range and unmarked; None where there is none.

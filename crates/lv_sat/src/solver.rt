@@ -8,8 +8,10 @@ ghost use Rattle.lv_clauses.specs.ClauseMap.{clause_at, Puts};
 
 use super::answer::Answer;
 use super::effort::Effort;
+use super::front::{Front, forget};
+use super::guide::Guide;
 use super::order::Order;
-use super::search::{Guide, search};
+use super::search::search;
 use super::trail::Trail;
 use super::watches::Watches;
 use lv_base::{ClauseId, Lit};
@@ -18,21 +20,24 @@ use std::alloc::{AllocError, Global};
 use std::marker::Model;
 
 /// The clauses present over booleans counted from 0, seen by contracts as the map from their numbers. What else it keeps
-/// is the room and the lead of its searches, from one to the next.
+/// is the lead of its searches, and the assumptions of the last one with what they force, from one to the next.
 #[derive(Drop)]
 pub struct Solver {
     alloc: Global,
     set: ClauseSet,
     guide: Guide,
-    trail: Trail,
+    front: Front,
 }
 
 impl Model for Solver {
     ghost use Rattle.lv_clauses.specs.ClauseMap.{ClauseMap};
+    ghost use Rattle.lv_sat.specs.Front.{IsKept};
 
     ghost Value = { ClauseMap };
 
     ghost view = { λ s. s.set };
+
+    ghost invariant = { λ s. IsKept s.set s.front.levels.items s.front.trail.marks.items s.front.trail.entries.items };
 }
 
 impl Solver {
@@ -50,7 +55,10 @@ impl Solver {
                 order: Order::new(alloc, set.bools())?,
                 effort: Effort::new(),
             },
-            trail: Trail::new(alloc, set.bools())?,
+            front: Front {
+                trail: Trail::new(alloc, set.bools())?,
+                levels: Vec::new(alloc),
+            },
         })
     }
 
@@ -62,6 +70,7 @@ impl Solver {
         ensures added { IfOk result (λ id. Puts self.old self.new id.0 (Some lits.now)) }
         ensures kept { OnErr result (self.new ≡ self.old) }
     {
+        forget(&mut self.guide, &mut self.front);
         let id = self.set.add(lits)?;
         match self.guide.watches.add_given(lits, id) {
             Ok(()) | Err(_) => Ok(id),
@@ -73,6 +82,7 @@ impl Solver {
         requires { IsSome (clause_at self.old.slots id.0) }
         ensures { Puts self.old self.new id.0 None }
     {
+        forget(&mut self.guide, &mut self.front);
         self.set.remove(id);
         self.guide.watches.remove_given(id);
     }
@@ -95,13 +105,13 @@ impl Solver {
             self.alloc,
             &self.set,
             &mut self.guide,
-            &mut self.trail,
+            &mut self.front,
             assumptions,
         )
     }
 
     /// What its searches did, all together.
     pub fn effort(&self) -> Effort {
-        self.guide.effort.with(self.trail.entries())
+        self.guide.effort.with(self.front.trail.entries())
     }
 }

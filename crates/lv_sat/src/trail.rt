@@ -1,5 +1,5 @@
-//! The trail: the literals taken as true, in the order in which they were taken. First come the assumptions, then
-//! choices and what they force. A mark for each boolean says at once what is true.
+//! The trail: the literals taken as true, in the order in which they were taken. First come the assumptions, each with
+//! what it forces, then choices and what they force. A mark for each boolean says at once what is true.
 #![tactic(auto)]
 
 ghost use Rattle.std.specs.Prelude.{◌≡◌, ◌<◌, ◌≤◌, ◌-◌, ◌+◌, ◌++◌, ◌∷◌, [], List, length, take, drop, count_by, true, IsTrue, IfOk, IfSome, IfNone, OnOk, is_some, is_none, slice_set, slice_index_or, None, Some};
@@ -8,7 +8,7 @@ ghost use Rattle.lv_clauses.specs.ClauseMap.{ClauseMap};
 ghost use Rattle.lv_clauses.specs.Marks.{nothing, marked};
 ghost use Rattle.lv_reflog.specs.declared.log.Step.{Step};
 ghost use Rattle.lv_sat.specs.Trail as Trails;
-ghost use Rattle.lv_sat.specs.Trail.{IsTrail, IsForced, IsTurned, lits_of, turned, values_of};
+ghost use Rattle.lv_sat.specs.Trail.{IsTrail, IsForced, IsTurned, lits_of, turned, unforced, values_of};
 
 use super::analysis::Flip;
 use lv_base::{BoolId, Lit, Seq};
@@ -126,6 +126,7 @@ impl Trail {
     /// Takes a literal as true that a clause forces, unless its boolean is marked already.
     pub fn force(&mut self, lit: Lit, hint: Hint) -> Result<(), AllocError>
         ensures front { OnOk result (self.new.entries.items ≡ self.old.entries.items ++ drop (length self.old.entries.items) self.new.entries.items) }
+        ensures forced { OnOk result (unforced self.new.entries.items ≡ unforced self.old.entries.items) }
         ensures trail { OnOk result ((set : ClauseMap) (log : List Step) → IsTrail set log self.old.marks.items self.old.entries.items
             → IsForced set.slots log (lits_of self.old.entries.items) lit hint → IsTrail set log self.new.marks.items self.new.entries.items) }
     {

@@ -157,3 +157,86 @@ fn four_pigeons_in_three_holes(rt: HostRuntime) -> Result<(), Fail> {
     assert!(rt; core.is_some_and(|lits| lits.is_empty()));
     Ok(())
 }
+
+/// The booleans of calls in a row, and how many calls there are.
+const BOOLS: u32 = 12;
+const CALLS: u32 = 200;
+
+/// A number below this one, which follows from those drawn before.
+fn draw(state: &mut u64, below: u32) -> u32 {
+    *state = state
+        .wrapping_mul(6_364_136_223_846_793_005)
+        .wrapping_add(1_442_695_040_888_963_407);
+    ((*state >> 33) % u64::from(below.max(1))) as u32
+}
+
+fn draw_literal(state: &mut u64) -> Lit {
+    Lit {
+        var: BoolId(draw(state, BOOLS)),
+        sign: draw(state, 2) == 1,
+    }
+}
+
+/// Adds a clause of up to three literals, takes one away, or leaves all as they are.
+fn change_clauses(solver: &mut Solver, state: &mut u64) -> Result<(), Fail> {
+    let lits = [draw_literal(state), draw_literal(state), draw_literal(state)];
+    match draw(state, 4) {
+        0 => {
+            let count = 1 + draw(state, 3) as usize;
+            add(solver, &lits[..count.min(3)])?;
+        }
+        1 => {
+            let id = ClauseId(draw(state, 60) as usize);
+            if solver.clauses().contains(id) {
+                solver.remove(id);
+            }
+        }
+        _ => {}
+    }
+    Ok(())
+}
+
+/// Keeps some first assumptions and adds others behind them.
+fn change_assumptions(assumptions: &mut Vec<Lit>, state: &mut u64) -> Result<(), Fail> {
+    assumptions.truncate(draw(state, BOOLS) as usize);
+    for _more in 0..draw(state, 5) {
+        assumptions.push(draw_literal(state))?;
+        if !is_clause(BOOLS, assumptions.as_slice()) {
+            assumptions.pop();
+        }
+    }
+    Ok(())
+}
+
+/// Whether the solver answers as a new one does, and a core is of assumptions.
+fn agrees(alloc: Global, solver: &mut Solver, assumptions: &[Lit]) -> Result<bool, Fail> {
+    let mut fresh = Solver::new(alloc, solver.clauses())?;
+    if satisfied(&mut fresh, assumptions)? {
+        return satisfied(solver, assumptions);
+    }
+    match refuted(alloc, solver, assumptions)? {
+        Some(core) => Ok(core.as_slice().iter().all(|lit| assumptions.contains(lit))),
+        None => Ok(false),
+    }
+}
+
+#[test]
+fn calls_in_a_row_answer_as_new_solvers_do(rt: HostRuntime) -> Result<(), Fail> {
+    let mut state = 1;
+    let mut solver = solver_over(rt.alloc(), BOOLS)?;
+    for _clause in 0..36 {
+        let lits = [
+            draw_literal(&mut state),
+            draw_literal(&mut state),
+            draw_literal(&mut state),
+        ];
+        add(&mut solver, &lits)?;
+    }
+    let mut assumptions = Vec::new(rt.alloc());
+    for _call in 0..CALLS {
+        change_clauses(&mut solver, &mut state)?;
+        change_assumptions(&mut assumptions, &mut state)?;
+        assert!(rt; agrees(rt.alloc(), &mut solver, assumptions.as_slice())?);
+    }
+    Ok(())
+}

@@ -1,5 +1,5 @@
 -- each entry passed wasn't seen, and where it is a choice, it is the first one so far
-use Rattle.std.proofs.Common.{◌≡◌, ◌∙◌, ◌-◌, ◌<◌, ◌≤◌, ℕ, None, false, length, refl, sym, ap, subst, take, arith}
+use Rattle.std.proofs.Common.{◌≡◌, ◌∙◌, ◌-◌, ◌<◌, ◌≤◌, ℕ, None, false, length, refl, sym, ap, take, arith}
 use Rattle.lv_sat.specs.declared.trail.Entry.{Entry}
 use Rattle.lv_sat.specs.Analysis.{needed}
 use Rattle.lv_sat.proofs.CutLemmas.{needed_less, cut_step, forced_step, forced_start}

@@ -1,5 +1,5 @@
 -- none of the entries passed was seen, nor any from the choice on
-use Rattle.std.proofs.Common.{◌≡◌, ◌≤◌, length, take, IfSome, IfNone}
+use Rattle.std.proofs.Common.{◌≡◌, ◌≤◌, take, IfSome, IfNone}
 use Rattle.lv_sat.specs.Analysis.{needed, HasReason, IsApart}
 use Rattle.lv_sat.proofs.analysis.first_choice.Given as goal
 

@@ -1,33 +1,5 @@
--- values are found, assumptions are refuted, or a choice is turned
-use Rattle.std.proofs.Common.{None, [], ◌∷◌, ◌++◌, ◌-◌, take, get_or, false, sym, ap, subst, ◌∙◌}
-use Rattle.lv_sat.specs.declared.trail.Entry.{Entry}
-use Rattle.lv_reflog.specs.declared.log.Hint.TheVariants.{Earlier}
-use Rattle.lv_sat.specs.Trail.{IsTurned, turned}
-use Rattle.lv_sat.proofs.SearchLemmas.{values_end, refuted_end, turn_keeps, turn_falls}
+-- after want of memory nothing is kept
 use Rattle.lv_sat.proofs.search.search.Goals as goal
 
-abbrev blank : Entry
-blank = record { lit = record { var = record { 0 = 0 }; sign = false }; reason = None }
-
-pub returns-in-Values : goal.returns-in-Values
-returns-in-Values c =
-    values_end c.args.set.now c.args.assumptions.now c.conflicts.log c.conflicts.trail.marks.items c.extend.new.trail.marks.items c.conflicts.trail.entries.items c.extend.new.trail.entries.items c.conflicts.invariant
-    c.in-Values.values c.in_ok-values.field-0 c.in-Values.is c.in_ok-values.ensures
-
-pub returns-in-None : goal.returns-in-None
-returns-in-None c =
-    refuted_end c.args.set.now c.args.assumptions.now c.conflicts.log c.conflicts.trail.marks.items c.extend.new.trail.marks.items c.conflicts.trail.entries.items c.extend.new.trail.entries.items c.conflicts.invariant
-    c.in_ok-values.field-0 c.in_ok-derive-in-False.field-0 c.entries.result.now c.derive.new.log c.in_ok-core-in-None.core c.in_ok-values.ensures c.entries.ensures c.in-None.is c.in_ok-derive-in-False.ensures c.in_ok-core-in-None.ensures
-
-pub conflicts-smaller : goal.conflicts-smaller
-conflicts-smaller c =
-    turn_falls c.args.set.now c.args.assumptions.now c.conflicts.log c.conflicts.trail.marks.items c.extend.new.trail.marks.items c.conflicts.trail.entries.items c.extend.new.trail.entries.items c.conflicts.invariant
-    c.in_ok-values.field-0 c.in-Some.flip c.in_ok-derive-in-False.field-0 c.entries.result.now c.turn.new.self.entries.items c.derive.new.log blank c.in_ok-values.ensures c.entries.ensures c.in-Some.is c.in_ok-derive-in-False.ensures
-    (c.in_ok-turn-in-Some.ensures.entries blank ∙ ap (λ n. take c.in-Some.flip.cut c.extend.new.trail.entries.items ++ turned (get_or c.extend.new.trail.entries.items c.in-Some.flip.place blank) (Earlier (n - 1)) ∷ []) c.len-last.ensures)
-
-pub conflicts-preserved : goal.conflicts-preserved
-conflicts-preserved c =
-    turn_keeps c.args.set.now c.args.assumptions.now c.conflicts.log c.conflicts.trail.marks.items c.extend.new.trail.marks.items c.conflicts.trail.entries.items c.extend.new.trail.entries.items c.conflicts.invariant
-    c.in_ok-values.field-0 c.in-Some.flip c.in_ok-derive-in-False.field-0 c.entries.result.now c.turn.new.self.entries.items c.derive.new.log blank c.in_ok-values.ensures c.entries.ensures c.in-Some.is c.in_ok-derive-in-False.ensures
-    (c.in_ok-turn-in-Some.ensures.entries blank ∙ ap (λ n. take c.in-Some.flip.cut c.extend.new.trail.entries.items ++ turned (get_or c.extend.new.trail.entries.items c.in-Some.flip.place blank) (Earlier (n - 1)) ∷ []) c.len-last.ensures)
-    c.turn.new.self.marks.items (λ sets steps trail turn. c.in_ok-turn-in-Some.ensures.trail sets steps trail (subst (λ n. IsTurned sets steps c.extend.new.trail.entries.items c.in-Some.flip (Earlier (n - 1))) (sym c.len-last.ensures) turn))
+pub returns-in-Err-clause-kept : goal.returns-in-Err-clause-kept
+returns-in-Err-clause-kept c = c.forget.ensures c.args.set.now

@@ -1,0 +1,21 @@
+-- what clauses force without any assumption comes first
+use Rattle.std.proofs.Common.{List, subst}
+use Rattle.lv_sat.specs.declared.trail.Entry.{Entry}
+use Rattle.lv_sat.specs.Trail.{unforced}
+use Rattle.lv_sat.specs.Analysis.{IsDerived}
+use Rattle.lv_sat.proofs.FrontLemmas.{begun_refuted, begun_stands}
+use Rattle.lv_sat.proofs.front.stand.Goals as goal
+
+pub returns-in-Some-clause-kept : goal.returns-in-Some-clause-kept
+returns-in-Some-clause-kept c = c.forget.ensures c.args.set.now
+
+pub returns-in-Some-clause-told : goal.returns-in-Some-clause-told
+returns-in-Some-clause-told c =
+    begun_refuted c.args.set.now c.keep.new.front.levels.items c.keep.new.front.trail.marks.items c.begin.new.trail.marks.items c.keep.new.front.trail.entries.items c.begin.new.trail.entries.items c.args.log.now c.in_ok-hint.field-0
+    (c.keep.ensures.kept c.args.set.now c.requires.kept) c.in_ok-hint.ensures c.requires.log c.args.assumptions.now c.refute.new.log c.keep.ensures.shared
+    (subst (λ (es : List Entry). IsDerived c.args.set.now c.args.log.now c.refute.new.log (unforced es)) c.entries.ensures c.in_ok-refute.ensures)
+
+pub assume_all-requires-clause-standing : goal.assume_all-requires-clause-standing
+assume_all-requires-clause-standing c =
+    begun_stands c.args.set.now c.keep.new.front.levels.items c.keep.new.front.trail.marks.items c.begin.new.trail.marks.items c.keep.new.front.trail.entries.items c.begin.new.trail.entries.items c.args.log.now c.in_ok-hint.field-0
+    (c.keep.ensures.kept c.args.set.now c.requires.kept) c.in_ok-hint.ensures c.requires.log

@@ -1,0 +1,67 @@
+//! What leads the search and is no part of what it shows.
+#![tactic(auto)]
+
+ghost use Rattle.std.specs.Prelude.{◌≡◌, ◌≤◌, List, length, take};
+ghost use Rattle.lv_clauses.specs.ClauseMap.{ClauseMap};
+ghost use Rattle.lv_reflog.specs.declared.log.Step.{Step};
+ghost use Rattle.lv_sat.specs.Trail.{IsTrail};
+
+use super::effort::Effort;
+use super::order::Order;
+use super::trail::{Entry, Trail};
+use super::watches::Watches;
+use lv_base::Lit;
+use std::alloc::AllocError;
+
+/// Which clauses to look at, what to choose, and what was done.
+#[derive(Drop)]
+pub struct Guide {
+    pub watches: Watches,
+    pub order: Order,
+    pub effort: Effort,
+}
+
+/// Notes a clause learned, and that the entries from a place on are taken back.
+pub fn learn(
+    guide: &mut Guide,
+    entries: &[Entry],
+    clause: &[Lit],
+    step: usize,
+    cut: usize,
+) -> Result<(), AllocError>
+    requires { cut ≤ length entries.now }
+{
+    guide.effort = guide.effort.with(&entries[cut..]).with_conflict();
+    touch_all(&mut guide.order, clause);
+    put_back_all(&mut guide.order, &entries[cut..]);
+    guide.watches.add_learned(clause, step)
+}
+
+/// Takes the entries from a place on back, and notes it.
+pub fn take_back(guide: &mut Guide, trail: &mut Trail, len: usize)
+    requires { len ≤ length trail.old.entries.items }
+    ensures entries { trail.new.entries.items ≡ take len trail.old.entries.items }
+    ensures trail { (set : ClauseMap) (log : List Step) → IsTrail set log trail.old.marks.items trail.old.entries.items
+        → IsTrail set log trail.new.marks.items trail.new.entries.items }
+{
+    note_back(guide, &trail.entries()[len..]);
+    trail.cut(len);
+}
+
+/// Notes that entries are taken back.
+fn note_back(guide: &mut Guide, entries: &[Entry]) {
+    guide.effort = guide.effort.with(entries);
+    put_back_all(&mut guide.order, entries);
+}
+
+fn touch_all(order: &mut Order, clause: &[Lit]) {
+    for lit in clause {
+        order.touch(lit.var);
+    }
+}
+
+fn put_back_all(order: &mut Order, entries: &[Entry]) {
+    for entry in entries {
+        order.put_back(entry.lit);
+    }
+}
