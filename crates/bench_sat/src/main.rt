@@ -7,6 +7,7 @@
 //! | `pigeons PIGEONS HOLES ROUNDS` | each pigeon in a hole, no two in one |
 //! | `chain LENGTH ROUNDS` | each boolean implies the next: in each round with the first assumed true, then the last false too |
 //! | `valves N CALLS` | the model of valves of the number N, each call with a random move assumed of each part |
+//! | `turns N CALLS` | the same, but each call begins with the moves of the last one up to a random part |
 #![tactic(auto)]
 
 mod setting;
@@ -52,6 +53,7 @@ fn tally_of(alloc: Global, setting: &str) -> Result<Option<Tally>, AllocError> {
             Ok(Some(tally))
         }
         ["valves", n, calls] => solve_valves(alloc, number_of(n), number_of(calls)),
+        ["turns", n, calls] => solve_turns(alloc, number_of(n), number_of(calls)),
         _ => Ok(None),
     }
 }
@@ -103,6 +105,23 @@ fn solve_valves(alloc: Global, n: u32, calls: u32) -> Result<Option<Tally>, Allo
             let mut tally = Tally::new();
             for _call in 0..calls {
                 let lits = valves.draw(alloc)?;
+                tally.solve(&mut valves.solver, lits.as_slice())?;
+            }
+            tally.end(&valves.solver);
+            Ok(Some(tally))
+        }
+        None => Ok(None),
+    }
+}
+
+/// The same, but each call begins with the moves of the last one up to a random part.
+fn solve_turns(alloc: Global, n: u32, calls: u32) -> Result<Option<Tally>, AllocError> {
+    match Valves::new(alloc, n)? {
+        Some(mut valves) => {
+            let mut tally = Tally::new();
+            let mut lits = Vec::new(alloc);
+            for _call in 0..calls {
+                valves.turn(alloc, &mut lits)?;
                 tally.solve(&mut valves.solver, lits.as_slice())?;
             }
             tally.end(&valves.solver);

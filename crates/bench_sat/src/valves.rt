@@ -45,6 +45,16 @@ impl Valves {
         }
         Ok(lits)
     }
+
+    /// Keeps the moves of the first parts, up to a random one, and draws those behind them anew.
+    pub fn turn(&mut self, alloc: Global, lits: &mut Vec<Lit>) -> Result<(), AllocError> {
+        let drawn = self.draw(alloc)?;
+        lits.truncate(self.numbers.below((drawn.len() as u64).max(1)) as usize);
+        for at in lits.len()..drawn.len() {
+            lits.push(drawn[at])?;
+        }
+        Ok(())
+    }
 }
 
 fn of_model(alloc: Global, model: &Model) -> Result<Valves, AllocError> {

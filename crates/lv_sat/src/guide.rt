@@ -9,8 +9,8 @@ ghost use Rattle.lv_sat.specs.Trail.{IsTrail};
 use super::effort::Effort;
 use super::order::Order;
 use super::trail::{Entry, Trail};
-use super::watches::Watches;
 use lv_base::Lit;
+use lv_watches::Watches;
 use std::alloc::AllocError;
 
 /// Which clauses to look at, what to choose, and what was done.

@@ -8,9 +8,8 @@
 //! | what it did | `Effort` |
 //! | literals taken as true | `trail` |
 //! | what a false clause teaches | `analysis` |
-//! | which clauses to look at | `watches` |
 //! | what to choose next | `order` |
-//! | both together | `guide` |
+//! | with which clauses to look at | `guide` |
 //! | what clauses force | `propagation` |
 //! | the assumptions on the trail | `front` |
 //! | the search | `search` |
@@ -26,7 +25,6 @@ mod propagation;
 mod search;
 pub mod solver;
 mod trail;
-mod watches;
 
 pub use answer::Answer;
 pub use effort::Effort;

@@ -7,10 +7,10 @@ ghost use Rattle.lv_sat.specs.Trail.{IsTrail, IsPropagated};
 
 use super::analysis::find_clause;
 use super::trail::Trail;
-use super::watches::{Watch, Watches};
 use lv_base::Lit;
 use lv_clauses::{ClauseSet, Finding, is_marked, look, negation};
 use lv_reflog::{Hint, Log};
+use lv_watches::{Watch, Watches};
 use std::alloc::AllocError;
 
 /// What becomes of a watch whose literal is false.

@@ -13,9 +13,9 @@ use super::guide::Guide;
 use super::order::Order;
 use super::search::search;
 use super::trail::Trail;
-use super::watches::Watches;
 use lv_base::{ClauseId, Lit};
 use lv_clauses::ClauseSet;
+use lv_watches::Watches;
 use std::alloc::{AllocError, Global};
 use std::marker::Model;
 
