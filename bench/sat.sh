@@ -8,6 +8,7 @@
 #   pigeons  one pigeon more than there are holes: small sets, and each refutation is long
 #   chain    one literal implies all others of a chain, and then the last one is assumed false too
 #   valves   the model of 32 valves, with a random move of each part assumed: 500 calls on one set of clauses
+#   turns    the same, but each call begins with the moves of the last one up to a random part
 #
 # Sizes other than these are given by the environment, as in: sets=5 largest=100 bench/sat.sh
 set -eu
@@ -34,3 +35,4 @@ for holes in 4 5 6; do
 done
 report "chain $length" "$rounds" $((2 * rounds))
 report 'valves 30' "$calls" "$calls"
+report 'turns 30' "$calls" "$calls"

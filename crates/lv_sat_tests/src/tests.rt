@@ -160,6 +160,7 @@ fn four_pigeons_in_three_holes(rt: HostRuntime) -> Result<(), Fail> {
 
 /// The booleans of calls in a row, and how many calls there are.
 const BOOLS: u32 = 12;
+
 const CALLS: u32 = 200;
 
 /// A number below this one, which follows from those drawn before.
@@ -179,7 +180,11 @@ fn draw_literal(state: &mut u64) -> Lit {
 
 /// Adds a clause of up to three literals, takes one away, or leaves all as they are.
 fn change_clauses(solver: &mut Solver, state: &mut u64) -> Result<(), Fail> {
-    let lits = [draw_literal(state), draw_literal(state), draw_literal(state)];
+    let lits = [
+        draw_literal(state),
+        draw_literal(state),
+        draw_literal(state),
+    ];
     match draw(state, 4) {
         0 => {
             let count = 1 + draw(state, 3) as usize;
