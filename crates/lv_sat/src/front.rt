@@ -194,8 +194,8 @@ fn take_on(
     propagate(set, log, &mut guide.watches, place, trail)
 }
 
-/// Adds the step that refutes an assumption whose negation is forced: the clause that forces it is false once the assumption
-/// stands in its place.
+/// Adds the step that refutes an assumption whose negation is on the trail. No other assumption is its negation, so a clause
+/// forces that; it is false once the assumption stands in its place.
 fn contradict(
     alloc: Global,
     set: &ClauseSet,
