@@ -1,4 +1,6 @@
 pub mod OnceLemmas
+pub mod OrderLemmas
+pub mod SolutionLemmas
 pub mod RefuteLemmas
 pub mod MeaningLemmas
 pub mod ClauseLemmas

@@ -3,7 +3,6 @@ use Rattle.std.proofs.Common.{◌≡◌, ℕ, suc, zero, ◌+◌, ◌-◌, ◌<�
 use Rattle.std.specs.List.{list_all}
 use Rattle.std.proofs.lemmas.Bool.{and_parts, and_from, ltb-true}
 use Rattle.std.proofs.lemmas.List.{get_or-set_same, get_or-set_other, length-set, take_more, take_all}
-use Rattle.std.proofs.lemmas.List.Elements.{Contains-append_cases}
 use Rattle.std.proofs.lemmas.List.Folds.{list_all-append}
 use Rattle.std.proofs.lemmas.Option.{slice_get_within, get_or_from_slice_get}
 use Rattle.lv_base.specs.declared.ids.Lit.{Lit}
@@ -159,15 +158,15 @@ among_marked marks (m ∷ ms) l h mark = by (Contains-cases m l ms h) (is_marked
     by (inr rest) true e later = Contains-tail m l (marked_literals marks ms) (later rest)
     by (inr rest) false e later = later rest
 
--- no values make the marked ones of the chosen and all assumed ones true, where the core is marked
-pub none_with_core : (set : ClauseMap) (chosen assumed core : List Lit) (log : List Step) (marks : Marks) → IsRefutation set (chosen ++ assumed) core log → list_all (is_marked marks) core ≡ true
-    → HasNoModel set (marked_literals marks chosen ++ assumed)
-none_with_core set chosen assumed core log marks refuted all values model =
+-- no values make the marked ones of the chosen and all assumed ones true, where the core is marked and what was asked is these two
+pub none_with_core : (set : ClauseMap) (chosen assumed whole core : List Lit) (log : List Step) (marks : Marks) → ((l : Lit) → Contains whole l → Contains chosen l ⊎ Contains assumed l)
+    → IsRefutation set whole core log → list_all (is_marked marks) core ≡ true → HasNoModel set (marked_literals marks chosen ++ assumed)
+none_with_core set chosen assumed whole core log marks one_of refuted all values model =
     let last : clause_holds values (map neg core) ≡ true = last_holds set log (map neg core) refuted.valid refuted.ends values model.all_clauses model.len in
     let found = any_member (lit_holds values) (map neg core) last in
     let own = negated core found.0 found.1 in
     let denied : lit_holds values (neg own.0) ≡ true = ap (lit_holds values) (sym own.2) ∙ found.2 in
-    lit_or_neg values own.0 (holds own.0 own.1 (Contains-append_cases chosen assumed own.0 (in_whole core (chosen ++ assumed) refuted.part own.0 own.1))) denied
+    lit_or_neg values own.0 (holds own.0 own.1 (one_of own.0 (in_whole core whole refuted.part own.0 own.1))) denied
   where
     both : (list_all (lit_holds values) (marked_literals marks chosen) ≡ true) × (list_all (lit_holds values) assumed ≡ true)
     both =

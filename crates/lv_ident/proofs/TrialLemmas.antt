@@ -2,7 +2,7 @@
 use Rattle.std.proofs.Common.{◌≡◌, ℕ, ◌+◌, Bool, true, false, List, [], ◌∷◌, ◌++◌, length, cond, Option, Some, None, is_none, refl, sym, subst, ap, ◌∙◌, All, Contains, IfSome, inl, inr}
 use Rattle.std.specs.List.{list_all, sum}
 use Rattle.std.proofs.lemmas.Bool.{and_parts, and_from}
-use Rattle.std.proofs.lemmas.List.Elements.{All-filter}
+use Rattle.std.proofs.lemmas.List.Elements.{All-filter, All-nil}
 use Rattle.std.proofs.lemmas.List.Folds.{list_all-append}
 use Rattle.lv_base.specs.declared.ids.Lit.{Lit}
 use Rattle.lv_base.specs.declared.search.Pair.{Pair}
@@ -15,6 +15,7 @@ use Rattle.lv_model.specs.Lists.{move_counts}
 use Rattle.lv_model.specs.WellFormed.{is_well_formed}
 use Rattle.lv_compile.specs.Booleans.{Booleans, booleans_next, first_choice, bool_count}
 use Rattle.lv_compile.specs.Laws.{IsEncodedStep}
+use Rattle.lv_sat.specs.Answers.{IsModel}
 use Rattle.lv_steps.specs.Choices.{Choices}
 use Rattle.lv_steps.specs.System.{SystemValue, IsSystemOf, choices_of}
 use Rattle.lv_steps.specs.Encoding.{truth_in}
@@ -62,7 +63,7 @@ impossible_by_part plant facts marks ps never =
     false_by (is_possible plant facts ps) (is_possible plant facts (marked_pairs (plant_choices plant) marks ps)) never
     (part_possible plant facts (marked_pairs (plant_choices plant) marks ps) ps (marked_is_one (plant_choices plant) marks ps))
 
-module _ (plant : Plant) (facts : Facts) (set : ClauseMap) (choices : Choices) (assumed : List Lit) (h : IsTrialOf plant facts set choices assumed) (pairs : List Pair) (partial : IsPartial plant pairs) where
+module _ (plant : Plant) (facts : Facts) (set : ClauseMap) (choices : Choices) (assumed : List Lit) (solutions : List (List Bool)) (h : IsTrialOf plant facts set choices assumed solutions) (pairs : List Pair) (partial : IsPartial plant pairs) where
   bools_are : set.bools ≡ bool_count plant
   bools_are = ap (λ (s : ClauseMap). s.bools) h.clauses.clauses ∙ h.clauses.of_plant.bools
 
@@ -118,6 +119,12 @@ module _ (plant : Plant) (facts : Facts) (set : ClauseMap) (choices : Choices) (
   answer_core None told = tt
   answer_core (Some marks) told = marked_impossible marks told
 
+-- other solutions of the same may be kept
+pub other_solutions : (plant : Plant) (facts : Facts) (set : ClauseMap) (choices : Choices) (assumed : List Lit) (solutions : List (List Bool)) → IsTrialOf plant facts set choices assumed solutions
+    → (more : List (List Bool)) → All (IsModel set assumed) more → IsTrialOf plant facts set choices assumed more
+other_solutions plant facts set choices assumed solutions h more found =
+    record { well_formed = h.well_formed; clauses = h.clauses; choices_are = h.choices_are; facts_fit = h.facts_fit; once = h.once; found = found }
+
 -- the literals of facts are of booleans of values
 pub facts_asked : (plant : Plant) (facts : Facts) → FactsInRange plant facts → (after : Booleans) → after ≡ booleans_next plant → (n : ℕ) → n ≡ after.first + sum after.sizes
     → (lits : List Lit) → lits ≡ fact_literals plant facts → All (IsPositive n) lits
@@ -128,8 +135,8 @@ facts_asked plant facts fit after after_is n n_is lits is =
 -- what a new trial keeps
 pub trial_of : (plant : Plant) → is_well_formed plant ≡ true → (facts : Facts) → FactsInRange plant facts → (system : SystemValue) → IsSystemOf plant system → (set : ClauseMap) → set ≡ system.set
     → (choices : Choices) → choices ≡ choices_of system → (n : ℕ) → n ≡ system.after.first + sum system.after.sizes → (lits : List Lit) → lits ≡ fact_literals plant facts
-    → (assumed : List Lit) → IsOnce n lits assumed → IsTrialOf plant facts set choices assumed
-trial_of plant h facts fit system is set set_is choices choices_are n n_is lits lits_are assumed once =
+    → (assumed : List Lit) → IsOnce n lits assumed → (solutions : List (List Bool)) → solutions ≡ [] → IsTrialOf plant facts set choices assumed solutions
+trial_of plant h facts fit system is set set_is choices choices_are n n_is lits lits_are assumed once solutions none =
     let first : n ≡ first_choice plant = n_is ∙ ap (λ (b : Booleans). b.first + sum b.sizes) is.after in
     record {
       well_formed = h;
@@ -137,4 +144,5 @@ trial_of plant h facts fit system is set set_is choices choices_are n n_is lits 
       choices_are = choices_are ∙ (λ i. record { first = is.first_choice i; counts = is.counts i });
       facts_fit = fit;
       once = subst (λ m. IsOnce m (fact_literals plant facts) assumed) first (subst (λ (ls : List Lit). IsOnce n ls assumed) lits_are once);
+      found = subst (λ (ms : List (List Bool)). All (IsModel set assumed) ms) (sym none) (All-nil (IsModel set assumed));
     }

@@ -1,10 +1,11 @@
 -- A trial of candidates as contracts see it, and what it keeps.
-use Rattle.std.specs.Prelude.{◌≡◌, true, List}
+use Rattle.std.specs.Prelude.{◌≡◌, Bool, true, List, All}
 use Rattle.lv_base.specs.declared.ids.Lit.{Lit}
 use Rattle.lv_clauses.specs.ClauseMap.{ClauseMap}
 use Rattle.lv_model.specs.declared.plant.Plant.{Plant}
 use Rattle.lv_model.specs.WellFormed.{is_well_formed}
 use Rattle.lv_compile.specs.Booleans.{first_choice}
+use Rattle.lv_sat.specs.Answers.{IsModel}
 use Rattle.lv_steps.specs.Choices.{Choices}
 use Rattle.lv_steps.specs.System.{SystemValue, IsSystemOf}
 use Rattle.lv_meaning.specs.declared.facts.Facts.{Facts}
@@ -21,10 +22,12 @@ pub record HasClausesOf (plant : Plant) (set : ClauseMap) : Type 0 where
   pub of_plant : IsSystemOf plant system
   pub clauses : set ≡ system.set
 
--- the clauses and the numbering of the choices are the plant's, and what is assumed are the facts
-pub record IsTrialOf (plant : Plant) (facts : Facts) (set : ClauseMap) (choices : Choices) (assumed : List Lit) : Type 0 where
+-- the clauses and the numbering of the choices are the plant's, what is assumed are the facts, and the solutions are of these clauses and
+-- what is assumed
+pub record IsTrialOf (plant : Plant) (facts : Facts) (set : ClauseMap) (choices : Choices) (assumed : List Lit) (solutions : List (List Bool)) : Type 0 where
   pub well_formed : is_well_formed plant ≡ true
   pub clauses : HasClausesOf plant set
   pub choices_are : choices ≡ plant_choices plant
   pub facts_fit : FactsInRange plant facts
   pub once : IsOnce (first_choice plant) (fact_literals plant facts) assumed
+  pub found : All (IsModel set assumed) solutions

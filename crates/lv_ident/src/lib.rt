@@ -6,7 +6,7 @@
 //! |---|---|
 //! | `query` | `identify` and `Query`: the search and its trial together |
 //! | `trial` | `IdentTrial`: whether a candidate is possible, and the reason of one that isn't |
-//! | `refutation` | the one question that a trial asks of the solver |
+//! | `refutation` | the one question that a trial asks of the solver, and the solutions kept from earlier ones |
 //! | `literals` | facts and moves as literals |
 //! | `laws` | what kept conflicts are |
 #![tactic(auto)]

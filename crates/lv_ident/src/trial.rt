@@ -18,7 +18,7 @@ ghost use Rattle.lv_ident.specs.Reducing.{IsPartial, IsReducing};
 ghost use Rattle.lv_zones.specs.Moves.{is_full_choice};
 
 use crate::literals::{each_once, fact_literals, push_pairs};
-use crate::refutation::refute;
+use crate::refutation::{Solutions, refute};
 use lv_base::{Candidate, Conflict, Lit, MoveId, Pair, PartId, pairs_of};
 use lv_clauses::{Marks, is_marked};
 use lv_compile::plant_clauses::sum_of;
@@ -30,7 +30,8 @@ use lv_steps::{ChoiceBools, Moment, StepSystem};
 use std::alloc::{AllocError, Global};
 use std::marker;
 
-/// A trial of the candidates of a model under facts. Contracts see the plant and the facts.
+/// A trial of the candidates of a model under facts, with the last values that its solver found under them. Contracts see
+/// the plant and the facts.
 #[derive(Drop)]
 pub struct IdentTrial<'a> {
     alloc: Global,
@@ -39,6 +40,7 @@ pub struct IdentTrial<'a> {
     solver: Solver,
     choices: ChoiceBools,
     assumed: Vec<Lit>,
+    solutions: Solutions,
 }
 
 impl<'a> marker::Model for IdentTrial<'a> {
@@ -52,7 +54,7 @@ impl<'a> marker::Model for IdentTrial<'a> {
 
     ghost view = { λ t. record { plant = t.model.now; facts = t.facts } };
 
-    ghost invariant = { λ t. IsTrialOf t.model.now t.facts t.solver t.choices t.assumed.items };
+    ghost invariant = { λ t. IsTrialOf t.model.now t.facts t.solver t.choices t.assumed.items t.solutions };
 }
 
 /// The number of the first boolean that stands for a move.
@@ -96,6 +98,7 @@ impl<'a> IdentTrial<'a> {
         let _plant = model.plant();
         let literals = fact_literals(alloc, model, system, &facts)?;
         let assumed = each_once(alloc, first_of_choices(system), literals.as_slice())?;
+        let solutions = Solutions::new(alloc);
         Ok(IdentTrial {
             alloc,
             model,
@@ -103,6 +106,7 @@ impl<'a> IdentTrial<'a> {
             solver: Solver::new(alloc, system.clauses())?,
             choices: system.choices().copied(alloc)?,
             assumed,
+            solutions,
         })
     }
 
@@ -119,6 +123,7 @@ impl<'a> IdentTrial<'a> {
         refute(
             self.alloc,
             &mut self.solver,
+            &mut self.solutions,
             chosen.as_slice(),
             self.assumed.as_slice(),
         )

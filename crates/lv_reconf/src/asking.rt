@@ -17,7 +17,7 @@ use super::assumptions::assumptions;
 use super::compiled::Compiled;
 use lv_base::{Pair, VarId};
 use lv_clauses::Marks;
-use lv_ident::refutation::refute;
+use lv_ident::refutation::{Solutions, refute};
 use lv_model::State;
 use lv_sat::{Answer, Solver};
 use std::alloc::{AllocError, Global};
@@ -66,5 +66,6 @@ pub fn refuted(
     ensures kept { solver.new ≡ solver.old }
 {
     let lits = assumptions(alloc, compiled, vars, state.modes.as_slice(), pairs)?;
-    refute(alloc, solver, lits.as_slice(), &[])
+    let mut solutions = Solutions::new(alloc);
+    refute(alloc, solver, &mut solutions, lits.as_slice(), &[])
 }
