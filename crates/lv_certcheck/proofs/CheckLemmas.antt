@@ -1,5 +1,6 @@
 -- What single calls of the checker come to, as the definition has it.
-use Rattle.std.proofs.Common.{◌≡◌, ℕ, zero, suc, ◌+◌, ◌*◌, ◌<◌, ◌≤◌, Bool, true, false, ◌&&◌, not, nat_eq, List, [], ◌∷◌, ◌++◌, length, drop, map, cond, slice_index_or, Option, Some, None, refl, sym, ap, ap₂, ◌∙◌, subst, arith, All}
+use Rattle.std.proofs.Common.{◌≡◌, ◌≢◌, ℕ, zero, suc, ◌+◌, ◌*◌, ◌<◌, ◌≤◌, Bool, true, false, ◌&&◌, not, nat_eq, nat_lt, List, [], ◌∷◌, ◌++◌, length, drop, map, cond, slice_index_or, Option, Some, None, refl, sym, ap, ap₂, ◌∙◌, subst, arith, All}
+use Rattle.std.specs.Cmp.Lexicographic.{pointwise}
 use Rattle.lv_base.specs.declared.ids.Lit.{Lit}
 use Rattle.lv_model.specs.declared.plant.Plant.{Plant}
 use Rattle.lv_compile.specs.Booleans.{bool_count}
@@ -28,3 +29,14 @@ module _ (plant : Plant) (system : SystemValue) (is : IsSystemOf plant system) w
       ∙ ap (λ (b : Bool). cond b (Some (record (judged_of j) { own = j.block.own ++ map literal_of ls ∷ [] })) None) follows_so
   clause_came j new false ls hs same good_is new_is =
       ap (λ (b : Bool). cond b (Some (record (judged_of j) { own = j.block.own ++ map literal_of ls ∷ [] })) None) (good_is ∙ follows_same j.block ls hs same)
+
+-- lists of other lengths are not below
+pub unequal_below : (values counts : List ℕ) → length values ≢ length counts → pointwise nat_lt values counts ≡ false
+unequal_below [] [] unequal = absurd (unequal refl)
+unequal_below [] (n ∷ ns) unequal = refl
+unequal_below (v ∷ vs) [] unequal = refl
+unequal_below (v ∷ vs) (n ∷ ns) unequal = ap (λ (t : Bool). nat_lt v n && t) (unequal_below vs ns (λ same. unequal (ap suc same))) ∙ never (nat_lt v n)
+  where
+    never : (b : Bool) → (b && false) ≡ false
+    never true = refl
+    never false = refl

@@ -1,3 +1,6 @@
 pub mod GivingLemmas
 pub mod CheckLemmas
 pub mod ShownLemmas
+pub mod JudgeLemmas
+pub mod LineLemmas
+pub mod ProvingLemmas

@@ -5,7 +5,8 @@ ghost use Rattle.std.specs.Prelude.{◌≡◌, IfOk};
 ghost use Rattle.lv_validity.specs.Judging as Judging;
 ghost use Rattle.lv_certcheck.specs.Settings.{IsSetting, plant_of};
 ghost use Rattle.lv_certcheck.specs.Giving.{Fits};
-ghost use Rattle.lv_certcheck.specs.Verdicts.{judged_of, verdict, IsVerdictOn};
+ghost use Rattle.lv_certcheck.specs.Verdicts.{judged_of, verdict, IsVerdictOn, ProvesItsAnswer};
+ghost use Rattle.lv_certcheck.specs.declared.check.Verdict.TheVariants as Verdict;
 
 use crate::judge::Judge;
 use crate::judged::Judged;
@@ -117,8 +118,8 @@ pub fn check_cert(alloc: Global, model: &Model, cert: &Cert) -> Result<Verdict, 
     judge_lines(&judge, lines)
 }
 
-/// The verdict on bytes: the first line out of form or order comes before every bad one.
-pub fn check_text(alloc: Global, model: &Model, bytes: &[u8]) -> Result<Verdict, AllocError>
+/// The verdict on bytes that are read as they stand: the first line out of form or order comes before every bad one.
+fn verdict_on(alloc: Global, model: &Model, bytes: &[u8]) -> Result<Verdict, AllocError>
     ensures { IfOk result (λ v. IsVerdictOn model.now bytes.now v) }
 {
     match read_cert(alloc, bytes) {
@@ -126,4 +127,15 @@ pub fn check_text(alloc: Global, model: &Model, bytes: &[u8]) -> Result<Verdict,
         Err(CertFault::Form(line)) => Ok(Verdict::Invalid(line)),
         Err(CertFault::Memory) => Err(AllocError),
     }
+}
+
+/// The verdict on bytes, whoever wrote them: the first line out of form or order comes before every bad one, and what is
+/// valid proves its answer.
+pub fn check_text(alloc: Global, model: &Model, bytes: &[u8]) -> Result<Verdict, AllocError>
+    ensures verdict { IfOk result (λ v. IsVerdictOn model.now bytes.now v) }
+    ensures proves { IfOk result (λ v. v ≡ Verdict.Valid → ProvesItsAnswer model.now bytes.now) }
+{
+    let _plant = model.plant();
+    let verdict = verdict_on(alloc, model, bytes)?;
+    Ok(verdict)
 }
