@@ -1,5 +1,5 @@
 -- A value that is there is not missing.
-use Rattle.std.proofs.Common.{◌≡◌, List, ℕ, Option, None, Some, Result, Ok, Err, ap}
+use Rattle.std.proofs.Common.{◌≡◌, List, ℕ, Option, None, Some, Result, Ok, Err}
 use Rattle.std.specs.Prelude.{IsErrAnd}
 use Rattle.lv_words.specs.declared.WordsFault.{WordsFault}
 use Rattle.lv_words.specs.declared.WordsFault.TheVariants.{Refused}

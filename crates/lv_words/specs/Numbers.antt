@@ -1,5 +1,5 @@
 -- The numbers of generated texts, as words.
-use Rattle.std.specs.Prelude.{ℕ, Bool, ◌||◌, not, nat_eq, nat_lt, List, length, Option, None, Some, option_and_then, if◌then◌else◌}
+use Rattle.std.specs.Prelude.{ℕ, ◌||◌, not, nat_eq, nat_lt, List, length, Option, None, Some, option_and_then, if◌then◌else◌}
 use Rattle.std.specs.List.{list_all}
 use Rattle.lv_text.specs.Bytes.{is_digit}
 use Rattle.lv_text.specs.Numbers.{number_in_range}

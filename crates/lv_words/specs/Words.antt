@@ -9,6 +9,7 @@ use Rattle.lv_words.specs.declared.commands.Kind.TheVariants.{Model, Session}
 -- a command with its values: names of files, or the kind and the number of a generated text
 pub data Said : Type 0 where
   runs : List ℕ → List ℕ → Said
+  checks : List ℕ → List ℕ → Said
   prints : List ℕ → Said
   generates : Kind → ℕ → Said
   drives : ℕ → Said
@@ -52,6 +53,7 @@ driven_of number = option_map drives (number_of number)
 abbrev pub said_of_two : List ℕ → List ℕ → List ℕ → Option Said
 said_of_two command first second =
     if is_word (codes "run") command then Some (runs first second)
+    else if is_word (codes "check") command then Some (checks first second)
     else if is_word (codes "generate") command then made_of first second else None
 
 abbrev pub said_of_one : List ℕ → List ℕ → Option Said

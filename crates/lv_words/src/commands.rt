@@ -2,7 +2,7 @@
 #![tactic(auto)]
 
 ghost use Rattle.std.specs.Prelude.{◌≡◌, ◌≢◌, Some, None, map, IfOk};
-ghost use Rattle.lv_words.specs.Words.{runs, prints, said_of, said_of_two, said_of_one, made_of, driven_of};
+ghost use Rattle.lv_words.specs.Words.{runs, checks, prints, said_of, said_of_two, said_of_one, made_of, driven_of};
 ghost use Rattle.lv_words.specs.Words as Words;
 ghost use Rattle.lv_words.specs.Commands.{said_by};
 
@@ -20,6 +20,13 @@ pub enum Command {
         model: String,
         /// The name of the session's file.
         session: String,
+    },
+    /// A certificate checked over a model.
+    Check {
+        /// The name of the model's file.
+        model: String,
+        /// The name of the certificate's file.
+        cert: String,
     },
     /// A model written in its canonical form.
     Print {
@@ -68,6 +75,7 @@ fn command_of_two(
 {
     match command {
         "run" => run_command(alloc, first, second),
+        "check" => check_command(alloc, first, second),
         "generate" => generate_command(alloc, first, second),
         _ => Err(WordsFault::Refused),
     }
@@ -92,6 +100,15 @@ fn run_command(alloc: Global, model: &str, session: &str) -> Result<Command, Wor
 {
     let (model, session) = two_values(alloc, model, session)?;
     Ok(Command::Run { model, session })
+}
+
+/// The command `check` over two files.
+fn check_command(alloc: Global, model: &str, cert: &str) -> Result<Command, WordsFault>
+    ensures ok { IfOk result (λ given. said_by given ≡ checks model.now cert.now) }
+    ensures refused { result ≢ Err WordsFault.Refused }
+{
+    let (model, cert) = two_values(alloc, model, cert)?;
+    Ok(Command::Check { model, cert })
 }
 
 /// The command `print` over a file.

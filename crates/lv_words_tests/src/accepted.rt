@@ -29,6 +29,22 @@ fn drives(alloc: Global, words: &[&str], number: u32) -> Result<bool, AllocError
     })
 }
 
+/// Whether a command is the check of this certificate over this model.
+fn is_check(command: &Command, of: &str, over: &str) -> bool {
+    match command {
+        Command::Check { model, cert } => model.as_str() == over && cert.as_str() == of,
+        _ => false,
+    }
+}
+
+/// Whether the words ask for that check.
+fn checks(alloc: Global, words: &[&str], of: &str, over: &str) -> Result<bool, AllocError> {
+    match read(alloc, words)? {
+        Ok(command) => Ok(is_check(&command, of, over)),
+        Err(_) => Ok(false),
+    }
+}
+
 fn is_refused(alloc: Global, words: &[&str]) -> Result<bool, AllocError> {
     Ok(match read(alloc, words)? {
         Err(WordsFault::Refused) => true,
@@ -64,5 +80,20 @@ fn numbers(rt: HostRuntime) -> Result<(), AllocError> {
     assert!(rt; is_refused(alloc, &["drive", "+1"])?);
     assert!(rt; is_refused(alloc, &["drive", "340282366920938463463374607431768211457"])?);
     assert!(rt; is_refused(alloc, &["drive", "1", "1"])?);
+    Ok(())
+}
+
+#[test]
+fn names_of_a_check(rt: HostRuntime) -> Result<(), AllocError> {
+    let alloc = rt.alloc();
+    assert!(rt; checks(alloc, &["check", "m.lv", "c.cert"], "c.cert", "m.lv")?);
+    assert!(rt; checks(alloc, &["check", "m", "--", "-c"], "-c", "m")?);
+    assert!(rt; checks(alloc, &["check", "--", "--help", "--"], "--", "--help")?);
+    assert!(rt; checks(alloc, &["check", "stdin", ""], "", "stdin")?);
+    assert!(rt; is_refused(alloc, &["check", "m"])?);
+    assert!(rt; is_refused(alloc, &["check", "m", "c", "d"])?);
+    assert!(rt; is_refused(alloc, &["check", "m", "-c"])?);
+    assert!(rt; is_refused(alloc, &["Check", "m", "c"])?);
+    assert!(rt; is_refused(alloc, &["check "])?);
     Ok(())
 }
