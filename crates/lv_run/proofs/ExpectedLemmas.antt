@@ -1,7 +1,8 @@
 -- What was expected, where a command ended.
-use Rattle.std.proofs.Common.{◌≡◌, ◌≢◌, ◌⊎◌, ◌∙◌, ℕ, true, false, Option, None, Some, inl, inr, refl, sym, ap, subst, List}
-use Rattle.std.specs.Prelude.{IfSome, IfErr, IsTrue, IsErrAnd, Result, Ok, Err}
+use Rattle.std.proofs.Common.{◌≡◌, ◌≢◌, ◌⊎◌, ◌∙◌, ℕ, ◌<◌, ◌≤◌, true, false, Option, None, Some, inl, inr, refl, sym, ap, subst, List, length, arith}
+use Rattle.std.specs.Prelude.{IfSome, IfOk, IfErr, IsTrue, IsErrAnd, Result, Ok, Err}
 use Rattle.std.specs.Io.KnownBytes.{append_known}
+use Rattle.lv_base.specs.declared.limits.TheConstants.{CERTIFICATE_BYTES}
 use Rattle.lv_model.specs.declared.plant.Plant.{Plant}
 use Rattle.lv_text.specs.Lines.{lines_of}
 use Rattle.lv_session.specs.Session.{start}
@@ -13,21 +14,29 @@ use Rattle.lv_words.specs.declared.commands.Kind.{Kind}
 use Rattle.lv_session.proofs.Writing.{no_front}
 use Rattle.lv_reader.specs.declared.code.ModelCode.{ModelCode}
 use Rattle.lv_checker.specs.Verdicts.{IsVerdict, accepted, refused}
-use Rattle.lv_words.specs.Words.{Said, runs, prints, generates, drives}
+use Rattle.lv_certcheck.specs.Verdicts.{IsVerdictOn}
+use Rattle.lv_certcheck.specs.declared.check.Verdict.{Verdict}
+use Rattle.lv_certcheck.specs.declared.check.Verdict.TheVariants.{Valid as IsValid, Invalid as IsInvalid}
+use Rattle.lv_words.specs.Words.{Said, runs, checks, prints, generates, drives}
 use Rattle.lv_words.specs.declared.WordsFault.{WordsFault}
 use Rattle.lv_words.specs.declared.WordsFault.TheVariants.{Refused, Memory as NoRoom}
 use Rattle.lv_run.specs.Inputs.{model_told, made_text, IsPrinted, IsDriven}
-use Rattle.lv_run.specs.Faults.{EndsModel, EndsSession, RefusesBy, status_of, ended_status, fault_of_sink, fault_of_words}
+use Rattle.lv_run.specs.Faults.{EndsModel, EndsSession, EndsCheck, RefusesBy, status_of, ended_status, fault_of_sink, fault_of_words}
+use Rattle.lv_run.specs.Judged.{verdict_line, verdict_end, TellsJudgement, JudgesTold}
+use Rattle.lv_run.specs.Statuses.{status_ended}
 use Rattle.lv_io.specs.Outside.{HasCause}
 use Rattle.lv_io.specs.Whole.{AddsFront}
 use Rattle.lv_io.specs.declared.IoFault.{IoFault}
 use Rattle.lv_io.specs.declared.IoFault.TheVariants.{Failed, Memory}
-use Rattle.lv_run.specs.Expected.{Expected, serves, overruns, shows, fails, Expects, words_refused, model_refused, session_served, session_too_long, model_printed, text_made, session_driven, status_expected, AddsAll, AddsSome, ServesTold, Meets, Follows, IsAccepted, TellsVerdict, is_silent}
+use Rattle.lv_run.specs.Expected.{Expected, serves, overruns, judges, exceeds, shows, fails, Expects, words_refused, model_refused, session_served, session_too_long, certificate_judged, certificate_too_long, model_printed, text_made, session_driven, status_expected, AddsAll, AddsSome, ServesTold, Meets, Follows, IsAccepted, EndsSo, HasEnded, TellsVerdict, is_silent, is_check}
+use Rattle.lv_run.specs.declared.status.Ended.{Ended}
+use Rattle.lv_run.specs.declared.status.Ended.TheVariants.{Done as AllDone, Invalid as NotValid}
 use Rattle.lv_run.specs.declared.status.Status.{Status}
-use Rattle.lv_run.specs.declared.status.Status.TheVariants.{Done, WordsRefused, ModelRefused, ModelUnread, OutputFailed, SessionTooLong, OutOfMemory}
+use Rattle.lv_run.specs.declared.status.Status.TheVariants.{Done, WordsRefused, ModelRefused, ModelUnread, SecondUnread, OutputFailed, SecondTooLong, OutOfMemory, Invalid}
 use Rattle.lv_run.specs.declared.fault.RunFault.{RunFault}
-use Rattle.lv_run.specs.declared.fault.RunFault.TheVariants.{WordsRefused as BadWords, ModelRefused as BadModel, ModelUnread as NoModel, SessionUnread as NoSession, OutputFailed as NoOutput, SessionTooLong as LongSession, OutOfMemory as NoMemory}
-use Rattle.lv_run.proofs.VerdictLemmas.{not_both, same_plant, same_refusal, same_canonical}
+use Rattle.lv_run.specs.declared.fault.RunFault.TheVariants.{WordsRefused as BadWords, ModelRefused as BadModel, ModelUnread as NoModel, SessionUnread as NoSession, CertificateUnread as NoCertificate, OutputFailed as NoOutput, SessionTooLong as LongSession, CertificateTooLong as LongCertificate, OutOfMemory as NoMemory}
+use Rattle.lv_run.proofs.VerdictLemmas.{not_both, same_plant, same_refusal, same_canonical, verdict_is_one}
+use Rattle.lv_run.proofs.SecondLemmas.{EndsSecond, session_ends, check_ends}
 
 pub some_weaker : {A : Type 0} {P Q : A → Type 0} (o : Option A) → ((x : A) → P x → Q x) → IfSome o P → IfSome o Q
 some_weaker None goes given = tt
@@ -36,7 +45,7 @@ some_weaker (Some x) goes given = goes x given
 of_told : (P : List ℕ → Type 0) (told : Option (List ℕ)) (text : List ℕ) → told ≡ Some text → IfSome told P → P text
 of_told P told text is given = subst (λ (o : Option (List ℕ)). IfSome o P) is given
 
-pub err_handed_on : (result : Result (Unit {0}) RunFault) (fault : RunFault) → IsErrAnd result (λ e. e ≡ fault) → ended_status result ≡ status_of fault
+pub err_handed_on : (result : Result Ended RunFault) (fault : RunFault) → IsErrAnd result (λ e. e ≡ fault) → ended_status result ≡ status_of fault
 err_handed_on (Ok x) fault handed = absurd handed
 err_handed_on (Err e) fault handed = ap status_of handed
 
@@ -44,12 +53,15 @@ err_handed_on (Err e) fault handed = ap status_of handed
 pub adds_none : (e : Expected) (text : Option (List ℕ)) → AddsSome e text text
 adds_none (serves plant session) text = none_of_front plant (start plant) (lines_of session) text
 adds_none (overruns plant session) text = none_of_front plant (start plant) (lines_of (within_limit session)) text
+adds_none (judges verdict) text = no_front (verdict_line verdict) text
+adds_none exceeds text = refl
 adds_none (shows shown) text = no_front shown text
 adds_none (fails fault) text = refl
 
 -- the command speaks of a model
 abbrev pub SpeaksOfModel : Said → Type 0
 SpeaksOfModel (runs model session) = Unit {0}
+SpeaksOfModel (checks model cert) = Unit {0}
 SpeaksOfModel (prints model) = Unit {0}
 SpeaksOfModel (generates kind n) = ⊥
 SpeaksOfModel (drives n) = Unit {0}
@@ -66,6 +78,10 @@ module _ (P : Expected → Type 0) (file : List ℕ → Option (List ℕ)) where
   of_refused command code line speaks has given e (session_served {plant} text told verdict session_told within) =
       not_both text plant code line verdict (of_told _ (model_told file command) text told has)
   of_refused command code line speaks has given e (session_too_long {plant} text told verdict session_told beyond) =
+      not_both text plant code line verdict (of_told _ (model_told file command) text told has)
+  of_refused command code line speaks has given e (certificate_judged {plant} text told verdict cert_told within judged) =
+      not_both text plant code line verdict (of_told _ (model_told file command) text told has)
+  of_refused command code line speaks has given e (certificate_too_long {plant} text told verdict cert_told beyond) =
       not_both text plant code line verdict (of_told _ (model_told file command) text told has)
   of_refused command code line speaks has given e (model_printed {plant} text told verdict canonical_is) =
       not_both text plant code line verdict (of_told _ (model_told file command) text told has)
@@ -86,6 +102,20 @@ module _ (P : Expected → Type 0) (file : List ℕ → Option (List ℕ)) where
   of_run model session plant has short long e (session_too_long {long = beyond_it} {plant = p} text told verdict session_told beyond) =
       let one : plant ≡ p = same_plant text plant p (of_told _ (file model) text told has) verdict in
       subst (λ (q : Plant). P (overruns q beyond_it)) one (long beyond_it session_told (ap (λ (q : Plant). fits q beyond_it) one ∙ beyond))
+
+  -- of a certificate over an accepted model
+  of_check : (model cert : List ℕ) (plant : Plant)
+      → IfSome (file model) (λ text. IsVerdict text (accepted plant))
+      → ((certificate : List ℕ) (verdict : Verdict) → file cert ≡ Some certificate → length certificate ≤ CERTIFICATE_BYTES
+      → IsVerdictOn plant certificate verdict → P (judges verdict))
+      → ((long : List ℕ) → file cert ≡ Some long → CERTIFICATE_BYTES < length long → P exceeds)
+      → (e : Expected) → Expects file (Some (checks model cert)) e → P e
+  of_check model cert plant has short long e (model_refused {code} {line} text told verdict) =
+      not_both text plant code line (of_told _ (file model) text told has) verdict
+  of_check model cert plant has short long e (certificate_judged {certificate} {plant = p} {verdict = v} text told verdict cert_told within judged) =
+      let one : plant ≡ p = same_plant text plant p (of_told _ (file model) text told has) verdict in
+      short certificate v cert_told within (subst (λ (q : Plant). IsVerdictOn q certificate v) (sym one) judged)
+  of_check model cert plant has short long e (certificate_too_long {long = beyond_it} text told verdict cert_told beyond) = long beyond_it cert_told beyond
 
   -- of a model that is printed
   of_print : (model canonical : List ℕ)
@@ -118,6 +148,9 @@ not_of_words : (file : List ℕ → Option (List ℕ)) (command : Said) (e : Exp
 not_of_words file command e (model_refused text told verdict) = λ x. cc
 not_of_words file command e (session_served text told verdict session_told within) = λ x. cc
 not_of_words file command e (session_too_long text told verdict session_told beyond) = λ x. cc
+not_of_words file command e (certificate_judged {verdict = IsValid} text told verdict cert_told within judged) = λ x. cc
+not_of_words file command e (certificate_judged {verdict = IsInvalid line} text told verdict cert_told within judged) = λ x. cc
+not_of_words file command e (certificate_too_long text told verdict cert_told beyond) = λ x. cc
 not_of_words file command e (model_printed text told verdict canonical_is) = λ x. cc
 not_of_words file command e text_made = λ x. cc
 not_of_words file command e (session_driven verdict) = λ x. cc
@@ -126,7 +159,7 @@ not_of_words file command e (session_driven verdict) = λ x. cc
 none_said : (file : List ℕ → Option (List ℕ)) (e : Expected) → Expects file None e → status_expected e ≡ WordsRefused
 none_said file e words_refused = refl
 
-pub ended_at_words : {T : Type 0} (file : List ℕ → Option (List ℕ)) (said : Option Said) (fault : WordsFault) (result : Result (Unit {0}) RunFault) (before : Option (List ℕ))
+pub ended_at_words : {T : Type 0} (file : List ℕ → Option (List ℕ)) (said : Option Said) (fault : WordsFault) (result : Result Ended RunFault) (before : Option (List ℕ))
     → (◌≡◌ {A = Result T WordsFault} (Err fault) (Err Refused) → said ≡ None)
     → IsErrAnd result (λ e. e ≡ fault_of_words fault)
     → (e : Expected) → Expects file said e → Meets e before before (ended_status result)
@@ -147,11 +180,13 @@ at_model file command (BadModel code line) before speaks ends refuses e expects 
     of_refused (λ d. status_expected d ≡ ModelRefused) file command code line speaks refuses refl e expects
 at_model file command NoModel before speaks ends refuses e expects = not_of_words file command e expects
 at_model file command NoSession before speaks ends refuses e expects = absurd ends
+at_model file command NoCertificate before speaks ends refuses e expects = absurd ends
 at_model file command NoOutput before speaks ends refuses e expects = absurd ends
 at_model file command LongSession before speaks ends refuses e expects = absurd ends
+at_model file command LongCertificate before speaks ends refuses e expects = absurd ends
 at_model file command NoMemory before speaks ends refuses e expects = adds_none e before
 
-pub ended_at_model : (file : List ℕ → Option (List ℕ)) (command : Said) (fault : RunFault) (result : Result (Unit {0}) RunFault) (before : Option (List ℕ))
+pub ended_at_model : (file : List ℕ → Option (List ℕ)) (command : Said) (fault : RunFault) (result : Result Ended RunFault) (before : Option (List ℕ))
     → SpeaksOfModel command
     → EndsModel fault
     → RefusesBy fault (model_told file command)
@@ -169,11 +204,13 @@ model_follows file command (BadModel code line) ends refuses =
     record { code = code; line = line; verdict = record { command = command; asked = refl; is = refuses } }
 model_follows file command NoModel ends refuses = λ e. cc
 model_follows file command NoSession ends refuses = absurd ends
+model_follows file command NoCertificate ends refuses = absurd ends
 model_follows file command NoOutput ends refuses = absurd ends
 model_follows file command LongSession ends refuses = absurd ends
+model_follows file command LongCertificate ends refuses = absurd ends
 model_follows file command NoMemory ends refuses = tt
 
-pub follows_at_model : (file : List ℕ → Option (List ℕ)) (command : Said) (fault : RunFault) (result : Result (Unit {0}) RunFault)
+pub follows_at_model : (file : List ℕ → Option (List ℕ)) (command : Said) (fault : RunFault) (result : Result Ended RunFault)
     → EndsModel fault
     → RefusesBy fault (model_told file command)
     → IsErrAnd result (λ e. e ≡ fault)
@@ -181,34 +218,65 @@ pub follows_at_model : (file : List ℕ → Option (List ℕ)) (command : Said) 
 follows_at_model file command fault result ends refuses handed =
     subst (Follows file (Some command)) (sym (err_handed_on result fault handed)) (model_follows file command fault ends refuses)
 
+-- a length is not both within the limit and beyond
+too_long_not_within : (n : ℕ) → n ≤ CERTIFICATE_BYTES → CERTIFICATE_BYTES < n → ⊥
+too_long_not_within n within beyond = omega (arith, within, beyond)
+
+-- what holds of each text that is told
+of_each : {P : List ℕ → Type 0} (told : Option (List ℕ)) → ((text : List ℕ) → told ≡ Some text → P text) → IfSome told P
+of_each None goes = tt
+of_each (Some text) goes = goes text refl
+
+-- a verdict that was written as a whole
+written_verdict : (verdict : Verdict) (before after : Option (List ℕ))
+    → after ≡ append_known before (verdict_line verdict)
+    → Meets (judges verdict) before after (status_ended (verdict_end verdict))
+written_verdict IsValid before after written = (refl, written)
+written_verdict (IsInvalid line) before after written = (refl, written)
+
+whole_verdict : (verdict : Verdict) (before after : Option (List ℕ)) (ended : Ended) (other : Verdict)
+    → other ≡ verdict
+    → ended ≡ verdict_end other
+    → after ≡ append_known before (verdict_line other)
+    → Meets (judges verdict) before after (status_ended ended)
+whole_verdict verdict before after ended other same ends written =
+    subst (λ (x : Ended). Meets (judges verdict) before after (status_ended x)) (sym (ends ∙ ap verdict_end same))
+    (written_verdict verdict before after (written ∙ ap (λ (v : Verdict). append_known before (verdict_line v)) same))
+
 -- where a session was served, or was not
-served_short : (plant : Plant) (text : List ℕ) (before after : Option (List ℕ)) (result : Result (Unit {0}) RunFault)
+served_short : (plant : Plant) (text : List ℕ) (before after : Option (List ℕ)) (result : Result Ended RunFault)
     → fits plant text ≡ true
     → ServesTold plant text before after result
     → Meets (serves plant text) before after (ended_status result)
-served_short plant text before after (Ok x) short told = (refl, told.1)
+served_short plant text before after (Ok AllDone) short told = (refl, told.1)
+served_short plant text before after (Ok NotValid) short told = absurd told
 served_short plant text before after (Err BadWords) short told = absurd told
 served_short plant text before after (Err (BadModel code line)) short told = absurd told
 served_short plant text before after (Err NoModel) short told = absurd told
 served_short plant text before after (Err NoSession) short told = told
+served_short plant text before after (Err NoCertificate) short told = absurd told
 served_short plant text before after (Err NoOutput) short told = told.of_all short
 served_short plant text before after (Err LongSession) short told = let clash : true ≡ false = sym short ∙ told.0 in absurd (cc clash)
+served_short plant text before after (Err LongCertificate) short told = absurd told
 served_short plant text before after (Err NoMemory) short told = told.of_all short
 
-served_long : (plant : Plant) (text : List ℕ) (before after : Option (List ℕ)) (result : Result (Unit {0}) RunFault)
+served_long : (plant : Plant) (text : List ℕ) (before after : Option (List ℕ)) (result : Result Ended RunFault)
     → fits plant text ≡ false
     → ServesTold plant text before after result
     → Meets (overruns plant text) before after (ended_status result)
-served_long plant text before after (Ok x) long told = let clash : true ≡ false = sym told.0 ∙ long in absurd (cc clash)
+served_long plant text before after (Ok AllDone) long told = let clash : true ≡ false = sym told.0 ∙ long in absurd (cc clash)
+served_long plant text before after (Ok NotValid) long told = absurd told
 served_long plant text before after (Err BadWords) long told = absurd told
 served_long plant text before after (Err (BadModel code line)) long told = absurd told
 served_long plant text before after (Err NoModel) long told = absurd told
 served_long plant text before after (Err NoSession) long told = told
+served_long plant text before after (Err NoCertificate) long told = absurd told
 served_long plant text before after (Err NoOutput) long told = told.of_lines long
 served_long plant text before after (Err LongSession) long told = (refl, told.1)
+served_long plant text before after (Err LongCertificate) long told = absurd told
 served_long plant text before after (Err NoMemory) long told = told.of_lines long
 
-pub served_meets : (file later : List ℕ → Option (List ℕ)) (model session : List ℕ) (plant : Plant) (before after : Option (List ℕ)) (result : Result (Unit {0}) RunFault)
+pub served_meets : (file later : List ℕ → Option (List ℕ)) (model session : List ℕ) (plant : Plant) (before after : Option (List ℕ)) (result : Result Ended RunFault)
     → later ≡ file
     → IfSome (file model) (λ text. IsVerdict text (accepted plant))
     → ((text : List ℕ) → later session ≡ Some text → ServesTold plant text before after result)
@@ -237,58 +305,173 @@ is_printed file model canonical has = record {
   is = some_weaker (file model) (λ (text : List ℕ) printed. record { plant = printed.plant; verdict = printed.verdict }) has;
 }
 
-session_follows : (file : List ℕ → Option (List ℕ)) (said : Option Said) (result : Result (Unit {0}) RunFault)
+second_follows : (file : List ℕ → Option (List ℕ)) (said : Option Said) (result : Result Ended RunFault)
     → IsAccepted file said
-    → IfErr result EndsSession
+    → (result ≡ Ok NotValid → HasEnded file said NotValid)
+    → IfErr result EndsSecond
     → Follows file said (ended_status result)
-session_follows file said (Ok x) given ends = given
-session_follows file said (Err BadWords) given ends = absurd ends
-session_follows file said (Err (BadModel code line)) given ends = absurd ends
-session_follows file said (Err NoModel) given ends = absurd ends
-session_follows file said (Err NoSession) given ends = given
-session_follows file said (Err NoOutput) given ends = tt
-session_follows file said (Err LongSession) given ends = given
-session_follows file said (Err NoMemory) given ends = tt
+second_follows file said (Ok AllDone) given bad ends = given
+second_follows file said (Ok NotValid) given bad ends = (given, bad refl)
+second_follows file said (Err BadWords) given bad ends = absurd ends
+second_follows file said (Err (BadModel code line)) given bad ends = absurd ends
+second_follows file said (Err NoModel) given bad ends = absurd ends
+second_follows file said (Err NoSession) given bad ends = given
+second_follows file said (Err NoCertificate) given bad ends = given
+second_follows file said (Err NoOutput) given bad ends = tt
+second_follows file said (Err LongSession) given bad ends = given
+second_follows file said (Err LongCertificate) given bad ends = given
+second_follows file said (Err NoMemory) given bad ends = tt
 
-pub served_follows : (file : List ℕ → Option (List ℕ)) (model session : List ℕ) (plant : Plant) (result : Result (Unit {0}) RunFault)
+never_invalid : {A : Type 0} (result : Result Ended RunFault) → IfOk result (λ ended. ended ≡ AllDone) → result ≡ Ok NotValid → A
+never_invalid (Ok AllDone) done is = absurd (cc)
+never_invalid (Ok NotValid) done is = absurd (cc)
+never_invalid (Err fault) done is = absurd (cc)
+
+pub served_follows : (file : List ℕ → Option (List ℕ)) (model session : List ℕ) (plant : Plant) (result : Result Ended RunFault)
     → IfSome (file model) (λ text. IsVerdict text (accepted plant))
+    → IfOk result (λ ended. ended ≡ AllDone)
     → IfErr result EndsSession
     → Follows file (Some (runs model session)) (ended_status result)
-served_follows file model session plant result has ends =
-    session_follows file (Some (runs model session)) result (is_accepted file (runs model session) plant has) ends
+served_follows file model session plant result has done ends =
+    second_follows file (Some (runs model session)) result (is_accepted file (runs model session) plant has) (never_invalid result done) (session_ends result ends)
 
-pub served_verdict : (file : List ℕ → Option (List ℕ)) (said : Option Said) (result : Result (Unit {0}) RunFault)
+pub served_verdict : (file : List ℕ → Option (List ℕ)) (model session : List ℕ) (result : Result Ended RunFault)
+    → IfOk result (λ ended. ended ≡ AllDone)
     → IfErr result EndsSession
-    → TellsVerdict file said result
-served_verdict file said (Ok x) ends = tt
-served_verdict file said (Err BadWords) ends = absurd ends
-served_verdict file said (Err (BadModel code line)) ends = absurd ends
-served_verdict file said (Err NoModel) ends = absurd ends
-served_verdict file said (Err NoSession) ends = tt
-served_verdict file said (Err NoOutput) ends = tt
-served_verdict file said (Err LongSession) ends = tt
-served_verdict file said (Err NoMemory) ends = tt
+    → TellsVerdict file (Some (runs model session)) result
+served_verdict file model session (Ok x) done ends = record { command = runs model session; asked = refl; is = done }
+served_verdict file model session (Err BadWords) done ends = absurd ends
+served_verdict file model session (Err (BadModel code line)) done ends = absurd ends
+served_verdict file model session (Err NoModel) done ends = absurd ends
+served_verdict file model session (Err NoSession) done ends = tt
+served_verdict file model session (Err NoCertificate) done ends = absurd ends
+served_verdict file model session (Err NoOutput) done ends = tt
+served_verdict file model session (Err LongSession) done ends = tt
+served_verdict file model session (Err LongCertificate) done ends = absurd ends
+served_verdict file model session (Err NoMemory) done ends = tt
 
--- where a session is served no status says that nothing was written
-pub served_loud : {A : Type 0} (result : Result (Unit {0}) RunFault) → IfErr result EndsSession → IsTrue (is_silent (ended_status result)) → A
-served_loud (Ok x) ends quiet = absurd (cc)
-served_loud (Err BadWords) ends quiet = absurd ends
-served_loud (Err (BadModel code line)) ends quiet = absurd ends
-served_loud (Err NoModel) ends quiet = absurd ends
-served_loud (Err NoSession) ends quiet = absurd (cc)
-served_loud (Err NoOutput) ends quiet = absurd (cc)
-served_loud (Err LongSession) ends quiet = absurd (cc)
-served_loud (Err NoMemory) ends quiet = absurd (cc)
+-- where the second file is dealt with no status says that nothing was written, but those of a certificate that was not read
+pub second_silent : (said : Option Said) (result : Result Ended RunFault) (before after : Option (List ℕ))
+    → IfErr result EndsSecond
+    → (IsTrue (is_check said) → ended_status result ≡ SecondUnread → after ≡ before)
+    → (IsTrue (is_check said) → ended_status result ≡ SecondTooLong → after ≡ before)
+    → IsTrue (is_silent said (ended_status result))
+    → after ≡ before
+second_silent said (Ok AllDone) before after ends unread long quiet = absurd (cc)
+second_silent said (Ok NotValid) before after ends unread long quiet = absurd (cc)
+second_silent said (Err BadWords) before after ends unread long quiet = absurd ends
+second_silent said (Err (BadModel code line)) before after ends unread long quiet = absurd ends
+second_silent said (Err NoModel) before after ends unread long quiet = absurd ends
+second_silent said (Err NoSession) before after ends unread long quiet = unread quiet refl
+second_silent said (Err NoCertificate) before after ends unread long quiet = unread quiet refl
+second_silent said (Err NoOutput) before after ends unread long quiet = absurd (cc)
+second_silent said (Err LongSession) before after ends unread long quiet = long quiet refl
+second_silent said (Err LongCertificate) before after ends unread long quiet = long quiet refl
+second_silent said (Err NoMemory) before after ends unread long quiet = absurd (cc)
 
-pub served_no_model : (result : Result (Unit {0}) RunFault) → IfErr result EndsSession → ended_status result ≢ ModelUnread
-served_no_model (Ok x) ends = λ e. cc
-served_no_model (Err BadWords) ends = absurd ends
-served_no_model (Err (BadModel code line)) ends = absurd ends
-served_no_model (Err NoModel) ends = absurd ends
-served_no_model (Err NoSession) ends = λ e. cc
-served_no_model (Err NoOutput) ends = λ e. cc
-served_no_model (Err LongSession) ends = λ e. cc
-served_no_model (Err NoMemory) ends = λ e. cc
+-- of a run, none
+pub served_silent : (model session : List ℕ) (result : Result Ended RunFault) (before after : Option (List ℕ))
+    → IfErr result EndsSession
+    → IsTrue (is_silent (Some (runs model session)) (ended_status result))
+    → after ≡ before
+served_silent model session result before after ends quiet =
+    second_silent (Some (runs model session)) result before after (session_ends result ends) (λ no_check is. absurd (cc)) (λ no_check is. absurd (cc)) quiet
+
+pub second_no_model : (result : Result Ended RunFault) → IfErr result EndsSecond → ended_status result ≢ ModelUnread
+second_no_model (Ok AllDone) ends = λ e. cc
+second_no_model (Ok NotValid) ends = λ e. cc
+second_no_model (Err BadWords) ends = absurd ends
+second_no_model (Err (BadModel code line)) ends = absurd ends
+second_no_model (Err NoModel) ends = absurd ends
+second_no_model (Err NoSession) ends = λ e. cc
+second_no_model (Err NoCertificate) ends = λ e. cc
+second_no_model (Err NoOutput) ends = λ e. cc
+second_no_model (Err LongSession) ends = λ e. cc
+second_no_model (Err LongCertificate) ends = λ e. cc
+second_no_model (Err NoMemory) ends = λ e. cc
+
+-- where a certificate was judged, or was not
+judged_short : (plant : Plant) (text : List ℕ) (verdict : Verdict) (before after : Option (List ℕ)) (result : Result Ended RunFault)
+    → length text ≤ CERTIFICATE_BYTES
+    → IsVerdictOn plant text verdict
+    → JudgesTold plant text before after result
+    → Meets (judges verdict) before after (ended_status result)
+judged_short plant text verdict before after (Ok ended) within is told =
+    whole_verdict verdict before after ended told.verdict (verdict_is_one plant text told.verdict verdict told.is is) told.ends told.written
+judged_short plant text verdict before after (Err BadWords) within is told = absurd told
+judged_short plant text verdict before after (Err (BadModel code line)) within is told = absurd told
+judged_short plant text verdict before after (Err NoModel) within is told = absurd told
+judged_short plant text verdict before after (Err NoSession) within is told = absurd told
+judged_short plant text verdict before after (Err NoCertificate) within is told = told
+judged_short plant text verdict before after (Err NoOutput) within is told = told.of_verdict verdict within is
+judged_short plant text verdict before after (Err LongSession) within is told = absurd told
+judged_short plant text verdict before after (Err LongCertificate) within is told = absurd (too_long_not_within (length text) within told.0)
+judged_short plant text verdict before after (Err NoMemory) within is told = told.of_verdict verdict within is
+
+judged_long : (plant : Plant) (text : List ℕ) (before after : Option (List ℕ)) (result : Result Ended RunFault)
+    → CERTIFICATE_BYTES < length text
+    → JudgesTold plant text before after result
+    → Meets exceeds before after (ended_status result)
+judged_long plant text before after (Ok ended) beyond told = absurd (too_long_not_within (length text) told.within beyond)
+judged_long plant text before after (Err BadWords) beyond told = absurd told
+judged_long plant text before after (Err (BadModel code line)) beyond told = absurd told
+judged_long plant text before after (Err NoModel) beyond told = absurd told
+judged_long plant text before after (Err NoSession) beyond told = absurd told
+judged_long plant text before after (Err NoCertificate) beyond told = told
+judged_long plant text before after (Err NoOutput) beyond told = told.of_long beyond
+judged_long plant text before after (Err LongSession) beyond told = absurd told
+judged_long plant text before after (Err LongCertificate) beyond told = (refl, told.1)
+judged_long plant text before after (Err NoMemory) beyond told = told.of_long beyond
+
+pub judged_meets : (file later : List ℕ → Option (List ℕ)) (model cert : List ℕ) (plant : Plant) (before after : Option (List ℕ)) (result : Result Ended RunFault)
+    → later ≡ file
+    → IfSome (file model) (λ text. IsVerdict text (accepted plant))
+    → ((text : List ℕ) → later cert ≡ Some text → JudgesTold plant text before after result)
+    → (e : Expected) → Expects file (Some (checks model cert)) e → Meets e before after (ended_status result)
+judged_meets file later model cert plant before after result same has told e expects =
+    of_check (λ d. Meets d before after (ended_status result)) file model cert plant has
+    (λ text verdict is within judged.
+    judged_short plant text verdict before after result within judged (told text (ap (λ (f : List ℕ → Option (List ℕ)). f cert) same ∙ is)))
+    (λ text is beyond. judged_long plant text before after result beyond (told text (ap (λ (f : List ℕ → Option (List ℕ)). f cert) same ∙ is)))
+    e expects
+
+-- the end of a check is that of its certificate's verdict
+is_judged : (file later : List ℕ → Option (List ℕ)) (model cert : List ℕ) (plant : Plant) (before after : Option (List ℕ)) (ended : Ended)
+    → later ≡ file
+    → IfSome (file model) (λ text. IsVerdict text (accepted plant))
+    → ((text : List ℕ) → later cert ≡ Some text → TellsJudgement plant text before after ended)
+    → EndsSo file (checks model cert) ended
+is_judged file later model cert plant before after ended same has told =
+    some_weaker (file model) (λ (text : List ℕ) accepts. of_each (file cert) (λ certificate is.
+    let t = told certificate (ap (λ (f : List ℕ → Option (List ℕ)). f cert) same ∙ is) in
+    record { plant = plant; accepts = accepts; verdict = t.verdict; is = t.is; ends = t.ends })) has
+
+pub judged_verdict : (file later : List ℕ → Option (List ℕ)) (model cert : List ℕ) (plant : Plant) (before after : Option (List ℕ)) (result : Result Ended RunFault)
+    → later ≡ file
+    → IfSome (file model) (λ text. IsVerdict text (accepted plant))
+    → ((text : List ℕ) → later cert ≡ Some text → JudgesTold plant text before after result)
+    → IfErr result EndsCheck
+    → TellsVerdict file (Some (checks model cert)) result
+judged_verdict file later model cert plant before after (Ok ended) same has told ends =
+    record { command = checks model cert; asked = refl; is = is_judged file later model cert plant before after ended same has told }
+judged_verdict file later model cert plant before after (Err BadWords) same has told ends = absurd ends
+judged_verdict file later model cert plant before after (Err (BadModel code line)) same has told ends = absurd ends
+judged_verdict file later model cert plant before after (Err NoModel) same has told ends = absurd ends
+judged_verdict file later model cert plant before after (Err NoSession) same has told ends = absurd ends
+judged_verdict file later model cert plant before after (Err NoCertificate) same has told ends = tt
+judged_verdict file later model cert plant before after (Err NoOutput) same has told ends = tt
+judged_verdict file later model cert plant before after (Err LongSession) same has told ends = absurd ends
+judged_verdict file later model cert plant before after (Err LongCertificate) same has told ends = tt
+judged_verdict file later model cert plant before after (Err NoMemory) same has told ends = tt
+
+pub judged_follows : (file : List ℕ → Option (List ℕ)) (model cert : List ℕ) (plant : Plant) (result : Result Ended RunFault)
+    → IfSome (file model) (λ text. IsVerdict text (accepted plant))
+    → TellsVerdict file (Some (checks model cert)) result
+    → IfErr result EndsCheck
+    → Follows file (Some (checks model cert)) (ended_status result)
+judged_follows file model cert plant result has verdict ends =
+    second_follows file (Some (checks model cert)) result (is_accepted file (checks model cert) plant has)
+    (λ is. subst (TellsVerdict file (Some (checks model cert))) is verdict) (check_ends result ends)
 
 -- where a text was written, or a front of it
 either_way : (text : List ℕ) (before after : Option (List ℕ)) (status : Status)
@@ -357,11 +540,11 @@ pub is_made : (file : List ℕ → Option (List ℕ)) (kind : Kind) (n : ℕ) �
 is_made file kind n = record { command = generates kind n; asked = refl; is = tt }
 
 -- a status of the output is not silent
-pub not_silent : {A : Type 0} (status : Status) → (status ≡ OutputFailed) ⊎ (status ≡ OutOfMemory) → IsTrue (is_silent status) → A
-not_silent status (inl is) quiet = let q : IsTrue (is_silent OutputFailed) = subst (λ (s : Status). IsTrue (is_silent s)) is quiet in absurd (cc)
-not_silent status (inr is) quiet = let q : IsTrue (is_silent OutOfMemory) = subst (λ (s : Status). IsTrue (is_silent s)) is quiet in absurd (cc)
+pub not_silent : {A : Type 0} (said : Option Said) (status : Status) → (status ≡ OutputFailed) ⊎ (status ≡ OutOfMemory) → IsTrue (is_silent said status) → A
+not_silent said status (inl is) quiet = let q : IsTrue (is_silent said OutputFailed) = subst (λ (s : Status). IsTrue (is_silent said s)) is quiet in absurd (cc)
+not_silent said status (inr is) quiet = let q : IsTrue (is_silent said OutOfMemory) = subst (λ (s : Status). IsTrue (is_silent said s)) is quiet in absurd (cc)
 
-pub sink_as_before : (result : Result (Unit {0}) RunFault) (fault : IoFault) (old new : ℕ)
+pub sink_as_before : (result : Result Ended RunFault) (fault : IoFault) (old new : ℕ)
     → IsErrAnd result (λ e. e ≡ fault_of_sink fault)
     → HasCause {T = Unit {0}} old new (Err fault)
     → ended_status result ≢ OutputFailed
@@ -371,7 +554,7 @@ sink_as_before (Err e) Failed old new is cause other = absurd (other (ap status_
 sink_as_before (Err e) Memory old new is cause other = cause
 
 -- where memory was wanting before anything was written
-pub memory_meets : (result : Result (Unit {0}) RunFault) (e : Expected) (before : Option (List ℕ))
+pub memory_meets : (result : Result Ended RunFault) (e : Expected) (before : Option (List ℕ))
     → IsErrAnd result (λ f. f ≡ NoMemory)
     → Meets e before before (ended_status result)
 memory_meets result e before handed = subst (Meets e before before) (sym (err_handed_on result NoMemory handed)) (adds_none e before)

@@ -1,4 +1,6 @@
 pub mod VerdictLemmas
+pub mod JudgedLemmas
+pub mod SecondLemmas
 pub mod ExpectedLemmas
 pub mod OpenLemmas
 pub mod TopLemmas

@@ -7,11 +7,14 @@ use Rattle.lv_io.specs.declared.IoFault.{IoFault}
 use Rattle.lv_io.specs.declared.IoFault.TheVariants.{Failed, Memory}
 use Rattle.lv_run.specs.Inputs.{AddsOpens}
 use Rattle.lv_run.specs.Opens.{HasOpened}
-use Rattle.lv_run.specs.Faults.{EndsModel, EndsSession, status_of, ended_status, fault_of_sink}
+use Rattle.lv_run.specs.Faults.{EndsModel, status_of, ended_status, fault_of_sink}
+use Rattle.lv_run.proofs.SecondLemmas.{EndsSecond}
+use Rattle.lv_run.specs.declared.status.Ended.{Ended}
+use Rattle.lv_run.specs.declared.status.Ended.TheVariants.{Done as AllDone, Invalid as NotValid}
 use Rattle.lv_run.specs.declared.status.Status.{Status}
-use Rattle.lv_run.specs.declared.status.Status.TheVariants.{Done, WordsRefused, ModelRefused, ModelUnread, SessionUnread, OutputFailed, SessionTooLong, OutOfMemory}
+use Rattle.lv_run.specs.declared.status.Status.TheVariants.{Done, WordsRefused, ModelRefused, ModelUnread, SecondUnread, OutputFailed, SecondTooLong, OutOfMemory, Invalid}
 use Rattle.lv_run.specs.declared.fault.RunFault.{RunFault}
-use Rattle.lv_run.specs.declared.fault.RunFault.TheVariants.{WordsRefused as BadWords, ModelRefused as BadModel, ModelUnread as NoModel, SessionUnread as NoSession, OutputFailed as NoOutput, SessionTooLong as LongSession, OutOfMemory as NoMemory}
+use Rattle.lv_run.specs.declared.fault.RunFault.TheVariants.{WordsRefused as BadWords, ModelRefused as BadModel, ModelUnread as NoModel, SessionUnread as NoSession, CertificateUnread as NoCertificate, OutputFailed as NoOutput, SessionTooLong as LongSession, CertificateTooLong as LongCertificate, OutOfMemory as NoMemory}
 
 none_taken : (n : ℕ) → take {A = Opened} n [] ≡ []
 none_taken zero = refl
@@ -51,16 +54,18 @@ at_model a more old new BadWords ends adds opened = absurd ends
 at_model a more old new (BadModel code line) ends adds opened = opened (λ e. cc)
 at_model a more old new NoModel ends adds opened = opened (λ e. cc)
 at_model a more old new NoSession ends adds opened = absurd ends
+at_model a more old new NoCertificate ends adds opened = absurd ends
 at_model a more old new NoOutput ends adds opened = absurd ends
 at_model a more old new LongSession ends adds opened = absurd ends
+at_model a more old new LongCertificate ends adds opened = absurd ends
 at_model a more old new NoMemory ends adds opened = first_at_most a more old new adds.count adds.added
 
-handed : (result : Result (Unit {0}) RunFault) (fault : RunFault) → IsErrAnd result (λ e. e ≡ fault) → ended_status result ≡ status_of fault
+handed : (result : Result Ended RunFault) (fault : RunFault) → IsErrAnd result (λ e. e ≡ fault) → ended_status result ≡ status_of fault
 handed (Ok x) fault is = absurd is
 handed (Err e) fault is = ap status_of is
 
 -- where the call ended at the model's file
-pub opened_at_model : (a : Opened) (more old new : List Opened) (fault : RunFault) (result : Result (Unit {0}) RunFault)
+pub opened_at_model : (a : Opened) (more old new : List Opened) (fault : RunFault) (result : Result Ended RunFault)
     → EndsModel fault
     → IsErrAnd result (λ e. e ≡ fault)
     → AddsOpens old (a ∷ []) new
@@ -75,21 +80,24 @@ front_of_both : (a b : Opened) (old middle new : List Opened)
     → AddsOpens old (a ∷ b ∷ []) new
 front_of_both a b old middle new first second = record { count = 2; added = both a b old middle new first second }
 
--- where a session was served, or was not
-pub opened_at_session : (a b : Opened) (old middle new : List Opened) (result : Result (Unit {0}) RunFault)
-    → IfErr result EndsSession
+-- where the second file was opened, or was not
+pub opened_at_second : (a b : Opened) (old middle new : List Opened) (result : Result Ended RunFault)
+    → IfErr result EndsSecond
     → middle ≡ old ++ a ∷ []
     → AddsOpens middle (b ∷ []) new
     → (ended_status result ≢ OutOfMemory → new ≡ middle ++ b ∷ [])
     → HasOpened (a ∷ b ∷ []) old new (ended_status result)
-opened_at_session a b old middle new (Ok x) ends first adds opened = both a b old middle new first (opened (λ e. cc))
-opened_at_session a b old middle new (Err BadWords) ends first adds opened = absurd ends
-opened_at_session a b old middle new (Err (BadModel code line)) ends first adds opened = absurd ends
-opened_at_session a b old middle new (Err NoModel) ends first adds opened = absurd ends
-opened_at_session a b old middle new (Err NoSession) ends first adds opened = both a b old middle new first (opened (λ e. cc))
-opened_at_session a b old middle new (Err NoOutput) ends first adds opened = front_of_both a b old middle new first (opened (λ e. cc))
-opened_at_session a b old middle new (Err LongSession) ends first adds opened = both a b old middle new first (opened (λ e. cc))
-opened_at_session a b old middle new (Err NoMemory) ends first adds opened = first_and_more a b old middle new adds.count first adds.added
+opened_at_second a b old middle new (Ok AllDone) ends first adds opened = both a b old middle new first (opened (λ e. cc))
+opened_at_second a b old middle new (Ok NotValid) ends first adds opened = both a b old middle new first (opened (λ e. cc))
+opened_at_second a b old middle new (Err BadWords) ends first adds opened = absurd ends
+opened_at_second a b old middle new (Err (BadModel code line)) ends first adds opened = absurd ends
+opened_at_second a b old middle new (Err NoModel) ends first adds opened = absurd ends
+opened_at_second a b old middle new (Err NoSession) ends first adds opened = both a b old middle new first (opened (λ e. cc))
+opened_at_second a b old middle new (Err NoCertificate) ends first adds opened = both a b old middle new first (opened (λ e. cc))
+opened_at_second a b old middle new (Err NoOutput) ends first adds opened = front_of_both a b old middle new first (opened (λ e. cc))
+opened_at_second a b old middle new (Err LongSession) ends first adds opened = both a b old middle new first (opened (λ e. cc))
+opened_at_second a b old middle new (Err LongCertificate) ends first adds opened = both a b old middle new first (opened (λ e. cc))
+opened_at_second a b old middle new (Err NoMemory) ends first adds opened = first_and_more a b old middle new adds.count first adds.added
 
 -- where nothing is opened
 none_opened : (old : List Opened) → old ≡ old ++ []
@@ -100,10 +108,11 @@ opens_nothing old Done = none_opened old
 opens_nothing old WordsRefused = refl
 opens_nothing old ModelRefused = none_opened old
 opens_nothing old ModelUnread = none_opened old
-opens_nothing old SessionUnread = none_opened old
+opens_nothing old SecondUnread = none_opened old
 opens_nothing old OutputFailed = record { count = 0; added = none_opened old }
-opens_nothing old SessionTooLong = none_opened old
+opens_nothing old SecondTooLong = none_opened old
 opens_nothing old OutOfMemory = record { count = 0; added = none_opened old }
+opens_nothing old Invalid = none_opened old
 
 -- whatever the status, a front of what was asked for was opened
 pub front_opened : (asks old new : List Opened) (status : Status) → HasOpened asks old new status → AddsOpens old asks new
@@ -111,10 +120,11 @@ front_opened asks old new Done opened = record { count = length asks; added = op
 front_opened asks old new WordsRefused opened = record { count = 0; added = opened ∙ sym (append-nil old) }
 front_opened asks old new ModelRefused opened = record { count = 1; added = opened }
 front_opened asks old new ModelUnread opened = record { count = 1; added = opened }
-front_opened asks old new SessionUnread opened = record { count = length asks; added = opened ∙ ap (λ (l : List Opened). old ++ l) (sym (take_all (length asks) asks (omega arith))) }
+front_opened asks old new SecondUnread opened = record { count = length asks; added = opened ∙ ap (λ (l : List Opened). old ++ l) (sym (take_all (length asks) asks (omega arith))) }
 front_opened asks old new OutputFailed opened = opened
-front_opened asks old new SessionTooLong opened = record { count = length asks; added = opened ∙ ap (λ (l : List Opened). old ++ l) (sym (take_all (length asks) asks (omega arith))) }
+front_opened asks old new SecondTooLong opened = record { count = length asks; added = opened ∙ ap (λ (l : List Opened). old ++ l) (sym (take_all (length asks) asks (omega arith))) }
 front_opened asks old new OutOfMemory opened = opened
+front_opened asks old new Invalid opened = record { count = length asks; added = opened ∙ ap (λ (l : List Opened). old ++ l) (sym (take_all (length asks) asks (omega arith))) }
 
 told_opened : (asks old new : List Opened) (status result : Status)
     → (result ≡ status) ⊎ ((result ≡ OutputFailed) ⊎ (result ≡ OutOfMemory))
@@ -134,10 +144,11 @@ kept_or_not status Done kept = inl (kept (λ e. cc) (λ e. cc))
 kept_or_not status WordsRefused kept = inl (kept (λ e. cc) (λ e. cc))
 kept_or_not status ModelRefused kept = inl (kept (λ e. cc) (λ e. cc))
 kept_or_not status ModelUnread kept = inl (kept (λ e. cc) (λ e. cc))
-kept_or_not status SessionUnread kept = inl (kept (λ e. cc) (λ e. cc))
+kept_or_not status SecondUnread kept = inl (kept (λ e. cc) (λ e. cc))
 kept_or_not status OutputFailed kept = inr (inl refl)
-kept_or_not status SessionTooLong kept = inl (kept (λ e. cc) (λ e. cc))
+kept_or_not status SecondTooLong kept = inl (kept (λ e. cc) (λ e. cc))
 kept_or_not status OutOfMemory kept = inr (inr refl)
+kept_or_not status Invalid kept = inl (kept (λ e. cc) (λ e. cc))
 
 pub all_opened : (asks old new : List Opened) (status result : Status)
     → (result ≢ OutputFailed → result ≢ OutOfMemory → result ≡ status)
@@ -146,7 +157,7 @@ pub all_opened : (asks old new : List Opened) (status result : Status)
 all_opened asks old new status result kept opened = told_opened asks old new status result (kept_or_not status result kept) opened
 
 -- a fault of the output ends a run with one of two statuses
-pub sink_end : (result : Result (Unit {0}) RunFault) (fault : IoFault)
+pub sink_end : (result : Result Ended RunFault) (fault : IoFault)
     → IsErrAnd result (λ e. e ≡ fault_of_sink fault)
     → (ended_status result ≡ OutputFailed) ⊎ (ended_status result ≡ OutOfMemory)
 sink_end (Ok x) fault is = absurd is

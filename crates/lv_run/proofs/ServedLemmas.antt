@@ -19,8 +19,9 @@ use Rattle.lv_serve.proofs.PieceLemmas.{front_of_longer, front_of_all, quits_mor
 use Rattle.lv_run.specs.Expected.{ServesTold, AddsLines, AddsDueFront}
 use Rattle.lv_serve.proofs.TranscriptLemmas.{none_of_front}
 use Rattle.lv_run.specs.Faults.{EndsOpening, EndsSession, fault_of_serving}
+use Rattle.lv_run.specs.declared.status.Ended.{Ended}
 use Rattle.lv_run.specs.declared.fault.RunFault.{RunFault}
-use Rattle.lv_run.specs.declared.fault.RunFault.TheVariants.{WordsRefused as BadWords, ModelRefused as BadModel, ModelUnread as NoModel, SessionUnread as NoSession, OutputFailed as NoOutput, SessionTooLong as LongSession, OutOfMemory as NoMemory}
+use Rattle.lv_run.specs.declared.fault.RunFault.TheVariants.{WordsRefused as BadWords, ModelRefused as BadModel, ModelUnread as NoModel, SessionUnread as NoSession, CertificateUnread as NoCertificate, OutputFailed as NoOutput, SessionTooLong as LongSession, CertificateTooLong as LongCertificate, OutOfMemory as NoMemory}
 
 -- what is left behind the bytes that were read of a text
 pub record Splits (read text : List ℕ) (rest_after : Option (List ℕ)) : Type 0 where
@@ -146,7 +147,7 @@ told_ended plant text rest rest_after out out_after fault told served =
     (subst (λ (r : Option (List ℕ)). Serves plant r rest_after out out_after {T = Unit {0}} (Err fault)) told served)
 
 -- what a fault came to is what the run did
-pub handed_told : (plant : Plant) (text : List ℕ) (before after : Option (List ℕ)) (result : Result (Unit {0}) RunFault) (fault : RunFault)
+pub handed_told : (plant : Plant) (text : List ℕ) (before after : Option (List ℕ)) (result : Result Ended RunFault) (fault : RunFault)
     → IsErrAnd result (λ e. e ≡ fault)
     → ServesTold plant text before after (Err fault)
     → ServesTold plant text before after result
@@ -164,31 +165,35 @@ unopened plant text out NoSession ends = record {
   within = omega arith;
   written = record { written = []; is_transcript = ends_lines; added = sym (append-none out) };
 }
+unopened plant text out NoCertificate ends = absurd ends
 unopened plant text out NoOutput ends = absurd ends
 unopened plant text out LongSession ends = absurd ends
+unopened plant text out LongCertificate ends = absurd ends
 unopened plant text out NoMemory ends = record {
   of_all = λ fit. none_of_front plant (start plant) (lines_of text) out;
   of_lines = λ long. none_of_front plant (start plant) (lines_of (within_limit text)) out;
 }
 
-pub unopened_told : (plant : Plant) (text : List ℕ) (out : Option (List ℕ)) (result : Result (Unit {0}) RunFault) (fault : RunFault)
+pub unopened_told : (plant : Plant) (text : List ℕ) (out : Option (List ℕ)) (result : Result Ended RunFault) (fault : RunFault)
     → IsErrAnd result (λ e. e ≡ fault)
     → EndsOpening fault
     → ServesTold plant text out out result
 unopened_told plant text out result fault handed ends = handed_told plant text out out result fault handed (unopened plant text out fault ends)
 
 -- a run that ended at opening or serving ended so
-pub handed_ends : (result : Result (Unit {0}) RunFault) (fault : RunFault) → IsErrAnd result (λ e. e ≡ fault) → EndsOpening fault → IfErr result EndsSession
+pub handed_ends : (result : Result Ended RunFault) (fault : RunFault) → IsErrAnd result (λ e. e ≡ fault) → EndsOpening fault → IfErr result EndsSession
 handed_ends (Ok x) fault handed ends = tt
 handed_ends (Err e) BadWords handed ends = absurd ends
 handed_ends (Err e) (BadModel code line) handed ends = absurd ends
 handed_ends (Err e) NoModel handed ends = absurd ends
 handed_ends (Err e) NoSession handed ends = subst EndsSession (sym handed) tt
+handed_ends (Err e) NoCertificate handed ends = absurd ends
 handed_ends (Err e) NoOutput handed ends = absurd ends
 handed_ends (Err e) LongSession handed ends = absurd ends
+handed_ends (Err e) LongCertificate handed ends = absurd ends
 handed_ends (Err e) NoMemory handed ends = subst EndsSession (sym handed) tt
 
-pub served_ends : (result : Result (Unit {0}) RunFault) (fault : ServeFault) → IsErrAnd result (λ e. e ≡ fault_of_serving fault) → IfErr result EndsSession
+pub served_ends : (result : Result Ended RunFault) (fault : ServeFault) → IsErrAnd result (λ e. e ≡ fault_of_serving fault) → IfErr result EndsSession
 served_ends (Ok x) fault handed = tt
 served_ends (Err e) Read handed = subst EndsSession (sym handed) tt
 served_ends (Err e) Write handed = subst EndsSession (sym handed) tt

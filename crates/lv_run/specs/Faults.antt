@@ -9,24 +9,28 @@ use Rattle.lv_words.specs.declared.WordsFault.{WordsFault}
 use Rattle.lv_words.specs.declared.WordsFault.TheVariants.{Refused, Memory as NoRoom}
 use Rattle.lv_serve.specs.declared.fault.ServeFault.{ServeFault}
 use Rattle.lv_serve.specs.declared.fault.ServeFault.TheVariants.{Read as Unread, Write as Unwritten, TooLong, Memory as OutOfRoom}
+use Rattle.lv_run.specs.Statuses.{status_ended}
+use Rattle.lv_run.specs.declared.status.Ended.{Ended}
 use Rattle.lv_run.specs.declared.status.Status.{Status}
-use Rattle.lv_run.specs.declared.status.Status.TheVariants.{Done, WordsRefused, ModelRefused, ModelUnread, SessionUnread, OutputFailed, SessionTooLong, OutOfMemory}
+use Rattle.lv_run.specs.declared.status.Status.TheVariants.{WordsRefused, ModelRefused, ModelUnread, SecondUnread, OutputFailed, SecondTooLong, OutOfMemory}
 use Rattle.lv_run.specs.declared.fault.RunFault.{RunFault}
-use Rattle.lv_run.specs.declared.fault.RunFault.TheVariants.{WordsRefused as BadWords, ModelRefused as BadModel, ModelUnread as NoModel, SessionUnread as NoSession, OutputFailed as NoOutput, SessionTooLong as LongSession, OutOfMemory as NoMemory}
+use Rattle.lv_run.specs.declared.fault.RunFault.TheVariants.{WordsRefused as BadWords, ModelRefused as BadModel, ModelUnread as NoModel, SessionUnread as NoSession, CertificateUnread as NoCertificate, OutputFailed as NoOutput, SessionTooLong as LongSession, CertificateTooLong as LongCertificate, OutOfMemory as NoMemory}
 
 -- the status that a call ends with
 abbrev pub status_of : RunFault → Status
 status_of BadWords = WordsRefused
 status_of (BadModel code line) = ModelRefused
 status_of NoModel = ModelUnread
-status_of NoSession = SessionUnread
+status_of NoSession = SecondUnread
+status_of NoCertificate = SecondUnread
 status_of NoOutput = OutputFailed
-status_of LongSession = SessionTooLong
+status_of LongSession = SecondTooLong
+status_of LongCertificate = SecondTooLong
 status_of NoMemory = OutOfMemory
 
 -- the status of a run that ended so
-abbrev pub ended_status : Result (Unit {0}) RunFault → Status
-ended_status (Ok _) = Done
+abbrev pub ended_status : Result Ended RunFault → Status
+ended_status (Ok ended) = status_ended ended
 ended_status (Err fault) = status_of fault
 
 -- a text as a line, with its line feed
@@ -47,8 +51,10 @@ line_of BadWords = line (codes "usage: livingstone run MODEL SESSION, check MODE
 line_of (BadModel code at) = model_line code at
 line_of NoModel = line (codes "cannot read model")
 line_of NoSession = line (codes "cannot read session")
+line_of NoCertificate = line (codes "cannot read certificate")
 line_of NoOutput = []
 line_of LongSession = line (codes "session too long")
+line_of LongCertificate = line (codes "certificate too long")
 line_of NoMemory = line (codes "out of memory")
 
 -- what a fault of writing ends a run with
@@ -68,14 +74,16 @@ fault_of_serving Unwritten = NoOutput
 fault_of_serving TooLong = LongSession
 fault_of_serving OutOfRoom = NoMemory
 
--- a run ends so before the session's file is opened
+-- a run ends so before the second file is opened
 abbrev pub EndsModel : RunFault → Type 0
 EndsModel BadWords = ⊥
 EndsModel (BadModel code at) = Unit {0}
 EndsModel NoModel = Unit {0}
 EndsModel NoSession = ⊥
+EndsModel NoCertificate = ⊥
 EndsModel NoOutput = ⊥
 EndsModel LongSession = ⊥
+EndsModel LongCertificate = ⊥
 EndsModel NoMemory = Unit {0}
 
 -- a run ends so where the session is opened
@@ -84,8 +92,10 @@ EndsOpening BadWords = ⊥
 EndsOpening (BadModel code at) = ⊥
 EndsOpening NoModel = ⊥
 EndsOpening NoSession = Unit {0}
+EndsOpening NoCertificate = ⊥
 EndsOpening NoOutput = ⊥
 EndsOpening LongSession = ⊥
+EndsOpening LongCertificate = ⊥
 EndsOpening NoMemory = Unit {0}
 
 -- a run ends so where the session is opened and served
@@ -94,9 +104,47 @@ EndsSession BadWords = ⊥
 EndsSession (BadModel code at) = ⊥
 EndsSession NoModel = ⊥
 EndsSession NoSession = Unit {0}
+EndsSession NoCertificate = ⊥
 EndsSession NoOutput = Unit {0}
 EndsSession LongSession = Unit {0}
+EndsSession LongCertificate = ⊥
 EndsSession NoMemory = Unit {0}
+
+-- a run ends so where the certificate is opened and read
+abbrev pub EndsReading : RunFault → Type 0
+EndsReading BadWords = ⊥
+EndsReading (BadModel code at) = ⊥
+EndsReading NoModel = ⊥
+EndsReading NoSession = ⊥
+EndsReading NoCertificate = Unit {0}
+EndsReading NoOutput = ⊥
+EndsReading LongSession = ⊥
+EndsReading LongCertificate = Unit {0}
+EndsReading NoMemory = Unit {0}
+
+-- a run ends so where a certificate that was read is judged and the verdict written
+abbrev pub EndsWriting : RunFault → Type 0
+EndsWriting BadWords = ⊥
+EndsWriting (BadModel code at) = ⊥
+EndsWriting NoModel = ⊥
+EndsWriting NoSession = ⊥
+EndsWriting NoCertificate = ⊥
+EndsWriting NoOutput = Unit {0}
+EndsWriting LongSession = ⊥
+EndsWriting LongCertificate = ⊥
+EndsWriting NoMemory = Unit {0}
+
+-- a run ends so where the certificate is opened, read and judged
+abbrev pub EndsCheck : RunFault → Type 0
+EndsCheck BadWords = ⊥
+EndsCheck (BadModel code at) = ⊥
+EndsCheck NoModel = ⊥
+EndsCheck NoSession = ⊥
+EndsCheck NoCertificate = Unit {0}
+EndsCheck NoOutput = Unit {0}
+EndsCheck LongSession = ⊥
+EndsCheck LongCertificate = Unit {0}
+EndsCheck NoMemory = Unit {0}
 
 -- where the model is refused, that is the verdict of its text
 abbrev pub RefusesBy : RunFault → Option (List ℕ) → Type 0
@@ -104,6 +152,8 @@ RefusesBy BadWords text = Unit {0}
 RefusesBy (BadModel code at) text = IfSome text (λ bytes. IsVerdict bytes (refused code at))
 RefusesBy NoModel text = Unit {0}
 RefusesBy NoSession text = Unit {0}
+RefusesBy NoCertificate text = Unit {0}
 RefusesBy NoOutput text = Unit {0}
 RefusesBy LongSession text = Unit {0}
+RefusesBy LongCertificate text = Unit {0}
 RefusesBy NoMemory text = Unit {0}

@@ -11,7 +11,7 @@ use Rattle.lv_print.specs.Texts.{canonical_model}
 use Rattle.lv_drive.specs.Drives.{drive_text}
 use Rattle.lv_gen.specs.Series.{model_text}
 use Rattle.lv_gen.specs.Session.{session_text}
-use Rattle.lv_words.specs.Words.{Said, runs, prints, generates, drives}
+use Rattle.lv_words.specs.Words.{Said, runs, checks, prints, generates, drives}
 use Rattle.lv_words.specs.declared.commands.Kind.{Kind}
 use Rattle.lv_words.specs.declared.commands.Kind.TheVariants.{Model, Session}
 
@@ -19,6 +19,7 @@ use Rattle.lv_words.specs.declared.commands.Kind.TheVariants.{Model, Session}
 -- a text that is made alone speaks of none
 abbrev pub model_told : (List ℕ → Option (List ℕ)) → Said → Option (List ℕ)
 model_told file (runs model session) = file model
+model_told file (checks model cert) = file model
 model_told file (prints model) = file model
 model_told file (generates kind n) = None
 model_told file (drives n) = Some (model_text n)
@@ -40,16 +41,17 @@ pub record IsPrinted (bytes canonical : List ℕ) : Type 0 where
   pub verdict : IsVerdict bytes (accepted plant)
   pub canonical_is : IsCanonical bytes canonical
 
--- the open of the model's file, and of the session's
+-- the open of the model's file, and of the session's or the certificate's
 abbrev pub model_open : List ℕ → Opened
 model_open name = record { role = OfModel; name = name }
 
-abbrev pub session_open : List ℕ → Opened
-session_open name = record { role = OfSecond; name = name }
+abbrev pub second_open : List ℕ → Opened
+second_open name = record { role = OfSecond; name = name }
 
 -- the opens that a command asks for, in order
 abbrev pub command_opens : Said → List Opened
-command_opens (runs model session) = model_open model ∷ session_open session ∷ []
+command_opens (runs model session) = model_open model ∷ second_open session ∷ []
+command_opens (checks model cert) = model_open model ∷ second_open cert ∷ []
 command_opens (prints model) = model_open model ∷ []
 command_opens (generates kind n) = []
 command_opens (drives n) = []

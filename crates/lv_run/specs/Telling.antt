@@ -1,11 +1,13 @@
 -- What stands on standard error after a call.
 use Rattle.std.specs.Prelude.{◌≡◌, ◌≢◌, ℕ, Bool, true, false, List, ◌++◌, take, Option, Result, Ok, Err, IsTrue}
 use Rattle.std.specs.Io.KnownBytes.{append_known}
+use Rattle.lv_run.specs.declared.status.Ended.{Ended}
 use Rattle.lv_run.specs.declared.status.Status.{Status}
-use Rattle.lv_run.specs.declared.status.Status.TheVariants.{Done, OutputFailed, OutOfMemory}
+use Rattle.lv_run.specs.declared.status.Status.TheVariants.{OutputFailed, OutOfMemory}
 use Rattle.lv_run.specs.declared.fault.RunFault.{RunFault}
-use Rattle.lv_run.specs.declared.fault.RunFault.TheVariants.{WordsRefused as BadWords, ModelRefused as BadModel, ModelUnread as NoModel, SessionUnread as NoSession, OutputFailed as NoOutput, SessionTooLong as LongSession, OutOfMemory as NoMemory}
+use Rattle.lv_run.specs.declared.fault.RunFault.TheVariants.{WordsRefused as BadWords, ModelRefused as BadModel, ModelUnread as NoModel, SessionUnread as NoSession, CertificateUnread as NoCertificate, OutputFailed as NoOutput, SessionTooLong as LongSession, CertificateTooLong as LongCertificate, OutOfMemory as NoMemory}
 use Rattle.lv_run.specs.Faults.{status_of, line_of}
+use Rattle.lv_run.specs.Statuses.{status_ended}
 
 -- no other line is told behind the fault's own
 abbrev pub is_told_alone : RunFault → Bool
@@ -13,8 +15,10 @@ is_told_alone BadWords = false
 is_told_alone (BadModel code line) = false
 is_told_alone NoModel = false
 is_told_alone NoSession = false
+is_told_alone NoCertificate = false
 is_told_alone NoOutput = true
 is_told_alone LongSession = false
+is_told_alone LongCertificate = false
 is_told_alone NoMemory = true
 
 -- a fault was told: its line as a whole, and the call ends with its status; or, where a write failed or found no memory, a
@@ -26,7 +30,7 @@ pub record TellsFault (fault : RunFault) (before after : Option (List ℕ)) (res
   pub alone : IsTrue (is_told_alone fault) → memory ≡ 0
   pub whole : result ≢ OutputFailed → result ≢ OutOfMemory → (after ≡ append_known before (line_of fault)) × (result ≡ status_of fault)
 
--- the same of a run that ended so; a run that is done tells nothing
-abbrev pub Tells : Result (Unit {0}) RunFault → Option (List ℕ) → Option (List ℕ) → Status → Type 0
-Tells (Ok _) before after result = (after ≡ before) × (result ≡ Done)
+-- the same of a run that ended so; a run that no fault ended tells nothing
+abbrev pub Tells : Result Ended RunFault → Option (List ℕ) → Option (List ℕ) → Status → Type 0
+Tells (Ok ended) before after result = (after ≡ before) × (result ≡ status_ended ended)
 Tells (Err fault) before after result = TellsFault fault before after result

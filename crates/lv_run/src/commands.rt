@@ -1,25 +1,24 @@
 //! The commands of the program, each over the names of its files.
 #![tactic(auto)]
 
-ghost use Rattle.std.specs.Prelude.{◌≡◌, ◌≢◌, ◌++◌, ◌∷◌, ◌⊎◌, [], Ok, Err, OnOk, None, Some, List, Option, ℕ, true, IfSome, IsTrue};
-ghost use Rattle.std.specs.Io.KnownBytes.{append_known};
-ghost use Rattle.lv_io.specs.Outside.{HasCause, Rose};
-ghost use Rattle.lv_io.specs.Whole.{AddsFront};
+ghost use Rattle.std.specs.Prelude.{◌≡◌, ◌≢◌, Some, List, Option, ℕ, true, IsTrue};
+ghost use Rattle.lv_io.specs.Outside.{Rose};
 ghost use Rattle.lv_io.specs.declared.Role.{Role};
 ghost use Rattle.lv_io.specs.declared.Role.TheVariants.{Model as OfModel, Second as OfSecond};
 ghost use Rattle.lv_io.specs.Outside.{Opened};
-ghost use Rattle.lv_words.specs.Words.{runs, prints, generates, drives};
+ghost use Rattle.lv_words.specs.Words.{runs, checks, prints, generates, drives};
 ghost use Rattle.lv_run.specs.Faults.{ended_status};
 ghost use Rattle.lv_run.specs.Inputs.{opens_of};
 ghost use Rattle.lv_run.specs.Expected.{Expected, Expects, Meets, Follows, TellsVerdict, is_silent};
 ghost use Rattle.lv_run.specs.Opens.{HasOpened};
 
+use crate::certificate::judge_certificate;
 use crate::fault::RunFault;
 use crate::inputs::{load_canonical, load_model, load_summary, made_text};
 use crate::session::serve_session;
-use crate::status::Status;
-use lv_io::{IoFault, Shelf, Sink, write_all};
-use lv_session::flush_after;
+use crate::status::{Ended, Status};
+use crate::writing::write_text;
+use lv_io::{Shelf, Sink};
 use lv_words::Kind;
 use std::alloc::Global;
 
@@ -30,12 +29,12 @@ pub fn run<F: Shelf, O: Sink>(
     session: &str,
     shelf: &mut F,
     out: &mut O,
-) -> Result<(), RunFault>
+) -> Result<Ended, RunFault>
     // What is expected.
     ensures meets { (e : Expected) → Expects (F.file shelf.old) (Some (runs model.now session.now)) e → Meets e (O.text out.old) (O.text out.new) (ended_status result) }
     ensures follows { Follows (F.file shelf.old) (Some (runs model.now session.now)) (ended_status result) }
     ensures verdict { TellsVerdict (F.file shelf.old) (Some (runs model.now session.now)) result }
-    ensures silent { IsTrue (is_silent (ended_status result)) → O.text out.new ≡ O.text out.old }
+    ensures silent { IsTrue (is_silent (Some (runs model.now session.now)) (ended_status result)) → O.text out.new ≡ O.text out.old }
     ensures flushed { ended_status result ≢ Status.OutputFailed → ended_status result ≢ Status.OutOfMemory → O.is_flushed out.old ≡ true → O.is_flushed out.new ≡ true }
 
     // What is recorded.
@@ -43,13 +42,42 @@ pub fn run<F: Shelf, O: Sink>(
 
     // Whose fault it was.
     ensures model_unread { ended_status result ≡ Status.ModelUnread → Rose (F.faults shelf.old OfModel) (F.faults shelf.new OfModel) }
-    ensures session_unread { ended_status result ≡ Status.SessionUnread → Rose (F.faults shelf.old OfSecond) (F.faults shelf.new OfSecond) }
-    ensures shelf_as_before { ended_status result ≢ Status.ModelUnread → ended_status result ≢ Status.SessionUnread → (r : Role) → F.faults shelf.new r ≡ F.faults shelf.old r }
+    ensures session_unread { ended_status result ≡ Status.SecondUnread → Rose (F.faults shelf.old OfSecond) (F.faults shelf.new OfSecond) }
+    ensures shelf_as_before { ended_status result ≢ Status.ModelUnread → ended_status result ≢ Status.SecondUnread → (r : Role) → F.faults shelf.new r ≡ F.faults shelf.old r }
     ensures output_failed { ended_status result ≡ Status.OutputFailed → Rose (O.faults out.old) (O.faults out.new) }
     ensures out_as_before { ended_status result ≢ Status.OutputFailed → O.faults out.new ≡ O.faults out.old }
 {
     let model = load_model(alloc, shelf, model)?;
     serve_session(alloc, &model, session, shelf, out)
+}
+
+/// Reads a model, then judges a certificate over it, and writes the verdict.
+pub fn check<F: Shelf, O: Sink>(
+    alloc: Global,
+    model: &str,
+    cert: &str,
+    shelf: &mut F,
+    out: &mut O,
+) -> Result<Ended, RunFault>
+    // What is expected.
+    ensures meets { (e : Expected) → Expects (F.file shelf.old) (Some (checks model.now cert.now)) e → Meets e (O.text out.old) (O.text out.new) (ended_status result) }
+    ensures follows { Follows (F.file shelf.old) (Some (checks model.now cert.now)) (ended_status result) }
+    ensures verdict { TellsVerdict (F.file shelf.old) (Some (checks model.now cert.now)) result }
+    ensures silent { IsTrue (is_silent (Some (checks model.now cert.now)) (ended_status result)) → O.text out.new ≡ O.text out.old }
+    ensures flushed { ended_status result ≢ Status.OutputFailed → ended_status result ≢ Status.OutOfMemory → O.is_flushed out.old ≡ true → O.is_flushed out.new ≡ true }
+
+    // What is recorded.
+    ensures opens { HasOpened (opens_of (Some (checks model.now cert.now))) (F.opens shelf.old) (F.opens shelf.new) (ended_status result) }
+
+    // Whose fault it was.
+    ensures model_unread { ended_status result ≡ Status.ModelUnread → Rose (F.faults shelf.old OfModel) (F.faults shelf.new OfModel) }
+    ensures session_unread { ended_status result ≡ Status.SecondUnread → Rose (F.faults shelf.old OfSecond) (F.faults shelf.new OfSecond) }
+    ensures shelf_as_before { ended_status result ≢ Status.ModelUnread → ended_status result ≢ Status.SecondUnread → (r : Role) → F.faults shelf.new r ≡ F.faults shelf.old r }
+    ensures output_failed { ended_status result ≡ Status.OutputFailed → Rose (O.faults out.old) (O.faults out.new) }
+    ensures out_as_before { ended_status result ≢ Status.OutputFailed → O.faults out.new ≡ O.faults out.old }
+{
+    let plant = load_model(alloc, shelf, model)?;
+    judge_certificate(alloc, &plant, cert, shelf, out)
 }
 
 /// Reads a model and writes its canonical text.
@@ -58,12 +86,12 @@ pub fn print<F: Shelf, O: Sink>(
     model: &str,
     shelf: &mut F,
     out: &mut O,
-) -> Result<(), RunFault>
+) -> Result<Ended, RunFault>
     // What is expected.
     ensures meets { (e : Expected) → Expects (F.file shelf.old) (Some (prints model.now)) e → Meets e (O.text out.old) (O.text out.new) (ended_status result) }
     ensures follows { Follows (F.file shelf.old) (Some (prints model.now)) (ended_status result) }
     ensures verdict { TellsVerdict (F.file shelf.old) (Some (prints model.now)) result }
-    ensures silent { IsTrue (is_silent (ended_status result)) → O.text out.new ≡ O.text out.old }
+    ensures silent { IsTrue (is_silent (Some (prints model.now)) (ended_status result)) → O.text out.new ≡ O.text out.old }
     ensures flushed { ended_status result ≢ Status.OutputFailed → ended_status result ≢ Status.OutOfMemory → O.is_flushed out.old ≡ true → O.is_flushed out.new ≡ true }
 
     // What is recorded.
@@ -71,14 +99,14 @@ pub fn print<F: Shelf, O: Sink>(
 
     // Whose fault it was.
     ensures model_unread { ended_status result ≡ Status.ModelUnread → Rose (F.faults shelf.old OfModel) (F.faults shelf.new OfModel) }
-    ensures session_unread { ended_status result ≡ Status.SessionUnread → Rose (F.faults shelf.old OfSecond) (F.faults shelf.new OfSecond) }
-    ensures shelf_as_before { ended_status result ≢ Status.ModelUnread → ended_status result ≢ Status.SessionUnread → (r : Role) → F.faults shelf.new r ≡ F.faults shelf.old r }
+    ensures session_unread { ended_status result ≡ Status.SecondUnread → Rose (F.faults shelf.old OfSecond) (F.faults shelf.new OfSecond) }
+    ensures shelf_as_before { ended_status result ≢ Status.ModelUnread → ended_status result ≢ Status.SecondUnread → (r : Role) → F.faults shelf.new r ≡ F.faults shelf.old r }
     ensures output_failed { ended_status result ≡ Status.OutputFailed → Rose (O.faults out.old) (O.faults out.new) }
     ensures out_as_before { ended_status result ≢ Status.OutputFailed → O.faults out.new ≡ O.faults out.old }
 {
     let canonical = load_canonical(alloc, shelf, model)?;
     write_text(canonical.as_slice(), out)?;
-    Ok(())
+    Ok(Ended::Done)
 }
 
 /// Writes a text that a number stands for.
@@ -87,18 +115,18 @@ pub fn generate<O: Sink>(
     kind: Kind,
     number: u32,
     out: &mut O,
-) -> Result<(), RunFault>
+) -> Result<Ended, RunFault>
     // What is expected, whatever the files.
     ensures meets { (file : List ℕ → Option (List ℕ)) (e : Expected) → Expects file (Some (generates kind number)) e → Meets e (O.text out.old) (O.text out.new) (ended_status result) }
     ensures follows { (file : List ℕ → Option (List ℕ)) → Follows file (Some (generates kind number)) (ended_status result) }
     ensures verdict { (file : List ℕ → Option (List ℕ)) → TellsVerdict file (Some (generates kind number)) result }
-    ensures silent { IsTrue (is_silent (ended_status result)) → O.text out.new ≡ O.text out.old }
+    ensures silent { IsTrue (is_silent (Some (generates kind number)) (ended_status result)) → O.text out.new ≡ O.text out.old }
     ensures flushed { ended_status result ≢ Status.OutputFailed → ended_status result ≢ Status.OutOfMemory → O.is_flushed out.old ≡ true → O.is_flushed out.new ≡ true }
 
     // Nothing is opened or read.
     ensures opens { (opens : List Opened) → HasOpened (opens_of (Some (generates kind number))) opens opens (ended_status result) }
     ensures model_read { ended_status result ≢ Status.ModelUnread }
-    ensures session_read { ended_status result ≢ Status.SessionUnread }
+    ensures session_read { ended_status result ≢ Status.SecondUnread }
 
     // Whose fault it was.
     ensures output_failed { ended_status result ≡ Status.OutputFailed → Rose (O.faults out.old) (O.faults out.new) }
@@ -106,22 +134,22 @@ pub fn generate<O: Sink>(
 {
     let text = made_text(alloc, kind, number)?;
     write_text(text.as_slice(), out)?;
-    Ok(())
+    Ok(Ended::Done)
 }
 
 /// Runs the session of a number over the model of the number, and writes a summary.
-pub fn drive<O: Sink>(alloc: Global, number: u32, out: &mut O) -> Result<(), RunFault>
+pub fn drive<O: Sink>(alloc: Global, number: u32, out: &mut O) -> Result<Ended, RunFault>
     // What is expected, whatever the files.
     ensures meets { (file : List ℕ → Option (List ℕ)) (e : Expected) → Expects file (Some (drives number)) e → Meets e (O.text out.old) (O.text out.new) (ended_status result) }
     ensures follows { (file : List ℕ → Option (List ℕ)) → Follows file (Some (drives number)) (ended_status result) }
     ensures verdict { (file : List ℕ → Option (List ℕ)) → TellsVerdict file (Some (drives number)) result }
-    ensures silent { IsTrue (is_silent (ended_status result)) → O.text out.new ≡ O.text out.old }
+    ensures silent { IsTrue (is_silent (Some (drives number)) (ended_status result)) → O.text out.new ≡ O.text out.old }
     ensures flushed { ended_status result ≢ Status.OutputFailed → ended_status result ≢ Status.OutOfMemory → O.is_flushed out.old ≡ true → O.is_flushed out.new ≡ true }
 
     // Nothing is opened or read.
     ensures opens { (opens : List Opened) → HasOpened (opens_of (Some (drives number))) opens opens (ended_status result) }
     ensures model_read { ended_status result ≢ Status.ModelUnread }
-    ensures session_read { ended_status result ≢ Status.SessionUnread }
+    ensures session_read { ended_status result ≢ Status.SecondUnread }
 
     // Whose fault it was.
     ensures output_failed { ended_status result ≡ Status.OutputFailed → Rose (O.faults out.old) (O.faults out.new) }
@@ -129,16 +157,5 @@ pub fn drive<O: Sink>(alloc: Global, number: u32, out: &mut O) -> Result<(), Run
 {
     let text = load_summary(alloc, number)?;
     write_text(text.as_slice(), out)?;
-    Ok(())
-}
-
-/// Writes a text and flushes what was written.
-fn write_text<O: Sink>(text: &[u8], out: &mut O) -> Result<(), IoFault>
-    ensures text { OnOk result (O.text out.new ≡ append_known (O.text out.old) text.now) }
-    ensures front { AddsFront text.now (O.text out.old) (O.text out.new) }
-    ensures flushed { OnOk result (O.is_flushed out.new ≡ true) }
-    ensures cause { HasCause (O.faults out.old) (O.faults out.new) result }
-{
-    let written = write_all(out, text);
-    flush_after(out, written)
+    Ok(Ended::Done)
 }

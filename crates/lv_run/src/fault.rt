@@ -13,7 +13,7 @@ use lv_serve::ServeFault;
 use lv_words::WordsFault;
 use std::alloc::{AllocError, Global};
 
-/// The line that tells which words are taken, those of commands to come included.
+/// The line that tells which words are taken.
 const USAGE: &str =
     "usage: livingstone run MODEL SESSION, check MODEL CERT, print MODEL, generate KIND N, drive N\n";
 
@@ -28,13 +28,15 @@ pub enum RunFault {
     ModelRefused { code: ModelCode, line: usize },
     ModelUnread,
     SessionUnread,
+    CertificateUnread,
     OutputFailed,
     SessionTooLong,
+    CertificateTooLong,
     OutOfMemory,
 }
 
 /// Adds a number.
-fn push_number(out: &mut Vec<u8>, n: u64) -> Result<(), AllocError>
+pub fn push_number(out: &mut Vec<u8>, n: u64) -> Result<(), AllocError>
     ensures { IfOk result (λ _. out.new.items ≡ out.old.items ++ decimal n) }
 {
     let mut buffer = Buffer::new();
@@ -75,9 +77,11 @@ impl RunFault {
             RunFault::WordsRefused => Status::WordsRefused,
             RunFault::ModelRefused { .. } => Status::ModelRefused,
             RunFault::ModelUnread => Status::ModelUnread,
-            RunFault::SessionUnread => Status::SessionUnread,
+            RunFault::SessionUnread => Status::SecondUnread,
+            RunFault::CertificateUnread => Status::SecondUnread,
             RunFault::OutputFailed => Status::OutputFailed,
-            RunFault::SessionTooLong => Status::SessionTooLong,
+            RunFault::SessionTooLong => Status::SecondTooLong,
+            RunFault::CertificateTooLong => Status::SecondTooLong,
             RunFault::OutOfMemory => Status::OutOfMemory,
         }
     }
@@ -93,8 +97,10 @@ impl RunFault {
             RunFault::ModelRefused { code, line } => model_line(alloc, code, line),
             RunFault::ModelUnread => Vec::from_slice(alloc, b"cannot read model\n"),
             RunFault::SessionUnread => Vec::from_slice(alloc, b"cannot read session\n"),
+            RunFault::CertificateUnread => Vec::from_slice(alloc, b"cannot read certificate\n"),
             RunFault::OutputFailed => Ok(Vec::new(alloc)),
             RunFault::SessionTooLong => Vec::from_slice(alloc, b"session too long\n"),
+            RunFault::CertificateTooLong => Vec::from_slice(alloc, b"certificate too long\n"),
             RunFault::OutOfMemory => Vec::from_slice(alloc, OUT_OF_MEMORY.as_bytes()),
         }
     }

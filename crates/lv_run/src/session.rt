@@ -5,11 +5,11 @@ ghost use Rattle.lv_io.specs.Outside.{Rose};
 ghost use Rattle.lv_io.specs.declared.Role.{Role};
 ghost use Rattle.lv_io.specs.declared.Role.TheVariants.{Second as OfSecond};
 ghost use Rattle.lv_run.specs.Expected.{ServesTold};
-ghost use Rattle.lv_run.specs.Inputs.{session_open, AddsOpens};
+ghost use Rattle.lv_run.specs.Inputs.{second_open, AddsOpens};
 ghost use Rattle.lv_run.specs.Faults.{EndsOpening, EndsSession, ended_status};
 
 use crate::fault::RunFault;
-use crate::status::Status;
+use crate::status::{Ended, Status};
 use lv_io::{IoFault, Role, Shelf, Sink, Slot};
 use lv_model::Model;
 use lv_serve::serve;
@@ -22,25 +22,26 @@ pub fn serve_session<F: Shelf, O: Sink>(
     session: &str,
     shelf: &mut F,
     out: &mut O,
-) -> Result<(), RunFault>
+) -> Result<Ended, RunFault>
     // What was written, and flushed.
     ensures told { (text : List ℕ) → F.file shelf.old session.now ≡ Some text → ServesTold model.now text (O.text out.old) (O.text out.new) result }
+    ensures done { IfOk result (λ ended. ended ≡ Ended.Done) }
     ensures ends { IfErr result EndsSession }
     ensures flushed { ended_status result ≢ Status.OutputFailed → ended_status result ≢ Status.OutOfMemory → O.is_flushed out.old ≡ true → O.is_flushed out.new ≡ true }
 
     // What is recorded.
-    ensures opens { AddsOpens (F.opens shelf.old) (session_open session.now ∷ []) (F.opens shelf.new) }
-    ensures opened { ended_status result ≢ Status.OutOfMemory → F.opens shelf.new ≡ F.opens shelf.old ++ session_open session.now ∷ [] }
+    ensures opens { AddsOpens (F.opens shelf.old) (second_open session.now ∷ []) (F.opens shelf.new) }
+    ensures opened { ended_status result ≢ Status.OutOfMemory → F.opens shelf.new ≡ F.opens shelf.old ++ second_open session.now ∷ [] }
 
     // Whose fault it was.
-    ensures failed { ended_status result ≡ Status.SessionUnread → Rose (F.faults shelf.old OfSecond) (F.faults shelf.new OfSecond) }
-    ensures as_before { ended_status result ≢ Status.SessionUnread → (r : Role) → F.faults shelf.new r ≡ F.faults shelf.old r }
+    ensures failed { ended_status result ≡ Status.SecondUnread → Rose (F.faults shelf.old OfSecond) (F.faults shelf.new OfSecond) }
+    ensures as_before { ended_status result ≢ Status.SecondUnread → (r : Role) → F.faults shelf.new r ≡ F.faults shelf.old r }
     ensures output_failed { ended_status result ≡ Status.OutputFailed → Rose (O.faults out.old) (O.faults out.new) }
     ensures out_as_before { ended_status result ≢ Status.OutputFailed → O.faults out.new ≡ O.faults out.old }
 {
     let slot = open_session(shelf, session)?;
     serve(alloc, model, shelf, slot, out)?;
-    Ok(())
+    Ok(Ended::Done)
 }
 
 /// Opens the session's file.
@@ -51,8 +52,8 @@ fn open_session<F: Shelf>(shelf: &mut F, name: &str) -> Result<Slot, RunFault>
     ensures ends { IfErr result EndsOpening }
 
     // What is recorded.
-    ensures opens { AddsOpens (F.opens shelf.old) (session_open name.now ∷ []) (F.opens shelf.new) }
-    ensures opened { result ≢ Err RunFault.OutOfMemory → F.opens shelf.new ≡ F.opens shelf.old ++ session_open name.now ∷ [] }
+    ensures opens { AddsOpens (F.opens shelf.old) (second_open name.now ∷ []) (F.opens shelf.new) }
+    ensures opened { result ≢ Err RunFault.OutOfMemory → F.opens shelf.new ≡ F.opens shelf.old ++ second_open name.now ∷ [] }
 
     // Whose fault it was.
     ensures failed { result ≡ Err RunFault.SessionUnread → Rose (F.faults shelf.old OfSecond) (F.faults shelf.new OfSecond) }

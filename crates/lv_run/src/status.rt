@@ -1,7 +1,16 @@
-//! How a call of the program ends: one status, with its number.
+//! How a run comes out where no fault ends it, and how a call of the program ends: one status, with its number.
 
 ghost use Rattle.std.specs.Prelude.{◌≡◌};
-ghost use Rattle.lv_run.specs.Statuses.{code_of};
+ghost use Rattle.lv_run.specs.Statuses.{code_of, status_ended};
+
+/// How a run that no fault ended came out.
+#[derive(Clone, Copy, Debug, PartialEq, Eq)]
+pub enum Ended {
+    /// What the words ask for was done. A certificate that was checked is valid.
+    Done,
+    /// The certificate that was checked is not valid.
+    Invalid,
+}
 
 /// How a call of the program ended.
 #[derive(Clone, Copy, Debug, PartialEq, Eq)]
@@ -14,14 +23,28 @@ pub enum Status {
     ModelRefused,
     /// The model's file could not be opened or read.
     ModelUnread,
-    /// The session's file could not be opened or read.
-    SessionUnread,
+    /// The second file, the session's or the certificate's, could not be opened or read.
+    SecondUnread,
     /// Standard output or standard error could not be written or flushed.
     OutputFailed,
-    /// The session is longer than its limit.
-    SessionTooLong,
+    /// The session or the certificate is longer than its limit.
+    SecondTooLong,
     /// Memory was wanting.
     OutOfMemory,
+    /// The certificate is not valid.
+    Invalid,
+}
+
+impl Ended {
+    /// The status that a call ends with.
+    pub fn status(self) -> Status
+        ensures { result ≡ status_ended self }
+    {
+        match self {
+            Ended::Done => Status::Done,
+            Ended::Invalid => Status::Invalid,
+        }
+    }
 }
 
 impl Status {
@@ -34,10 +57,11 @@ impl Status {
             Status::WordsRefused => 2,
             Status::ModelRefused => 3,
             Status::ModelUnread => 4,
-            Status::SessionUnread => 5,
+            Status::SecondUnread => 5,
             Status::OutputFailed => 6,
-            Status::SessionTooLong => 7,
+            Status::SecondTooLong => 7,
             Status::OutOfMemory => 8,
+            Status::Invalid => 9,
         }
     }
 }

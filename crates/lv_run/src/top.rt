@@ -12,12 +12,15 @@ ghost use Rattle.lv_run.specs.Expected.{Expected, Expects, status_expected, Meet
 ghost use Rattle.lv_run.specs.Opens.{HasOpened};
 ghost use Rattle.lv_run.specs.Telling.{Tells};
 ghost use Rattle.lv_session.specs.Transcript.{AddsTranscript};
-ghost use Rattle.lv_run.specs.Top.{Asks, AsksForText, HasNoFault, TellsOwnEnd};
+ghost use Rattle.lv_run.specs.Top.{Asks, AsksToCheck, AsksForText, HasNoFault, TellsItsVerdict, TellsOwnEnd};
+ghost use Rattle.lv_run.specs.Judged.{verdict_status};
+ghost use Rattle.lv_certcheck.specs.Verdicts.{IsVerdictOn};
+ghost use Rattle.lv_certcheck.specs.declared.check.Verdict.{Verdict};
 ghost use Rattle.lv_model.specs.declared.plant.Plant.{Plant};
 
-use crate::commands::{drive, generate, print, run};
+use crate::commands::{check, drive, generate, print, run};
 use crate::fault::RunFault;
-use crate::status::Status;
+use crate::status::{Ended, Status};
 use crate::telling::report;
 use lv_io::{Shelf, Sink};
 use lv_words::{Command, read_words};
@@ -42,6 +45,16 @@ pub fn livingstone<F: Shelf, O: Sink, E: Sink>(
         → HasNoFault (F.faults shelf.old) (F.faults shelf.new) (O.faults out.old) (O.faults out.new) (E.faults err.old) (E.faults err.new)
         → (result ≡ Status.Done) ⊎ (result ≡ Status.OutOfMemory) }
 
+    // A check writes `valid` with status 0 exactly where the certificate is valid for the model, else `invalid LINE` with
+    // the first bad line and status 9.
+    ensures checked { (plant : Plant) (certificate : List ℕ) → AsksToCheck (F.file shelf.old) (map string_bytes words.items) plant certificate
+        → (result ≡ Status.Done) ⊎ (result ≡ Status.Invalid)
+        → TellsItsVerdict plant certificate (O.text out.old) (O.text out.new) result × (E.text err.new ≡ E.text err.old) }
+    ensures judged { (plant : Plant) (certificate : List ℕ) (verdict : Verdict) → AsksToCheck (F.file shelf.old) (map string_bytes words.items) plant certificate
+        → IsVerdictOn plant certificate verdict
+        → HasNoFault (F.faults shelf.old) (F.faults shelf.new) (O.faults out.old) (O.faults out.new) (E.faults err.old) (E.faults err.new)
+        → (result ≡ verdict_status verdict) ⊎ (result ≡ Status.OutOfMemory) }
+
     // The same of a text that the words ask for, the canonical text of a model, one made for a number, or a summary: what
     // is written is that text.
     ensures written { (text : List ℕ) → AsksForText (F.file shelf.old) (map string_bytes words.items) text → result ≡ Status.Done
@@ -63,7 +76,7 @@ pub fn livingstone<F: Shelf, O: Sink, E: Sink>(
         → result ≢ Status.OutputFailed → result ≢ Status.OutOfMemory → result ≡ Status.ModelRefused }
 
     // What was written otherwise, and flushed. The line on standard error is of what this call came to.
-    ensures silent { IsTrue (is_silent result) → O.text out.new ≡ O.text out.old }
+    ensures silent { IsTrue (is_silent (command_of (map string_bytes words.items)) result) → O.text out.new ≡ O.text out.old }
     ensures told { TellsOwnEnd (F.file shelf.old) (command_of (map string_bytes words.items)) (O.text out.old) (O.text out.new) (E.text err.old) (E.text err.new) result }
     ensures out_flushed { result ≢ Status.OutputFailed → result ≢ Status.OutOfMemory → O.is_flushed out.old ≡ true → O.is_flushed out.new ≡ true }
     ensures err_flushed { result ≢ Status.OutputFailed → result ≢ Status.OutOfMemory → E.is_flushed err.old ≡ true → E.is_flushed err.new ≡ true }
@@ -73,7 +86,7 @@ pub fn livingstone<F: Shelf, O: Sink, E: Sink>(
 
     // Whose fault it was.
     ensures model_unread { result ≡ Status.ModelUnread → Rose (F.faults shelf.old OfModel) (F.faults shelf.new OfModel) }
-    ensures session_unread { result ≡ Status.SessionUnread → Rose (F.faults shelf.old OfSecond) (F.faults shelf.new OfSecond) }
+    ensures session_unread { result ≡ Status.SecondUnread → Rose (F.faults shelf.old OfSecond) (F.faults shelf.new OfSecond) }
     ensures output_failed { result ≡ Status.OutputFailed
         → (Rose (O.faults out.old) (O.faults out.new) × (E.text err.new ≡ E.text err.old)) ⊎ Rose (E.faults err.old) (E.faults err.new) }
     ensures shelf_as_before { IsTrue (keeps_shelf result) → (r : Role) → F.faults shelf.new r ≡ F.faults shelf.old r }
@@ -85,7 +98,7 @@ pub fn livingstone<F: Shelf, O: Sink, E: Sink>(
 }
 
 /// Tells how a run ended, if a fault did, and answers the status that the call ends with.
-fn tell_end<E: Sink>(alloc: Global, ended: Result<(), RunFault>, err: &mut E) -> Status
+fn tell_end<E: Sink>(alloc: Global, ended: Result<Ended, RunFault>, err: &mut E) -> Status
     // Which status.
     ensures status { result ≢ Status.OutputFailed → result ≢ Status.OutOfMemory → result ≡ ended_status ended }
     ensures output { ended_status ended ≡ Status.OutputFailed → result ≡ Status.OutputFailed }
@@ -100,7 +113,7 @@ fn tell_end<E: Sink>(alloc: Global, ended: Result<(), RunFault>, err: &mut E) ->
     ensures as_before { result ≢ Status.OutputFailed → E.faults err.new ≡ E.faults err.old }
 {
     match ended {
-        Ok(()) => Status::Done,
+        Ok(ended) => ended.status(),
         Err(fault) => report(alloc, fault, err),
     }
 }
@@ -111,12 +124,12 @@ fn carry_out<F: Shelf, O: Sink>(
     words: &[String],
     shelf: &mut F,
     out: &mut O,
-) -> Result<(), RunFault>
+) -> Result<Ended, RunFault>
     // What is expected.
     ensures meets { (e : Expected) → Expects (F.file shelf.old) (command_of (map string_bytes words.now)) e → Meets e (O.text out.old) (O.text out.new) (ended_status result) }
     ensures follows { Follows (F.file shelf.old) (command_of (map string_bytes words.now)) (ended_status result) }
     ensures verdict { TellsVerdict (F.file shelf.old) (command_of (map string_bytes words.now)) result }
-    ensures silent { IsTrue (is_silent (ended_status result)) → O.text out.new ≡ O.text out.old }
+    ensures silent { IsTrue (is_silent (command_of (map string_bytes words.now)) (ended_status result)) → O.text out.new ≡ O.text out.old }
     ensures flushed { ended_status result ≢ Status.OutputFailed → ended_status result ≢ Status.OutOfMemory → O.is_flushed out.old ≡ true → O.is_flushed out.new ≡ true }
 
     // What is recorded.
@@ -124,8 +137,8 @@ fn carry_out<F: Shelf, O: Sink>(
 
     // Whose fault it was.
     ensures model_unread { ended_status result ≡ Status.ModelUnread → Rose (F.faults shelf.old OfModel) (F.faults shelf.new OfModel) }
-    ensures session_unread { ended_status result ≡ Status.SessionUnread → Rose (F.faults shelf.old OfSecond) (F.faults shelf.new OfSecond) }
-    ensures shelf_as_before { ended_status result ≢ Status.ModelUnread → ended_status result ≢ Status.SessionUnread → (r : Role) → F.faults shelf.new r ≡ F.faults shelf.old r }
+    ensures session_unread { ended_status result ≡ Status.SecondUnread → Rose (F.faults shelf.old OfSecond) (F.faults shelf.new OfSecond) }
+    ensures shelf_as_before { ended_status result ≢ Status.ModelUnread → ended_status result ≢ Status.SecondUnread → (r : Role) → F.faults shelf.new r ≡ F.faults shelf.old r }
     ensures output_failed { ended_status result ≡ Status.OutputFailed → Rose (O.faults out.old) (O.faults out.new) }
     ensures out_as_before { ended_status result ≢ Status.OutputFailed → O.faults out.new ≡ O.faults out.old }
 {
@@ -133,6 +146,7 @@ fn carry_out<F: Shelf, O: Sink>(
         Command::Run { model, session } => {
             run(alloc, model.as_str(), session.as_str(), shelf, out)
         }
+        Command::Check { model, cert } => check(alloc, model.as_str(), cert.as_str(), shelf, out),
         Command::Print { model } => print(alloc, model.as_str(), shelf, out),
         Command::Generate { kind, number } => generate(alloc, kind, number, out),
         Command::Drive { number } => drive(alloc, number, out),

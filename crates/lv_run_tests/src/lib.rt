@@ -1,5 +1,9 @@
-//! Tests of whole calls.
+//! Tests of whole calls of the program.
 #![tactic(auto)]
 
+#[cfg(test)]
+mod calls;
+#[cfg(test)]
+mod checks;
 #[cfg(test)]
 mod whole_calls;

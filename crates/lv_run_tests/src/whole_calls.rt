@@ -2,36 +2,9 @@
 //! memory, and what the texts of the examples are.
 #![tactic(auto)]
 
-use lv_io::{MemShelf, MemSink, Role};
-use lv_run::{Status, livingstone};
+use crate::calls::{Call, USAGE, carried_out, ends_so, ends_so_in_pieces, faultless};
+use lv_run::Status;
 use std::alloc::{AllocError, Global};
-
-/// A valve that follows its command or is stuck, with its inflow present.
-const VALVE: &str = "model valve
-domain flow zero some
-domain order none open close
-type valve
-control cmd order
-variable inn flow
-observable out flow
-mode closed
-mode open
-mode stuck_closed
-mode stuck_open
-in closed out = zero
-in open out = inn
-in stuck_closed out = zero
-in stuck_open out = inn
-step closed -> open when cmd = open
-step open -> closed when cmd = close
-fault closed -> stuck_closed cost 3
-fault open -> stuck_open cost 5
-fault open -> stuck_closed cost 4
-fault closed -> stuck_open cost 8
-end
-part v valve closed
-law v.inn = some
-";
 
 /// The valve's canonical text.
 const CANONICAL: &str = "model valve
@@ -72,106 +45,6 @@ const AT_REST: &str = "settled 3
 2 cost 3 from 1: v closed>stuck_closed #3
 3 cost 8 from 1: v closed>stuck_open #6
 ";
-
-const USAGE: &str =
-    "usage: livingstone run MODEL SESSION, check MODEL CERT, print MODEL, generate KIND N, drive N
-";
-
-/// A call: its words, the session's text, how many bytes of a file come at a time, and the numbers of the calls on the
-/// shelf and on the output that fail. Where all comes at once, the first three on the shelf open and read the model, the
-/// next three the session.
-#[derive(Clone, Copy)]
-struct Call<'a> {
-    words: &'a [&'a str],
-    session: &'a [u8],
-    piece: usize,
-    shelf_fails: &'a [u64],
-    out_fails: &'a [u64],
-    err_fails: &'a [u64],
-}
-
-/// A call of these words over this session, in which nothing fails.
-fn faultless<'a>(words: &'a [&'a str], session: &'a str) -> Call<'a> {
-    Call {
-        words,
-        session: session.as_bytes(),
-        piece: 4096,
-        shelf_fails: &[],
-        out_fails: &[],
-        err_fails: &[],
-    }
-}
-
-/// What a call came to.
-#[derive(Drop)]
-struct Outcome {
-    status: Status,
-    out: MemSink,
-    err: MemSink,
-    shelf: MemShelf,
-}
-
-fn file(alloc: Global, name: &str, text: &[u8]) -> Result<(String, Vec<u8>), AllocError> {
-    Ok((
-        String::from_str(alloc, name)?,
-        Vec::from_slice(alloc, text)?,
-    ))
-}
-
-fn carried_out(alloc: Global, call: &Call<'_>) -> Result<Outcome, AllocError> {
-    let mut files = Vec::new(alloc);
-    files.push(file(alloc, "valve.lv", VALVE.as_bytes())?)?;
-    files.push(file(alloc, "bad.lv", b"no model\n")?)?;
-    files.push(file(alloc, "a.ses", call.session)?)?;
-    let mut words = Vec::new(alloc);
-    for word in call.words {
-        words.push(String::from_str(alloc, word)?)?;
-    }
-    let shelf_fails = Vec::from_slice(alloc, call.shelf_fails)?;
-    let mut shelf = MemShelf::new(alloc, files, call.piece, shelf_fails);
-    let mut out = MemSink::new(alloc, 4096, Vec::from_slice(alloc, call.out_fails)?);
-    let mut err = MemSink::new(alloc, 7, Vec::from_slice(alloc, call.err_fails)?);
-    let status = livingstone(alloc, words, &mut shelf, &mut out, &mut err);
-    Ok(Outcome {
-        status,
-        out,
-        err,
-        shelf,
-    })
-}
-
-/// Whether a call ends with this status and these texts on the output and on standard error, and a count of the shelf
-/// rises just where the status tells of it.
-fn ends_so(
-    alloc: Global,
-    call: &Call<'_>,
-    status: Status,
-    out: &str,
-    err: &str,
-) -> Result<bool, AllocError> {
-    let outcome = carried_out(alloc, call)?;
-    let model_failed = outcome.shelf.faults(Role::Model) > 0;
-    let session_failed = outcome.shelf.faults(Role::Second) > 0;
-    Ok(
-        outcome.status == status
-            && outcome.out.text() == out.as_bytes()
-            && outcome.err.text() == err.as_bytes()
-            && model_failed == (status == Status::ModelUnread)
-            && session_failed == (status == Status::SessionUnread),
-    )
-}
-
-/// Whether a run ends so where all comes at once and where each byte comes alone.
-fn ends_so_in_pieces(
-    alloc: Global,
-    call: &Call<'_>,
-    status: Status,
-    out: &str,
-    err: &str,
-) -> Result<bool, AllocError> {
-    let alone = Call { piece: 1, ..*call };
-    Ok(ends_so(alloc, call, status, out, err)? && ends_so(alloc, &alone, status, out, err)?)
-}
 
 const RUN: &[&str] = &["livingstone", "run", "valve.lv", "a.ses"];
 
@@ -220,7 +93,7 @@ fn names_behind_dashes(rt: HostRuntime) -> Result<(), AllocError> {
         ends_so(
             rt.alloc(),
             &call,
-            Status::SessionUnread,
+            Status::SecondUnread,
             "",
             "cannot read session\n"
         )?
@@ -304,7 +177,7 @@ fn session_that_is_not_there(rt: HostRuntime) -> Result<(), AllocError> {
         ends_so(
             rt.alloc(),
             &call,
-            Status::SessionUnread,
+            Status::SecondUnread,
             "",
             "cannot read session\n"
         )?
@@ -322,7 +195,7 @@ fn failed_read_of_the_session(rt: HostRuntime) -> Result<(), AllocError> {
         ends_so(
             rt.alloc(),
             &call,
-            Status::SessionUnread,
+            Status::SecondUnread,
             "",
             "cannot read session\n"
         )?
@@ -408,7 +281,7 @@ fn failed_read_at_the_end(rt: HostRuntime) -> Result<(), AllocError> {
         ends_so(
             alloc,
             &ended,
-            Status::SessionUnread,
+            Status::SecondUnread,
             COMMANDED,
             "cannot read session\n"
         )?
@@ -421,7 +294,7 @@ fn failed_read_at_the_end(rt: HostRuntime) -> Result<(), AllocError> {
         ends_so(
             alloc,
             &torn,
-            Status::SessionUnread,
+            Status::SecondUnread,
             "ok\n",
             "cannot read session\n"
         )?
@@ -445,19 +318,19 @@ fn line_that_is_too_long(rt: HostRuntime) -> Result<(), AllocError> {
     let alloc = rt.alloc();
     let long = long_comment(alloc, 4097, "\n")?;
     let call = Call {
-        session: long.as_slice(),
+        second: long.as_slice(),
         ..faultless(RUN, "")
     };
     assert!(rt; ends_so_in_pieces(alloc, &call, Status::Done, "error S15\nerror S01\n", "")?);
     let fits = long_comment(alloc, 4096, "\r\n")?;
     let call = Call {
-        session: fits.as_slice(),
+        second: fits.as_slice(),
         ..faultless(RUN, "")
     };
     assert!(rt; ends_so_in_pieces(alloc, &call, Status::Done, "error S01\n", "")?);
     let longer = long_comment(alloc, 4096, "\r#\n")?;
     let call = Call {
-        session: longer.as_slice(),
+        second: longer.as_slice(),
         ..faultless(RUN, "")
     };
     assert!(rt; ends_so_in_pieces(alloc, &call, Status::Done, "error S15\nerror S01\n", "")?);

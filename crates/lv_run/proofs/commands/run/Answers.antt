@@ -3,8 +3,9 @@ use Rattle.std.proofs.Common.{ℕ, subst, ◌∙◌}
 use Rattle.lv_io.specs.Outside.{Rose}
 use Rattle.lv_io.specs.declared.Role.TheVariants.{Second}
 use Rattle.lv_words.specs.Words.{runs}
-use Rattle.lv_run.proofs.OpenLemmas.{opened_at_model, opened_at_session}
-use Rattle.lv_run.proofs.ExpectedLemmas.{ended_at_model, follows_at_model, served_meets, served_follows, served_verdict, served_loud, served_no_model}
+use Rattle.lv_run.proofs.OpenLemmas.{opened_at_model, opened_at_second}
+use Rattle.lv_run.proofs.SecondLemmas.{session_ends}
+use Rattle.lv_run.proofs.ExpectedLemmas.{ended_at_model, follows_at_model, served_meets, served_follows, served_verdict, served_silent, second_no_model}
 use Rattle.lv_run.proofs.commands.run.Goals as goal
 
 pub returns-in_err-model-clause-meets : goal.returns-in_err-model-clause-meets
@@ -29,21 +30,24 @@ returns-clause-meets g c =
 
 pub returns-clause-follows : goal.returns-clause-follows
 returns-clause-follows g c =
-    served_follows (g.F.Shelf.file c.args.shelf.now) c.args.model.now c.args.session.now _ c.serve_session.result c.in_ok-model.ensures.model c.serve_session.ensures.ends
+    served_follows (g.F.Shelf.file c.args.shelf.now) c.args.model.now c.args.session.now _ c.serve_session.result c.in_ok-model.ensures.model
+    c.serve_session.ensures.done c.serve_session.ensures.ends
 
 pub returns-clause-verdict : goal.returns-clause-verdict
-returns-clause-verdict g c = served_verdict _ _ c.serve_session.result c.serve_session.ensures.ends
+returns-clause-verdict g c =
+    served_verdict (g.F.Shelf.file c.args.shelf.now) c.args.model.now c.args.session.now c.serve_session.result c.serve_session.ensures.done c.serve_session.ensures.ends
 
 pub returns-clause-silent : goal.returns-clause-silent
-returns-clause-silent g c = served_loud c.serve_session.result c.serve_session.ensures.ends
+returns-clause-silent g c =
+    served_silent c.args.model.now c.args.session.now c.serve_session.result _ _ c.serve_session.ensures.ends
 
 pub returns-clause-opens : goal.returns-clause-opens
 returns-clause-opens g c =
-    opened_at_session _ _ _ _ _ c.serve_session.result c.serve_session.ensures.ends
+    opened_at_second _ _ _ _ _ c.serve_session.result (session_ends c.serve_session.result c.serve_session.ensures.ends)
     (c.in_ok-model.ensures.opened (λ e. cc)) c.serve_session.ensures.opens c.serve_session.ensures.opened
 
 pub returns-clause-model_unread : goal.returns-clause-model_unread
-returns-clause-model_unread g c = λ e. absurd (served_no_model c.serve_session.result c.serve_session.ensures.ends e)
+returns-clause-model_unread g c = λ e. absurd (second_no_model c.serve_session.result (session_ends c.serve_session.result c.serve_session.ensures.ends) e)
 
 pub returns-clause-session_unread : goal.returns-clause-session_unread
 returns-clause-session_unread g c =

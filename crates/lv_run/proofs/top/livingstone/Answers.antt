@@ -3,18 +3,18 @@ use Rattle.std.proofs.Common.{sym, ◌∙◌, map, subst, Global}
 use Rattle.std.specs.Prelude.{string_bytes}
 use Rattle.lv_words.specs.Words.{command_of}
 use Rattle.lv_run.specs.Inputs.{opens_of}
-use Rattle.lv_run.specs.Expected.{Meets, serves, shows}
+use Rattle.lv_run.specs.Expected.{Meets, serves, judges, shows}
 use Rattle.lv_run.specs.Faults.{ended_status}
 use Rattle.lv_run.specs.declared.status.Status.{Status}
-use Rattle.lv_run.proofs.TopLemmas.{reported_meets, status_due, expected_run, expected_text, ended_done, output_cause}
+use Rattle.lv_run.proofs.TopLemmas.{reported_meets, status_due, expected_run, expected_check, expected_text, told_verdict, ended_done, output_cause}
 use Rattle.lv_run.proofs.OpenLemmas.{all_opened}
 use Rattle.lv_run.proofs.top.livingstone.Goals as goal
 
 pub returns-clause-meets : goal.returns-clause-meets
 returns-clause-meets g c =
-    λ e expects. reported_meets e _ _ (ended_status c.carry_out-ended.result) c.tell_end.result
+    λ e expects. reported_meets (command_of (map (string_bytes {Z = Global}) c.args.words.items)) e _ _ (ended_status c.carry_out-ended.result) c.tell_end.result
     c.tell_end.ensures.status
-    c.carry_out-ended.ensures.silent ((rw c.as_slice.ensures.value at c.carry_out-ended.ensures.meets) e expects)
+    (rw c.as_slice.ensures.value at c.carry_out-ended.ensures.silent) ((rw c.as_slice.ensures.value at c.carry_out-ended.ensures.meets) e expects)
 
 pub returns-clause-output_failed : goal.returns-clause-output_failed
 returns-clause-output_failed g c =
@@ -59,3 +59,14 @@ pub returns-clause-writes : goal.returns-clause-writes
 returns-clause-writes g c =
     λ text asks none. returns-clause-exact g c (shows text)
     (expected_text (g.F.Shelf.file c.args.shelf.now) (map (string_bytes {Z = Global}) c.args.words.items) text asks) none
+
+pub returns-clause-checked : goal.returns-clause-checked
+returns-clause-checked g c =
+    λ plant certificate asks is. told_verdict (g.F.Shelf.file c.args.shelf.now) (map (string_bytes {Z = Global}) c.args.words.items) plant certificate
+    c.carry_out-ended.result _ _ _ _ c.tell_end.result c.tell_end.ensures.status
+    (rw c.as_slice.ensures.value at c.carry_out-ended.ensures.verdict) c.tell_end.ensures.told (returns-clause-meets g c) asks is
+
+pub returns-clause-judged : goal.returns-clause-judged
+returns-clause-judged g c =
+    λ plant certificate verdict asks is none. returns-clause-exact g c (judges verdict)
+    (expected_check (g.F.Shelf.file c.args.shelf.now) (map (string_bytes {Z = Global}) c.args.words.items) plant certificate verdict asks is) none
