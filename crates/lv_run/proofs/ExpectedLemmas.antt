@@ -32,7 +32,7 @@ use Rattle.lv_run.specs.Expected.{Expected, serves, overruns, judges, exceeds, s
 use Rattle.lv_run.specs.declared.status.Ended.{Ended}
 use Rattle.lv_run.specs.declared.status.Ended.TheVariants.{Done as AllDone, Invalid as NotValid}
 use Rattle.lv_run.specs.declared.status.Status.{Status}
-use Rattle.lv_run.specs.declared.status.Status.TheVariants.{Done, WordsRefused, ModelRefused, ModelUnread, SecondUnread, OutputFailed, SecondTooLong, OutOfMemory, Invalid}
+use Rattle.lv_run.specs.declared.status.Status.TheVariants.{Done, WordsRefused, ModelRefused, ModelUnread, SecondUnread, OutputFailed, SecondTooLong, OutOfMemory}
 use Rattle.lv_run.specs.declared.fault.RunFault.{RunFault}
 use Rattle.lv_run.specs.declared.fault.RunFault.TheVariants.{WordsRefused as BadWords, ModelRefused as BadModel, ModelUnread as NoModel, SessionUnread as NoSession, CertificateUnread as NoCertificate, OutputFailed as NoOutput, SessionTooLong as LongSession, CertificateTooLong as LongCertificate, OutOfMemory as NoMemory}
 use Rattle.lv_run.proofs.VerdictLemmas.{not_both, same_plant, same_refusal, same_canonical, verdict_is_one}
@@ -42,7 +42,7 @@ pub some_weaker : {A : Type 0} {P Q : A → Type 0} (o : Option A) → ((x : A) 
 some_weaker None goes given = tt
 some_weaker (Some x) goes given = goes x given
 
-of_told : (P : List ℕ → Type 0) (told : Option (List ℕ)) (text : List ℕ) → told ≡ Some text → IfSome told P → P text
+pub of_told : (P : List ℕ → Type 0) (told : Option (List ℕ)) (text : List ℕ) → told ≡ Some text → IfSome told P → P text
 of_told P told text is given = subst (λ (o : Option (List ℕ)). IfSome o P) is given
 
 pub err_handed_on : (result : Result Ended RunFault) (fault : RunFault) → IsErrAnd result (λ e. e ≡ fault) → ended_status result ≡ status_of fault
@@ -343,10 +343,10 @@ served_verdict file model session (Ok x) done ends = record { command = runs mod
 served_verdict file model session (Err BadWords) done ends = absurd ends
 served_verdict file model session (Err (BadModel code line)) done ends = absurd ends
 served_verdict file model session (Err NoModel) done ends = absurd ends
-served_verdict file model session (Err NoSession) done ends = tt
+served_verdict file model session (Err NoSession) done ends = refl
 served_verdict file model session (Err NoCertificate) done ends = absurd ends
 served_verdict file model session (Err NoOutput) done ends = tt
-served_verdict file model session (Err LongSession) done ends = tt
+served_verdict file model session (Err LongSession) done ends = refl
 served_verdict file model session (Err LongCertificate) done ends = absurd ends
 served_verdict file model session (Err NoMemory) done ends = tt
 
@@ -458,10 +458,10 @@ judged_verdict file later model cert plant before after (Err BadWords) same has 
 judged_verdict file later model cert plant before after (Err (BadModel code line)) same has told ends = absurd ends
 judged_verdict file later model cert plant before after (Err NoModel) same has told ends = absurd ends
 judged_verdict file later model cert plant before after (Err NoSession) same has told ends = absurd ends
-judged_verdict file later model cert plant before after (Err NoCertificate) same has told ends = tt
+judged_verdict file later model cert plant before after (Err NoCertificate) same has told ends = refl
 judged_verdict file later model cert plant before after (Err NoOutput) same has told ends = tt
 judged_verdict file later model cert plant before after (Err LongSession) same has told ends = absurd ends
-judged_verdict file later model cert plant before after (Err LongCertificate) same has told ends = tt
+judged_verdict file later model cert plant before after (Err LongCertificate) same has told ends = refl
 judged_verdict file later model cert plant before after (Err NoMemory) same has told ends = tt
 
 pub judged_follows : (file : List ℕ → Option (List ℕ)) (model cert : List ℕ) (plant : Plant) (result : Result Ended RunFault)

@@ -1,7 +1,6 @@
 -- A certificate that the shelf tells, from what was read and judged of it.
 use Rattle.std.proofs.Common.{◌≡◌, ◌∙◌, ℕ, ◌<◌, ◌≤◌, List, length, Option, Some, Result, Ok, Err, refl, sym, ap, subst, arith}
 use Rattle.std.specs.Prelude.{IfSome, IfErr, IsErrAnd}
-use Rattle.std.specs.Io.KnownBytes.{append_known}
 use Rattle.lv_base.specs.declared.limits.TheConstants.{CERTIFICATE_BYTES}
 use Rattle.lv_io.specs.Whole.{AddsFront, IsLonger}
 use Rattle.lv_io.specs.declared.IoFault.{IoFault}
@@ -10,11 +9,10 @@ use Rattle.lv_model.specs.declared.plant.Plant.{Plant}
 use Rattle.lv_session.proofs.Writing.{no_front}
 use Rattle.lv_certcheck.specs.Verdicts.{IsVerdictOn}
 use Rattle.lv_certcheck.specs.declared.check.Verdict.{Verdict}
-use Rattle.lv_run.specs.Judged.{verdict_line, verdict_end, AddsVerdictFront, JudgesTold}
+use Rattle.lv_run.specs.Judged.{verdict_line, AddsVerdictFront, JudgesTold}
 use Rattle.lv_run.specs.Faults.{EndsReading, EndsWriting, EndsCheck, ended_status, fault_of_sink}
 use Rattle.lv_run.specs.declared.status.Ended.{Ended}
 use Rattle.lv_run.specs.declared.status.Ended.TheVariants.{Done as AllDone, Invalid as NotValid}
-use Rattle.lv_run.specs.declared.status.Status.{Status}
 use Rattle.lv_run.specs.declared.status.Status.TheVariants.{SecondUnread, SecondTooLong}
 use Rattle.lv_run.specs.declared.fault.RunFault.{RunFault}
 use Rattle.lv_run.specs.declared.fault.RunFault.TheVariants.{WordsRefused as BadWords, ModelRefused as BadModel, ModelUnread as NoModel, SessionUnread as NoSession, CertificateUnread as NoCertificate, OutputFailed as NoOutput, SessionTooLong as LongSession, CertificateTooLong as LongCertificate, OutOfMemory as NoMemory}
@@ -62,7 +60,9 @@ pub unread_told : {T : Type 0} (plant : Plant) (text : List ℕ) (told out : Opt
     → JudgesTold plant text out out result
 unread_told {T} plant text told out result fault handed ends long is =
     handed_on plant text out out result fault handed
-    (unread plant text out fault ends (λ e. longer told text is (long (ap (λ (f : RunFault). Err {T = T} f) e))))
+    (unread plant text out fault ends (λ e.
+    let same : ◌≡◌ {A = Result T RunFault} (Err fault) (Err LongCertificate) = cc in
+    longer told text is (long same)))
 
 -- what was told of the bytes that were read is told of the text
 pub read_told : (plant : Plant) (text bytes : List ℕ) (told before after : Option (List ℕ)) (result : Result Ended RunFault)
@@ -74,11 +74,6 @@ pub read_told : (plant : Plant) (text bytes : List ℕ) (told before after : Opt
 read_told plant text bytes told before after result same within judged is =
     let one : text ≡ bytes = subst (λ (o : Option (List ℕ)). IfSome o (λ t. t ≡ bytes)) is same in
     subst (λ (t : List ℕ). JudgesTold plant t before after result) (sym one) (judged within)
-
-pub none_told : (plant : Plant) (text : List ℕ) (out : Option (List ℕ)) (result : Result Ended RunFault)
-    → IsErrAnd result (λ e. e ≡ NoMemory)
-    → JudgesTold plant text out out result
-none_told plant text out result handed = handed_on plant text out out result NoMemory handed (nothing plant text out)
 
 -- a front of the verdict's line was written
 partly : (plant : Plant) (text : List ℕ) (verdict : Verdict) (line : List ℕ) (before after : Option (List ℕ))
@@ -108,17 +103,6 @@ partly_told plant text verdict line before after result Failed handed is tells a
     handed_on plant text before after result NoOutput handed (partly plant text verdict line before after is tells added within)
 partly_told plant text verdict line before after result Memory handed is tells added within =
     handed_on plant text before after result NoMemory handed (partly plant text verdict line before after is tells added within)
-
--- the verdict was written
-pub whole_told : (plant : Plant) (text : List ℕ) (verdict : Verdict) (line : List ℕ) (before after : Option (List ℕ)) (ended : Ended)
-    → IsVerdictOn plant text verdict
-    → line ≡ verdict_line verdict
-    → ended ≡ verdict_end verdict
-    → after ≡ append_known before line
-    → length text ≤ CERTIFICATE_BYTES
-    → JudgesTold plant text before after (Ok ended)
-whole_told plant text verdict line before after ended is tells ends written within =
-    record { within = within; verdict = verdict; is = is; ends = ends; written = written ∙ ap (append_known before) tells }
 
 -- how a run ends where the certificate is read, and where it is judged
 reads : (fault : RunFault) → EndsReading fault → EndsCheck fault
@@ -177,12 +161,3 @@ writing_not_long (Err NoOutput) ends is = absurd (cc)
 writing_not_long (Err LongSession) ends is = absurd ends
 writing_not_long (Err LongCertificate) ends is = absurd ends
 writing_not_long (Err NoMemory) ends is = absurd (cc)
-
-pub sink_writing : (result : Result Ended RunFault) (fault : IoFault) → IsErrAnd result (λ e. e ≡ fault_of_sink fault) → IfErr result EndsWriting
-sink_writing (Ok x) fault handed = tt
-sink_writing (Err e) Failed handed = subst EndsWriting (sym handed) tt
-sink_writing (Err e) Memory handed = subst EndsWriting (sym handed) tt
-
-pub memory_writing : (result : Result Ended RunFault) → IsErrAnd result (λ e. e ≡ NoMemory) → IfErr result EndsWriting
-memory_writing (Ok x) handed = tt
-memory_writing (Err e) handed = subst EndsWriting (sym handed) tt

@@ -1,5 +1,5 @@
 -- A session that the shelf tells, from what was read and served of it.
-use Rattle.std.proofs.Common.{◌≡◌, ℕ, ◌+◌, ◌-◌, ◌<◌, ◌≤◌, Bool, true, false, ◌||◌, nat_le, List, [], ◌∷◌, ◌++◌, length, take, Option, None, Some, Result, Ok, Err, refl, sym, ◌∙◌, ap, ap₂, subst, arith, length-append}
+use Rattle.std.proofs.Common.{◌≡◌, ℕ, ◌+◌, ◌-◌, ◌<◌, ◌≤◌, Bool, true, false, ◌||◌, nat_le, List, [], ◌++◌, length, take, Option, None, Some, Result, Ok, Err, refl, sym, ◌∙◌, ap, ap₂, subst, arith, length-append}
 use Rattle.std.proofs.lemmas.Bool.Decides.{nat_tests}
 use Rattle.std.proofs.lemmas.List.{append-nil, take-append-le}
 use Rattle.std.proofs.Math.Seq.{take-append_seam, take-append-add}
@@ -16,7 +16,7 @@ use Rattle.lv_serve.specs.Served.{quits, fits, within_limit, Serves, ServesAll, 
 use Rattle.lv_serve.specs.declared.fault.ServeFault.{ServeFault}
 use Rattle.lv_serve.specs.declared.fault.ServeFault.TheVariants.{Read, Write, TooLong, Memory}
 use Rattle.lv_serve.proofs.PieceLemmas.{front_of_longer, front_of_all, quits_more, transcript_of_all}
-use Rattle.lv_run.specs.Expected.{ServesTold, AddsLines, AddsDueFront}
+use Rattle.lv_run.specs.Expected.{ServesTold, AddsDueFront}
 use Rattle.lv_serve.proofs.TranscriptLemmas.{none_of_front}
 use Rattle.lv_run.specs.Faults.{EndsOpening, EndsSession, fault_of_serving}
 use Rattle.lv_run.specs.declared.status.Ended.{Ended}

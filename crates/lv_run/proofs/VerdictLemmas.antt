@@ -9,7 +9,6 @@ use Rattle.lv_reader.proofs.ReadingLemmas.{text_one}
 use Rattle.lv_checker.specs.Verdicts.{IsVerdict, accepted, refused, not_read}
 use Rattle.lv_checker.proofs.VerdictLemmas.{verdict_one}
 use Rattle.lv_print.specs.Texts.{canonical_model}
-use Rattle.lv_cert.specs.declared.line.Line.{Line}
 use Rattle.lv_cert.proofs.AgreeLemmas.{one_certificate, one_fault, fault_or_certificate}
 use Rattle.lv_certcheck.specs.Verdicts.{IsVerdictOn, of_lines, of_form, verdict}
 use Rattle.lv_certcheck.specs.declared.check.Verdict.{Verdict}

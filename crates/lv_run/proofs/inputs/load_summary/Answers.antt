@@ -1,5 +1,5 @@
 -- The summary of the model that was made, or why that is refused.
-use Rattle.std.proofs.Common.{◌≡◌, ◌∙◌, rules, subst, List, ℕ}
+use Rattle.std.proofs.Common.{◌≡◌, rules, subst, List, ℕ}
 use Rattle.lv_gen.specs.Series.{model_text}
 use Rattle.lv_checker.specs.Verdicts.{IsVerdict, accepted}
 use Rattle.lv_run.proofs.ExpectedLemmas.{refused_same}

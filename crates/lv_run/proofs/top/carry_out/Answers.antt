@@ -17,6 +17,12 @@ returns-in-Generate-clause-follows g c =
     subst (λ (o : Option Said). Follows (g.F.Shelf.file c.args.shelf.now) o (ended_status c.generate.result)) (sym said)
     (c.generate.ensures.follows (g.F.Shelf.file c.args.shelf.now))
 
+pub returns-in-Generate-clause-verdict : goal.returns-in-Generate-clause-verdict
+returns-in-Generate-clause-verdict g c =
+    let said : command_of (map (string_bytes {Z = Global}) c.args.words.now) ≡ Some (generates c.in-Generate.kind c.in-Generate.number) = search rules in
+    subst (λ (o : Option Said). TellsVerdict (g.F.Shelf.file c.args.shelf.now) o c.generate.result) (sym said)
+    (c.generate.ensures.verdict (g.F.Shelf.file c.args.shelf.now))
+
 pub returns-in-Drive-clause-follows : goal.returns-in-Drive-clause-follows
 returns-in-Drive-clause-follows g c =
     let said : command_of (map (string_bytes {Z = Global}) c.args.words.now) ≡ Some (drives c.in-Drive.number) = search rules in
