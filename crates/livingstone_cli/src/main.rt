@@ -1,5 +1,5 @@
-//! The program: runs a session of mode identification over the model of a plant, or prints a model. All that it does is
-//! `lv_run`'s; here it gets the words of the process, its files and its streams.
+//! The program: runs a session of mode identification over the model of a plant, checks a certificate, or prints a model.
+//! All that it does is `lv_run`'s; here it gets the words of the process, its files and its streams.
 #![tactic(auto)]
 
 use lv_io::{HostShelf, HostSink};
