@@ -36,11 +36,7 @@ pub fn give_units(block: &mut Block<'_>, lits: &[Lit]) -> Result<(), AllocError>
 }
 
 /// Gives that a part makes a move.
-fn give_choice(
-    setting: &Setting<'_>,
-    block: &mut Block<'_>,
-    pair: Pair,
-) -> Result<(), AllocError>
+fn give_choice(setting: &Setting<'_>, block: &mut Block<'_>, pair: Pair) -> Result<(), AllocError>
     requires setting { IsSetting setting.now }
     requires pair { IsPairOf (move_counts (plant_of setting.now)) pair }
     ensures { OnOk result (block.new ≡ with_clause block.old (choice_literal (plant_of setting.now) pair ∷ [])) }
@@ -155,11 +151,7 @@ fn give_no_faults(setting: &Setting<'_>, block: &mut Block<'_>) -> Result<(), Al
 }
 
 /// Gives that a control has a value.
-fn give_control(
-    setting: &Setting<'_>,
-    block: &mut Block<'_>,
-    pair: Pair,
-) -> Result<(), AllocError>
+fn give_control(setting: &Setting<'_>, block: &mut Block<'_>, pair: Pair) -> Result<(), AllocError>
     requires setting { IsSetting setting.now }
     requires pair { IsPairOf (control_sizes (plant_of setting.now)) pair }
     ensures { OnOk result (block.new ≡ with_clause block.old (control_literal (plant_of setting.now) pair ∷ [])) }

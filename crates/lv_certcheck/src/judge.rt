@@ -32,7 +32,9 @@ use lv_base::limits::TRACKED;
 use lv_base::{Cost, Lit, Pair, Rank, Seq, ValId};
 use lv_boxes::choices_as_conflict;
 use lv_cert::{Evidence, Head, Line, Literal, Moment, Question};
-use lv_claims::{candidate_of, conflict_of, goal_of, observation_of, places_of, state_of, values_of};
+use lv_claims::{
+    candidate_of, conflict_of, goal_of, observation_of, places_of, state_of, values_of,
+};
 use lv_meaning::Observation;
 use lv_steps::Moment as Side;
 use lv_zones::zones_of;
@@ -388,8 +390,7 @@ impl<'a> Judge<'a> {
         let Some(place) = place_in(judged.stated.tracked.len(), *s) else {
             return Ok(false);
         };
-        let Some(conflict) =
-            conflict_of(self.alloc, self.setting.counts.controlled.as_slice(), ns)?
+        let Some(conflict) = conflict_of(self.alloc, self.setting.counts.controlled.as_slice(), ns)?
         else {
             return Ok(false);
         };
@@ -507,12 +508,7 @@ impl<'a> Judge<'a> {
     }
 
     /// Opens the block of a goal that can't be missed from a state with the values of the answer.
-    fn proof(
-        &self,
-        judged: &mut Judged<'a>,
-        ns: &[u128],
-        rest: &[Line],
-    ) -> Result<bool, AllocError>
+    fn proof(&self, judged: &mut Judged<'a>, ns: &[u128], rest: &[Line]) -> Result<bool, AllocError>
         requires setting { IsSetting self.now.setting }
         requires fits { Fits (plant_of self.now.setting) self.now.setting.system.now judged.old }
         ensures judged { IfOk result (λ good. came good judged.new ≡ Judging.judge_proof (plant_of self.now.setting) (judged_of judged.old) ns.now rest.now) }
@@ -586,12 +582,7 @@ impl<'a> Judge<'a> {
         Ok(good)
     }
 
-    fn split(
-        &self,
-        judged: &mut Judged<'a>,
-        n: u128,
-        by: Evidence,
-    ) -> Result<bool, AllocError>
+    fn split(&self, judged: &mut Judged<'a>, n: u128, by: Evidence) -> Result<bool, AllocError>
         requires setting { IsSetting self.now.setting }
         requires fits { Fits (plant_of self.now.setting) self.now.setting.system.now judged.old }
         ensures judged { IfOk result (λ good. came good judged.new ≡ Judging.judge_split (judged_of judged.old) n by) }
@@ -621,9 +612,7 @@ impl<'a> Judge<'a> {
         let Some(place) = place_in(judged.excluded.len(), j) else {
             return Ok(false);
         };
-        judged
-            .space
-            .split(self.alloc, n, &judged.excluded[place])?;
+        judged.space.split(self.alloc, n, &judged.excluded[place])?;
         Ok(true)
     }
 

@@ -67,12 +67,7 @@ impl State {
     pub(crate) fn facts(&self, alloc: Global) -> Result<Facts, AllocError>
         ensures { IfOk result (λ facts. facts ≡ facts_of self.now) }
     {
-        facts(
-            alloc,
-            self.controls.as_slice(),
-            &self.present,
-            &self.next,
-        )
+        facts(alloc, self.controls.as_slice(), &self.present, &self.next)
     }
 
     /// A diagnosis of the state that has run with so many trials.

@@ -134,12 +134,7 @@ impl Space {
     }
 
     /// Whether the zone is empty, or its least member ranks behind the last one that counts.
-    fn is_passed(
-        &self,
-        alloc: Global,
-        zone: &Zone,
-        last: Option<&Rank>,
-    ) -> Result<bool, AllocError>
+    fn is_passed(&self, alloc: Global, zone: &Zone, last: Option<&Rank>) -> Result<bool, AllocError>
         ensures { IfOk result (λ passed. passed ≡ Spaces.is_passed self.now.slots (option_copied last.entry) (Some zone.now)) }
     {
         let mut room = vec![in alloc; 0; self.grid.len()]?;
