@@ -17,6 +17,8 @@ use Rattle.lv_words.specs.Words.{Said, checks, command_of}
 use Rattle.lv_certcheck.specs.Verdicts.{IsVerdictOn}
 use Rattle.lv_certcheck.specs.declared.check.Verdict.{Verdict}
 use Rattle.lv_certcheck.specs.declared.check.Verdict.TheVariants.{Valid as IsValid, Invalid as IsInvalid}
+use Rattle.lv_certcheck.proofs.ProvingLemmas.{valid_proves}
+use Rattle.lv_checker.proofs.FitsDrafts.{accepted_well}
 use Rattle.lv_run.specs.Faults.{status_of, ended_status}
 use Rattle.lv_run.specs.Telling.{Tells}
 use Rattle.lv_run.specs.Expected.{IsJudged, EndsSo, HasEnded, TellsVerdict, Expected, serves, overruns, judges, exceeds, shows, fails, Expects, session_served, certificate_judged, model_printed, text_made, session_driven, status_expected, AddsAll, AddsSome, AddsRead, Meets, is_silent}
@@ -255,7 +257,13 @@ told_verdict file words plant certificate (Ok ended) before after err err_after 
     let due : Meets (judges judged.verdict) before after (verdict_status judged.verdict) =
     subst (λ (s : Status). Meets (judges judged.verdict) before after s) status_is
     (meets (judges judged.verdict) (expected_check file words plant certificate judged.verdict asks on)) in (
-      record { verdict = judged.verdict; is = on; status_is = status_is; written = added_by judged.verdict before after due },
+      record {
+        verdict = judged.verdict;
+        is = on;
+        status_is = status_is;
+        written = added_by judged.verdict before after due;
+        proves = valid_proves plant certificate (accepted_well asks.text plant asks.accepts) judged.verdict on;
+      },
       tells.0,
     )
 

@@ -7,8 +7,9 @@ use Rattle.lv_io.specs.declared.Role.{Role}
 use Rattle.lv_serve.specs.Served.{fits}
 use Rattle.lv_model.specs.declared.plant.Plant.{Plant}
 use Rattle.lv_checker.specs.Verdicts.{IsVerdict, accepted}
-use Rattle.lv_certcheck.specs.Verdicts.{IsVerdictOn}
+use Rattle.lv_certcheck.specs.Verdicts.{IsVerdictOn, ProvesItsAnswer}
 use Rattle.lv_certcheck.specs.declared.check.Verdict.{Verdict}
+use Rattle.lv_certcheck.specs.declared.check.Verdict.TheVariants.{Valid as IsValid}
 use Rattle.lv_gen.specs.Series.{model_text}
 use Rattle.lv_drive.specs.Drives.{drive_text}
 use Rattle.lv_words.specs.Words.{Said, runs, checks, prints, generates, drives, command_of}
@@ -58,12 +59,13 @@ pub record AsksToCheck (file : List ℕ → Option (List ℕ)) (words : List (Li
   pub within : length certificate ≤ CERTIFICATE_BYTES
 
 -- the verdict on the certificate for the plant is told: `valid` with status 0 where no line is bad, and else `invalid LINE` with the
--- first bad line and status 9
+-- first bad line and status 9; and a valid one proves its answer
 pub record TellsItsVerdict (plant : Plant) (certificate : List ℕ) (before after : Option (List ℕ)) (result : Status) : Type 0 where
   pub verdict : Verdict
   pub is : IsVerdictOn plant certificate verdict
   pub status_is : result ≡ verdict_status verdict
   pub written : after ≡ append_known before (verdict_line verdict)
+  pub proves : verdict ≡ IsValid → ProvesItsAnswer plant certificate
 
 -- no count of the shelf, of the output and of standard error rose
 pub record HasNoFault (shelf shelf_after : Role → ℕ) (out out_after err err_after : ℕ) : Type 0 where

@@ -46,7 +46,7 @@ pub fn livingstone<F: Shelf, O: Sink, E: Sink>(
         → (result ≡ Status.Done) ⊎ (result ≡ Status.OutOfMemory) }
 
     // A check writes `valid` with status 0 exactly where the certificate is valid for the model, else `invalid LINE` with
-    // the first bad line and status 9.
+    // the first bad line and status 9. A valid one proves its answer, whoever wrote it.
     ensures checked { (plant : Plant) (certificate : List ℕ) → AsksToCheck (F.file shelf.old) (map string_bytes words.items) plant certificate
         → (result ≡ Status.Done) ⊎ (result ≡ Status.Invalid)
         → TellsItsVerdict plant certificate (O.text out.old) (O.text out.new) result × (E.text err.new ≡ E.text err.old) }
