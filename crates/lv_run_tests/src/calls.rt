@@ -35,14 +35,16 @@ pub const USAGE: &str =
     "usage: livingstone run MODEL SESSION, check MODEL CERT, print MODEL, generate KIND N, drive N
 ";
 
-/// A call: its words, the second file's text, how many bytes of a file come at a time, and the numbers of the calls on the
-/// shelf and on the sinks that fail. Where all comes at once, the first three on the shelf open and read the model, the
+/// A call: its words, the second file's text, how many bytes of a file come and the sinks take at a time, and the numbers of the
+/// calls on the shelf and on the sinks that fail. Where all comes at once, the first three on the shelf open and read the model, the
 /// next three the second file.
 #[derive(Clone, Copy)]
 pub struct Call<'a> {
     pub words: &'a [&'a str],
     pub second: &'a [u8],
     pub piece: usize,
+    pub out_takes: usize,
+    pub err_takes: usize,
     pub shelf_fails: &'a [u64],
     pub out_fails: &'a [u64],
     pub err_fails: &'a [u64],
@@ -54,6 +56,8 @@ pub fn faultless<'a>(words: &'a [&'a str], second: &'a str) -> Call<'a> {
         words,
         second: second.as_bytes(),
         piece: 4096,
+        out_takes: 4096,
+        err_takes: 7,
         shelf_fails: &[],
         out_fails: &[],
         err_fails: &[],
@@ -88,8 +92,16 @@ pub fn carried_out(alloc: Global, call: &Call<'_>) -> Result<Outcome, AllocError
     }
     let shelf_fails = Vec::from_slice(alloc, call.shelf_fails)?;
     let mut shelf = MemShelf::new(alloc, files, call.piece, shelf_fails);
-    let mut out = MemSink::new(alloc, 4096, Vec::from_slice(alloc, call.out_fails)?);
-    let mut err = MemSink::new(alloc, 7, Vec::from_slice(alloc, call.err_fails)?);
+    let mut out = MemSink::new(
+        alloc,
+        call.out_takes,
+        Vec::from_slice(alloc, call.out_fails)?,
+    );
+    let mut err = MemSink::new(
+        alloc,
+        call.err_takes,
+        Vec::from_slice(alloc, call.err_fails)?,
+    );
     let status = livingstone(alloc, words, &mut shelf, &mut out, &mut err);
     Ok(Outcome {
         status,

@@ -1,15 +1,15 @@
-//! Checks of certificates as whole calls: each status once, and each call on the shelf and the sinks failing in turn.
+//! Checks of certificates as whole calls: each status once.
 #![tactic(auto)]
 
-use crate::calls::{Call, USAGE, VALVE, ends_so, ends_so_in_pieces, faultless};
+use crate::calls::{Call, USAGE, ends_so, ends_so_in_pieces, faultless};
 use lv_base::limits::CERTIFICATE_BYTES;
 use lv_run::Status;
 use std::alloc::{AllocError, Global};
 
-const CHECK: &[&str] = &["livingstone", "check", "valve.lv", "a.ses"];
+pub const CHECK: &[&str] = &["livingstone", "check", "valve.lv", "a.ses"];
 
 /// The only diagnosis of an open command without an outflow: the valve is stuck closed.
-const WORKED: &str = "certificate diagnosis
+pub const WORKED: &str = "certificate diagnosis
 model valve
 k 4
 state 0 1
@@ -53,7 +53,7 @@ split 3 listed 1
 end
 ";
 
-const UNREAD: &str = "cannot read certificate\n";
+pub const UNREAD: &str = "cannot read certificate\n";
 
 #[test]
 fn valid_certificate(rt: HostRuntime) -> Result<(), AllocError> {
@@ -151,46 +151,5 @@ fn failed_writes(rt: HostRuntime) -> Result<(), AllocError> {
         ..faultless(&["livingstone", "check", "bad.lv", "a.ses"], WORKED)
     };
     assert!(rt; ends_so(alloc, &told, Status::OutputFailed, "", "")?);
-    Ok(())
-}
-
-/// Whether the call on the shelf of this number fails, with the status and the line of its file, and nothing written.
-fn fails_at(alloc: Global, piece: usize, number: u64, second: bool) -> Result<bool, AllocError> {
-    let fails = [number];
-    let call = Call {
-        piece,
-        shelf_fails: fails.as_slice(),
-        ..faultless(CHECK, WORKED)
-    };
-    if second {
-        ends_so(alloc, &call, Status::SecondUnread, "", UNREAD)
-    } else {
-        ends_so(alloc, &call, Status::ModelUnread, "", "cannot read model\n")
-    }
-}
-
-/// How many calls on the shelf a check makes where so many bytes come at a time, up to the first that fails no more. Each
-/// before it fails: those of the model, and then those of the certificate.
-fn failing_calls(alloc: Global, piece: usize) -> Result<u64, AllocError> {
-    let mut second = false;
-    for number in 1..2000u64 {
-        if !second && !fails_at(alloc, piece, number, false)? {
-            second = true;
-        }
-        if second && !fails_at(alloc, piece, number, true)? {
-            return Ok(number);
-        }
-    }
-    Ok(0)
-}
-
-/// A file is opened, read and read once more at its end: where all comes at once in three calls, and where each byte comes
-/// alone in two more than its bytes.
-#[test]
-fn each_call_on_the_shelf_failing(rt: HostRuntime) -> Result<(), AllocError> {
-    let alloc = rt.alloc();
-    assert!(rt; failing_calls(alloc, 4096)? == 7);
-    let calls = VALVE.len() as u64 + WORKED.len() as u64 + 4;
-    assert!(rt; failing_calls(alloc, 1)? == calls + 1);
     Ok(())
 }

@@ -6,4 +6,6 @@ mod calls;
 #[cfg(test)]
 mod checks;
 #[cfg(test)]
+mod failures;
+#[cfg(test)]
 mod whole_calls;
