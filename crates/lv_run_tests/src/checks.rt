@@ -2,7 +2,6 @@
 #![tactic(auto)]
 
 use crate::calls::{Call, USAGE, ends_so, ends_so_in_pieces, faultless};
-use lv_base::limits::CERTIFICATE_BYTES;
 use lv_run::Status;
 use std::alloc::{AllocError, Global};
 
@@ -101,35 +100,6 @@ fn refused_model(rt: HostRuntime) -> Result<(), AllocError> {
 fn certificate_that_is_not_there(rt: HostRuntime) -> Result<(), AllocError> {
     let call = faultless(&["livingstone", "check", "valve.lv", "absent"], WORKED);
     assert!(rt; ends_so(rt.alloc(), &call, Status::SecondUnread, "", UNREAD)?);
-    Ok(())
-}
-
-/// A text of so many bytes `x`.
-fn long_text(alloc: Global, bytes: u64) -> Result<Vec<u8>, AllocError> {
-    let mut text = Vec::new(alloc);
-    for _ in 0..bytes {
-        text.push(b'x')?;
-    }
-    Ok(text)
-}
-
-#[test]
-fn certificate_beyond_its_limit(rt: HostRuntime) -> Result<(), AllocError> {
-    let alloc = rt.alloc();
-    let long = long_text(alloc, CERTIFICATE_BYTES + 1)?;
-    let call = Call {
-        second: long.as_slice(),
-        ..faultless(CHECK, "")
-    };
-    assert!(rt;
-        ends_so(
-            alloc,
-            &call,
-            Status::SecondTooLong,
-            "",
-            "certificate too long\n"
-        )?
-    );
     Ok(())
 }
 
