@@ -262,7 +262,7 @@ told_verdict file words plant certificate (Ok ended) before after err err_after 
         is = on;
         status_is = status_is;
         written = added_by judged.verdict before after due;
-        proves = valid_proves plant certificate (accepted_well asks.text plant asks.accepts) judged.verdict on;
+        proves = valid_proves plant (accepted_well asks.text plant asks.accepts) certificate judged.verdict on;
       },
       tells.0,
     )

@@ -45,7 +45,7 @@ refused_for_length bytes beyond =
 
 -- a certificate has one verdict
 pub verdict_is_one : (plant : Plant) (bytes : List ℕ) (v w : Verdict) → IsVerdictOn plant bytes v → IsVerdictOn plant bytes w → v ≡ w
-verdict_is_one plant bytes v w (of_lines lines a) (of_lines others b) = ap (verdict plant) (one_certificate bytes lines others a b)
-verdict_is_one plant bytes v w (of_lines lines a) (of_form n b) = absurd (fault_or_certificate bytes lines n a b)
-verdict_is_one plant bytes v w (of_form n a) (of_lines lines b) = absurd (fault_or_certificate bytes lines n b a)
-verdict_is_one plant bytes v w (of_form n a) (of_form m b) = ap Invalid (one_fault bytes n m a b)
+verdict_is_one plant bytes v w (of_lines lines a e) (of_lines others b f) = e ∙ ap (verdict plant) (one_certificate bytes lines others a b) ∙ sym f
+verdict_is_one plant bytes v w (of_lines lines a e) (of_form n b f) = absurd (fault_or_certificate bytes lines n a b)
+verdict_is_one plant bytes v w (of_form n a e) (of_lines lines b f) = absurd (fault_or_certificate bytes lines n b a)
+verdict_is_one plant bytes v w (of_form n a e) (of_form m b f) = e ∙ ap Invalid (one_fault bytes n m a b) ∙ sym f
