@@ -1,0 +1,4 @@
+pub mod Heading
+pub mod Listing
+pub mod Refuting
+pub mod Whole

@@ -1,0 +1,76 @@
+-- What a certificate of a diagnosis shows, and by which lines.
+use Rattle.std.specs.Prelude.{◌≡◌, ◌+◌, ◌≤◌, ◌^◌, ℕ, true, List, [], ◌∷◌, ◌++◌, length, map, All}
+use Rattle.std.specs.List.{flat_map}
+use Rattle.lv_base.specs.declared.ids.Lit.{Lit}
+use Rattle.lv_base.specs.declared.ids.ValId.{ValId}
+use Rattle.lv_base.specs.declared.rank.Rank.{Rank}
+use Rattle.lv_base.specs.declared.search.Pair.{Pair}
+use Rattle.lv_base.specs.Choices.{slots_rise}
+use Rattle.lv_model.specs.declared.plant.Plant.{Plant}
+use Rattle.lv_model.specs.declared.state.TrackedState.{TrackedState}
+use Rattle.lv_model.specs.Lists.{sizes, move_counts, controls}
+use Rattle.lv_meaning.specs.declared.facts.Facts.{Facts}
+use Rattle.lv_meaning.specs.Facts.{commanded}
+use Rattle.lv_laws.specs.Candidates.{IsCandidate}
+use Rattle.lv_compile.specs.Booleans.{booleans_now, booleans_next, bool_count}
+use Rattle.lv_compile.specs.FormulaClauses.{Clauses}
+use Rattle.lv_compile.specs.ModelClauses.{model_clauses}
+use Rattle.lv_blocks.specs.Deriving.{Derived, refutes}
+use Rattle.lv_cert.specs.declared.line.Question.TheVariants.{Diagnosis}
+use Rattle.lv_cert.specs.declared.line.Moment.TheVariants.{Now, Next}
+use Rattle.lv_cert.specs.declared.line.Head.TheVariants as head
+use Rattle.lv_cert.specs.declared.line.Line.{Line}
+use Rattle.lv_cert.specs.declared.line.Line.TheVariants as line
+use Rattle.lv_validity.specs.Counting.{are_of}
+use Rattle.lv_validity.specs.Stated.{observed_literal}
+use Rattle.lv_validity.specs.Units.{units, choice_literal}
+use Rattle.lv_validity.specs.Judging.{is_step_of}
+use Rattle.lv_certlines.specs.Lines.{numbers_of, value_numbers, state_lines, fact_lines, values_line, pair_numbers, clause_lines}
+use Rattle.lv_certlines.specs.Pairs.{HasChoice}
+
+-- a candidate, and values before and after its step
+pub record Shown : Type 0 where
+  pub rank : Rank
+  pub before : List ValId
+  pub after : List ValId
+
+-- a conflict, and the lines that refute it
+pub record Block : Type 0 where
+  pub pairs : List Pair
+  pub lines : List Derived
+
+-- the lines that state the question, and these behind them
+abbrev pub head_lines : Plant → List TrackedState → Facts → ℕ → List Line → List Line
+head_lines plant tracked facts k rest =
+    line.Certificate Diagnosis ∷ line.Model plant.name ∷ line.Numbers head.Limit (k ∷ [])
+    ∷ (state_lines tracked ++ (values_line head.Control facts.controls ∷ (fact_lines Now facts.present ++ (fact_lines Next facts.next ++ rest))))
+
+abbrev pub listed_lines : Shown → List Line
+listed_lines w = line.Numbers head.Listed (numbers_of (w.rank.source ∷ w.rank.choices)) ∷ values_line head.Now w.before ∷ values_line head.Next w.after ∷ []
+
+abbrev pub block_lines : Block → List Line
+block_lines b = line.Numbers head.Conflict (pair_numbers b.pairs) ∷ clause_lines b.lines
+
+-- the values are of a step by the candidate's moves that meets the facts
+pub record IsShown (plant : Plant) (tracked : List TrackedState) (facts : Facts) (w : Shown) : Type 0 where
+  pub candidate : IsCandidate plant tracked w.rank
+  pub before : are_of (sizes plant) (value_numbers w.before) ≡ true
+  pub after : are_of (sizes plant) (value_numbers w.after) ≡ true
+  pub step : is_step_of plant facts w.before w.after w.rank ≡ true
+
+-- the facts as literals, in the order of their lines
+abbrev pub stated_literals : Plant → Facts → List Lit
+stated_literals plant facts =
+    (map (observed_literal (booleans_now plant)) (commanded (controls plant) facts.controls) ++ map (observed_literal (booleans_now plant)) facts.present)
+    ++ map (observed_literal (booleans_next plant)) facts.next
+
+-- the clauses that the block of a conflict states
+abbrev pub own_clauses : Plant → Facts → List Pair → Clauses
+own_clauses plant facts pairs = units (stated_literals plant facts ++ map (choice_literal plant) pairs)
+
+-- the lines refute that the choices stand together under the facts
+pub record IsRefuted (plant : Plant) (facts : Facts) (b : Block) : Type 0 where
+  pub choices : All (HasChoice (move_counts plant)) b.pairs
+  pub rising : slots_rise b.pairs ≡ true
+  pub refuted : refutes (bool_count plant) (model_clauses plant ++ own_clauses plant facts b.pairs) b.lines ≡ true
+  pub few : length (model_clauses plant ++ own_clauses plant facts b.pairs) + length b.lines ≤ 10 ^ 30

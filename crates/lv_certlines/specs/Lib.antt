@@ -1,0 +1,4 @@
+pub mod Lines
+pub mod Ending
+pub mod Splitting
+pub mod Pairs
