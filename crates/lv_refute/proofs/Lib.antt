@@ -1,0 +1,4 @@
+pub mod NeededLemmas
+pub mod PlaceLemmas
+pub mod LineLemmas
+pub mod WalkLemmas
