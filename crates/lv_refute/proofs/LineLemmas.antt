@@ -1,5 +1,5 @@
 -- A step of a log that follows is a line that does, where the numbers of the clauses that its hints name are kept.
-use Rattle.std.proofs.Common.{◌≡◌, ◌<◌, ◌≤◌, ◌+◌, ◌-◌, ℕ, suc, zero, Bool, true, false, not, ◌&&◌, nat_eq, nat_lt, nat_le, List, [], ◌∷◌, ◌++◌, length, map, Option, Some, None, slice_get, refl, sym, ap, ap₂, ◌∙◌, arith, if◌then◌else◌}
+use Rattle.std.proofs.Common.{◌≡◌, ℕ, Bool, true, ◌&&◌, List, [], ◌∷◌, map, Option, Some, None, refl, sym, ap, ap₂, ◌∙◌, arith}
 use Rattle.std.specs.List.{list_all}
 use Rattle.std.proofs.lemmas.Bool.{and_parts, and_from}
 use Rattle.std.proofs.lemmas.Bool.Decides.{nat_tests}
@@ -14,7 +14,6 @@ use Rattle.lv_reflog.specs.declared.log.Hint.{Hint}
 use Rattle.lv_reflog.specs.declared.log.Step.{Step}
 use Rattle.lv_reflog.specs.Following as Log
 use Rattle.lv_reflog.specs.Following.{goes_on, goes_on_from, denied}
-use Rattle.lv_cert.specs.declared.line.Literal.{Literal}
 use Rattle.lv_blocks.specs.Following.{names_boolean, literal_of, numbered, is_last, ends_well, follows}
 use Rattle.lv_refute.specs.Lines.{literal_with, hint_number}
 use Rattle.lv_refute.specs.Needed.{has_named}
@@ -70,7 +69,7 @@ module _ (slots : Slots) (earlier : List Step) (clauses : List (List Lit)) (numb
         by named more (Some c) at =
             ap (goes_on_from marks (is_last (map (hint_number numbers placed) hs)) rest) (named.number c at)
             ∙ goes_on_too marks (Log.is_last hs) (is_last (map (hint_number numbers placed) hs)) (Log.ends_well slots earlier hs) rest (last_is hs) more (look_at marks c)
-              (sym (ap (goes_on_from marks (Log.is_last hs) (Log.ends_well slots earlier hs)) at) ∙ e)
+            (sym (ap (goes_on_from marks (Log.is_last hs) (Log.ends_well slots earlier hs)) at) ∙ e)
 
     pub follows_too : (bools : ℕ) (s : Step) → list_all (has_named needed place) s.hints ≡ true
         → (is_clause bools s.clause && Log.ends_well slots earlier s.hints (denied (nothing bools) s.clause)) ≡ true

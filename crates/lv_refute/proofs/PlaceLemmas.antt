@@ -1,5 +1,5 @@
 -- Items of lists by their places, and clauses by their numbers.
-use Rattle.std.proofs.Common.{◌≡◌, ◌<◌, ◌+◌, ◌-◌, ℕ, suc, zero, Bool, true, false, nat_eq, List, [], ◌∷◌, ◌++◌, length, get_or, take, Option, Some, None, option_map, slice_get, refl, sym, ap, ap₂, ◌∙◌, arith, if◌then◌else◌}
+use Rattle.std.proofs.Common.{◌≡◌, ◌<◌, ◌+◌, ◌-◌, ℕ, suc, zero, false, nat_eq, List, [], ◌∷◌, ◌++◌, length, take, Some, slice_get, refl, sym, ◌∙◌, arith}
 use Rattle.std.proofs.lemmas.Bool.Decides.{nat_tests}
 use Rattle.lv_base.specs.declared.ids.Lit.{Lit}
 use Rattle.lv_blocks.specs.Following.{numbered}
@@ -27,15 +27,18 @@ below_front (suc n) (y ∷ xs) zero x e = omega arith
 below_front (suc n) (y ∷ xs) (suc k) x e = let below = below_front n xs k x e in omega (arith, below)
 
 -- clauses by their numbers
-by_place : (clauses : List (List Lit)) (n : ℕ) → numbered clauses (suc n) ≡ slice_get clauses n
-by_place clauses n = let some : nat_eq (suc n) 0 ≡ false = grind (arith, nat_tests) in let same : suc n - 1 ≡ n = omega arith in rw (some, same) refl
+pub by_place : (clauses : List (List Lit)) (number n : ℕ) → number ≡ n + 1 → numbered clauses number ≡ slice_get clauses n
+by_place clauses number n e =
+    let some : nat_eq number 0 ≡ false = grind (arith, nat_tests, e) in
+    let same : number - 1 ≡ n = omega (arith, e) in
+    rw (some, same) refl
 
 -- a number of a clause stays one behind which more clauses stand
 pub numbered-more : (clauses more : List (List Lit)) (n : ℕ) (c : List Lit) → numbered clauses n ≡ Some c → numbered (clauses ++ more) n ≡ Some c
 numbered-more clauses more zero c e = absurd (cc e)
-numbered-more clauses more (suc n) c e = by_place (clauses ++ more) n ∙ slice_get-more clauses more n c (sym (by_place clauses n) ∙ e)
+numbered-more clauses more (suc n) c e =
+    let up : suc n ≡ n + 1 = omega arith in
+    by_place (clauses ++ more) (suc n) n up ∙ slice_get-more clauses more n c (sym (by_place clauses (suc n) n up) ∙ e)
 
 pub numbered-last : (clauses : List (List Lit)) (c : List Lit) (n : ℕ) → n ≡ length clauses + 1 → numbered (clauses ++ c ∷ []) n ≡ Some c
-numbered-last clauses c n e =
-    let up : n ≡ suc (length clauses) = omega (arith, e) in
-    ap (numbered (clauses ++ c ∷ [])) up ∙ by_place (clauses ++ c ∷ []) (length clauses) ∙ slice_get-seam clauses c
+numbered-last clauses c n e = by_place (clauses ++ c ∷ []) n (length clauses) e ∙ slice_get-seam clauses c

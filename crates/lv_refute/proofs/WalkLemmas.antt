@@ -1,5 +1,5 @@
 -- One step of a log after the other becomes a line, or is left out.
-use Rattle.std.proofs.Common.{◌≡◌, ◌<◌, ◌≤◌, ◌+◌, ◌-◌, ℕ, Bool, true, false, not, ◌&&◌, ◌||◌, nat_eq, nat_lt, List, [], ◌∷◌, ◌++◌, length, map, get_or, take, drop, Option, Some, None, option_map, slice_get, slice_index, refl, sym, ap, ap₂, subst, ◌∙◌, arith, inl, inr, if◌then◌else◌}
+use Rattle.std.proofs.Common.{◌≡◌, ◌<◌, ◌+◌, ◌-◌, ℕ, Bool, true, false, nat_eq, nat_lt, List, [], ◌∷◌, ◌++◌, length, map, take, drop, Option, Some, None, option_map, slice_get, slice_index, refl, sym, ap, ap₂, subst, ◌∙◌, arith, inl, inr, if◌then◌else◌}
 use Rattle.std.specs.List.{list_all}
 use Rattle.std.proofs.lemmas.Bool.{and_parts, and_from, cases_eq}
 use Rattle.std.proofs.lemmas.Bool.Decides.{nat_tests}
@@ -11,16 +11,14 @@ use Rattle.lv_clauses.specs.ClauseMap.{ClauseMap}
 use Rattle.lv_reflog.specs.declared.log.Hint.{Hint}
 use Rattle.lv_reflog.specs.declared.log.Hint.TheVariants.{Given, Earlier}
 use Rattle.lv_reflog.specs.declared.log.Step.{Step}
-use Rattle.lv_reflog.specs.Following.{first_bad_after, first_bad_step, follows_by_hints}
+use Rattle.lv_reflog.specs.Following.{first_bad_after, follows_by_hints}
 use Rattle.lv_reflog.proofs.SoundLemmas.{first_bad-next}
 use Rattle.lv_cert.specs.declared.line.Literal.{Literal}
-use Rattle.lv_sat.specs.Answers.{last_clause}
 use Rattle.lv_blocks.specs.Following.{literal_of, numbered, follows}
 use Rattle.lv_blocks.specs.Deriving.{Derived, clause_of_line, derives, ends_empty, refutes}
 use Rattle.lv_refute.specs.declared.lines.Derivation.{Derivation}
-use Rattle.lv_refute.specs.Numbers.{HaveNumbers}
-use Rattle.lv_refute.specs.Needed.{is_marked, has_named, AreNeeded}
-use Rattle.lv_refute.specs.Lines.{literal_with, hint_number, line_of, derived_of, IsRefuting}
+use Rattle.lv_refute.specs.Needed.{is_marked, has_named}
+use Rattle.lv_refute.specs.Lines.{literal_with, line_of, derived_of, IsRefuting}
 use Rattle.lv_refute.proofs.PlaceLemmas.{slice_get-take, below_front, numbered-more, numbered-last}
 use Rattle.lv_refute.proofs.LineLemmas.{literals_back, HasNumber, follows_too}
 

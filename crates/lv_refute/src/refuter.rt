@@ -50,7 +50,7 @@ fn answer(
 }
 
 /// The answer for a block that states these clauses. The numbers are those of the system's clauses.
-fn refuted(
+fn ask(
     alloc: Global,
     system: &StepSystem,
     numbers: &[u128],
@@ -104,6 +104,6 @@ impl<'a> Refuter<'a> {
         requires { All (IsOver self.now.set.bools) own.now }
         ensures { (plant : Plant) → IsSystemOf plant self.now → IfOk result (Tells self.now own.now) }
     {
-        refuted(self.alloc, self.system, self.numbers.as_slice(), own)
+        ask(self.alloc, self.system, self.numbers.as_slice(), own)
     }
 }

@@ -1,5 +1,5 @@
 -- a step is left out, or becomes a line
-use Rattle.std.proofs.Common.{◌≡◌, ◌+◌, ◌++◌, ◌<◌, ◌≤◌, ℕ, [], ◌∷◌, List, length, get_or, slice_get, Some, sym, ap, ap₂, ◌∙◌, subst, arith}
+use Rattle.std.proofs.Common.{◌≡◌, ◌+◌, ◌<◌, ℕ, [], List, length, get_or, sym, ap, ◌∙◌, subst, arith}
 use Rattle.std.proofs.lemmas.Option.{slice_get-get_or}
 use Rattle.lv_reflog.specs.declared.log.Step.{Step}
 use Rattle.lv_refute.specs.declared.lines.Derivation.{Derivation}
