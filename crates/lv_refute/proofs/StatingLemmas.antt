@@ -21,7 +21,7 @@ use Rattle.lv_refute.specs.Refuting.{Tells, Answers}
 use Rattle.lv_refute.proofs.NumberLemmas.{numbers_more}
 
 -- what the clauses so far came to, as a loop over them puts it
-pub record IsSoFar (first set : ClauseMap) (models : ℕ) (own : List (List Lit)) (kept numbers : List ℕ) : Type 0 where
+pub record IsStated (first set : ClauseMap) (models : ℕ) (own : List (List Lit)) (kept numbers : List ℕ) : Type 0 where
   pub added : Adds first set own
   pub numbers_are : (clauses : List (List Lit)) → length clauses ≡ models → HaveNumbers first.slots clauses kept → HaveNumbers set.slots (clauses ++ own) numbers
 
@@ -45,9 +45,9 @@ adds_more first old new own c id vacant puts adds =
 
 pub state_next : (first old new : ClauseMap) (models : ℕ) (own : List (List Lit)) (i : ℕ) (kept numbers more : List ℕ) (c lits : List Lit) (id number : ℕ) → i < length own → c ≡ get_or own i c
     → lits ≡ c → clause_at old.slots id ≡ None → Puts old new id (Some lits) → number ≡ models + i + 1 → Keeps numbers more id number
-    → IsSoFar first old models (take i own) kept numbers → IsSoFar first new models (take (i + 1) own) kept more
+    → IsStated first old models (take i own) kept numbers → IsStated first new models (take (i + 1) own) kept more
 state_next first old new models own i kept numbers more c lits id number below at same vacant puts count keeps far =
-    subst (λ (cs : List (List Lit)). IsSoFar first new models cs kept more) (sym front)
+    subst (λ (cs : List (List Lit)). IsStated first new models cs kept more) (sym front)
     (record {
       added = adds_more first old new (take i own) lits id vacant puts far.added;
       numbers_are =

@@ -16,7 +16,7 @@ use Rattle.lv_reflog.proofs.SoundLemmas.{first_bad-next}
 use Rattle.lv_cert.specs.declared.line.Literal.{Literal}
 use Rattle.lv_blocks.specs.Following.{literal_of, numbered, follows}
 use Rattle.lv_blocks.specs.Deriving.{Derived, clause_of_line, derives, ends_empty, refutes}
-use Rattle.lv_refute.specs.declared.lines.Derivation.{Derivation}
+use Rattle.lv_refute.specs.declared.derivation.Derivation.{Derivation}
 use Rattle.lv_refute.specs.Needed.{is_marked, has_named}
 use Rattle.lv_refute.specs.Lines.{literal_with, line_of, derived_of, IsRefuting}
 use Rattle.lv_refute.proofs.PlaceLemmas.{slice_get-take, below_front, numbered-more, numbered-last}

@@ -9,7 +9,7 @@ use Rattle.lv_reflog.specs.Following.{first_bad_step}
 use Rattle.lv_sat.specs.Answers.{last_clause}
 use Rattle.lv_cert.specs.declared.line.Literal.{Literal}
 use Rattle.lv_blocks.specs.Deriving.{Derived}
-use Rattle.lv_refute.specs.declared.lines.Derivation.{Derivation}
+use Rattle.lv_refute.specs.declared.derivation.Derivation.{Derivation}
 use Rattle.lv_refute.specs.Numbers.{HaveNumbers}
 use Rattle.lv_refute.specs.Needed.{AreNeeded}
 

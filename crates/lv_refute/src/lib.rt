@@ -13,11 +13,12 @@
 //! | steps of a log as lines | `lines` |
 #![tactic(auto)]
 
-pub mod lines;
+pub mod derivation;
+mod lines;
 mod needed;
 mod numbers;
 pub mod refuter;
 mod stating;
 
-pub use lines::Derivation;
+pub use derivation::Derivation;
 pub use refuter::{Refuted, Refuter};

@@ -8,18 +8,12 @@ ghost use Rattle.lv_blocks.specs.Deriving.{refutes};
 ghost use Rattle.lv_refute.specs.Lines as Lines;
 ghost use Rattle.lv_refute.specs.Lines.{derived_of, IsRefuting};
 
+use crate::derivation::Derivation;
 use crate::numbers::number_at;
 use lv_base::{Lit, Seq};
 use lv_cert::Literal;
 use lv_reflog::{Hint, Log, Step};
 use std::alloc::{AllocError, Global};
-
-/// A line of a block: a clause, and the numbers of the clauses that it follows from, in the order in which they are taken.
-#[derive(Debug, Drop)]
-pub struct Derivation {
-    pub literals: Seq<Literal>,
-    pub hints: Seq<u128>,
-}
 
 /// The literal by the number of its boolean, which is counted from 1.
 fn literal_of(lit: Lit) -> Literal
@@ -77,7 +71,8 @@ fn line_of(
     })
 }
 
-/// The steps that are needed as lines behind so many clauses, of which those of the set have these numbers.
+/// The steps that are needed as lines behind so many clauses, among which those of the set have these numbers. The lines
+/// are numbered without the steps that are left out.
 pub fn lines_of(
     alloc: Global,
     numbers: &[u128],

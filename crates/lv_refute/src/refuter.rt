@@ -9,7 +9,8 @@ ghost use Rattle.lv_steps.specs.System.{IsSystemOf};
 ghost use Rattle.lv_refute.specs.Numbers.{HaveNumbers, AreSystemNumbers};
 ghost use Rattle.lv_refute.specs.Refuting.{Answers, Tells};
 
-use crate::lines::{Derivation, lines_of};
+use crate::derivation::Derivation;
+use crate::lines::lines_of;
 use crate::needed::needed_steps;
 use crate::numbers::numbers_of;
 use crate::stating::state_all;
@@ -28,7 +29,8 @@ pub enum Refuted {
     Lines(Seq<Derivation>),
 }
 
-/// What the solver answers, in the numbers of a block that has so many clauses before its lines.
+/// What the solver answers, in the numbers of a block that has so many clauses before its lines, few enough for the lines
+/// to have numbers too.
 fn answer(
     alloc: Global,
     solver: &mut Solver,
@@ -88,6 +90,7 @@ impl<'a> Model for Refuter<'a> {
 }
 
 impl<'a> Refuter<'a> {
+    /// Keeps the numbers of the system's clauses, so that a block needs only a copy of them.
     pub fn new(alloc: Global, system: &'a StepSystem) -> Result<Refuter<'a>, AllocError>
         ensures { IfOk result (λ r. r ≡ system.now) }
     {

@@ -2,7 +2,7 @@
 use Rattle.std.proofs.Common.{◌≡◌, ◌+◌, ◌<◌, ℕ, [], List, length, get_or, sym, ap, ◌∙◌, subst, arith}
 use Rattle.std.proofs.lemmas.Option.{slice_get-get_or}
 use Rattle.lv_reflog.specs.declared.log.Step.{Step}
-use Rattle.lv_refute.specs.declared.lines.Derivation.{Derivation}
+use Rattle.lv_refute.specs.declared.derivation.Derivation.{Derivation}
 use Rattle.lv_refute.specs.Lines.{line_of}
 use Rattle.lv_refute.proofs.WalkLemmas.{IsSoFar, left_out, taken}
 use Rattle.lv_refute.proofs.lines.lines_of.Goals as goal
