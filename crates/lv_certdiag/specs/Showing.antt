@@ -1,5 +1,5 @@
 -- What a certificate of a diagnosis shows, and by which lines.
-use Rattle.std.specs.Prelude.{◌≡◌, ◌+◌, ◌≤◌, ◌^◌, ℕ, true, List, [], ◌∷◌, ◌++◌, length, map, All}
+use Rattle.std.specs.Prelude.{◌≡◌, ◌+◌, ◌≤◌, ◌^◌, ℕ, true, false, List, [], ◌∷◌, ◌++◌, length, map, All}
 use Rattle.std.specs.List.{flat_map}
 use Rattle.lv_base.specs.declared.ids.Lit.{Lit}
 use Rattle.lv_base.specs.declared.ids.ValId.{ValId}
@@ -11,12 +11,17 @@ use Rattle.lv_model.specs.declared.state.TrackedState.{TrackedState}
 use Rattle.lv_model.specs.Lists.{sizes, move_counts, controls}
 use Rattle.lv_meaning.specs.declared.facts.Facts.{Facts}
 use Rattle.lv_meaning.specs.Facts.{commanded}
+use Rattle.lv_meaning.specs.Possible.{is_possible}
 use Rattle.lv_laws.specs.Candidates.{IsCandidate}
 use Rattle.lv_compile.specs.Booleans.{booleans_now, booleans_next, bool_count}
 use Rattle.lv_compile.specs.FormulaClauses.{Clauses}
 use Rattle.lv_compile.specs.ModelClauses.{model_clauses}
 use Rattle.lv_steps.specs.System.{SystemValue, IsSystemOf}
 use Rattle.lv_blocks.specs.Deriving.{Derived, refutes}
+use Rattle.lv_refute.specs.declared.refuter.Refuted.{Refuted}
+use Rattle.lv_refute.specs.declared.refuter.Refuted.TheVariants.{Values, Lines}
+use Rattle.lv_refute.specs.Lines.{derived_of}
+use Rattle.lv_refute.specs.Refuting.{MakeTrue}
 use Rattle.lv_cert.specs.declared.line.Question.TheVariants.{Diagnosis}
 use Rattle.lv_cert.specs.declared.line.Moment.TheVariants.{Now, Next}
 use Rattle.lv_cert.specs.declared.line.Head.TheVariants as head
@@ -88,10 +93,20 @@ pub record Asked : Type 0 where
   pub facts : Facts
   pub system : SystemValue
 
+-- so the values of a candidate that is shown
+pub record StepIsShown (plant : Plant) (facts : Facts) (w : Shown) : Type 0 where
+  pub shows : ShowsStep plant facts w.rank w.before w.after
+
+-- what is told of choices under the facts: values, and they are possible together; or lines that refute them, and they are not
+abbrev pub TellsOf : Asked → List Pair → Refuted → Type 0
+TellsOf v pairs (Values values) = MakeTrue v.system.set (own_clauses v.plant v.facts pairs) values × (is_possible v.plant v.facts pairs ≡ true)
+TellsOf v pairs (Lines lines) =
+    (refutes (bool_count v.plant) (model_clauses v.plant ++ own_clauses v.plant v.facts pairs) (map derived_of lines) ≡ true) × (is_possible v.plant v.facts pairs ≡ false)
+
 -- each listed candidate is shown by lines
-pub record AddsShown (plant : Plant) (tracked : List TrackedState) (facts : Facts) (listed : List Rank) (old new : List Line) : Type 0 where
+pub record AddsShown (plant : Plant) (facts : Facts) (listed : List Rank) (old new : List Line) : Type 0 where
   pub shown : List Shown
-  pub are : All (IsShown plant tracked facts) shown
+  pub are : All (StepIsShown plant facts) shown
   pub ranks : map (λ (w : Shown). w.rank) shown ≡ listed
   pub lines : new ≡ old ++ flat_map listed_lines shown
 

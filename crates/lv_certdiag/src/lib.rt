@@ -11,5 +11,6 @@
 //! | `whole` | all lines together |
 #![tactic(auto)]
 
+mod asking;
 mod heading;
 
