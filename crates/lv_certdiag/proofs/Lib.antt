@@ -3,3 +3,4 @@ pub mod ListingLemmas
 pub mod RefutingLemmas
 pub mod WholeLemmas
 pub mod Telling
+pub mod AddingLemmas

@@ -11,6 +11,7 @@ use Rattle.lv_model.specs.Lists.{move_counts}
 use Rattle.lv_meaning.specs.declared.facts.Facts.{Facts}
 use Rattle.lv_compile.specs.Booleans.{bool_count}
 use Rattle.lv_compile.specs.FormulaClauses.{Clauses}
+use Rattle.lv_compile.specs.ModelClauses.{model_clauses}
 use Rattle.lv_zones.specs.Moves.{move_slots, zones_from}
 use Rattle.lv_cert.specs.declared.line.Question.TheVariants.{Diagnosis}
 use Rattle.lv_cert.specs.declared.line.Line.{Line}
@@ -76,6 +77,7 @@ pub record IsMade (plant : Plant) (tracked : List TrackedState) (facts : Facts) 
   pub asked : IsAskedOf plant tracked facts k
   pub few_parts : length (move_counts plant) ≤ 4096
   pub few_bools : bool_count plant ≤ 10 ^ 30
+  pub few_clauses : length (model_clauses plant) ≤ 10 ^ 20
   pub shown : All (IsShown plant tracked facts) ws
   pub ranks : map (λ (w : Shown). w.rank) ws ≡ listed
   pub few_listed : length listed ≤ k
@@ -132,7 +134,7 @@ module _ (plant : Plant) (tracked : List TrackedState) (facts : Facts) (k : ℕ)
       head_first plant tracked facts k is.asked ended_is (flat_map listed_lines ws ++ (flat_map block_lines bs ++ (splits ++ line.End ∷ [])))
       (listed_first plant is.asked.well_formed tracked is.asked.few facts ended_is (flat_map block_lines bs ++ (splits ++ line.End ∷ [])) ws is.shown k 0 start (record { listed = λ ns. refl }) few head_is refl refl
       (ap (rise_after None) is.ranks ∙ is.rising)
-      (blocks_first plant is.asked.well_formed is.few_parts is.few_bools facts ended_is (splits ++ line.End ∷ []) (splits_apart made) bs is.refuted (place_with k start 0 ws) all.conflicts listed_is
+      (blocks_first plant is.asked.well_formed is.few_parts is.few_bools is.few_clauses facts ended_is (splits ++ line.End ∷ []) (splits_apart made) bs is.refuted (place_with k start 0 ws) all.conflicts listed_is
       (ap (λ (s : Stated). s.literals) first_grown.stated)
       (splits_end Diagnosis plant (place_behind_blocks (place_with k start 0 ws) bs) (splits_behind (place_with k start 0 ws) bs all.splits) made last)))
 

@@ -1,5 +1,5 @@
 -- What a certificate of a diagnosis shows, and by which lines.
-use Rattle.std.specs.Prelude.{◌≡◌, ◌+◌, ◌≤◌, ◌^◌, ℕ, true, false, List, [], ◌∷◌, ◌++◌, length, map, All}
+use Rattle.std.specs.Prelude.{◌≡◌, ◌<◌, ◌^◌, ◌+◌, ℕ, true, false, List, [], ◌∷◌, ◌++◌, length, map, All}
 use Rattle.std.specs.List.{flat_map}
 use Rattle.lv_base.specs.declared.ids.Lit.{Lit}
 use Rattle.lv_base.specs.declared.ids.ValId.{ValId}
@@ -12,7 +12,10 @@ use Rattle.lv_model.specs.Lists.{sizes, move_counts, controls}
 use Rattle.lv_meaning.specs.declared.facts.Facts.{Facts}
 use Rattle.lv_meaning.specs.Facts.{commanded}
 use Rattle.lv_meaning.specs.Possible.{is_possible}
+use Rattle.lv_meaning.specs.Candidates.{is_possible_rank}
+use Rattle.lv_laws.specs.Possible.{are_below}
 use Rattle.lv_laws.specs.Candidates.{IsCandidate}
+use Rattle.lv_ident.specs.Literals.{HasMove}
 use Rattle.lv_compile.specs.Booleans.{booleans_now, booleans_next, bool_count}
 use Rattle.lv_compile.specs.FormulaClauses.{Clauses}
 use Rattle.lv_compile.specs.ModelClauses.{model_clauses}
@@ -79,7 +82,8 @@ pub record IsRefuted (plant : Plant) (facts : Facts) (b : Block) : Type 0 where
   pub choices : All (HasChoice (move_counts plant)) b.pairs
   pub rising : slots_rise b.pairs ≡ true
   pub refuted : refutes (bool_count plant) (model_clauses plant ++ own_clauses plant facts b.pairs) b.lines ≡ true
-  pub few : length (model_clauses plant ++ own_clauses plant facts b.pairs) + length b.lines ≤ 10 ^ 30
+  pub few_own : length (own_clauses plant facts b.pairs) < 2 ^ 64
+  pub few_lines : length b.lines < 2 ^ 64
 
 -- values of a step by the candidate's moves that meets the facts
 pub record ShowsStep (plant : Plant) (facts : Facts) (r : Rank) (before after : List ValId) : Type 0 where
@@ -92,6 +96,16 @@ pub record Asked : Type 0 where
   pub plant : Plant
   pub facts : Facts
   pub system : SystemValue
+
+-- a candidate that is possible, with a move of each part
+pub record CanBeShown (plant : Plant) (facts : Facts) (r : Rank) : Type 0 where
+  pub full : are_below (move_counts plant) r.choices ≡ true
+  pub possible : is_possible_rank plant facts r ≡ true
+
+-- moves of parts that aren't possible together
+pub record CanBeRefuted (plant : Plant) (facts : Facts) (pairs : List Pair) : Type 0 where
+  pub moves : All (HasMove (move_counts plant)) pairs
+  pub impossible : is_possible plant facts pairs ≡ false
 
 -- so the values of a candidate that is shown
 pub record StepIsShown (plant : Plant) (facts : Facts) (w : Shown) : Type 0 where

@@ -13,4 +13,6 @@
 
 mod asking;
 mod heading;
+mod listing;
+mod refuting;
 
