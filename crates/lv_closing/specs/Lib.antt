@@ -1,0 +1,3 @@
+pub mod Scratch
+pub mod Explained
+pub mod Laws

@@ -1,0 +1,4 @@
+//! The splits of a certificate.
+#![tactic(auto)]
+
+pub mod laws;
