@@ -1,3 +1,5 @@
-pub mod Scratch
+pub mod ScratchSpace
+pub mod ScratchJudging
 pub mod Explained
+pub mod Closing
 pub mod Laws
