@@ -1,3 +1,5 @@
 pub mod WalkLemmas
 pub mod CountLemmas
 pub mod CutLemmas
+pub mod LeastLemmas
+pub mod ClosingLemmas
