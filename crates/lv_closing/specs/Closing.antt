@@ -13,7 +13,7 @@ use Rattle.lv_cert.specs.declared.line.Question.TheVariants.{Diagnosis, Recovery
 use Rattle.lv_cert.specs.declared.line.Evidence.{Evidence}
 use Rattle.lv_cert.specs.declared.line.Evidence.TheVariants as evidence
 use Rattle.lv_cert.specs.Order.{splits}
-use Rattle.lv_closing.specs.ScratchSpace.{Space, open_zone, with_split, least_rank, is_behind, all_passed}
+use Rattle.lv_closing.specs.ScratchSpace.{Space, open_zone, with_split, least_of, is_behind, all_passed}
 use Rattle.lv_closing.specs.ScratchJudging.{Judged, judge_split}
 use Rattle.lv_closing.specs.declared.closing.Split.{Split}
 
@@ -48,10 +48,6 @@ cut_of question listed excluded r =
 -- none where it ranks behind the last that counts
 abbrev pub cut_before : Question → Option Rank → List Rank → List (List Pair) → Rank → Option Cut
 cut_before question last listed excluded r = if is_behind last r then None else cut_of question listed excluded r
-
--- the rank of the least member of the zone of this number, if that is open and has members
-abbrev pub least_of : Space → ℕ → Option Rank
-least_of s n = option_and_then (least_rank s.slots) (open_zone s n)
 
 abbrev pub cut_at : Question → Option Rank → List Rank → List (List Pair) → Space → ℕ → Option Cut
 cut_at question last listed excluded s n = option_and_then (cut_before question last listed excluded) (least_of s n)

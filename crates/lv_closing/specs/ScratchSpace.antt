@@ -45,3 +45,7 @@ is_passed slots last (Some zone) = option_map_or (is_behind last) (least_rank sl
 
 abbrev pub all_passed : Space → Option Rank → Bool
 all_passed s last = list_all (is_passed s.slots last) s.zones
+
+-- the rank of the least member of the zone of this number, if that is open and has members
+abbrev pub least_of : Space → ℕ → Option Rank
+least_of s n = option_and_then (least_rank s.slots) (open_zone s n)

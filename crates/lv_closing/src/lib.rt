@@ -3,5 +3,6 @@
 
 pub mod closing;
 pub mod laws;
+pub mod space;
 
-pub use closing::Split;
+pub use closing::{Split, close};
