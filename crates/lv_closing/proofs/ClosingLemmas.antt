@@ -18,7 +18,7 @@ use Rattle.lv_cert.specs.Order.{splits}
 use Rattle.lv_closing.specs.ScratchSpace.{Space, at_number, same_zone, open_zone, with_split, least_rank, is_behind, is_passed, all_passed}
 use Rattle.lv_closing.specs.ScratchJudging.{Judged, choices_of, judge_split}
 use Rattle.lv_closing.specs.Explained.{is_explained, AreExplained}
-use Rattle.lv_closing.specs.Closing.{can_be_listed, Cut, cut_before, cut_at, with_cut, judge_splits, Closes}
+use Rattle.lv_closing.specs.Closing.{can_be_listed, Cut, cut_before, cut_at, after_cut, judge_splits, Closes}
 use Rattle.lv_closing.specs.declared.closing.Split.{Split}
 use Rattle.lv_closing.proofs.CountLemmas.{weights, split_weighs_less, rest_weighs_less}
 use Rattle.lv_closing.proofs.CutLemmas.{total_length, item_of_number, IsCut, cut_told, uncut_told}
@@ -55,6 +55,10 @@ judged_more j (t ∷ ts) s = by (judge_split j t.zone t.by) (λ k. judged_more k
     by None later = refl
     by (Some k) later = later k
 
+-- what the zones from a place on weigh
+abbrev pub weight_left : List (List Cost) → List (List Pair) → ℕ → Space → ℕ
+weight_left slots excluded at space = weights slots (length slots + total_length excluded) (drop at space.zones)
+
 module _ (question : Question) (slots : List (List Cost)) (zones : List ZoneValue) (last : Option Rank) (listed : List Rank) (excluded : List (List Pair)) where
   abbrev start : Space
   start = record { slots = slots; zones = map Some zones }
@@ -67,11 +71,7 @@ module _ (question : Question) (slots : List (List Cost)) (zones : List ZoneValu
     pub judged : (j : Judged) → j.space ≡ start → j.listed ≡ listed → j.excluded ≡ excluded → judge_splits j made ≡ Some (record j { space = space })
     pub fitting : list_all (λ (s : Split). splits question s.by) made ≡ true
 
-  -- what the zones from a place on weigh
-  abbrev pub weight_left : ℕ → Space → ℕ
-  weight_left at space = weights slots (length slots + total_length excluded) (drop at space.zones)
-
-  pub stands_first : AreExplained slots zones last listed excluded → Stands 0 start []
+  stands_first : AreExplained slots zones last listed excluded → Stands 0 start []
   stands_first explained =
       record {
         slots_are = refl;
@@ -80,6 +80,9 @@ module _ (question : Question) (slots : List (List Cost)) (zones : List ZoneValu
         judged = λ j is _ _. ap (λ (s : Space). Some (record j { space = s })) is;
         fitting = refl;
       }
+
+  pub stands_at_start : (space : Space) (made : List Split) → space ≡ record { slots = slots; zones = map Some zones } → made ≡ [] → AreExplained slots zones last listed excluded → Stands 0 space made
+  stands_at_start space made is none explained = subst (λ (s : Space). Stands 0 s made) (sym is) (subst (λ ss. Stands 0 start ss) (sym none) (stands_first explained))
 
   pub closed_all : (at : ℕ) (space : Space) (made : List Split) → length space.zones ≤ at → Stands at space made → Closes question slots zones last listed excluded made
   closed_all at space made past stands =
@@ -152,9 +155,9 @@ module _ (question : Question) (slots : List (List Cost)) (zones : List ZoneValu
           fitting = stands.fitting;
         }
 
-    pub left_weighs_less : weight_left (at + 1) space < weight_left at space
+    pub left_weighs_less : weight_left slots excluded (at + 1) space < weight_left slots excluded at space
     left_weighs_less =
-        subst (λ zs. weight_left (at + 1) space < weights slots (length slots + total_length excluded) zs) (sym ahead)
+        subst (λ zs. weight_left slots excluded (at + 1) space < weights slots (length slots + total_length excluded) zs) (sym ahead)
         (rest_weighs_less slots (length slots + total_length excluded) item (drop (at + 1) space.zones))
 
     module _ (can : can_be_listed question (length listed) ≡ true) (cut : Cut) (is : cut_at question last listed excluded space (at + 1) ≡ Some cut) where
@@ -188,7 +191,7 @@ module _ (question : Question) (slots : List (List Cost)) (zones : List ZoneValu
       below : list_all (λ (p : Pair). nat_lt p.slot (length found.zone.masks)) cut.pairs ≡ true
       below = slots_within found.rank.choices (length found.zone.masks) cut.pairs found.least.masks found.cuts.inside
 
-      after : with_cut space (at + 1) (Some cut) ≡ with_split space (at + 1) found.zone cut.pairs
+      after : after_cut space (at + 1) (Some cut) ≡ with_split space (at + 1) found.zone cut.pairs
       after = ap (λ (o : Option ZoneValue). option_map_or (λ zone. with_split space (at + 1) zone cut.pairs) o space) found.is_open
 
       parts_explained : (r : Rank) → list_any (ranks_in_open slots r) (map Some parts) ≡ true → is_explained last listed excluded r ≡ true
@@ -216,14 +219,57 @@ module _ (question : Question) (slots : List (List Cost)) (zones : List ZoneValu
           }
 
       -- a zone is split
-      pub stands_split : Stands (at + 1) (with_cut space (at + 1) (Some cut)) (made ++ record { zone = at + 1; by = cut.by } ∷ [])
+      pub stands_split : Stands (at + 1) (after_cut space (at + 1) (Some cut)) (made ++ record { zone = at + 1; by = cut.by } ∷ [])
       stands_split = subst (λ (s : Space). Stands (at + 1) s (made ++ record { zone = at + 1; by = cut.by } ∷ [])) (sym after) split_stands
 
-      pub cut_weighs_less : weight_left (at + 1) (with_cut space (at + 1) (Some cut)) < weight_left at space
+      pub cut_weighs_less : weight_left slots excluded (at + 1) (after_cut space (at + 1) (Some cut)) < weight_left slots excluded at space
       cut_weighs_less =
           let room : ℕ = length slots + total_length excluded in
           let few : length cut.pairs ≤ length slots + total_length excluded = (let few = found.cuts.few in let same = found.least.slots_are in omega (arith, few, same)) in
           let less = split_weighs_less slots room (candidate_of found.rank) found.zone cut.pairs (drop (at + 1) space.zones) below found.least.member found.cuts.inside few in
-          subst (λ (s : Space). weight_left (at + 1) s < weight_left at space) (sym after)
-          (subst (λ zs. weights slots room zs < weight_left at space) (sym (drop_changed space.zones (map Some parts) at None within))
+          subst (λ (s : Space). weight_left slots excluded (at + 1) s < weight_left slots excluded at space) (sym after)
+          (subst (λ zs. weights slots room zs < weight_left slots excluded at space) (sym (drop_changed space.zones (map Some parts) at None within))
           (subst (λ zs. weights slots room (drop (at + 1) space.zones ++ map Some parts) < weights slots room zs) (sym (ahead ∙ ap (λ z. z ∷ drop (at + 1) space.zones) found.item)) less))
+
+  uncut_same : (space : Space) (n : ℕ) → after_cut space n None ≡ space
+  uncut_same space n = by (open_zone space n)
+    where
+      by : (o : Option ZoneValue) → option_map_or (λ (zone : ZoneValue). space) o space ≡ space
+      by None = refl
+      by (Some zone) = refl
+
+  -- a turn: what it did with the zone at its place
+  module _ (at : ℕ) (space new : Space) (made : List Split) (stands : Stands at space made) (within : at < length space.zones) (can : can_be_listed question (length listed) ≡ true)
+      (is : new ≡ after_cut space (at + 1) (cut_at question last listed excluded space (at + 1))) where
+    abbrev cut : Option Cut
+    cut = cut_at question last listed excluded space (at + 1)
+
+    uncut : cut ≡ None → new ≡ space
+    uncut none = is ∙ ap (after_cut space (at + 1)) none ∙ uncut_same space (at + 1)
+
+    pub turn_weighs_less : weight_left slots excluded (at + 1) new < weight_left slots excluded at space
+    turn_weighs_less = by cut refl
+      where
+        by : (o : Option Cut) → cut ≡ o → weight_left slots excluded (at + 1) new < weight_left slots excluded at space
+        by None e = subst (λ (s : Space). weight_left slots excluded (at + 1) s < weight_left slots excluded at space) (sym (uncut e)) (left_weighs_less at space made stands within)
+        by (Some c) e =
+            subst (λ (s : Space). weight_left slots excluded (at + 1) s < weight_left slots excluded at space) (sym (is ∙ ap (after_cut space (at + 1)) e))
+            (cut_weighs_less at space made stands within can c e)
+
+    pub turn_left : (same : List Split) → None ≡ option_map (λ (c : Cut). c.by) cut → same ≡ made → Stands (at + 1) new same
+    turn_left same none unchanged = by cut refl none
+      where
+        by : (o : Option Cut) → cut ≡ o → None ≡ option_map (λ (c : Cut). c.by) o → Stands (at + 1) new same
+        by None e none = subst (λ (s : Space). Stands (at + 1) s same) (sym (uncut e)) (subst (λ ss. Stands (at + 1) space ss) (sym unchanged) (stands_left at space made stands within e))
+        by (Some c) e same = absurd (cc same)
+
+    pub turn_split : (by : Evidence) (more : List Split) → Some by ≡ option_map (λ (c : Cut). c.by) cut → more ≡ made ++ record { zone = at + 1; by = by } ∷ [] → Stands (at + 1) new more
+    turn_split evidence more some pushed = by cut refl some
+      where
+        by : (o : Option Cut) → cut ≡ o → Some evidence ≡ option_map (λ (c : Cut). c.by) o → Stands (at + 1) new more
+        by None e same = absurd (cc same)
+        by (Some c) e same =
+            let made_is : evidence ≡ c.by = cc same in
+            subst (λ (s : Space). Stands (at + 1) s more) (sym (is ∙ ap (after_cut space (at + 1)) e))
+            (subst (λ ss. Stands (at + 1) (after_cut space (at + 1) (Some c)) ss) (sym (pushed ∙ ap (λ (x : Evidence). made ++ record { zone = at + 1; by = x } ∷ []) made_is))
+            (stands_split at space made stands within can c e))

@@ -4,3 +4,4 @@ pub mod CutLemmas
 pub mod LeastLemmas
 pub mod ClosingLemmas
 pub mod RankLemmas
+pub mod RankTest

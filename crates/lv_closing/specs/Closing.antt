@@ -52,10 +52,14 @@ cut_before question last listed excluded r = if is_behind last r then None else 
 abbrev pub cut_at : Question → Option Rank → List Rank → List (List Pair) → Space → ℕ → Option Cut
 cut_at question last listed excluded s n = option_and_then (cut_before question last listed excluded) (least_of s n)
 
--- the zone of this number split so, if it is open
-abbrev pub with_cut : Space → ℕ → Option Cut → Space
-with_cut s n None = s
-with_cut s n (Some cut) = option_map_or (λ zone. with_split s n zone cut.pairs) (open_zone s n) s
+-- the zone of this number, which is open, split so
+abbrev pub with_cut : Space → ℕ → ZoneValue → Option Cut → Space
+with_cut s n zone None = s
+with_cut s n zone (Some cut) = with_split s n zone cut.pairs
+
+-- if it is open
+abbrev pub after_cut : Space → ℕ → Option Cut → Space
+after_cut s n cut = option_map_or (λ zone. with_cut s n zone cut) (open_zone s n) s
 
 -- what splits come to, each judged after the one before
 abbrev pub judge_splits : Judged → List Split → Option Judged

@@ -2,13 +2,14 @@
 //! numbers, and each that has a member which counts is split by what explains its least member. The parts come behind.
 #![tactic(auto)]
 
-ghost use Rattle.std.specs.Prelude.{◌≡◌, ◌≤◌, true, length, position, option_map, IfOk, OnOk};
+ghost use Rattle.std.specs.Prelude.{◌≡◌, ◌≤◌, true, length, position, option_map, Some, IfOk, OnOk};
 ghost use Rattle.std.specs.Option.{option_copied};
 ghost use Rattle.lv_base.specs.Choices.{contains_all};
+ghost use Rattle.lv_boxes.specs.Members.{ZoneValue};
 ghost use Rattle.lv_walk.specs.Ranked.{is_rank};
 ghost use Rattle.lv_closing.specs.ScratchSpace as Spaces;
 ghost use Rattle.lv_closing.specs.Explained.{AreExplained};
-ghost use Rattle.lv_closing.specs.Closing.{Cut, can_be_listed, cut_of, cut_at, with_cut, Closes};
+ghost use Rattle.lv_closing.specs.Closing.{Cut, can_be_listed, cut_of, cut_at, with_cut, after_cut, Closes};
 ghost use Rattle.lv_closing.specs.Closing as Closings;
 
 use super::space::Space;
@@ -36,7 +37,7 @@ pub fn close(
     listed: &[Rank],
     last: Option<&Rank>,
 ) -> Result<Vec<Split>, AllocError>
-    requires explained { AreExplained grid zones.items (option_copied last.entry) listed.now excluded.now }
+    requires explained { AreExplained grid zones.items (option_copied last) listed.now excluded.now }
     requires few { can_be_listed question (length listed.now) ≡ true }
     ensures { IfOk result (λ made. Closes question grid zones.items (option_copied last.entry) listed.now excluded.now made.items) }
 {
@@ -64,7 +65,7 @@ fn close_zone(
     last: Option<&Rank>,
 ) -> Result<Option<Evidence>, AllocError>
     ensures by { IfOk result (λ by. by ≡ option_map (λ (cut : Cut). cut.by) (cut_at question (option_copied last.entry) listed.now excluded.now space.old n)) }
-    ensures space { OnOk result (space.new ≡ with_cut space.old n (cut_at question (option_copied last.entry) listed.now excluded.now space.old n)) }
+    ensures space { OnOk result (space.new ≡ after_cut space.old n (cut_at question (option_copied last.entry) listed.now excluded.now space.old n)) }
 {
     match space.least_of(alloc, n)? {
         Some(least) if !is_behind(last, &least) => {
@@ -97,7 +98,7 @@ fn split_zone(
 ) -> Result<Option<Evidence>, AllocError>
     requires { length least.now.choices ≤ 4096 }
     ensures by { IfOk result (λ by. by ≡ option_map (λ (cut : Cut). cut.by) (cut_of question listed.now excluded.now least.now)) }
-    ensures space { OnOk result (space.new ≡ with_cut space.old n (cut_of question listed.now excluded.now least.now)) }
+    ensures space { (zone : ZoneValue) → Spaces.open_zone space.old n ≡ Some zone → OnOk result (space.new ≡ with_cut space.old n zone (cut_of question listed.now excluded.now least.now)) }
 {
     if let Some(place) = first_inside(excluded, least.choices.as_slice()) {
         space.split(alloc, n, &excluded[place])?;

@@ -2,7 +2,7 @@
 //! certificate splits can be followed line by line.
 #![tactic(auto)]
 
-ghost use Rattle.std.specs.Prelude.{◌≡◌, ◌-◌, ◌++◌, ◌∷◌, [], map, Some, None, IfOk, OnOk, length, slice_set};
+ghost use Rattle.std.specs.Prelude.{◌≡◌, ◌≤◌, ◌-◌, ◌++◌, ◌∷◌, [], map, Some, None, IfOk, IfSome, OnOk, length, slice_set};
 ghost use Rattle.lv_boxes.specs.Members.{ZoneValue};
 ghost use Rattle.std.specs.Option.{option_copied};
 ghost use Rattle.lv_closing.specs.ScratchSpace.{at_number};
@@ -123,7 +123,8 @@ impl Space {
     /// The rank of the least member of the zone of this number, if that is open and has members. Takes memory for the
     /// member's choices.
     pub fn least_of(&self, alloc: Global, n: u128) -> Result<Option<Rank>, AllocError>
-        ensures { IfOk result (λ r. r ≡ Spaces.least_of self.now n) }
+        ensures rank { IfOk result (λ r. r ≡ Spaces.least_of self.now n) }
+        ensures few { IfOk result (λ r. IfSome r (λ rank. length rank.choices ≤ 4096)) }
     {
         let mut room = vec![in alloc; 0; self.grid.len()]?;
         match self.open_zone(n) {
@@ -141,6 +142,7 @@ impl Space {
     ) -> Result<Option<Rank>, AllocError>
         requires { length room.old ≡ length self.now.slots }
         ensures rank { IfOk result (λ r. r ≡ Spaces.least_rank self.now.slots zone.now) }
+        ensures places { IfOk result (λ r. IfSome r (λ rank. length rank.choices ≡ length room.old)) }
     {
         match self.grid.write_best(zone, room) {
             Some(cost) => Ok(Some(Rank {
