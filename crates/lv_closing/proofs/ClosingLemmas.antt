@@ -15,8 +15,8 @@ use Rattle.lv_walk.specs.Walk.{candidate_of}
 use Rattle.lv_cert.specs.declared.line.Question.{Question}
 use Rattle.lv_cert.specs.declared.line.Evidence.{Evidence}
 use Rattle.lv_cert.specs.Order.{splits}
-use Rattle.lv_closing.specs.ScratchSpace.{Space, at_number, same_zone, open_zone, with_split, least_rank, is_behind, is_passed, all_passed}
-use Rattle.lv_closing.specs.ScratchJudging.{Judged, choices_of, judge_split}
+use Rattle.lv_validity.specs.Space.{Space, same_zone, open_zone, with_split, least_rank, is_behind, is_passed, all_passed}
+use Rattle.lv_validity.specs.Judging.{Judged, choices_of, judge_split}
 use Rattle.lv_closing.specs.Explained.{is_explained, AreExplained}
 use Rattle.lv_closing.specs.Closing.{can_be_listed, Cut, cut_before, cut_at, after_cut, judge_splits, Closes}
 use Rattle.lv_closing.specs.declared.closing.Split.{Split}

@@ -17,8 +17,9 @@ use Rattle.lv_walk.proofs.RankedLemmas.{same_rank}
 use Rattle.lv_cert.specs.declared.line.Question.{Question}
 use Rattle.lv_cert.specs.declared.line.Question.TheVariants.{Diagnosis, Recovery}
 use Rattle.lv_cert.specs.Order.{splits}
-use Rattle.lv_closing.specs.ScratchSpace.{at_number, is_behind}
-use Rattle.lv_closing.specs.ScratchJudging.{Judged, listed_choices, choices_of}
+use Rattle.lv_validity.specs.Counting.{at_number}
+use Rattle.lv_validity.specs.Space.{is_behind}
+use Rattle.lv_validity.specs.Judging.{Judged, listed_choices, choices_of}
 use Rattle.lv_closing.specs.Explained.{is_explained}
 use Rattle.lv_closing.specs.Closing.{can_be_listed, listed_evidence, Cut, cut_by_conflict, cut_by_listed, cut_of, cut_before}
 

@@ -17,7 +17,7 @@ use Rattle.lv_boxes.proofs.LeastLemmas.{written_is_least}
 use Rattle.lv_walk.specs.Walk.{candidate_of}
 use Rattle.lv_search.specs.Members.{ranks_in}
 use Rattle.lv_search.proofs.TimesLemmas.{has_least_rank}
-use Rattle.lv_closing.specs.ScratchSpace.{least_rank}
+use Rattle.lv_validity.specs.Space.{least_rank}
 
 left_true : (a b : Bool) → (a && b) ≡ true → a ≡ true
 left_true a b h = (and_parts a b h).0

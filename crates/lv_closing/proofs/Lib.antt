@@ -3,5 +3,4 @@ pub mod CountLemmas
 pub mod CutLemmas
 pub mod LeastLemmas
 pub mod ClosingLemmas
-pub mod RankLemmas
 pub mod RankTest

@@ -19,8 +19,8 @@ use Rattle.lv_walk.proofs.WalkLemmas.{turn, not_settled, listed_in_front, kept_i
 use Rattle.lv_walk.proofs.TurnLemmas.{ruled_out_by_last}
 use Rattle.lv_search.specs.Members.{ranked_members, ranks_in}
 use Rattle.lv_search.proofs.MemberLemmas.{ranked_members_rise, among_ranked_members_any, all_members_pass}
-use Rattle.lv_closing.specs.ScratchSpace.{is_behind}
-use Rattle.lv_closing.specs.ScratchJudging.{last_of}
+use Rattle.lv_validity.specs.Space.{is_behind}
+use Rattle.lv_validity.specs.Judging.{last_of}
 use Rattle.lv_closing.specs.Explained.{AreExplained, last_if_full}
 use Rattle.lv_closing.specs.Laws.{HasReasonsInside, explains}
 

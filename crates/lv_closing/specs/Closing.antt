@@ -13,8 +13,8 @@ use Rattle.lv_cert.specs.declared.line.Question.TheVariants.{Diagnosis, Recovery
 use Rattle.lv_cert.specs.declared.line.Evidence.{Evidence}
 use Rattle.lv_cert.specs.declared.line.Evidence.TheVariants as evidence
 use Rattle.lv_cert.specs.Order.{splits}
-use Rattle.lv_closing.specs.ScratchSpace.{Space, open_zone, with_split, least_of, is_behind, all_passed}
-use Rattle.lv_closing.specs.ScratchJudging.{Judged, judge_split}
+use Rattle.lv_validity.specs.Space.{Space, open_zone, with_split, least_rank, is_behind, all_passed}
+use Rattle.lv_validity.specs.Judging.{Judged, judge_split}
 use Rattle.lv_closing.specs.declared.closing.Split.{Split}
 
 -- so many may be listed: of command sets one at most
@@ -49,8 +49,9 @@ cut_of question listed excluded r =
 abbrev pub cut_before : Question → Option Rank → List Rank → List (List Pair) → Rank → Option Cut
 cut_before question last listed excluded r = if is_behind last r then None else cut_of question listed excluded r
 
+-- by what the zone of this number is split, if it is open and has members
 abbrev pub cut_at : Question → Option Rank → List Rank → List (List Pair) → Space → ℕ → Option Cut
-cut_at question last listed excluded s n = option_and_then (cut_before question last listed excluded) (least_of s n)
+cut_at question last listed excluded s n = option_and_then (cut_before question last listed excluded) (option_and_then (least_rank s.slots) (open_zone s n))
 
 -- the zone of this number, which is open, split so
 abbrev pub with_cut : Space → ℕ → ZoneValue → Option Cut → Space

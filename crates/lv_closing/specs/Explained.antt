@@ -8,8 +8,8 @@ use Rattle.lv_boxes.specs.Members.{ZoneValue}
 use Rattle.lv_walk.specs.Ranked.{is_among}
 use Rattle.lv_walk.specs.Walk.{is_ruled_out}
 use Rattle.lv_search.specs.Members.{ranks_in}
-use Rattle.lv_closing.specs.ScratchSpace.{is_behind}
-use Rattle.lv_closing.specs.ScratchJudging.{last_of}
+use Rattle.lv_validity.specs.Space.{is_behind}
+use Rattle.lv_validity.specs.Judging.{last_of}
 
 -- it ranks behind the last that counts, or an excluded conflict is in it, or it is listed
 abbrev pub is_explained : Option Rank → List Rank → List (List Pair) → Rank → Bool

@@ -7,15 +7,15 @@ ghost use Rattle.std.specs.Option.{option_copied};
 ghost use Rattle.lv_base.specs.Choices.{contains_all};
 ghost use Rattle.lv_boxes.specs.Members.{ZoneValue};
 ghost use Rattle.lv_walk.specs.Ranked.{is_rank};
-ghost use Rattle.lv_closing.specs.ScratchSpace as Spaces;
+ghost use Rattle.lv_validity.specs.Space as Spaces;
 ghost use Rattle.lv_closing.specs.Explained.{AreExplained};
 ghost use Rattle.lv_closing.specs.Closing.{Cut, can_be_listed, cut_of, cut_at, with_cut, after_cut, Closes};
 ghost use Rattle.lv_closing.specs.Closing as Closings;
 
-use super::space::Space;
 use lv_base::{Conflict, Rank, contains};
 use lv_boxes::{Grid, Zone, choices_as_conflict};
 use lv_cert::{Evidence, Question};
+use lv_space::Space;
 use std::alloc::{AllocError, Global};
 
 /// A split: the zone of this number, counted from 1, by this evidence.

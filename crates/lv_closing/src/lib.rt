@@ -3,6 +3,5 @@
 
 pub mod closing;
 pub mod laws;
-pub mod space;
 
 pub use closing::{Split, close};
