@@ -1,9 +1,9 @@
 -- Zones closed one after the other: those behind are passed, those ahead have none but explained members and weigh less at each turn.
-use Rattle.std.proofs.Common.{◌≡◌, ℕ, suc, ◌+◌, ◌-◌, ◌<◌, ◌≤◌, Bool, true, false, ◌&&◌, ◌||◌, List, [], ◌∷◌, ◌++◌, ⊎_elim, length, map, take, drop, set, get_or, Option, Some, None, option_map, refl, sym, ◌∙◌, ap, subst, cond, nat_lt, arith}
+use Rattle.std.proofs.Common.{◌≡◌, ℕ, ◌+◌, ◌-◌, ◌<◌, ◌≤◌, Bool, true, false, ◌&&◌, List, [], ◌∷◌, ◌++◌, ⊎_elim, length, map, take, drop, set, get_or, Option, Some, None, option_map, refl, sym, ◌∙◌, ap, subst, cond, nat_lt, arith}
 use Rattle.std.specs.Option.{option_and_then, option_map_or}
 use Rattle.std.specs.List.{list_all, list_any}
 use Rattle.std.proofs.Math.ListN.{length-set}
-use Rattle.std.proofs.lemmas.Bool.{and_from, and_parts, or_cases, or_left, or_right}
+use Rattle.std.proofs.lemmas.Bool.{and_from, or_cases, or_left, or_right}
 use Rattle.std.proofs.lemmas.List.{take_all, drop_more, take_more, take_more_set, take-append-le, drop-append-le, drop-set-lt}
 use Rattle.std.proofs.lemmas.List.Folds.{list_all-append, list_any-append}
 use Rattle.lv_base.specs.declared.ids.Cost.{Cost}
@@ -15,7 +15,7 @@ use Rattle.lv_walk.specs.Walk.{candidate_of}
 use Rattle.lv_cert.specs.declared.line.Question.{Question}
 use Rattle.lv_cert.specs.declared.line.Evidence.{Evidence}
 use Rattle.lv_cert.specs.Order.{splits}
-use Rattle.lv_validity.specs.Space.{Space, same_zone, open_zone, with_split, least_rank, is_behind, is_passed, all_passed}
+use Rattle.lv_validity.specs.Space.{Space, same_zone, open_zone, with_split, least_rank, is_behind, is_passed}
 use Rattle.lv_validity.specs.Judging.{Judged, choices_of, judge_split}
 use Rattle.lv_closing.specs.Explained.{is_explained, AreExplained}
 use Rattle.lv_closing.specs.Closing.{can_be_listed, Cut, cut_before, cut_at, after_cut, judge_splits, Closes}

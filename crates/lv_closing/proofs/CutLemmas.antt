@@ -1,16 +1,14 @@
 -- By what a zone is split: choices of its least member, which its evidence stands for.
-use Rattle.std.proofs.Common.{◌≡◌, ℕ, zero, suc, ◌+◌, ◌-◌, ◌<◌, ◌≤◌, Bool, true, false, not, ◌&&◌, ◌||◌, List, [], ◌∷◌, ◌++◌, length, drop, get_or, position, slice_get, Option, Some, None, option_map, refl, sym, ◌∙◌, ap, subst, cond, nat_eq, nat_lt, nat_le, arith, add-one, drop-cons, length-drop}
+use Rattle.std.proofs.Common.{◌≡◌, ℕ, zero, suc, ◌+◌, ◌-◌, ◌<◌, ◌≤◌, Bool, true, false, not, ◌||◌, List, [], ◌∷◌, length, drop, get_or, position, slice_get, Option, Some, None, option_map, refl, sym, ◌∙◌, ap, subst, cond, nat_eq, nat_lt, arith, add-one, drop-cons, length-drop}
 use Rattle.std.specs.Option.{option_or, option_and_then}
 use Rattle.std.specs.List.{list_any, position_or_len}
-use Rattle.std.proofs.Math.ListN.{drop_of_length-le}
-use Rattle.std.proofs.lemmas.Bool.{and_from, lt-ltb, ltb-false, leb-true, eq-eqb, both_ways}
+use Rattle.std.proofs.lemmas.Bool.{lt-ltb, ltb-false, leb-true, eq-eqb}
 use Rattle.std.proofs.lemmas.Option.{slice_get-get_or}
 use Rattle.std.proofs.lemmas.List.Quantifiers.{position-Some}
 use Rattle.lv_base.specs.declared.rank.Rank.{Rank}
 use Rattle.lv_base.specs.declared.search.Pair.{Pair}
-use Rattle.lv_base.specs.Choices.{picks, contains_all, pairs_from, pairs_of}
+use Rattle.lv_base.specs.Choices.{contains_all, pairs_from, pairs_of}
 use Rattle.lv_boxes.specs.Members.{ZoneValue}
-use Rattle.lv_boxes.specs.Laws as boxes
 use Rattle.lv_walk.specs.Ranked.{is_rank, is_among}
 use Rattle.lv_walk.specs.Walk.{is_ruled_out}
 use Rattle.lv_walk.proofs.RankedLemmas.{same_rank}
@@ -46,11 +44,7 @@ position-None p xs none = none_before p xs (ltb-false (position_or_len p xs) (le
     by true e = absurd (cc e)
     by false e = refl
 
--- choices as pairs
-pub same_pairs : (n : ℕ) (choices : List ℕ) → boxes.pairs_from n choices ≡ pairs_from n choices
-same_pairs n [] = refl
-same_pairs n (choice ∷ choices) = ap (λ ps. record { slot = n; choice = choice } ∷ ps) (same_pairs (n + 1) choices)
-
+-- one pair for each choice
 length-pairs : (n : ℕ) (choices : List ℕ) → length (pairs_from n choices) ≡ length choices
 length-pairs n [] = refl
 length-pairs n (choice ∷ choices) = let rest = length-pairs (n + 1) choices in omega (arith, rest)

@@ -4,3 +4,4 @@ pub mod CutLemmas
 pub mod LeastLemmas
 pub mod ClosingLemmas
 pub mod RankTest
+pub mod LineLemmas

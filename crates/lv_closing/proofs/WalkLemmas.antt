@@ -1,5 +1,5 @@
 -- Along a settled walk each entry gets explained: as it is passed over, listed or refused, or as the walk ends before it.
-use Rattle.std.proofs.Common.{◌≡◌, ℕ, suc, ◌-◌, ◌<◌, ◌≤◌, Bool, true, false, ◌||◌, List, [], ◌∷◌, ◌++◌, length, Option, Some, None, slice_get, get_or, ⊎_elim, refl, sym, ◌∙◌, ap, subst, cond, nat_eq, arith}
+use Rattle.std.proofs.Common.{◌≡◌, ℕ, suc, ◌-◌, ◌≤◌, Bool, true, false, ◌||◌, List, [], ◌∷◌, ◌++◌, length, Some, None, slice_get, get_or, ⊎_elim, refl, sym, ◌∙◌, ap, subst, cond, nat_eq, arith}
 use Rattle.std.specs.List.{list_all, list_any}
 use Rattle.std.proofs.lemmas.Bool.{and_parts, or_cases, or_left, or_right, eqb-true}
 use Rattle.std.proofs.lemmas.Option.{slice_get-get_or}
@@ -17,7 +17,7 @@ use Rattle.lv_walk.specs.Walk.{Walked, candidate_of, is_ruled_out, walk_from, wa
 use Rattle.lv_walk.proofs.RankedLemmas.{is_itself, same_rank, before_each}
 use Rattle.lv_walk.proofs.WalkLemmas.{turn, not_settled, listed_in_front, kept_in_front}
 use Rattle.lv_walk.proofs.TurnLemmas.{ruled_out_by_last}
-use Rattle.lv_search.specs.Members.{ranked_members, ranks_in}
+use Rattle.lv_search.specs.Members.{ranked_members}
 use Rattle.lv_search.proofs.MemberLemmas.{ranked_members_rise, among_ranked_members_any, all_members_pass}
 use Rattle.lv_validity.specs.Space.{is_behind}
 use Rattle.lv_validity.specs.Judging.{last_of}

@@ -9,6 +9,7 @@ ghost use Rattle.lv_boxes.specs.Members.{ZoneValue};
 ghost use Rattle.lv_walk.specs.Ranked.{is_rank};
 ghost use Rattle.lv_validity.specs.Space as Spaces;
 ghost use Rattle.lv_closing.specs.Explained.{AreExplained};
+ghost use Rattle.lv_closing.specs.Explained as Explanations;
 ghost use Rattle.lv_closing.specs.Closing.{Cut, can_be_listed, cut_of, cut_at, with_cut, after_cut, Closes};
 ghost use Rattle.lv_closing.specs.Closing as Closings;
 
@@ -25,9 +26,11 @@ pub struct Split {
     pub by: Evidence,
 }
 
-/// The splits that show of these zones, with what their choices cost, that no member is left which should be listed and
-/// isn't: of each member that ranks not behind the last that counts an excluded conflict is a part, or it is listed. In
-/// a recovery one command set is listed at most.
+/// Splits of these zones, with what their choices cost, until each that is open is empty or its least member ranks behind
+/// `last`. A zone is split by the first excluded conflict in its least member, or else by all choices of the listed
+/// candidate that this is; so each member must contain an excluded conflict, be listed, or rank behind `last`. Conflicts,
+/// listed candidates and zones are numbered from 1, and the zones that a split makes come behind the others. A recovery
+/// lists one command set at most.
 pub fn close(
     alloc: Global,
     question: Question,
@@ -52,6 +55,17 @@ pub fn close(
         at += 1;
     }
     Ok(made)
+}
+
+/// The last of the listed, where as many are listed as are wanted: what ranks behind it need not be listed.
+pub fn last_if_full(listed: &[Rank], k: usize) -> Option<&Rank>
+    ensures { option_copied result ≡ Explanations.last_if_full k listed.now }
+{
+    if listed.len() == k {
+        listed.last()
+    } else {
+        None
+    }
 }
 
 /// Splits the zone of this number, if its least member doesn't rank behind the last, by what explains that member.

@@ -19,11 +19,11 @@ pub loop-at-preserved : goal.loop-at-preserved
 loop-at-preserved c =
     let within : c.loop-at.at < length c.loop-at.space.zones = search rules in
     elim c.match-branch-3.branch [
-      in-Some+in_ok-push w ↦
+      | in-Some+in_ok-push w ↦
           turn_split c.args.question c.args.grid c.args.zones.items (option_copied c.args.last) c.args.listed.now c.args.excluded.now
           c.loop-at.at c.loop-at.space c.close_zone.new.space c.loop-at.made.items c.loop-at.invariant within c.requires.few c.in_ok-by.ensures.space
           w.in-Some.by c.match-branch-3.made.items (search rules) (search rules)
-    | in_default w ↦
+      | in_default w ↦
           turn_left c.args.question c.args.grid c.args.zones.items (option_copied c.args.last) c.args.listed.now c.args.excluded.now
           c.loop-at.at c.loop-at.space c.close_zone.new.space c.loop-at.made.items c.loop-at.invariant within c.requires.few c.in_ok-by.ensures.space
           c.match-branch-3.made.items (search rules) (search rules)

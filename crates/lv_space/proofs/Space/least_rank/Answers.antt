@@ -1,5 +1,5 @@
 -- what is written is the least member, which has the cheapest choices
-use Rattle.std.proofs.Common.{◌≡◌, ◌∙◌, List, Some, None, sym, ap, subst}
+use Rattle.std.proofs.Common.{◌≡◌, List, Some, None, ap, subst}
 use Rattle.lv_base.specs.declared.ids.Cost.{Cost}
 use Rattle.lv_validity.specs.Space.{Space, least_rank}
 use Rattle.lv_space.proofs.LeastLemmas.{rank_told, none_told}
