@@ -67,8 +67,8 @@ abbrev pub judge_splits : Judged → List Split → Option Judged
 judge_splits j [] = Some j
 judge_splits j (s ∷ ss) = option_and_then (λ next. judge_splits next ss) (judge_split j s.zone s.by)
 
--- judged where these zones are open, and this is listed and excluded, the splits come to zones that are all passed; and such splits
--- there are in answer to the question
+-- judged where these zones are open, and this is listed and excluded, the splits come to zones that are all passed; and a certificate
+-- that answers the question may have such splits
 pub record Closes (question : Question) (slots : List (List Cost)) (zones : List ZoneValue) (last : Option Rank) (listed : List Rank) (excluded : List (List Pair)) (made : List Split) : Type 0 where
   pub space : Space
   pub judged : (j : Judged) → j.space ≡ record { slots = slots; zones = map Some zones } → j.listed ≡ listed → j.excluded ≡ excluded → judge_splits j made ≡ Some (record j { space = space })
