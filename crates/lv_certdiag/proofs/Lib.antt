@@ -4,3 +4,5 @@ pub mod RefutingLemmas
 pub mod WholeLemmas
 pub mod Telling
 pub mod AddingLemmas
+pub mod AnswerLemmas
+pub mod AskedLemmas

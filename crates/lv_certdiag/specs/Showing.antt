@@ -1,6 +1,7 @@
 -- What a certificate of a diagnosis shows, and by which lines.
-use Rattle.std.specs.Prelude.{◌≡◌, ◌<◌, ◌^◌, ◌+◌, ℕ, true, false, List, [], ◌∷◌, ◌++◌, length, map, All}
+use Rattle.std.specs.Prelude.{◌≡◌, ◌<◌, ◌^◌, ◌+◌, ℕ, true, false, List, [], ◌∷◌, ◌++◌, length, map, Option, All}
 use Rattle.std.specs.List.{flat_map}
+use Rattle.lv_base.specs.declared.ids.Cost.{Cost}
 use Rattle.lv_base.specs.declared.ids.Lit.{Lit}
 use Rattle.lv_base.specs.declared.ids.ValId.{ValId}
 use Rattle.lv_base.specs.declared.rank.Rank.{Rank}
@@ -25,6 +26,10 @@ use Rattle.lv_refute.specs.declared.refuter.Refuted.{Refuted}
 use Rattle.lv_refute.specs.declared.refuter.Refuted.TheVariants.{Values, Lines}
 use Rattle.lv_refute.specs.Lines.{derived_of}
 use Rattle.lv_refute.specs.Refuting.{MakeTrue}
+use Rattle.lv_boxes.specs.Members.{ZoneValue}
+use Rattle.lv_closing.specs.declared.closing.Split.{Split}
+use Rattle.lv_closing.specs.Closing.{Closes, SplitIsSmall}
+use Rattle.lv_cert.specs.declared.line.Question.{Question}
 use Rattle.lv_cert.specs.declared.line.Question.TheVariants.{Diagnosis}
 use Rattle.lv_cert.specs.declared.line.Moment.TheVariants.{Now, Next}
 use Rattle.lv_cert.specs.declared.line.Head.TheVariants as head
@@ -130,3 +135,14 @@ pub record AddsBlocks (plant : Plant) (facts : Facts) (kept : List (List Pair)) 
   pub are : All (IsRefuted plant facts) blocks
   pub pairs : map (λ (b : Block). b.pairs) blocks ≡ kept
   pub lines : new ≡ old ++ flat_map block_lines blocks
+
+-- what is listed is shown, and what was kept refuted
+pub record HoldsAnswer (plant : Plant) (facts : Facts) (listed : List Rank) (kept : List (List Pair)) (old new : List Line) : Type 0 where
+  pub between : List Line
+  pub shown : AddsShown plant facts listed old between
+  pub refuted : AddsBlocks plant facts kept between new
+
+-- splits that close the zones, with small numbers
+pub record HoldsSplits (question : Question) (slots : List (List Cost)) (zones : List ZoneValue) (last : Option Rank) (listed : List Rank) (excluded : List (List Pair)) (made : List Split) : Type 0 where
+  pub closes : Closes question slots zones last listed excluded made
+  pub small : All SplitIsSmall made

@@ -15,4 +15,7 @@ mod asking;
 mod heading;
 mod listing;
 mod refuting;
+pub mod whole;
+
+pub use whole::{Settled, certify_diagnosis};
 

@@ -1,5 +1,5 @@
 -- By what zones are split until each is passed, and what the splits come to.
-use Rattle.std.specs.Prelude.{◌≡◌, ℕ, ◌+◌, Bool, true, nat_le, List, [], ◌∷◌, map, position, slice_index_or, Option, Some, None, option_map, if◌then◌else◌}
+use Rattle.std.specs.Prelude.{◌≡◌, ℕ, ◌+◌, Bool, true, nat_le, List, [], ◌∷◌, map, position, slice_index_or, Option, Some, None, option_map, if◌then◌else◌, ◌≤◌, ◌^◌}
 use Rattle.std.specs.List.{list_all}
 use Rattle.std.specs.Option.{option_or, option_and_then, option_map_or}
 use Rattle.lv_base.specs.declared.ids.Cost.{Cost}
@@ -74,3 +74,14 @@ pub record Closes (question : Question) (slots : List (List Cost)) (zones : List
   pub judged : (j : Judged) → j.space ≡ record { slots = slots; zones = map Some zones } → j.listed ≡ listed → j.excluded ≡ excluded → judge_splits j made ≡ Some (record j { space = space })
   pub passed : all_passed space last ≡ true
   pub fitting : list_all (λ s. splits question s.by) made ≡ true
+
+-- evidence whose number, if it has one, is no larger than a list can be long
+abbrev pub EvidenceIsSmall : Evidence → Type 0
+EvidenceIsSmall (evidence.Conflict n) = n ≤ 2 ^ 64
+EvidenceIsSmall (evidence.Listed n) = n ≤ 2 ^ 64
+EvidenceIsSmall evidence.Recovery = Unit {0}
+
+-- so a split's numbers
+pub record SplitIsSmall (s : Split) : Type 0 where
+  pub zone : s.zone ≤ 2 ^ 64
+  pub by : EvidenceIsSmall s.by

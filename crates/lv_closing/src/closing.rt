@@ -2,7 +2,7 @@
 //! numbers, and each that has a member which counts is split by what explains its least member. The parts come behind.
 #![tactic(auto)]
 
-ghost use Rattle.std.specs.Prelude.{◌≡◌, ◌≤◌, true, length, position, option_map, Some, IfOk, OnOk};
+ghost use Rattle.std.specs.Prelude.{◌≡◌, ◌≤◌, ◌^◌, true, length, position, option_map, Some, All, IfOk, IfSome, OnOk};
 ghost use Rattle.std.specs.Option.{option_copied};
 ghost use Rattle.lv_base.specs.Choices.{contains_all};
 ghost use Rattle.lv_boxes.specs.Members.{ZoneValue};
@@ -10,7 +10,7 @@ ghost use Rattle.lv_walk.specs.Ranked.{is_rank};
 ghost use Rattle.lv_validity.specs.Space as Spaces;
 ghost use Rattle.lv_closing.specs.Explained.{AreExplained};
 ghost use Rattle.lv_closing.specs.Explained as Explanations;
-ghost use Rattle.lv_closing.specs.Closing.{Cut, can_be_listed, cut_of, cut_at, with_cut, after_cut, Closes};
+ghost use Rattle.lv_closing.specs.Closing.{Cut, can_be_listed, cut_of, cut_at, with_cut, after_cut, Closes, EvidenceIsSmall, SplitIsSmall};
 ghost use Rattle.lv_closing.specs.Closing as Closings;
 
 use lv_base::{Conflict, Rank, contains};
@@ -42,7 +42,8 @@ pub fn close(
 ) -> Result<Vec<Split>, AllocError>
     requires explained { AreExplained grid zones.items (option_copied last) listed.now excluded.now }
     requires few { can_be_listed question (length listed.now) ≡ true }
-    ensures { IfOk result (λ made. Closes question grid zones.items (option_copied last.entry) listed.now excluded.now made.items) }
+    ensures closes { IfOk result (λ made. Closes question grid zones.items (option_copied last.entry) listed.now excluded.now made.items) }
+    ensures small { IfOk result (λ made. All SplitIsSmall made.items) }
 {
     let mut space = Space::new(alloc, grid, zones)?;
     let mut made = Vec::new(alloc);
@@ -79,6 +80,7 @@ fn close_zone(
     last: Option<&Rank>,
 ) -> Result<Option<Evidence>, AllocError>
     ensures by { IfOk result (λ by. by ≡ option_map (λ (cut : Cut). cut.by) (cut_at question (option_copied last.entry) listed.now excluded.now space.old n)) }
+    ensures small { IfOk result (λ by. IfSome by EvidenceIsSmall) }
     ensures space { OnOk result (space.new ≡ after_cut space.old n (cut_at question (option_copied last.entry) listed.now excluded.now space.old n)) }
 {
     match space.least_of(alloc, n)? {
@@ -112,6 +114,7 @@ fn split_zone(
 ) -> Result<Option<Evidence>, AllocError>
     requires { length least.now.choices ≤ 4096 }
     ensures by { IfOk result (λ by. by ≡ option_map (λ (cut : Cut). cut.by) (cut_of question listed.now excluded.now least.now)) }
+    ensures small { IfOk result (λ by. IfSome by EvidenceIsSmall) }
     ensures space { (zone : ZoneValue) → Spaces.open_zone space.old n ≡ Some zone → OnOk result (space.new ≡ with_cut space.old n zone (cut_of question listed.now excluded.now least.now)) }
 {
     if let Some(place) = first_inside(excluded, least.choices.as_slice()) {
@@ -152,7 +155,9 @@ fn is_same(rank: &Rank, other: &Rank) -> bool
 
 /// A listed candidate as evidence, by its number.
 fn listed_evidence(question: Question, n: u128) -> Evidence
-    ensures { result ≡ Closings.listed_evidence question n }
+    requires { n ≤ 2 ^ 64 }
+    ensures is { result ≡ Closings.listed_evidence question n }
+    ensures small { EvidenceIsSmall result }
 {
     match question {
         Question::Diagnosis => Evidence::Listed(n),
