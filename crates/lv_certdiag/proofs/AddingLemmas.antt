@@ -1,28 +1,23 @@
 -- What lines add, one candidate or conflict after the other.
-use Rattle.std.proofs.Common.{◌≡◌, ℕ, ◌+◌, ◌<◌, ◌≤◌, ◌^◌, Bool, true, false, ◌&&◌, List, [], ◌∷◌, ◌++◌, length, map, refl, sym, subst, ◌∙◌, ap, ap₂, arith, All}
+use Rattle.std.proofs.Common.{◌≡◌, ◌<◌, ◌^◌, true, List, [], ◌∷◌, ◌++◌, length, map, refl, sym, ◌∙◌, ap, ap₂, arith}
 use Rattle.std.specs.List.{flat_map}
-use Rattle.std.proofs.lemmas.Bool.{and_from}
-use Rattle.std.proofs.lemmas.List.{append_assoc, append-nil, length-append, length-map, map-append}
+use Rattle.std.proofs.lemmas.List.{append_assoc, append-nil, length-map, map-append}
 use Rattle.std.proofs.lemmas.List.Elements.{All-cons, All-nil, All-append}
-use Rattle.lv_base.specs.declared.limits.TheConstants.{MODEL_CLAUSES}
 use Rattle.lv_base.specs.declared.ids.ValId.{ValId}
 use Rattle.lv_base.specs.declared.rank.Rank.{Rank}
 use Rattle.lv_base.specs.declared.search.Pair.{Pair}
 use Rattle.lv_base.specs.Choices.{slots_rise}
 use Rattle.lv_model.specs.declared.plant.Plant.{Plant}
-use Rattle.lv_model.specs.Lists.{move_counts}
 use Rattle.lv_meaning.specs.declared.facts.Facts.{Facts}
 use Rattle.lv_compile.specs.Booleans.{bool_count}
 use Rattle.lv_compile.specs.ModelClauses.{model_clauses}
 use Rattle.lv_blocks.specs.Deriving.{refutes}
-use Rattle.lv_ident.specs.Literals.{HasMove}
 use Rattle.lv_refute.specs.declared.derivation.Derivation.{Derivation}
 use Rattle.lv_refute.specs.Lines.{derived_of}
 use Rattle.lv_cert.specs.declared.line.Head.TheVariants as head
 use Rattle.lv_cert.specs.declared.line.Line.{Line}
 use Rattle.lv_cert.specs.declared.line.Line.TheVariants as line
 use Rattle.lv_certlines.specs.Lines.{numbers_of, values_line, pair_numbers, clause_lines}
-use Rattle.lv_certlines.specs.Pairs.{HasChoice}
 use Rattle.lv_certdiag.specs.Showing.{Shown, Block, listed_lines, block_lines, own_clauses, IsRefuted, ShowsStep, StepIsShown, AddsShown, AddsBlocks, CanBeRefuted}
 
 flat_two : {X Y : Type 0} (f : X → List Y) (xs ys : List X) → flat_map f (xs ++ ys) ≡ flat_map f xs ++ flat_map f ys

@@ -1,7 +1,6 @@
 -- What is known of a settled diagnosis: its listed candidates can be shown, its kept conflicts refuted, and each candidate explained.
-use Rattle.std.proofs.Common.{◌≡◌, ℕ, ◌+◌, ◌-◌, ◌<◌, ◌≤◌, Bool, true, false, not, ◌&&◌, nat_lt, nat_eq, List, [], ◌∷◌, ◌++◌, length, take, filter, map, slice_index_or, Option, Some, None, refl, sym, subst, ◌∙◌, ap, arith, All, Contains}
-use Rattle.std.specs.List.{list_all, list_any}
-use Rattle.std.specs.Option.{option_map_or}
+use Rattle.std.proofs.Common.{◌≡◌, ℕ, ◌-◌, ◌≤◌, Bool, true, false, not, ◌&&◌, nat_lt, List, [], ◌∷◌, ◌++◌, take, filter, slice_index_or, Some, None, refl, sym, subst, ◌∙◌, ap, arith, All, Contains}
+use Rattle.std.specs.List.{list_all}
 use Rattle.std.proofs.lemmas.Bool.{and_parts, and_from, lt-ltb, ltb-true, not-true}
 use Rattle.std.proofs.lemmas.List.Elements.{All-contains_itself, All-head, All-tail, All-cons, All-nil}
 use Rattle.std.proofs.lemmas.List.Folds.{list_all-append}
@@ -9,8 +8,7 @@ use Rattle.lv_base.specs.declared.rank.Rank.{Rank}
 use Rattle.lv_base.specs.declared.search.Pair.{Pair}
 use Rattle.lv_base.specs.declared.search.Candidate.{Candidate}
 use Rattle.lv_base.specs.Rank.{ranks_before}
-use Rattle.lv_base.specs.Choices.{slots_rise, pairs_of, contains_all}
-use Rattle.lv_boxes.specs.Members.{ZoneValue}
+use Rattle.lv_base.specs.Choices.{pairs_of}
 use Rattle.lv_model.specs.declared.plant.Plant.{Plant}
 use Rattle.lv_model.specs.declared.state.TrackedState.{TrackedState}
 use Rattle.lv_model.specs.Lists.{move_counts}
@@ -23,13 +21,11 @@ use Rattle.lv_meaning.specs.declared.facts.Facts.{Facts}
 use Rattle.lv_meaning.specs.Possible.{is_possible}
 use Rattle.lv_meaning.specs.Candidates.{candidates, is_possible_candidate, is_possible_rank, first_possible}
 use Rattle.lv_meaning.specs.Diagnosis.{reason_of, diagnosis_walk}
-use Rattle.lv_laws.specs.Possible.{are_below}
 use Rattle.lv_laws.specs.Candidates.{IsCandidate, IsAnswer}
 use Rattle.lv_laws.proofs.Reasons.{is_sound, own_pairs}
 use Rattle.lv_laws.proofs.Answering.{answer_law}
 use Rattle.lv_laws.proofs.Rising.{candidates_rise_law}
 use Rattle.lv_base.specs.Choices.{picks}
-use Rattle.lv_search.specs.Members.{ranked_members, ranks_in}
 use Rattle.lv_search.proofs.MemberLemmas.{among_ranked_members_any}
 use Rattle.lv_zones.specs.Moves.{move_slots, zones_from, is_full_choice}
 use Rattle.lv_zones.proofs.ZoneLemmas.{zones_have_candidates, candidates_are_full}

@@ -1,14 +1,14 @@
 -- What a session holds is what a certificate may state.
-use Rattle.std.proofs.Common.{◌≡◌, ℕ, zero, suc, ◌+◌, ◌<◌, ◌≤◌, ◌^◌, Bool, true, List, [], ◌∷◌, ◌++◌, length, map, Some, None, refl, sym, subst, ◌∙◌, ap, arith, nat_eq, Option, All, if◌then◌else◌}
-use Rattle.std.specs.List.{list_all, flat_map}
-use Rattle.std.proofs.lemmas.List.{append_assoc, append-nil, length-map}
+use Rattle.std.proofs.Common.{◌≡◌, ℕ, suc, ◌≤◌, true, List, [], ◌∷◌, ◌++◌, length, map, None, refl, sym, subst, ◌∙◌, ap, arith, nat_eq, Option, All, if◌then◌else◌}
+use Rattle.std.specs.List.{flat_map}
+use Rattle.std.proofs.lemmas.List.{append_assoc, length-map}
 use Rattle.std.proofs.lemmas.List.Elements.{All-head, All-tail, All-cons, All-nil}
-use Rattle.lv_base.specs.declared.limits.TheConstants.{TRACKED, VARIABLES, PARTS, MODEL_CLAUSES}
+use Rattle.lv_base.specs.declared.limits.TheConstants.{TRACKED, VARIABLES, PARTS}
 use Rattle.lv_base.specs.declared.rank.Rank.{Rank}
 use Rattle.lv_base.specs.declared.search.Pair.{Pair}
 use Rattle.lv_model.specs.declared.plant.Plant.{Plant}
 use Rattle.lv_model.specs.declared.state.TrackedState.{TrackedState}
-use Rattle.lv_model.specs.Lists.{sizes, move_counts, controls, variable_count, part_moves}
+use Rattle.lv_model.specs.Lists.{sizes, controls, variable_count, part_moves}
 use Rattle.lv_model.specs.Ranges.{plant_ranges}
 use Rattle.lv_model.specs.WellFormed.{is_well_formed}
 use Rattle.lv_model.specs.declared.plant.Part.{Part}
@@ -16,14 +16,11 @@ use Rattle.lv_formula.specs.declared.range.Range.{Range}
 use Rattle.lv_formula.specs.Fits.{has_value}
 use Rattle.lv_base.specs.declared.ids.ValId.{ValId}
 use Rattle.std.proofs.lemmas.Bool.{and_parts}
-use Rattle.lv_meaning.specs.declared.facts.Observation.{Observation}
 use Rattle.lv_meaning.specs.declared.facts.Facts.{Facts}
 use Rattle.lv_meaning.specs.Facts.{commanded}
 use Rattle.lv_meaning.specs.Candidates.{IsTracked}
-use Rattle.lv_recovery.specs.Ranges.{modes_fit, StateFits}
+use Rattle.lv_recovery.specs.Ranges.{modes_fit}
 use Rattle.lv_laws.specs.Candidates.{IsCandidate}
-use Rattle.lv_compile.specs.Booleans.{bool_count}
-use Rattle.lv_compile.specs.ModelClauses.{model_clauses}
 use Rattle.lv_steps.specs.System.{SystemValue, IsSystemOf}
 use Rattle.lv_boxes.specs.Members.{ZoneValue}
 use Rattle.lv_zones.specs.Moves.{move_slots, zones_from}
@@ -31,7 +28,7 @@ use Rattle.lv_ident.specs.Literals.{HasValue}
 use Rattle.lv_cert.specs.declared.line.Question.TheVariants.{Diagnosis}
 use Rattle.lv_cert.specs.declared.line.Line.{Line}
 use Rattle.lv_cert.specs.declared.line.Line.TheVariants as line
-use Rattle.lv_validity.specs.Judging.{Judged, full_to, last_of}
+use Rattle.lv_validity.specs.Judging.{last_of}
 use Rattle.lv_validity.specs.Space.{all_passed}
 use Rattle.lv_base.specs.declared.ids.Cost.{Cost}
 use Rattle.lv_closing.specs.Explained.{AreExplained, last_if_full}
@@ -39,12 +36,10 @@ use Rattle.lv_closing.specs.declared.closing.Split.{Split}
 use Rattle.lv_cert.specs.declared.line.Moment.TheVariants.{Now, Next}
 use Rattle.lv_cert.specs.declared.line.Head.TheVariants as head
 use Rattle.lv_certlines.specs.Lines.{state_lines, fact_lines, values_line, split_lines}
-use Rattle.lv_certlines.proofs.StatingLemmas.{Stands}
-use Rattle.lv_certlines.proofs.Facts.{IsSeenIn}
 use Rattle.lv_certlines.proofs.ClosedLemmas.{are_splits}
-use Rattle.lv_certify.specs.Certifying.{StateStands, IsSeen, AreStates, AreFacts, IsSettledDiagnosis, CertifiesDiagnosis, AreFormed}
-use Rattle.lv_certdiag.specs.Showing.{Shown, Block, head_lines, listed_lines, block_lines, IsShown, StepIsShown, AddsShown, AddsBlocks, HoldsAnswer, HoldsSplits}
-use Rattle.lv_certdiag.proofs.HeadingLemmas.{IsControlled, IsAskedOf}
+use Rattle.lv_certify.specs.Certifying.{AreStates, AreFacts, IsSettledDiagnosis, CertifiesDiagnosis, AreFormed}
+use Rattle.lv_certdiag.specs.Showing.{Shown, head_lines, listed_lines, block_lines, IsShown, StepIsShown, HoldsAnswer, HoldsSplits}
+use Rattle.lv_certdiag.proofs.HeadingLemmas.{IsAskedOf}
 use Rattle.lv_certdiag.proofs.AnswerLemmas.{answer, listed_are_candidates, rising_after}
 use Rattle.lv_certdiag.proofs.Telling.{few_bools, few_model}
 use Rattle.lv_certdiag.proofs.WholeLemmas.{IsMade, whole_lines, whole_certifies, whole_formed}

@@ -1,12 +1,11 @@
 -- The blocks of conflicts are good where each is refuted.
-use Rattle.std.proofs.Common.{◌≡◌, ℕ, suc, ◌+◌, ◌*◌, ◌%◌, ◌^◌, ◌<◌, ◌≤◌, Bool, true, false, ◌&&◌, nat_eq, List, [], ◌∷◌, ◌++◌, length, map, Option, Some, None, cond, refl, sym, subst, ◌∙◌, ap, arith, All}
-use Rattle.std.specs.List.{list_all, flat_map}
+use Rattle.std.proofs.Common.{◌≡◌, ℕ, ◌+◌, ◌^◌, ◌≤◌, true, false, List, [], ◌∷◌, ◌++◌, length, map, Some, None, cond, refl, sym, subst, ◌∙◌, ap, arith, All}
+use Rattle.std.specs.List.{flat_map}
 use Rattle.std.specs.Option.{option_and_then}
-use Rattle.std.proofs.lemmas.Bool.{and_parts, and_from, eq-eqb}
+use Rattle.std.proofs.lemmas.Bool.{and_parts}
 use Rattle.std.proofs.lemmas.List.{append_assoc, length-append}
 use Rattle.std.proofs.lemmas.List.Elements.{All-head, All-tail}
 use Rattle.lv_base.specs.declared.ids.Lit.{Lit}
-use Rattle.lv_base.specs.declared.search.Pair.{Pair}
 use Rattle.lv_model.specs.declared.plant.Plant.{Plant}
 use Rattle.lv_model.specs.Lists.{move_counts}
 use Rattle.lv_model.specs.WellFormed.{is_well_formed}
@@ -23,7 +22,6 @@ use Rattle.lv_cert.specs.declared.order.Place.{Place}
 use Rattle.lv_cert.specs.declared.order.Place.TheVariants as place
 use Rattle.lv_cert.specs.Order.{after_blocks, place_after}
 use Rattle.lv_validity.specs.Units.{units, choice_literal}
-use Rattle.lv_validity.specs.Counting.{pairs_of_numbers}
 use Rattle.lv_validity.specs.Judging.{Judged, with_conflict, clauses_of_choices}
 use Rattle.lv_certlines.specs.Lines.{pair_numbers, clause_lines}
 use Rattle.lv_certlines.specs.Ending.{Ends, BeginApart}

@@ -1,9 +1,9 @@
 -- What a refuter tells of choices under facts: values exactly where they are possible together.
-use Rattle.std.proofs.Common.{◌≡◌, ℕ, zero, suc, ◌+◌, ◌^◌, ◌<◌, ◌≤◌, Bool, true, false, ◌&&◌, nat_eq, nat_lt, List, [], ◌∷◌, ◌++◌, length, map, get_or, slice_index_or, Option, Some, None, refl, sym, subst, ◌∙◌, ap, ap₂, arith, All}
-use Rattle.std.specs.List.{list_all, sum}
-use Rattle.std.proofs.lemmas.Bool.{and_parts, and_from, lt-ltb, ltb-true, eqb-true}
+use Rattle.std.proofs.Common.{◌≡◌, ℕ, suc, ◌+◌, ◌^◌, ◌<◌, ◌≤◌, Bool, true, false, ◌&&◌, nat_eq, nat_lt, List, [], ◌∷◌, ◌++◌, length, map, get_or, slice_index_or, refl, sym, subst, ◌∙◌, ap, ap₂, arith, All}
+use Rattle.std.specs.List.{list_all}
+use Rattle.std.proofs.lemmas.Bool.{and_parts, and_from, lt-ltb, eqb-true}
 use Rattle.std.proofs.lemmas.List.{append_assoc, map-append}
-use Rattle.std.proofs.lemmas.List.Elements.{All-head, All-tail, All-cons, All-append}
+use Rattle.std.proofs.lemmas.List.Elements.{All-head, All-tail, All-cons}
 use Rattle.std.proofs.lemmas.List.Folds.{list_all-append}
 use Rattle.lv_base.specs.declared.limits.TheConstants.{MODEL_CLAUSES}
 use Rattle.lv_base.specs.declared.ids.Lit.{Lit}
@@ -12,26 +12,23 @@ use Rattle.lv_base.specs.declared.ids.MoveId.{MoveId}
 use Rattle.lv_base.specs.declared.rank.Rank.{Rank}
 use Rattle.lv_base.specs.declared.search.Pair.{Pair}
 use Rattle.lv_base.specs.Choices.{pairs_from, pairs_of}
-use Rattle.lv_clauses.specs.Literals.{lit_holds, clause_holds, in_range, is_clause}
-use Rattle.lv_clauses.specs.ClauseMap.{satisfies}
+use Rattle.lv_clauses.specs.Literals.{lit_holds, in_range}
 use Rattle.lv_model.specs.declared.plant.Plant.{Plant}
 use Rattle.lv_model.specs.Lists.{sizes, move_counts, controls}
 use Rattle.lv_model.specs.WellFormed.{is_well_formed}
 use Rattle.lv_model.specs.Meaning.{is_step}
-use Rattle.lv_meaning.specs.declared.facts.Observation.{Observation}
 use Rattle.lv_meaning.specs.declared.facts.Facts.{Facts}
 use Rattle.lv_meaning.specs.Facts.{meets, commanded, now_facts, meets_facts}
 use Rattle.lv_meaning.specs.Possible.{move_number, gives, extends, is_possible}
-use Rattle.lv_meaning.specs.Candidates.{is_possible_rank}
-use Rattle.lv_compile.specs.Booleans.{Booleans, booleans_now, booleans_next, first_choice, bool_count}
+use Rattle.lv_compile.specs.Booleans.{booleans_now, booleans_next, first_choice, bool_count}
 use Rattle.lv_compile.specs.ModelClauses.{model_clauses}
-use Rattle.lv_compile.specs.Laws.{literal_is_true, Encode, EncodeMoves}
+use Rattle.lv_compile.specs.Laws.{literal_is_true, Encode}
 use Rattle.lv_steps.specs.Numbering.{IsOver}
 use Rattle.lv_laws.specs.Possible.{are_below}
 use Rattle.lv_steps.specs.Choices.{Choices}
 use Rattle.lv_steps.specs.System.{SystemValue, IsSystemOf, IsKept, choices_of}
 use Rattle.lv_steps.specs.Encoding.{truth_in}
-use Rattle.lv_steps.specs.Laws.{IsAssignment, IsWholeStep, IsModelOf}
+use Rattle.lv_steps.specs.Laws.{IsWholeStep, IsModelOf}
 use Rattle.lv_steps.specs.Decoding.{IsDecoded}
 use Rattle.lv_steps.proofs.SystemLemmas.{model_is_a_step, choices_fit, kept_of}
 use Rattle.lv_blocks.specs.Blocks.{clauses_of}
@@ -51,7 +48,6 @@ use Rattle.lv_refute.specs.Refuting.{MakeTrue, Tells}
 use Rattle.lv_validity.specs.Counting.{is_one_of, are_of}
 use Rattle.lv_validity.specs.Stated.{Stated, observed_literal}
 use Rattle.lv_validity.specs.Units.{units, choice_literal}
-use Rattle.lv_validity.specs.Judging.{is_step_of}
 use Rattle.lv_certlaws.proofs.Saying.{Says}
 use Rattle.lv_certlaws.proofs.Blocks.{units_hold, refuted_choices}
 use Rattle.lv_certlines.specs.Asking.{are_values, are_lines}
@@ -139,7 +135,6 @@ module _ (plant : Plant) (h : is_well_formed plant ≡ true) (system : SystemVal
 
     values_possible : is_possible plant facts pairs ≡ true
     values_possible = step_makes_possible plant facts pairs fit have values (model_is_a_step plant h system is values true_of.set_holds) both_hold.1 facts_true
-
 
 -- moves that extend all choices are these choices
 given_all : (front ms : List MoveId) (cs : List ℕ) (slot : ℕ) → slot ≡ length front → length ms ≡ length cs → extends (front ++ ms) (pairs_from slot cs) ≡ true → ms ≡ map move_number cs

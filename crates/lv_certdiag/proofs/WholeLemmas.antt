@@ -1,16 +1,14 @@
 -- All lines together are a certificate of the answer.
-use Rattle.std.proofs.Common.{◌≡◌, ℕ, ◌+◌, ◌^◌, ◌≤◌, Bool, true, nat_eq, List, [], ◌∷◌, ◌++◌, length, map, Some, None, refl, sym, subst, ◌∙◌, ap, ap₂, arith, All}
-use Rattle.std.specs.List.{list_all, flat_map}
+use Rattle.std.proofs.Common.{◌≡◌, ℕ, ◌+◌, ◌^◌, ◌≤◌, true, List, [], ◌∷◌, ◌++◌, length, map, Some, None, refl, sym, subst, ◌∙◌, ap, arith, All}
+use Rattle.std.specs.List.{flat_map}
 use Rattle.std.proofs.lemmas.List.{append_assoc, append-nil, length-map}
 use Rattle.lv_base.specs.declared.rank.Rank.{Rank}
 use Rattle.lv_base.specs.declared.search.Pair.{Pair}
-use Rattle.lv_boxes.specs.Members.{ZoneValue}
 use Rattle.lv_model.specs.declared.plant.Plant.{Plant}
 use Rattle.lv_model.specs.declared.state.TrackedState.{TrackedState}
 use Rattle.lv_model.specs.Lists.{move_counts}
 use Rattle.lv_meaning.specs.declared.facts.Facts.{Facts}
 use Rattle.lv_compile.specs.Booleans.{bool_count}
-use Rattle.lv_compile.specs.FormulaClauses.{Clauses}
 use Rattle.lv_compile.specs.ModelClauses.{model_clauses}
 use Rattle.lv_zones.specs.Moves.{move_slots, zones_from}
 use Rattle.lv_cert.specs.declared.line.Question.TheVariants.{Diagnosis}
@@ -18,8 +16,6 @@ use Rattle.lv_cert.specs.declared.line.Line.{Line}
 use Rattle.lv_cert.specs.declared.line.Line.TheVariants as line
 use Rattle.lv_cert.specs.declared.order.Place.{Place}
 use Rattle.lv_cert.specs.declared.order.Place.TheVariants as place
-use Rattle.lv_cert.specs.Words.{is_word}
-use Rattle.lv_cert.specs.Form.{is_formed}
 use Rattle.lv_validity.specs.Stated.{Stated}
 use Rattle.lv_validity.specs.Space.{Space, all_passed}
 use Rattle.lv_validity.specs.Judging.{Judged, unjudged, full_to}
@@ -29,7 +25,7 @@ use Rattle.lv_certlines.proofs.Splits.{TakesSplits, splits_end}
 use Rattle.lv_certify.specs.Certifying.{CertifiesDiagnosis, AreFormed}
 use Rattle.lv_certdiag.specs.Showing.{Shown, Block, head_lines, listed_lines, block_lines, IsShown, IsRefuted}
 use Rattle.lv_certdiag.proofs.HeadingLemmas.{IsAskedOf, headed, head_first}
-use Rattle.lv_certdiag.proofs.ListingLemmas.{TakesListed, with_shown, place_with, rise_after, listed_first}
+use Rattle.lv_certdiag.proofs.ListingLemmas.{with_shown, place_with, rise_after, listed_first}
 use Rattle.lv_certdiag.proofs.RefutingLemmas.{TakesConflicts, behind_block, with_blocks, place_behind_blocks, blocks_first}
 
 -- what listing and refuting leave and add

@@ -1,5 +1,5 @@
 -- What a certificate of a diagnosis shows, and by which lines.
-use Rattle.std.specs.Prelude.{◌≡◌, ◌<◌, ◌^◌, ◌+◌, ℕ, true, false, List, [], ◌∷◌, ◌++◌, length, map, Option, All}
+use Rattle.std.specs.Prelude.{◌≡◌, ◌<◌, ◌^◌, ℕ, true, false, List, [], ◌∷◌, ◌++◌, length, map, Option, All}
 use Rattle.std.specs.List.{flat_map}
 use Rattle.lv_base.specs.declared.ids.Cost.{Cost}
 use Rattle.lv_base.specs.declared.ids.Lit.{Lit}
@@ -20,7 +20,7 @@ use Rattle.lv_ident.specs.Literals.{HasMove}
 use Rattle.lv_compile.specs.Booleans.{booleans_now, booleans_next, bool_count}
 use Rattle.lv_compile.specs.FormulaClauses.{Clauses}
 use Rattle.lv_compile.specs.ModelClauses.{model_clauses}
-use Rattle.lv_steps.specs.System.{SystemValue, IsSystemOf}
+use Rattle.lv_steps.specs.System.{SystemValue}
 use Rattle.lv_blocks.specs.Deriving.{Derived, refutes}
 use Rattle.lv_refute.specs.declared.refuter.Refuted.{Refuted}
 use Rattle.lv_refute.specs.declared.refuter.Refuted.TheVariants.{Values, Lines}

@@ -18,4 +18,3 @@ mod refuting;
 pub mod whole;
 
 pub use whole::{Settled, certify_diagnosis};
-

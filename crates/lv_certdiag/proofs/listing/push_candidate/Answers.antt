@@ -1,5 +1,5 @@
 -- three lines more
-use Rattle.std.proofs.Common.{◌≡◌, ◌++◌, ◌∷◌, [], ◌∙◌, List, ap, ap₂}
+use Rattle.std.proofs.Common.{◌++◌, ◌∷◌, [], ◌∙◌, List, ap, ap₂}
 use Rattle.lv_cert.specs.declared.line.Head.TheVariants as head
 use Rattle.lv_cert.specs.declared.line.Line.{Line}
 use Rattle.lv_certlines.specs.Lines.{values_line}

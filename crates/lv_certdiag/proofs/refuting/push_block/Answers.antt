@@ -10,7 +10,7 @@ use Rattle.lv_cert.specs.declared.line.Head.TheVariants as head
 use Rattle.lv_cert.specs.declared.line.Line.{Line}
 use Rattle.lv_cert.specs.declared.line.Line.TheVariants as line
 use Rattle.lv_certlines.specs.Lines.{pair_numbers, clause_lines}
-use Rattle.lv_certdiag.specs.Showing.{own_clauses, AddsBlocks}
+use Rattle.lv_certdiag.specs.Showing.{own_clauses}
 use Rattle.lv_certdiag.proofs.AddingLemmas.{blocks_one}
 use Rattle.lv_certdiag.proofs.refuting.push_block.Goals as goal
 

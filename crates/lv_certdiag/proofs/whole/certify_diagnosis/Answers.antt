@@ -1,10 +1,9 @@
 -- all lines together certify the answer
-use Rattle.std.proofs.Common.{◌≡◌, ◌++◌, ◌∷◌, [], ◌∙◌, List, true, sym, subst, ap}
-use Rattle.lv_model.specs.declared.plant.Plant.{Plant}
+use Rattle.std.proofs.Common.{◌++◌, ◌∷◌, [], ◌∙◌, List, ap}
 use Rattle.lv_cert.specs.declared.line.Line.{Line}
 use Rattle.lv_cert.specs.declared.line.Line.TheVariants as line
 use Rattle.lv_certlines.specs.Lines.{split_lines}
-use Rattle.lv_certdiag.proofs.AskedLemmas.{IsDone, done}
+use Rattle.lv_certdiag.proofs.AskedLemmas.{done}
 use Rattle.lv_certdiag.proofs.whole.certify_diagnosis.Goals as goal
 
 pub returns-clause-certifies : goal.returns-clause-certifies

@@ -1,8 +1,6 @@
 -- what is listed can be shown, and what was kept refuted
-use Rattle.std.proofs.Common.{List, All, sym, subst}
-use Rattle.lv_base.specs.declared.rank.Rank.{Rank}
-use Rattle.lv_base.specs.declared.search.Pair.{Pair}
-use Rattle.lv_certdiag.specs.Showing.{Asked, CanBeShown, CanBeRefuted, AddsShown, AddsBlocks}
+use Rattle.std.proofs.Common.{All, sym, subst}
+use Rattle.lv_certdiag.specs.Showing.{Asked, CanBeShown, CanBeRefuted}
 use Rattle.lv_certdiag.proofs.AnswerLemmas.{listed_can_be_shown, kept_can_be_refuted}
 use Rattle.lv_certdiag.proofs.whole.push_answer.Goals as goal
 

@@ -1,8 +1,4 @@
 -- the zones are those of the states, and each candidate is explained
-use Rattle.std.proofs.Common.{◌≡◌, List, Option, sym, subst}
-use Rattle.lv_base.specs.declared.ids.Cost.{Cost}
-use Rattle.lv_base.specs.declared.rank.Rank.{Rank}
-use Rattle.lv_boxes.specs.Members.{ZoneValue}
 use Rattle.std.specs.Option.{option_copied}
 use Rattle.lv_zones.specs.Moves.{move_slots, zones_from}
 use Rattle.lv_closing.specs.Explained.{last_if_full}

@@ -1,10 +1,10 @@
 -- what is stated is over the booleans of the system
-use Rattle.std.proofs.Common.{◌≡◌, ◌++◌, ◌∙◌, List, All, subst, sym, ap}
+use Rattle.std.proofs.Common.{◌∙◌, List, subst, sym}
 use Rattle.std.proofs.lemmas.Result.{IfOk-weaker}
 use Rattle.lv_base.specs.declared.ids.Lit.{Lit}
 use Rattle.lv_steps.specs.System.{SystemValue, IsSystemOf}
 use Rattle.lv_refute.specs.Refuting.{Tells}
-use Rattle.lv_certdiag.specs.Showing.{Asked, own_clauses}
+use Rattle.lv_certdiag.specs.Showing.{Asked}
 use Rattle.lv_certdiag.specs.Keeping.{IsAsking}
 use Rattle.lv_certdiag.proofs.Telling.{stated_over, tells_of}
 use Rattle.lv_certdiag.proofs.asking.Asking.ask.Goals as goal

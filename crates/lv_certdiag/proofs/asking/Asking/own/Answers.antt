@@ -1,11 +1,10 @@
 -- what the facts say, and then what the choices say
-use Rattle.std.proofs.Common.{◌≡◌, ◌++◌, ◌∙◌, List, All, subst, sym, ap}
+use Rattle.std.proofs.Common.{◌≡◌, ◌++◌, ◌∙◌, List, subst, ap}
 use Rattle.lv_base.specs.declared.ids.Lit.{Lit}
-use Rattle.lv_model.specs.Lists.{move_counts}
 use Rattle.lv_steps.specs.System.{choices_of}
-use Rattle.lv_ident.specs.Literals.{HasMove, pair_literals}
+use Rattle.lv_ident.specs.Literals.{pair_literals}
 use Rattle.lv_validity.specs.Units.{units}
-use Rattle.lv_certdiag.specs.Showing.{Asked, own_clauses}
+use Rattle.lv_certdiag.specs.Showing.{Asked}
 use Rattle.lv_certdiag.specs.Keeping.{IsAsking}
 use Rattle.lv_certdiag.proofs.Telling.{own_made, moves_there}
 use Rattle.lv_certdiag.proofs.asking.Asking.own.Goals as goal

@@ -1,5 +1,5 @@
 -- a possible candidate has values, and they are of its step
-use Rattle.std.proofs.Common.{◌≡◌, ◌++◌, ◌∙◌, Bool, true, List, All, subst, sym, ap}
+use Rattle.std.proofs.Common.{◌≡◌, ◌∙◌, List, All, subst, sym, ap}
 use Rattle.std.proofs.lemmas.Result.{IfOk-weaker}
 use Rattle.lv_base.specs.declared.search.Pair.{Pair}
 use Rattle.lv_base.specs.Choices.{pairs_of}
@@ -9,7 +9,7 @@ use Rattle.lv_steps.specs.Decoding.{IsDecoded}
 use Rattle.lv_steps.specs.System.{SystemValue}
 use Rattle.lv_ident.specs.Literals.{HasMove}
 use Rattle.lv_ident.proofs.ReasonLemmas.{full_is_partial}
-use Rattle.lv_refute.specs.Refuting.{Tells, MakeTrue}
+use Rattle.lv_refute.specs.Refuting.{MakeTrue}
 use Rattle.lv_certdiag.specs.Showing.{Asked, own_clauses}
 use Rattle.lv_certdiag.specs.Keeping.{IsAsking}
 use Rattle.lv_certdiag.proofs.Telling.{possible_told, values_true, values_show}
