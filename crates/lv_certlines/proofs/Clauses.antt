@@ -1,8 +1,9 @@
 -- The clause lines of a block: each is good where it follows from the clauses before it.
-use Rattle.std.proofs.Common.{◌≡◌, ℕ, zero, suc, ◌+◌, ◌-◌, ◌<◌, ◌≤◌, Bool, true, false, ◌&&◌, nat_eq, nat_lt, nat_le, List, [], ◌∷◌, ◌++◌, length, map, slice_get, Option, Some, None, cond, refl, sym, subst, ◌∙◌, ap, arith}
+use Rattle.std.proofs.Common.{◌≡◌, ℕ, zero, suc, ◌+◌, ◌-◌, ◌^◌, ◌<◌, ◌≤◌, Bool, true, false, ◌&&◌, nat_eq, nat_lt, nat_le, List, [], ◌∷◌, ◌++◌, length, map, slice_get, Option, Some, None, cond, refl, sym, subst, ◌∙◌, ap, arith}
 use Rattle.std.specs.List.{list_all}
 use Rattle.std.specs.Option.{option_and_then}
 use Rattle.std.proofs.lemmas.Bool.{and_parts, and_from, lt-ltb, le-leb, leb-true, ltb-true}
+use Rattle.std.proofs.lemmas.Bool.Decides.{nat_tests}
 use Rattle.std.proofs.lemmas.List.{append_assoc, append-nil, length-append}
 use Rattle.lv_base.specs.declared.ids.Lit.{Lit}
 use Rattle.lv_clauses.specs.declared.marks.Finding.{Finding}
@@ -33,22 +34,25 @@ use Rattle.lv_certlines.proofs.Numbers.{within}
 
 -- a hint that has a clause is one of so many numbers
 numbered_within : (clauses : List (List Lit)) (h : ℕ) (c : List Lit) → numbered clauses h ≡ Some c → (0 < h) × (h ≤ length clauses)
-numbered_within clauses zero c e = absurd (cc e)
-numbered_within clauses (suc n) c e = (omega arith, got clauses n (at_place e))
+numbered_within clauses h c e = by (nat_eq h 0) refl e
   where
-    at_place : numbered clauses (suc n) ≡ Some c → slice_get clauses n ≡ Some c
-    at_place is = let same : suc n - 1 ≡ n = omega arith in ap (slice_get clauses) (sym same) ∙ is
-
-    got : (cs : List (List Lit)) (k : ℕ) → slice_get cs k ≡ Some c → suc k ≤ length cs
+    got : (cs : List (List Lit)) (k : ℕ) → slice_get cs k ≡ Some c → k < length cs
     got [] k is = absurd (cc is)
     got (x ∷ xs) zero is = omega arith
     got (x ∷ xs) (suc k) is = let rest = got xs k is in omega (arith, rest)
+
+    by : (b : Bool) → nat_eq h 0 ≡ b → cond b None (slice_get clauses (h - 1)) ≡ Some c → (0 < h) × (h ≤ length clauses)
+    by true is at = absurd (cc at)
+    by false is at =
+        let some : 0 < h = grind (arith, nat_tests, is) in
+        let inside = got clauses (h - 1) at in
+        (some, omega (arith, some, inside))
 
 -- numbers of lists that aren't too long are within the limit
 module _ (clauses : List (List Lit)) (few : length clauses ≤ 10 ^ 30) where
   hints_formed : (hs : List ℕ) (marks : Marks) → ends_well clauses hs marks ≡ true → list_all is_formed_hint hs ≡ true
   hints_formed [] marks well = refl
-  hints_formed (h ∷ hs) marks well = by (numbered clauses h) refl well
+  hints_formed (h ∷ hs) marks well = by (λ l. hints_formed hs (marked marks l)) (numbered clauses h) refl well
     where
       formed : (c : List Lit) → numbered clauses h ≡ Some c → is_formed_hint h ≡ true
       formed c is =
@@ -59,14 +63,14 @@ module _ (clauses : List (List Lit)) (few : length clauses ≤ 10 ^ 30) where
       last [] e = refl
       last (g ∷ gs) e = absurd (cc e)
 
-      found : (c : List Lit) → numbered clauses h ≡ Some c → (f : Finding) → goes_on marks (is_last hs) (ends_well clauses hs) f ≡ true → list_all is_formed_hint (h ∷ hs) ≡ true
-      found c is AllFalse e = and_from (is_formed_hint h) (list_all is_formed_hint hs) (formed c is) (last hs e)
-      found c is (Unit l) e = and_from (is_formed_hint h) (list_all is_formed_hint hs) (formed c is) (hints_formed hs (marked marks l) e)
-      found c is Open e = absurd (cc e)
+      found : ((l : Lit) → ends_well clauses hs (marked marks l) ≡ true → list_all is_formed_hint hs ≡ true) → (c : List Lit) → numbered clauses h ≡ Some c → (f : Finding) → goes_on marks (is_last hs) (ends_well clauses hs) f ≡ true → list_all is_formed_hint (h ∷ hs) ≡ true
+      found rest c is AllFalse e = and_from (is_formed_hint h) (list_all is_formed_hint hs) (formed c is) (last hs e)
+      found rest c is (Unit l) e = and_from (is_formed_hint h) (list_all is_formed_hint hs) (formed c is) (rest l e)
+      found rest c is Open e = absurd (cc e)
 
-      by : (o : Option (List Lit)) → numbered clauses h ≡ o → goes_on_from marks (is_last hs) (ends_well clauses hs) o ≡ true → list_all is_formed_hint (h ∷ hs) ≡ true
-      by None is e = absurd (cc e)
-      by (Some c) is e = found c is (look_at marks c) e
+      by : ((l : Lit) → ends_well clauses hs (marked marks l) ≡ true → list_all is_formed_hint hs ≡ true) → (o : Option (List Lit)) → numbered clauses h ≡ o → goes_on_from marks (is_last hs) (ends_well clauses hs) o ≡ true → list_all is_formed_hint (h ∷ hs) ≡ true
+      by rest None is e = absurd (cc e)
+      by rest (Some c) is e = found rest c is (look_at marks c) e
 
 literals_formed : (bools : ℕ) (ls : List Literal) → bools ≤ 10 ^ 30 → list_all (names_boolean bools) ls ≡ true → list_all is_formed_literal ls ≡ true
 literals_formed bools [] few h = refl

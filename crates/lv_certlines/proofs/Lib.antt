@@ -1,6 +1,6 @@
 pub mod Ending
 pub mod Numbers
-pub mod Stating
+pub mod StatingLemmas
 pub mod Facts
 pub mod Clauses
 pub mod Pairs

@@ -42,7 +42,7 @@ pairs_formed counts (p ∷ ps) few long have =
     let one = (All-head (HasChoice counts) p ps have).below in
     let slot = is_there counts p.slot p.choice one in
     let choice = few_at counts p.slot few in
-    and_from (is_within_limit (p.slot + 1)) (list_all is_within_limit (p.choice + 1 ∷ pair_numbers ps)) (within (p.slot + 1) 4096 (omega (arith, slot, long)) (omega arith))
+    and_from (is_within_limit (p.slot + 1)) (list_all is_within_limit ((p.choice + 1) ∷ pair_numbers ps)) (within (p.slot + 1) 4096 (omega (arith, slot, long)) (omega arith))
     (and_from (is_within_limit (p.choice + 1)) (list_all is_within_limit (pair_numbers ps)) (within (p.choice + 1) 64 (omega (arith, one, choice)) (omega arith))
     (pairs_formed counts ps few long (All-tail (HasChoice counts) p ps have)))
 

@@ -40,7 +40,7 @@ values_line head values = line.Numbers head (value_numbers values)
 -- pairs of a slot and a choice, one behind the other
 abbrev pub pair_numbers : List Pair → List ℕ
 pair_numbers [] = []
-pair_numbers (p ∷ ps) = p.slot + 1 ∷ (p.choice + 1 ∷ pair_numbers ps)
+pair_numbers (p ∷ ps) = (p.slot + 1) ∷ ((p.choice + 1) ∷ pair_numbers ps)
 
 -- a derived clause
 abbrev pub clause_line : Derived → Line

@@ -5,6 +5,8 @@ ghost use Rattle.std.specs.Prelude.{◌≡◌, ◌≤◌, IfOk};
 ghost use Rattle.lv_steps.specs.System.{IsSystemOf};
 ghost use Rattle.lv_certify.specs.Certifying.{CertifiesRecovery, IsAsked, AreTexts, IsSettledRecovery, AreFormed};
 
+mod probe;
+
 use lv_base::{Conflict, Rank, Seq};
 use lv_cert::Cert;
 use lv_model::Model;

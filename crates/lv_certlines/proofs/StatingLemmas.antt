@@ -92,4 +92,4 @@ module _ (question : Question) (plant : Plant) (h : is_well_formed plant ≡ tru
     where
       longer : (ts : List TrackedState) (t : TrackedState) → length (ts ++ t ∷ []) ≡ length ts + 1
       longer [] t = refl
-      longer (x ∷ xs) t = ap suc (longer xs t)
+      longer (x ∷ xs) t = let rest = longer xs t in omega (arith, rest)

@@ -1,0 +1,4 @@
+pub mod LeadingLemmas
+pub mod HeadingLemmas
+pub mod ShowingLemmas
+pub mod ExcludingLemmas
