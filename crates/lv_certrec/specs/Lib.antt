@@ -1,2 +1,5 @@
 pub mod Showing
 pub mod Leading
+pub mod Closing
+pub mod Telling
+pub mod Keeping

@@ -1,4 +1,3 @@
 use Rattle.lv_certrec.proofs.probe.probe.Goals as goal
-use Rattle.lv_certrec.proofs.LeadingLemmas.{leads_both, all_good}
-use Rattle.lv_certrec.proofs.HeadingLemmas.{head_first}
 use Rattle.lv_certrec.proofs.ExcludingLemmas.{counter_leads}
+use Rattle.lv_certrec.proofs.WholeLemmas.{whole_certifies}
