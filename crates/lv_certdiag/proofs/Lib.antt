@@ -1,4 +1,4 @@
-pub mod Heading
-pub mod Listing
-pub mod Refuting
-pub mod Whole
+pub mod HeadingLemmas
+pub mod ListingLemmas
+pub mod RefutingLemmas
+pub mod WholeLemmas

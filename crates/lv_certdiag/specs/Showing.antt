@@ -15,6 +15,7 @@ use Rattle.lv_laws.specs.Candidates.{IsCandidate}
 use Rattle.lv_compile.specs.Booleans.{booleans_now, booleans_next, bool_count}
 use Rattle.lv_compile.specs.FormulaClauses.{Clauses}
 use Rattle.lv_compile.specs.ModelClauses.{model_clauses}
+use Rattle.lv_steps.specs.System.{SystemValue, IsSystemOf}
 use Rattle.lv_blocks.specs.Deriving.{Derived, refutes}
 use Rattle.lv_cert.specs.declared.line.Question.TheVariants.{Diagnosis}
 use Rattle.lv_cert.specs.declared.line.Moment.TheVariants.{Now, Next}
@@ -74,3 +75,29 @@ pub record IsRefuted (plant : Plant) (facts : Facts) (b : Block) : Type 0 where
   pub rising : slots_rise b.pairs ≡ true
   pub refuted : refutes (bool_count plant) (model_clauses plant ++ own_clauses plant facts b.pairs) b.lines ≡ true
   pub few : length (model_clauses plant ++ own_clauses plant facts b.pairs) + length b.lines ≤ 10 ^ 30
+
+-- values of a step by the candidate's moves that meets the facts
+pub record ShowsStep (plant : Plant) (facts : Facts) (r : Rank) (before after : List ValId) : Type 0 where
+  pub before_of : are_of (sizes plant) (value_numbers before) ≡ true
+  pub after_of : are_of (sizes plant) (value_numbers after) ≡ true
+  pub step : is_step_of plant facts before after r ≡ true
+
+-- what a refuter is asked about: under which facts, over the system of the plant
+pub record Asked : Type 0 where
+  pub plant : Plant
+  pub facts : Facts
+  pub system : SystemValue
+
+-- each listed candidate is shown by lines
+pub record AddsShown (plant : Plant) (tracked : List TrackedState) (facts : Facts) (listed : List Rank) (old new : List Line) : Type 0 where
+  pub shown : List Shown
+  pub are : All (IsShown plant tracked facts) shown
+  pub ranks : map (λ (w : Shown). w.rank) shown ≡ listed
+  pub lines : new ≡ old ++ flat_map listed_lines shown
+
+-- each conflict is refuted by a block
+pub record AddsBlocks (plant : Plant) (facts : Facts) (kept : List (List Pair)) (old new : List Line) : Type 0 where
+  pub blocks : List Block
+  pub are : All (IsRefuted plant facts) blocks
+  pub pairs : map (λ (b : Block). b.pairs) blocks ≡ kept
+  pub lines : new ≡ old ++ flat_map block_lines blocks

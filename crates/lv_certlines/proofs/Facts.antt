@@ -81,28 +81,26 @@ abbrev with_stated : Judged → Stated → Judged
 with_stated j s = record j { stated = s }
 
 module _ (question : Question) (plant : Plant) (h : is_well_formed plant ≡ true) (few_variables : variable_count plant ≤ 4096) (final : Judged) (rest : List Line) where
-  pub facts_first : (moment : Moment) (place : ℕ → Place) → TakesFacts moment place → (os : List Observation) (n : ℕ) (j : Judged) → All (IsSeenIn plant) os → n + length os ≤ 1024
-      → Ends question plant (place (n + length os)) (record j { stated = with_facts plant moment j.stated os }) rest final → Ends question plant (place n) j (fact_lines moment os ++ rest) final
-  facts_first Now place takes [] n j seen few ends =
-      let same : n + 0 ≡ n = omega arith in
+  pub facts_first : (moment : Moment) (place : ℕ → Place) → TakesFacts moment place → (os : List Observation) (n m : ℕ) (j : Judged) → All (IsSeenIn plant) os → m ≡ n + length os → m ≤ 1024
+      → Ends question plant (place m) (record j { stated = with_facts plant moment j.stated os }) rest final → Ends question plant (place n) j (fact_lines moment os ++ rest) final
+  facts_first Now place takes [] n m j seen count few ends =
+      let same : m ≡ n = omega (arith, count) in
       subst (λ (s : Stated). Ends question plant (place n) (record j { stated = s }) rest final)
       (ap₂ (λ (os : List Observation) (ls : List Lit). record j.stated { facts = record j.stated.facts { present = os }; literals = ls }) (append-nil j.stated.facts.present) (append-nil j.stated.literals))
-      (subst (λ m. Ends question plant (place m) (record j { stated = with_facts plant Now j.stated [] }) rest final) same ends)
-  facts_first Next place takes [] n j seen few ends =
-      let same : n + 0 ≡ n = omega arith in
+      (subst (λ i. Ends question plant (place i) (record j { stated = with_facts plant Now j.stated [] }) rest final) same ends)
+  facts_first Next place takes [] n m j seen count few ends =
+      let same : m ≡ n = omega (arith, count) in
       subst (λ (s : Stated). Ends question plant (place n) (record j { stated = s }) rest final)
       (ap₂ (λ (os : List Observation) (ls : List Lit). record j.stated { facts = record j.stated.facts { next = os }; literals = ls }) (append-nil j.stated.facts.next) (append-nil j.stated.literals))
-      (subst (λ m. Ends question plant (place m) (record j { stated = with_facts plant Next j.stated [] }) rest final) same ends)
-  facts_first moment place takes (o ∷ os) n j seen few ends =
+      (subst (λ i. Ends question plant (place i) (record j { stated = with_facts plant Next j.stated [] }) rest final) same ends)
+  facts_first moment place takes (o ∷ os) n m j seen count few ends =
       let one = All-head (IsSeenIn plant) o os seen in
-      let less : n < 1024 = omega (arith, few) in
-      let next : n + suc (length os) ≡ n + 1 + length os = omega arith in
+      let less : n < 1024 = omega (arith, few, count) in
       line_first question plant final (place n) (place (n + 1)) j (record j { stated = with_observation plant moment j.stated o }) (fact_line moment o) (fact_lines moment os ++ rest)
       (ap (option_map (λ (p : Observation). record j { stated = with_observation plant moment j.stated p })) (fact_read plant h o one))
       (takes.next n (o.var.0 + 1) (o.val.0 + 1) less) (λ w. fact_formed plant h o one few_variables moment)
-      (facts_first moment place takes os (n + 1) (record j { stated = with_observation plant moment j.stated o }) (All-tail (IsSeenIn plant) o os seen) (omega (arith, few))
-      (subst (λ (s : Stated). Ends question plant (place (n + 1 + length os)) (record j { stated = s }) rest final) (one_more moment j.stated)
-      (subst (λ m. Ends question plant (place m) (record j { stated = with_facts plant moment j.stated (o ∷ os) }) rest final) next ends)))
+      (facts_first moment place takes os (n + 1) m (record j { stated = with_observation plant moment j.stated o }) (All-tail (IsSeenIn plant) o os seen) (omega (arith, count)) few
+      (subst (λ (s : Stated). Ends question plant (place m) (record j { stated = s }) rest final) (one_more moment j.stated) ends))
     where
       one_more : (moment : Moment) (s : Stated) → with_facts plant moment s (o ∷ os) ≡ with_facts plant moment (with_observation plant moment s o) os
       one_more Now s =

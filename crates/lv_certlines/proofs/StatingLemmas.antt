@@ -71,24 +71,22 @@ abbrev pub with_states : Judged → List TrackedState → Judged
 with_states j ss = record j { stated = record j.stated { tracked = j.stated.tracked ++ ss } }
 
 module _ (question : Question) (plant : Plant) (h : is_well_formed plant ≡ true) (place : ℕ → Place) (takes : TakesStates place) (final : Judged) (rest : List Line) where
-  pub states_first : (ss : List TrackedState) (n : ℕ) (j : Judged) → All (Stands plant) ss → length j.stated.tracked ≡ n → n + length ss ≤ 64
-      → Ends question plant (place (n + length ss)) (with_states j ss) rest final → Ends question plant (place n) j (state_lines ss ++ rest) final
-  states_first [] n j stand long few ends =
-      let same : n + 0 ≡ n = omega arith in
+  pub states_first : (ss : List TrackedState) (n m : ℕ) (j : Judged) → All (Stands plant) ss → length j.stated.tracked ≡ n → m ≡ n + length ss → m ≤ 64
+      → Ends question plant (place m) (with_states j ss) rest final → Ends question plant (place n) j (state_lines ss ++ rest) final
+  states_first [] n m j stand long count few ends =
+      let same : m ≡ n = omega (arith, count) in
       subst (λ (ts : List TrackedState). Ends question plant (place n) (record j { stated = record j.stated { tracked = ts } }) rest final) (append-nil j.stated.tracked)
-      (subst (λ m. Ends question plant (place m) (with_states j []) rest final) same ends)
-  states_first (s ∷ ss) n j stand long few ends =
+      (subst (λ i. Ends question plant (place i) (with_states j []) rest final) same ends)
+  states_first (s ∷ ss) n m j stand long count few ends =
       let one = All-head (Stands plant) s ss stand in
-      let less : n < 64 = omega (arith, few) in
+      let less : n < 64 = omega (arith, few, count) in
       let room : nat_lt (length j.stated.tracked) TRACKED ≡ true = lt-ltb (length j.stated.tracked) TRACKED (omega (arith, long, less)) in
-      let next : n + suc (length ss) ≡ n + 1 + length ss = omega arith in
       line_first question plant final (place n) (place (n + 1)) j (record j { stated = with_state j.stated s }) (state_line s) (state_lines ss ++ rest)
       (ap (λ b. cond b (option_map (λ (t : TrackedState). record j { stated = with_state j.stated t }) (state_of plant (s.cost.0 ∷ value_numbers s.state.modes))) None) room
       ∙ ap (option_map (λ (t : TrackedState). record j { stated = with_state j.stated t })) (state_read plant s one))
       (takes.next n (s.cost.0 ∷ value_numbers s.state.modes) less) (λ w. state_formed plant h s one)
-      (states_first ss (n + 1) (record j { stated = with_state j.stated s }) (All-tail (Stands plant) s ss stand) (longer j.stated.tracked s ∙ ap (λ m. m + 1) long) (omega (arith, few))
-      (subst (λ (ts : List TrackedState). Ends question plant (place (n + 1 + length ss)) (record j { stated = record j.stated { tracked = ts } }) rest final) (sym (append_assoc j.stated.tracked (s ∷ []) ss))
-      (subst (λ m. Ends question plant (place m) (with_states j (s ∷ ss)) rest final) next ends)))
+      (states_first ss (n + 1) m (record j { stated = with_state j.stated s }) (All-tail (Stands plant) s ss stand) (longer j.stated.tracked s ∙ ap (λ i. i + 1) long) (omega (arith, count)) few
+      (subst (λ (ts : List TrackedState). Ends question plant (place m) (record j { stated = record j.stated { tracked = ts } }) rest final) (sym (append_assoc j.stated.tracked (s ∷ []) ss)) ends))
     where
       longer : (ts : List TrackedState) (t : TrackedState) → length (ts ++ t ∷ []) ≡ length ts + 1
       longer [] t = refl

@@ -1,5 +1,5 @@
 -- All lines together are a certificate of the answer.
-use Rattle.std.proofs.Common.{◌≡◌, ℕ, ◌+◌, ◌≤◌, Bool, true, nat_eq, List, [], ◌∷◌, ◌++◌, length, map, Some, None, refl, sym, subst, ◌∙◌, ap, ap₂, All}
+use Rattle.std.proofs.Common.{◌≡◌, ℕ, ◌+◌, ◌^◌, ◌≤◌, Bool, true, nat_eq, List, [], ◌∷◌, ◌++◌, length, map, Some, None, refl, sym, subst, ◌∙◌, ap, ap₂, arith, All}
 use Rattle.std.specs.List.{list_all, flat_map}
 use Rattle.std.proofs.lemmas.List.{append_assoc, append-nil, length-map}
 use Rattle.lv_base.specs.declared.rank.Rank.{Rank}
@@ -27,9 +27,9 @@ use Rattle.lv_certlines.specs.Splitting.{AreSplits, none, one_more}
 use Rattle.lv_certlines.proofs.Splits.{TakesSplits, splits_end}
 use Rattle.lv_certify.specs.Certifying.{CertifiesDiagnosis, AreFormed}
 use Rattle.lv_certdiag.specs.Showing.{Shown, Block, head_lines, listed_lines, block_lines, IsShown, IsRefuted}
-use Rattle.lv_certdiag.proofs.Heading.{IsAskedOf, headed, head_first}
-use Rattle.lv_certdiag.proofs.Listing.{TakesListed, with_shown, place_with, rise_after, listed_first}
-use Rattle.lv_certdiag.proofs.Refuting.{TakesConflicts, behind_block, with_blocks, place_behind_blocks, blocks_first}
+use Rattle.lv_certdiag.proofs.HeadingLemmas.{IsAskedOf, headed, head_first}
+use Rattle.lv_certdiag.proofs.ListingLemmas.{TakesListed, with_shown, place_with, rise_after, listed_first}
+use Rattle.lv_certdiag.proofs.RefutingLemmas.{TakesConflicts, behind_block, with_blocks, place_behind_blocks, blocks_first}
 
 -- what listing and refuting leave and add
 record Grown (from to : Judged) (listed : List Rank) (excluded : List (List Pair)) : Type 0 where
@@ -127,7 +127,8 @@ module _ (plant : Plant) (tracked : List TrackedState) (facts : Facts) (k : ℕ)
       let last : all_passed is.space (full_to ended_is) ≡ true = is.passed ended_is (ap (λ (s : Stated). s.k) stated_are) listed_are in
       let takes : TakesAll start = record { conflicts = record { conflict = λ ns. refl }; splits = record { split = λ m by. refl; end = refl } } in
       let all = all_with k 0 start ws takes in
-      let few : 0 + length ws ≤ k = subst (λ n. n ≤ k) (sym (ap length is.ranks) ∙ length-map ws (λ (w : Shown). w.rank)) is.few_listed in
+      let many_listed : length ws ≤ k = subst (λ n. n ≤ k) (sym (ap length is.ranks) ∙ length-map ws (λ (w : Shown). w.rank)) is.few_listed in
+      let few : 0 + length ws ≤ k = omega (arith, many_listed) in
       head_first plant tracked facts k is.asked ended_is (flat_map listed_lines ws ++ (flat_map block_lines bs ++ (splits ++ line.End ∷ [])))
       (listed_first plant is.asked.well_formed tracked is.asked.few facts ended_is (flat_map block_lines bs ++ (splits ++ line.End ∷ [])) ws is.shown k 0 start (record { listed = λ ns. refl }) few head_is refl refl
       (ap (rise_after None) is.ranks ∙ is.rising)
@@ -141,9 +142,9 @@ module _ (plant : Plant) (tracked : List TrackedState) (facts : Facts) (k : ℕ)
     question = refl;
     valid = record { order = whole_ends.ordered; good = whole_ends.judged 1 };
     limit = ap (λ (s : Stated). s.k) stated_are;
-    tracked = ap (λ (s : Stated). s.tracked) stated_are;
-    facts = ap (λ (s : Stated). s.facts) stated_are;
-    listed = listed_are;
+    tracked_are = ap (λ (s : Stated). s.tracked) stated_are;
+    facts_are = ap (λ (s : Stated). s.facts) stated_are;
+    listed_are = listed_are;
   }
 
   pub whole_formed : AreFormed plant (whole_lines plant tracked facts k ws bs splits)

@@ -15,7 +15,7 @@ use Rattle.lv_model.proofs.Sizes.{few-sizes}
 use Rattle.lv_meaning.specs.declared.facts.Observation.{Observation}
 use Rattle.lv_meaning.specs.declared.facts.Facts.{Facts}
 use Rattle.lv_meaning.specs.Facts.{commanded}
-use Rattle.lv_compile.specs.Booleans.{booleans_now}
+use Rattle.lv_compile.specs.Booleans.{booleans_now, booleans_next}
 use Rattle.lv_zones.specs.Moves.{move_slots, zones_from}
 use Rattle.lv_recovery.specs.Commands.{control_sizes}
 use Rattle.lv_cert.specs.declared.line.Question.TheVariants.{Diagnosis}
@@ -32,7 +32,7 @@ use Rattle.lv_certlines.specs.Lines.{value_numbers, state_lines, fact_lines, val
 use Rattle.lv_certlines.specs.Ending.{Ends}
 use Rattle.lv_certlines.proofs.Ending.{line_first}
 use Rattle.lv_certlines.proofs.Numbers.{values_back, one_of_place, within, formed_of, few_found}
-use Rattle.lv_certlines.proofs.Stating.{Stands, TakesStates, states_first}
+use Rattle.lv_certlines.proofs.StatingLemmas.{Stands, TakesStates, states_first}
 use Rattle.lv_certlines.proofs.Facts.{IsSeenIn, TakesFacts, facts_first}
 use Rattle.lv_certdiag.specs.Showing.{head_lines, stated_literals}
 
@@ -117,9 +117,9 @@ module _ (plant : Plant) (tracked : List TrackedState) (facts : Facts) (k : ℕ)
   facts_end ends =
       let observed = is.observed in
       facts_first Diagnosis plant is.well_formed is.variables final (fact_lines Next facts.next ++ rest) Now (place.Facts k) (record { next = λ n x v less. ap (λ b. cond b (Some (place.Facts k (n + 1))) None) (lt-ltb n 1024 less) })
-      facts.present 0 controlled is.present (omega (arith, observed))
+      facts.present 0 (length facts.present) controlled is.present (omega arith) (omega (arith, observed))
       (facts_first Diagnosis plant is.well_formed is.variables final rest Next (place.Facts k) (record { next = λ n x v less. ap (λ b. cond b (Some (place.Facts k (n + 1))) None) (lt-ltb n 1024 less) })
-      facts.next (length facts.present) (record controlled { stated = stated_now (values_of (value_numbers facts.controls)) }) is.next (omega (arith, observed))
+      facts.next (length facts.present) (length facts.present + length facts.next) (record controlled { stated = stated_now (values_of (value_numbers facts.controls)) }) is.next refl observed
       (subst (λ (vs : List ValId). Ends Diagnosis plant (place.Facts k (length facts.present + length facts.next))
           (record controlled { stated = record (stated_now vs) { facts = record (stated_now vs).facts { next = facts.next }; literals = (stated_now vs).literals ++ map (observed_literal (booleans_next plant)) facts.next } }) rest final)
       (sym (values_back facts.controls)) ends))
@@ -149,4 +149,4 @@ module _ (plant : Plant) (tracked : List TrackedState) (facts : Facts) (k : ℕ)
       (ap (λ b. cond b (Some limited) None) (and_from (nat_lt 0 k) (nat_le k 64) (lt-ltb 0 k (omega (arith, limit))) (le-leb k 64 most)))
       refl (λ w. and_from (is_within_limit k) true (within k 64 most (omega arith)) refl)
       (states_first Diagnosis plant is.well_formed (place.States k) (record { next = λ n ns less. ap (λ b. cond b (Some (place.States k (n + 1))) None) (lt-ltb n 64 less) }) final more
-      tracked 0 limited is.stand refl few (control_end ends))))
+      tracked 0 (length tracked) limited is.stand refl (omega arith) few (control_end ends))))

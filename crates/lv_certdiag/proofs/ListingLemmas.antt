@@ -30,6 +30,7 @@ use Rattle.lv_cert.specs.Form.{is_formed, is_within_limit}
 use Rattle.lv_validity.specs.Counting.{are_of, values_of, places_of, at_number}
 use Rattle.lv_validity.specs.Stated.{Stated, rank_from, candidate_of_numbers}
 use Rattle.lv_validity.specs.Judging.{Judged, judge_line, last_of, with_listed, is_step_of, shows_listed}
+use Rattle.lv_certlaws.proofs.Sound.{last_added}
 use Rattle.lv_certlaws.proofs.Shown.{candidate_is_full}
 use Rattle.lv_certlines.specs.Lines.{numbers_of, value_numbers, values_line}
 use Rattle.lv_certlines.specs.Ending.{Ends}
@@ -64,13 +65,8 @@ choices_formed (n ∷ ns) (c ∷ cs) few h =
     let small = (few 0 0 (omega arith)).few in
     and_from (is_within_limit (c + 1)) (list_all is_within_limit (numbers_of cs)) (within (c + 1) 65 (omega (arith, less, small)) (omega arith)) (choices_formed ns cs (All-tail IsFew n ns few) two.1)
 
-last_added : (rs : List Rank) (r : Rank) → last_of (rs ++ r ∷ []) ≡ Some r
-last_added [] r = refl
-last_added (x ∷ []) r = refl
-last_added (x ∷ (y ∷ rs)) r = last_added (y ∷ rs) r
-
 -- each ranks behind the one before, the first behind this one
-pub rise_after : Option Rank → List Rank → Bool
+abbrev pub rise_after : Option Rank → List Rank → Bool
 rise_after last [] = true
 rise_after last (r ∷ rs) = option_map_or (λ (q : Rank). ranks_before q r) last true && rise_after (Some r) rs
 
@@ -79,12 +75,12 @@ pub record TakesListed (p : Place) (l : Listing) : Type 0 where
   pub listed : (ns : List ℕ) → place_after p (line.Numbers head.Listed ns) ≡ after_listing l (line.Numbers head.Listed ns)
 
 -- what was listed and shown comes to
-pub with_shown : Judged → List Shown → Judged
+abbrev pub with_shown : Judged → List Shown → Judged
 with_shown j [] = j
 with_shown j (w ∷ ws) = with_shown (record j { listed = j.listed ++ w.rank ∷ []; before = Some w.before }) ws
 
 -- where this is listed, more may be
-pub place_with : ℕ → Place → ℕ → List Shown → Place
+abbrev pub place_with : ℕ → Place → ℕ → List Shown → Place
 place_with most p n [] = p
 place_with most p n (w ∷ ws) = place_with most (place.Listings (record { most = most; listed = n + 1 })) (n + 1) ws
 

@@ -1,5 +1,5 @@
 -- The blocks of conflicts are good where each is refuted.
-use Rattle.std.proofs.Common.{◌≡◌, ℕ, suc, ◌+◌, ◌*◌, ◌%◌, ◌<◌, ◌≤◌, Bool, true, false, ◌&&◌, nat_eq, List, [], ◌∷◌, ◌++◌, length, map, Option, Some, None, cond, refl, sym, subst, ◌∙◌, ap, arith, All}
+use Rattle.std.proofs.Common.{◌≡◌, ℕ, suc, ◌+◌, ◌*◌, ◌%◌, ◌^◌, ◌<◌, ◌≤◌, Bool, true, false, ◌&&◌, nat_eq, List, [], ◌∷◌, ◌++◌, length, map, Option, Some, None, cond, refl, sym, subst, ◌∙◌, ap, arith, All}
 use Rattle.std.specs.List.{list_all, flat_map}
 use Rattle.std.specs.Option.{option_and_then}
 use Rattle.std.proofs.lemmas.Bool.{and_parts, and_from, eq-eqb}
@@ -41,11 +41,11 @@ abbrev pub behind_block : Plant → Facts → Judged → Block → Judged
 behind_block plant facts j b = record j { excluded = j.excluded ++ b.pairs ∷ []; own = own_clauses plant facts b.pairs ++ map clause_of_line b.lines }
 
 -- what blocks come to, and where
-pub with_blocks : Plant → Facts → Judged → List Block → Judged
+abbrev pub with_blocks : Plant → Facts → Judged → List Block → Judged
 with_blocks plant facts j [] = j
 with_blocks plant facts j (b ∷ bs) = with_blocks plant facts (behind_block plant facts j b) bs
 
-pub place_behind_blocks : Place → List Block → Place
+abbrev pub place_behind_blocks : Place → List Block → Place
 place_behind_blocks p [] = p
 place_behind_blocks p (b ∷ bs) = place.MoreClauses Diagnosis
 

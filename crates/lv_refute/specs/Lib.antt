@@ -1,0 +1,5 @@
+pub mod Numbers
+pub mod Stating
+pub mod Needed
+pub mod Lines
+pub mod Refuting
