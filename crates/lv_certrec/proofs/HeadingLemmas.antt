@@ -166,19 +166,15 @@ module _ (plant : Plant) (aim : Aim) (texts : List (List ℕ)) (is : IsAskedOf p
   facts_end : Ends Recovery plant (place.Goals (task_of aim)) (headed plant aim) rest final
       → Ends Recovery plant (place.Known states) known (fact_lines Now aim.present ++ (goal_lines texts ++ rest)) final
   facts_end ends =
-      let observed = is.observed in
-      let same : 0 + facts ≡ facts = omega arith in
-      facts_first Recovery plant is.well_formed is.variables final (goal_lines texts ++ rest) Now (facts_place states) (facts_taken states is.some_states) aim.present 0 known is.present (omega (arith, observed))
-      (subst (λ n. Ends Recovery plant (facts_place states n) seen (goal_lines texts ++ rest) final) (sym same) (goals_end ends))
+      facts_first Recovery plant is.well_formed is.variables final (goal_lines texts ++ rest) Now (facts_place states) (facts_taken states is.some_states) aim.present 0 facts known is.present (omega arith) is.observed
+      (goals_end ends)
 
   states_end : Ends Recovery plant (place.Goals (task_of aim)) (headed plant aim) rest final
       → Ends Recovery plant (place.Known 0) (unjudged plant Recovery) (state_lines aim.tracked ++ (fact_lines Now aim.present ++ (goal_lines texts ++ rest))) final
   states_end ends =
-      let few = is.few_states in
-      let same : 0 + states ≡ states = omega arith in
       states_first Recovery plant is.well_formed place.Known (record { next = λ n ns less. ap (λ b. cond b (Some (place.Known (n + 1))) None) (lt-ltb n 64 less) }) final
-      (fact_lines Now aim.present ++ (goal_lines texts ++ rest)) aim.tracked 0 (unjudged plant Recovery) is.stand refl (omega (arith, few))
-      (subst (λ n. Ends Recovery plant (place.Known n) known (fact_lines Now aim.present ++ (goal_lines texts ++ rest)) final) (sym same) (facts_end ends))
+      (fact_lines Now aim.present ++ (goal_lines texts ++ rest)) aim.tracked 0 states (unjudged plant Recovery) is.stand refl (omega arith) is.few_states
+      (facts_end ends)
 
   regrouped : (state_lines aim.tracked ++ (fact_lines Now aim.present ++ goal_lines texts)) ++ rest ≡ state_lines aim.tracked ++ (fact_lines Now aim.present ++ (goal_lines texts ++ rest))
   regrouped =

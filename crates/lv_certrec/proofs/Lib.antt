@@ -3,3 +3,7 @@ pub mod HeadingLemmas
 pub mod ShowingLemmas
 pub mod ExcludingLemmas
 pub mod WholeLemmas
+pub mod MeaningLemmas
+pub mod StepLemmas
+pub mod TellingLemmas
+pub mod KeepingLemmas
