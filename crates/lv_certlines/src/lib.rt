@@ -2,7 +2,9 @@
 //!
 //! | file | what it holds |
 //! |---|---|
+//! | `asking` | what a block states, and what a refuter tells of it |
 //! | `stating` | tracked states, observations and values as lines |
 #![tactic(auto)]
 
+pub mod asking;
 pub mod stating;
