@@ -7,3 +7,4 @@ pub mod MeaningLemmas
 pub mod StepLemmas
 pub mod TellingLemmas
 pub mod KeepingLemmas
+pub mod UnitLemmas

@@ -6,6 +6,7 @@ ghost use Rattle.lv_steps.specs.System.{IsSystemOf};
 ghost use Rattle.lv_certify.specs.Certifying.{CertifiesRecovery, IsAsked, AreTexts, IsSettledRecovery, AreFormed};
 
 mod probe;
+mod units;
 
 use lv_base::{Conflict, Rank, Seq};
 use lv_cert::Cert;
