@@ -55,7 +55,7 @@ module _ (plant : Plant) (h : is_well_formed plant ≡ true) (aim : Aim) (few_st
   state_formed n s at = let less = slice_get_within aim.tracked n s at in within (n + 1) 64 (omega (arith, less, few_states)) (omega arith)
 
   module _ (few_bools : bool_count plant ≤ 10 ^ 30) (n : ℕ) (s : TrackedState) (at_n : slice_get aim.tracked n ≡ Some s) (pairs : List Pair) (choices : All (HasChoice (control_sizes plant)) pairs)
-      (rising : slots_rise pairs ≡ true) (ds : List Derived) (are : AreRefuted plant (own_clauses plant aim s.state pairs (reached_clauses plant aim)) ds) where
+      (rising : slots_rise pairs ≡ true) (ds : List Derived) (are : AreRefuted plant (own_clauses plant aim s.state pairs (reached_clauses plant aim)) ds) (short : length ds ≤ 2 ^ 64) where
     abbrev opened : Clauses
     opened = own_clauses plant aim s.state pairs (reached_clauses plant aim)
 
@@ -80,7 +80,7 @@ module _ (plant : Plant) (h : is_well_formed plant ≡ true) (aim : Aim) (few_st
                   ∙ ap (λ c. cond c (Some k) None) (ends_before false ds rest apart two.1))
                   (takes.conflict ((n + 1) ∷ pair_numbers pairs) ∙ ap (λ c. cond c (Some (place.Clauses Recovery)) None) (pairs_odd (n + 1) pairs))
                   (λ w. and_from (is_within_limit (n + 1)) (list_all is_within_limit (pair_numbers pairs)) (state_formed n s at_n) (pairs_formed (control_sizes plant) pairs few_values few_controls choices))
-                  (block_first Recovery plant few_bools e.final rest (place.Clauses Recovery) (place.MoreClauses Recovery) (record { begins = λ ls hs. refl }) (record { begins = λ ls hs. refl }) ds k are.few two.0 two.1
+                  (block_first Recovery plant few_bools e.final rest (place.Clauses Recovery) (place.MoreClauses Recovery) (record { begins = λ ls hs. refl }) (record { begins = λ ls hs. refl }) ds k (let few = are.few in omega (arith, few, short)) two.0 two.1
                   e.ends);
               stated = e.stated;
               listed = e.listed;

@@ -8,3 +8,4 @@ pub mod StepLemmas
 pub mod TellingLemmas
 pub mod KeepingLemmas
 pub mod UnitLemmas
+pub mod AskingLemmas

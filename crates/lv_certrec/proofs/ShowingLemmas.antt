@@ -167,7 +167,7 @@ module _ (plant : Plant) (h : is_well_formed plant ≡ true) where
 
       -- a goal that isn't missed
       module _ (asked_of : length aim.tracked ≤ 64) (few_goals : length aim.goals ≤ 64) (few_bools : bool_count plant ≤ 10 ^ 30) (n g : ℕ) (s : TrackedState) (at_n : slice_get aim.tracked n ≡ Some s)
-          (goal : Tree) (at_g : slice_get aim.goals g ≡ Some goal) (ds : List Derived) (are : AreRefuted plant (own_clauses plant aim s.state (pairs_of u) (goal_clauses plant false goal)) ds) where
+          (goal : Tree) (at_g : slice_get aim.goals g ≡ Some goal) (ds : List Derived) (are : AreRefuted plant (own_clauses plant aim s.state (pairs_of u) (goal_clauses plant false goal)) ds) (short : length ds ≤ 2 ^ 64) where
         abbrev from_standing : Standing
         from_standing = record { phase = proved n g; listed = answered; excluded = [] }
 
@@ -208,7 +208,7 @@ module _ (plant : Plant) (h : is_well_formed plant ≡ true) where
                       ∙ ap (λ c. cond c (Some k) None) (and_from (is_command_set plant u) _ set (ends_before false ds rest apart two.1)))
                       (proof_after aim n g (slice_get_within aim.goals g goal at_g)) (λ w. proof_formed)
                       (block_first Recovery plant few_bools e.final rest (place.Refuted (stage_of aim n (g + 1))) (place.Refuting (stage_of aim n (g + 1))) (record { begins = λ ls hs. refl })
-                      (record { begins = λ ls hs. refl }) ds k are.few two.0 two.1 e.ends));
+                      (record { begins = λ ls hs. refl }) ds k (let few = are.few in omega (arith, few, short)) two.0 two.1 e.ends));
                   stated = e.stated;
                   listed = e.listed;
                 }

@@ -87,7 +87,7 @@ own_clauses plant aim s pairs more = nominal_units plant s.modes (stated_by plan
 abbrev pub reached_clauses : Plant → Aim → Clauses
 reached_clauses plant aim = flat_map (goal_clauses plant true) aim.goals
 
--- the lines refute these clauses together with the model's
+-- the lines refute these clauses together with the model's, of which there aren't too many
 pub record AreRefuted (plant : Plant) (own : Clauses) (ds : List Derived) : Type 0 where
   pub refuted : refutes (bool_count plant) (model_clauses plant ++ own) ds ≡ true
-  pub few : length (model_clauses plant ++ own) + length ds ≤ 10 ^ 30
+  pub few : length (model_clauses plant ++ own) ≤ 2 ^ 65

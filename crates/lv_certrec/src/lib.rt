@@ -5,6 +5,7 @@ ghost use Rattle.std.specs.Prelude.{◌≡◌, ◌≤◌, IfOk};
 ghost use Rattle.lv_steps.specs.System.{IsSystemOf};
 ghost use Rattle.lv_certify.specs.Certifying.{CertifiesRecovery, IsAsked, AreTexts, IsSettledRecovery, AreFormed};
 
+mod asking;
 mod probe;
 mod units;
 
