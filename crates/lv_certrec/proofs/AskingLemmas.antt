@@ -124,13 +124,13 @@ module _ (v : Asked) (refuter : SystemValue) (vars : List VarId) (k : IsAsking v
 
   module _ (more : Clauses) (p : StepPair) (d : IsDecodedFrom v.system (own_clauses v.plant v.aim s pairs more) p) where
     told_step : IsStepFrom v.plant v.aim s pairs p.now p.next
-    told_step = decoded_step v.plant k.well_formed v.aim v.system k.of_plant s fit k.fits.present pairs have d.values p.now p.next p.moves d.decoded more d.true_of.own_hold
+    told_step = decoded_step v.plant k.well_formed v.aim v.system k.of_plant s fit k.asked.fits.present pairs have d.values p.now p.next p.moves d.decoded more d.true_of.own_hold
 
     told_hold : list_all (clause_holds d.values) more ≡ true
-    told_hold = more_hold v.plant k.well_formed v.aim v.system k.of_plant s fit k.fits.present pairs have d.values p.now p.next p.moves d.decoded more d.true_of.own_hold
+    told_hold = more_hold v.plant k.well_formed v.aim v.system k.of_plant s fit k.asked.fits.present pairs have d.values p.now p.next p.moves d.decoded more d.true_of.own_hold
 
     told_code : IsModelOf v.plant v.system p.now p.next p.moves d.values
-    told_code = model_of v.plant k.well_formed v.aim v.system k.of_plant s fit k.fits.present pairs have d.values p.now p.next p.moves d.decoded more d.true_of.own_hold
+    told_code = model_of v.plant k.well_formed v.aim v.system k.of_plant s fit k.asked.fits.present pairs have d.values p.now p.next p.moves d.decoded more d.true_of.own_hold
 
   pub reach_tells : (told : Told) → length (own_clauses v.plant v.aim s pairs (reached_clauses v.plant v.aim)) ≤ 2 ^ 64
       → IsTold v.system (own_clauses v.plant v.aim s pairs (reached_clauses v.plant v.aim)) told → TellsReached v.plant v.aim s pairs told
@@ -138,7 +138,7 @@ module _ (v : Asked) (refuter : SystemValue) (vars : List VarId) (k : IsAsking v
       record {
         step = told_step (reached_clauses v.plant v.aim) p d;
         goals =
-            goals_mean v.plant d.values p.next (told_code (reached_clauses v.plant v.aim) p d).next v.aim.goals (all_fitting v.plant v.aim.goals k.fits.goals)
+            goals_mean v.plant d.values p.next (told_code (reached_clauses v.plant v.aim) p d).next v.aim.goals (all_fitting v.plant v.aim.goals k.asked.fits.goals)
             (told_hold (reached_clauses v.plant v.aim) p d);
       }
   reach_tells (Lines ds) few told = refuted_there (reached_clauses v.plant v.aim) (map derived_of ds) few told

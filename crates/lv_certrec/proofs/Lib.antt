@@ -9,3 +9,4 @@ pub mod TellingLemmas
 pub mod KeepingLemmas
 pub mod UnitLemmas
 pub mod AskingLemmas
+pub mod GivingLemmas

@@ -30,3 +30,12 @@ choices_of pairs = map (λ (p : Pair). p.choice) pairs
 pub record AreValues (plant : Plant) (pairs : List Pair) : Type 0 where
   pub set : is_command_set plant (choices_of pairs) ≡ true
   pub all : pairs_of (choices_of pairs) ≡ pairs
+
+-- they are of a command set that recovers
+pub record IsGiven (plant : Plant) (aim : Aim) (pairs : List Pair) : Type 0 where
+  pub values : AreValues plant pairs
+  pub recovers : recovers plant aim (choices_of pairs) ≡ true
+
+-- the answer that they are
+abbrev pub answer_of : Plant → List Pair → List Rank
+answer_of plant pairs = command_rank plant (choices_of pairs) ∷ []

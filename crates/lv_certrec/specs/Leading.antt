@@ -1,10 +1,13 @@
 -- How far a certificate of a recovery has come, and lines that lead on.
-use Rattle.std.specs.Prelude.{◌≡◌, ◌+◌, ℕ, zero, suc, List, [], ◌∷◌, ◌++◌, length, Option, Some, None}
+use Rattle.std.specs.Prelude.{◌≡◌, ◌+◌, ℕ, zero, suc, Bool, true, false, not, List, [], ◌∷◌, ◌++◌, length, Option, Some, None}
+use Rattle.std.specs.List.{list_all}
 use Rattle.lv_base.specs.declared.ids.ValId.{ValId}
 use Rattle.lv_base.specs.declared.rank.Rank.{Rank}
 use Rattle.lv_base.specs.declared.search.Pair.{Pair}
 use Rattle.lv_model.specs.declared.plant.Plant.{Plant}
+use Rattle.lv_model.specs.declared.state.TrackedState.{TrackedState}
 use Rattle.lv_recovery.specs.declared.aim.Aim.{Aim}
+use Rattle.lv_recovery.specs.Recovers.{reaches, can_miss}
 use Rattle.lv_compile.specs.FormulaClauses.{Clauses}
 use Rattle.lv_zones.specs.Commands.{control_slots, command_zone}
 use Rattle.lv_cert.specs.declared.line.Question.TheVariants.{Recovery}
@@ -66,6 +69,9 @@ pub record Standing : Type 0 where
   pub listed : List Rank
   pub excluded : List (List Pair)
 
+abbrev pub standing : Phase → List Rank → List (List Pair) → Standing
+standing phase listed excluded = record { phase = phase; listed = listed; excluded = excluded }
+
 -- what lines come to that stand so, with this block open, this step aimed at, and these values before it
 abbrev pub judged_at : Plant → Aim → Standing → Clauses → Option Aimed → Option (List ValId) → Judged
 judged_at plant aim s own aimed before =
@@ -100,3 +106,29 @@ pub record LeadsOn (plant : Plant) (aim : Aim) (from to : Standing) (old new : L
   pub more : List Line
   pub added : new ≡ old ++ more
   pub lead : Lead plant aim from to more
+
+-- lines to which a block was added that excludes these values
+pub record Excludes (plant : Plant) (aim : Aim) (pairs : List Pair) (old new : List Line) : Type 0 where
+  pub on : (listed : List Rank) (excluded : List (List Pair)) → LeadsOn plant aim (standing excluding listed excluded) (standing excluding listed (excluded ++ pairs ∷ [])) old new
+
+-- lines to which blocks were added that exclude each of these
+pub record ExcludesAll (plant : Plant) (aim : Aim) (kept : List (List Pair)) (old new : List Line) : Type 0 where
+  pub on : (listed : List Rank) → LeadsOn plant aim (standing excluding listed []) (standing excluding listed kept) old new
+
+-- such a block was added, or nothing, and the values reach the goals from each state
+pub record ReachFromAll (plant : Plant) (aim : Aim) (pairs : List Pair) (old new : List Line) : Type 0 where
+  pub same : new ≡ old
+  pub all : list_all (λ (s : TrackedState). reaches plant aim s.state pairs) aim.tracked ≡ true
+
+abbrev pub AddsConflict : Plant → Aim → List Pair → List Line → List Line → Bool → Type 0
+AddsConflict plant aim pairs old new true = Excludes plant aim pairs old new
+AddsConflict plant aim pairs old new false = ReachFromAll plant aim pairs old new
+
+-- such a block was added, or from no state the values can miss a goal
+pub record MissFromNone (plant : Plant) (aim : Aim) (pairs : List Pair) (old new : List Line) : Type 0 where
+  pub same : new ≡ old
+  pub all : list_all (λ (s : TrackedState). not (can_miss plant aim s.state pairs)) aim.tracked ≡ true
+
+abbrev pub AddsCounter : Plant → Aim → List Pair → List Line → List Line → Bool → Type 0
+AddsCounter plant aim pairs old new true = Excludes plant aim pairs old new
+AddsCounter plant aim pairs old new false = MissFromNone plant aim pairs old new

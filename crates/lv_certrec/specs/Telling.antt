@@ -1,5 +1,5 @@
 -- What is told of the nominal steps from a state with some values of controls: one, or lines by which there is none.
-use Rattle.std.specs.Prelude.{◌≡◌, ◌++◌, ℕ, Bool, true, false, List, map}
+use Rattle.std.specs.Prelude.{◌≡◌, ◌++◌, ℕ, Bool, true, false, List, map, Option, Some, None}
 use Rattle.lv_base.specs.declared.ids.Lit.{Lit}
 use Rattle.lv_base.specs.declared.ids.ValId.{ValId}
 use Rattle.lv_base.specs.declared.search.Pair.{Pair}
@@ -8,7 +8,7 @@ use Rattle.lv_model.specs.declared.plant.Plant.{Plant}
 use Rattle.lv_model.specs.declared.state.State.{State}
 use Rattle.lv_meaning.specs.Possible.{value}
 use Rattle.lv_recovery.specs.declared.aim.Aim.{Aim}
-use Rattle.lv_recovery.specs.Recovers.{meets_goals}
+use Rattle.lv_recovery.specs.Recovers.{meets_goals, can_miss}
 use Rattle.lv_recovery.specs.Laws.{NominalStep}
 use Rattle.lv_steps.specs.Decoding.{IsDecoded}
 use Rattle.lv_steps.specs.System.{SystemValue}
@@ -77,3 +77,12 @@ is_step (Lines ds) = false
 abbrev pub are_lines : Told → Bool
 are_lines (Step p) = false
 are_lines (Lines ds) = true
+
+-- a step that misses some goal, or there is none
+abbrev pub TellsMissing : Plant → Aim → State → List Pair → Option StepPair → Type 0
+TellsMissing plant aim s pairs (Some p) = IsMissing plant aim s pairs p.now p.next
+TellsMissing plant aim s pairs None = can_miss plant aim s pairs ≡ false
+
+-- if each step ends with the goals that are left true, it does so with all
+pub record MissesLeft (plant : Plant) (aim : Aim) (s : State) (pairs : List Pair) (left all : List Tree) : Type 0 where
+  pub on : NeverMisses plant aim s pairs left → NeverMisses plant aim s pairs all

@@ -3,11 +3,13 @@
 
 ghost use Rattle.std.specs.Prelude.{◌≡◌, ◌++◌, true, All, IfOk, IsTrue};
 ghost use Rattle.lv_model.specs.Ranges.{plant_ranges};
+ghost use Rattle.lv_model.specs.WellFormed.{is_well_formed};
 ghost use Rattle.lv_recovery.specs.Commands.{control_sizes};
-ghost use Rattle.lv_recovery.specs.Ranges.{AimFits, GoalFits, modes_fit};
+ghost use Rattle.lv_recovery.specs.Ranges.{GoalFits, modes_fit};
 ghost use Rattle.lv_steps.specs.System.{IsSystemOf};
 ghost use Rattle.lv_steps.specs.Numbering.{IsOver};
 ghost use Rattle.lv_validity.specs.Units.{nominal_units, goal_clauses};
+ghost use Rattle.lv_certify.specs.Certifying.{IsAsked};
 ghost use Rattle.lv_certlines.specs.Pairs.{HasChoice};
 ghost use Rattle.lv_certrec.specs.Showing.{stated_by, reached_clauses};
 ghost use Rattle.lv_certrec.specs.Telling.{IsTold, TellsReached, TellsMissed, is_step, are_lines};
@@ -96,7 +98,7 @@ impl<'a> Asking<'a> {
         aim: &'a Aim,
     ) -> Result<Asking<'a>, AllocError>
         requires system { IsSystemOf model.now system.now }
-        requires fits { AimFits model.now aim.now }
+        requires asked { IsAsked model.now aim.now }
         ensures { IfOk result (λ a. a ≡ record { plant = model.now; aim = aim.now; system = system.now }) }
     {
         let _plant = model.plant();
@@ -112,9 +114,14 @@ impl<'a> Asking<'a> {
 
     pub fn aim(&self) -> &'a Aim
         ensures aim { result.now ≡ self.now.aim }
-        ensures fits { AimFits self.now.plant self.now.aim }
+        ensures asked { IsAsked self.now.plant self.now.aim }
+        ensures well_formed { is_well_formed self.now.plant ≡ true }
     {
         self.aim
+    }
+
+    pub fn alloc(&self) -> Global {
+        self.alloc
     }
 
     /// The clauses of a nominal step from the state with these values of controls.

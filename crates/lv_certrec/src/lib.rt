@@ -6,7 +6,9 @@ ghost use Rattle.lv_steps.specs.System.{IsSystemOf};
 ghost use Rattle.lv_certify.specs.Certifying.{CertifiesRecovery, IsAsked, AreTexts, IsSettledRecovery, AreFormed};
 
 mod asking;
+mod excluding;
 mod probe;
+mod showing;
 mod units;
 
 use lv_base::{Conflict, Rank, Seq};

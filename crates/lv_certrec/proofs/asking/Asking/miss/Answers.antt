@@ -29,7 +29,7 @@ ask-requires-clause-over c =
     c.as_slice.ensures.value ∙ c.in_ok-push_all.ensures ∙ ap (λ (cs : List (List Lit)). cs ++ c.in_ok-goal.field-0.items) c.in_ok-own.ensures ∙ ap (λ (cs : List (List Lit)). first ++ cs) c.in_ok-goal.ensures in
     subst (λ (s : SystemValue). All (IsOver s.set.bools) c.as_slice.result.now) (sym of_system)
     (subst (λ (cs : List (List Lit)). All (IsOver v.system.set.bools) cs) (sym made)
-    (miss_over v.plant v.system k.of_plant v.aim k.fits c.args.state.now c.requires.fit c.args.pairs.now c.requires.have c.args.goal.now c.requires.goal))
+    (miss_over v.plant v.system k.of_plant v.aim k.asked.fits c.args.state.now c.requires.fit c.args.pairs.now c.requires.have c.args.goal.now c.requires.goal))
 
 pub returns : goal.returns
 returns c =

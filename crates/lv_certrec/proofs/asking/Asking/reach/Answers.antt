@@ -29,7 +29,7 @@ ask-requires-clause-over c =
     c.as_slice.ensures.value ∙ c.in_ok-push_reached.ensures ∙ ap (λ (cs : List (List Lit)). cs ++ reached_clauses v.plant v.aim) c.in_ok-own.ensures in
     subst (λ (s : SystemValue). All (IsOver s.set.bools) c.as_slice.result.now) (sym of_system)
     (subst (λ (cs : List (List Lit)). All (IsOver v.system.set.bools) cs) (sym made)
-    (reach_over v.plant v.system k.of_plant v.aim k.fits c.args.state.now c.requires.fit c.args.pairs.now c.requires.have))
+    (reach_over v.plant v.system k.of_plant v.aim k.asked.fits c.args.state.now c.requires.fit c.args.pairs.now c.requires.have))
 
 pub returns : goal.returns
 returns c =
