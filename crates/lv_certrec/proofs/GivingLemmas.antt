@@ -3,7 +3,7 @@ use Rattle.std.proofs.Common.{◌≡◌, ℕ, zero, suc, ◌+◌, ◌^◌, ◌<�
 use Rattle.std.specs.List.{list_all}
 use Rattle.std.specs.Cmp.Lexicographic.{pointwise}
 use Rattle.std.proofs.lemmas.Bool.{and_parts, and_from, ltb-true, eqb-true}
-use Rattle.std.proofs.lemmas.List.{append_assoc, append-nil, length-map}
+use Rattle.std.proofs.lemmas.List.{append_assoc, append-nil, length-append, length-map}
 use Rattle.std.proofs.lemmas.List.Elements.{All-nil, All-cons}
 use Rattle.lv_base.specs.declared.ids.ValId.{ValId}
 use Rattle.lv_base.specs.declared.ids.VarId.{VarId}
@@ -35,6 +35,7 @@ use Rattle.lv_refute.specs.declared.derivation.Derivation.{Derivation}
 use Rattle.lv_validity.specs.Units.{goal_clauses}
 use Rattle.lv_cert.specs.declared.line.Line.{Line}
 use Rattle.lv_certlaws.proofs.Options.{got_among}
+use Rattle.lv_certlines.specs.Lines.{clause_line, clause_lines}
 use Rattle.lv_certlines.specs.Pairs.{HasChoice}
 use Rattle.lv_certify.specs.Certifying.{IsAsked}
 use Rattle.lv_certrec.specs.declared.asking.Told.{Told}
@@ -55,6 +56,14 @@ pub got_at : {X : Type 0} (xs : List X) (n : ℕ) (x : X) → n < length xs → 
 got_at [] n x below is = absurd (omega (arith, below))
 got_at (y ∷ ys) zero x below is = ap Some (sym is)
 got_at (y ∷ ys) (suc n) x below is = got_at ys n x (omega (arith, below)) is
+
+-- clauses that stand in lines are no more than these
+short : (old new : List Line) (ds : List Derived) (l : Line) → new ≡ old ++ (l ∷ clause_lines ds) → length new ≤ 2 ^ 64 → length ds ≤ 2 ^ 64
+short old new ds l is few =
+    let long : length new ≡ length (old ++ (l ∷ clause_lines ds)) = ap length is in
+    let both = length-append old (l ∷ clause_lines ds) in
+    let each = length-map ds clause_line in
+    omega (arith, long, both, each, few)
 
 -- choices that are picked are choices of their slots
 below_at : (u ns : List ℕ) (k c : ℕ) → pointwise nat_lt u ns ≡ true → k < length u → slice_index_or u k 0 ≡ c → c < slice_index_or ns k 0
@@ -161,14 +170,13 @@ module _ (plant : Plant) (aim : Aim) where
           (step_shown plant aim n s at u p.now p.next (subst (λ (ps : List Pair). IsStepFrom plant aim s.state ps p.now p.next) (sym given.values.all) is.step) true is.goals))
 
       pub proof_on : (n g : ℕ) (s : TrackedState) → slice_get aim.tracked n ≡ Some s → (goal : Tree) → slice_get aim.goals g ≡ Some goal → (ds : List Derivation)
-          → AreUnmissed plant aim s.state pairs goal (map derived_of ds) → (count : ℕ) → count ≡ length ds → count ≤ 2 ^ 64 → (old new : List Line) → new ≡ old ++ proof_lines n g (map derived_of ds)
+          → AreUnmissed plant aim s.state pairs goal (map derived_of ds) → (old new : List Line) → new ≡ old ++ proof_lines n g (map derived_of ds) → length new ≤ 2 ^ 64
           → LeadsOn plant aim (standing (proved n g) (answer_of plant pairs) []) (standing (proved n (g + 1)) (answer_of plant pairs) []) old new
-      proof_on n g s at goal there ds are count is few old new lines =
-          let long = length-map ds derived_of in
+      proof_on n g s at goal there ds are old new lines few =
           leads_by plant aim (standing (proved n g) (answer_of plant pairs) []) (standing (proved n (g + 1)) (answer_of plant pairs) []) old new (proof_lines n g (map derived_of ds)) lines
           (proof_leads plant h aim u given.values.set of.states.few of.goals few_bools n g s at goal there (map derived_of ds)
           (subst (λ (ps : List Pair). AreRefuted plant (own_clauses plant aim s.state ps (goal_clauses plant false goal)) (map derived_of ds)) (sym given.values.all) are)
-          (omega (arith, long, is, few)))
+          (short old new (map derived_of ds) _ lines few))
 
       -- behind the proofs of all goals the next state is due
       pub state_on : (n : ℕ) (old mid new : List Line) → LeadsOn plant aim (standing (good n) (answer_of plant pairs) []) (standing (proved n 0) (answer_of plant pairs) []) old mid
@@ -182,15 +190,14 @@ module _ (plant : Plant) (aim : Aim) where
 
     -- blocks that exclude
     pub conflict_on : (pairs : List Pair) → All (HasChoice (control_sizes plant)) pairs → slots_rise pairs ≡ true → (n : ℕ) (s : TrackedState) → slice_get aim.tracked n ≡ Some s → (ds : List Derivation)
-        → AreUnreached plant aim s.state pairs (map derived_of ds) → (count : ℕ) → count ≡ length ds → count ≤ 2 ^ 64 → (old new : List Line) → new ≡ old ++ conflict_lines n pairs (map derived_of ds)
+        → AreUnreached plant aim s.state pairs (map derived_of ds) → (old new : List Line) → new ≡ old ++ conflict_lines n pairs (map derived_of ds) → length new ≤ 2 ^ 64
         → Excludes plant aim pairs old new
-    conflict_on pairs have rising n s at ds are count is few old new lines =
-        let long = length-map ds derived_of in
+    conflict_on pairs have rising n s at ds are old new lines few =
         record {
           on =
               λ listed excluded.
               leads_by plant aim (standing excluding listed excluded) (standing excluding listed (excluded ++ pairs ∷ [])) old new (conflict_lines n pairs (map derived_of ds)) lines
-              (conflict_leads plant h aim of.states.few few_sets listed excluded few_bools n s at pairs have rising (map derived_of ds) are (omega (arith, long, is, few)));
+              (conflict_leads plant h aim of.states.few few_sets listed excluded few_bools n s at pairs have rising (map derived_of ds) are (short old new (map derived_of ds) _ lines few));
         }
 
     pub counter_on : (pairs : List Pair) → AreValues plant pairs → (n : ℕ) (s : TrackedState) → slice_get aim.tracked n ≡ Some s → (p : StepPair) → IsMissing plant aim s.state pairs p.now p.next

@@ -10,3 +10,4 @@ pub mod KeepingLemmas
 pub mod UnitLemmas
 pub mod AskingLemmas
 pub mod GivingLemmas
+pub mod BlockLemmas
