@@ -1,15 +1,13 @@
 -- The lines that state the question of a diagnosis are good, and state it.
-use Rattle.std.proofs.Common.{◌≡◌, ℕ, zero, suc, ◌+◌, ◌<◌, ◌≤◌, Bool, true, false, ◌&&◌, nat_eq, nat_lt, nat_le, List, [], ◌∷◌, ◌++◌, length, map, slice_index_or, Option, Some, None, cond, refl, sym, subst, ◌∙◌, ap, ap₂, arith, All}
-use Rattle.std.specs.List.{list_all}
+use Rattle.std.proofs.Common.{◌≡◌, ℕ, ◌+◌, ◌<◌, ◌≤◌, true, nat_eq, nat_lt, nat_le, List, [], ◌∷◌, ◌++◌, length, map, slice_index_or, Some, None, cond, refl, sym, subst, ap, arith, All}
 use Rattle.std.specs.Cmp.Lexicographic.{pointwise}
 use Rattle.std.proofs.lemmas.Bool.{and_from, le-leb, lt-ltb, eq-eqb}
 use Rattle.std.proofs.lemmas.List.Elements.{All-head, All-tail}
-use Rattle.lv_base.specs.declared.ids.Lit.{Lit}
 use Rattle.lv_base.specs.declared.ids.VarId.{VarId}
 use Rattle.lv_base.specs.declared.ids.ValId.{ValId}
 use Rattle.lv_model.specs.declared.plant.Plant.{Plant}
 use Rattle.lv_model.specs.declared.state.TrackedState.{TrackedState}
-use Rattle.lv_model.specs.Lists.{sizes, controls, variable_count, IsFew}
+use Rattle.lv_model.specs.Lists.{sizes, controls, variable_count}
 use Rattle.lv_model.specs.WellFormed.{is_well_formed}
 use Rattle.lv_model.proofs.Sizes.{few-sizes}
 use Rattle.lv_meaning.specs.declared.facts.Observation.{Observation}
@@ -32,8 +30,8 @@ use Rattle.lv_certlines.specs.Lines.{value_numbers, state_lines, fact_lines, val
 use Rattle.lv_certlines.specs.Ending.{Ends}
 use Rattle.lv_certlines.proofs.Ending.{line_first}
 use Rattle.lv_certlines.proofs.Numbers.{values_back, one_of_place, within, formed_of, few_found}
-use Rattle.lv_certlines.proofs.StatingLemmas.{Stands, TakesStates, states_first}
-use Rattle.lv_certlines.proofs.Facts.{IsSeenIn, TakesFacts, facts_first}
+use Rattle.lv_certlines.proofs.StatingLemmas.{Stands, states_first}
+use Rattle.lv_certlines.proofs.Facts.{IsSeenIn, facts_first}
 use Rattle.lv_certdiag.specs.Showing.{head_lines, stated_literals}
 
 -- a name is equal to itself
@@ -121,7 +119,7 @@ module _ (plant : Plant) (tracked : List TrackedState) (facts : Facts) (k : ℕ)
       (facts_first Diagnosis plant is.well_formed is.variables final rest Next (place.Facts k) (record { next = λ n x v less. ap (λ b. cond b (Some (place.Facts k (n + 1))) None) (lt-ltb n 1024 less) })
       facts.next (length facts.present) (length facts.present + length facts.next) (record controlled { stated = stated_now (values_of (value_numbers facts.controls)) }) is.next refl observed
       (subst (λ (vs : List ValId). Ends Diagnosis plant (place.Facts k (length facts.present + length facts.next))
-          (record controlled { stated = record (stated_now vs) { facts = record (stated_now vs).facts { next = facts.next }; literals = (stated_now vs).literals ++ map (observed_literal (booleans_next plant)) facts.next } }) rest final)
+      (record controlled { stated = record (stated_now vs) { facts = record (stated_now vs).facts { next = facts.next }; literals = (stated_now vs).literals ++ map (observed_literal (booleans_next plant)) facts.next } }) rest final)
       (sym (values_back facts.controls)) ends))
 
   control_end : Ends Diagnosis plant (place.Facts k (length facts.present + length facts.next)) (headed plant tracked facts k) rest final

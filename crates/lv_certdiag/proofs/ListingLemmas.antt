@@ -1,9 +1,9 @@
 -- The lines of listed candidates are good where each is shown and they rise.
-use Rattle.std.proofs.Common.{◌≡◌, ℕ, zero, suc, ◌+◌, ◌-◌, ◌<◌, ◌≤◌, Bool, true, false, ◌&&◌, nat_eq, nat_lt, nat_le, List, [], ◌∷◌, ◌++◌, length, map, slice_get, slice_index_or, Option, Some, None, cond, refl, sym, subst, ◌∙◌, ap, ap₂, arith, All}
+use Rattle.std.proofs.Common.{◌≡◌, ℕ, zero, suc, ◌+◌, ◌-◌, ◌<◌, ◌≤◌, Bool, true, false, ◌&&◌, nat_lt, nat_le, List, [], ◌∷◌, ◌++◌, length, map, slice_get, Option, Some, None, cond, refl, sym, subst, ◌∙◌, ap, ap₂, arith, All}
 use Rattle.std.specs.List.{list_all, flat_map}
 use Rattle.std.specs.Option.{option_map_or, option_and_then}
 use Rattle.std.proofs.lemmas.Bool.{and_from, and_parts, le-leb, lt-ltb, ltb-true}
-use Rattle.std.proofs.lemmas.List.{append_assoc, append-nil}
+use Rattle.std.proofs.lemmas.List.{append_assoc}
 use Rattle.std.proofs.lemmas.List.Elements.{All-head, All-tail}
 use Rattle.lv_base.specs.declared.ids.ValId.{ValId}
 use Rattle.lv_base.specs.declared.rank.Rank.{Rank}
@@ -13,7 +13,6 @@ use Rattle.lv_model.specs.declared.state.TrackedState.{TrackedState}
 use Rattle.lv_model.specs.Lists.{sizes, move_counts, IsFew}
 use Rattle.lv_model.specs.WellFormed.{is_well_formed}
 use Rattle.lv_model.proofs.Sizes.{few-sizes, few-move_counts}
-use Rattle.lv_walk.specs.Ranked.{rises}
 use Rattle.lv_meaning.specs.declared.facts.Facts.{Facts}
 use Rattle.lv_laws.specs.Possible.{are_below}
 use Rattle.lv_laws.specs.Candidates.{are_moves, moves_cost, IsCandidate}
@@ -28,14 +27,14 @@ use Rattle.lv_cert.specs.declared.order.Place.TheVariants as place
 use Rattle.lv_cert.specs.Order.{after_listing, place_after}
 use Rattle.lv_cert.specs.Form.{is_formed, is_within_limit}
 use Rattle.lv_validity.specs.Counting.{are_of, values_of, places_of, at_number}
-use Rattle.lv_validity.specs.Stated.{Stated, rank_from, candidate_of_numbers}
-use Rattle.lv_validity.specs.Judging.{Judged, judge_line, last_of, with_listed, is_step_of, shows_listed}
+use Rattle.lv_validity.specs.Stated.{rank_from, candidate_of_numbers}
+use Rattle.lv_validity.specs.Judging.{Judged, last_of, with_listed, is_step_of, shows_listed}
 use Rattle.lv_certlaws.proofs.Sound.{last_added}
 use Rattle.lv_certlaws.proofs.Shown.{candidate_is_full}
 use Rattle.lv_certlines.specs.Lines.{numbers_of, value_numbers, values_line}
 use Rattle.lv_certlines.specs.Ending.{Ends}
 use Rattle.lv_certlines.proofs.Ending.{line_first}
-use Rattle.lv_certlines.proofs.Numbers.{places_back, values_back, back_again, one_of_place, within, formed_of}
+use Rattle.lv_certlines.proofs.Numbers.{places_back, values_back, back_again, within, formed_of}
 use Rattle.lv_certdiag.specs.Showing.{Shown, listed_lines, IsShown}
 
 all_positive : (ns : List ℕ) → list_all (nat_lt 0) (numbers_of ns) ≡ true

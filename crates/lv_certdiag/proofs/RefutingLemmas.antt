@@ -1,12 +1,11 @@
 -- The blocks of conflicts are good where each is refuted.
-use Rattle.std.proofs.Common.{◌≡◌, ℕ, suc, ◌+◌, ◌*◌, ◌%◌, ◌^◌, ◌<◌, ◌≤◌, Bool, true, false, ◌&&◌, nat_eq, List, [], ◌∷◌, ◌++◌, length, map, Option, Some, None, cond, refl, sym, subst, ◌∙◌, ap, arith, All}
-use Rattle.std.specs.List.{list_all, flat_map}
+use Rattle.std.proofs.Common.{◌≡◌, ℕ, ◌+◌, ◌^◌, ◌≤◌, true, false, List, [], ◌∷◌, ◌++◌, length, map, Some, None, cond, refl, sym, subst, ◌∙◌, ap, arith, All}
+use Rattle.std.specs.List.{flat_map}
 use Rattle.std.specs.Option.{option_and_then}
-use Rattle.std.proofs.lemmas.Bool.{and_parts, and_from, eq-eqb}
-use Rattle.std.proofs.lemmas.List.{append_assoc}
+use Rattle.std.proofs.lemmas.Bool.{and_parts}
+use Rattle.std.proofs.lemmas.List.{append_assoc, length-append}
 use Rattle.std.proofs.lemmas.List.Elements.{All-head, All-tail}
 use Rattle.lv_base.specs.declared.ids.Lit.{Lit}
-use Rattle.lv_base.specs.declared.search.Pair.{Pair}
 use Rattle.lv_model.specs.declared.plant.Plant.{Plant}
 use Rattle.lv_model.specs.Lists.{move_counts}
 use Rattle.lv_model.specs.WellFormed.{is_well_formed}
@@ -23,7 +22,6 @@ use Rattle.lv_cert.specs.declared.order.Place.{Place}
 use Rattle.lv_cert.specs.declared.order.Place.TheVariants as place
 use Rattle.lv_cert.specs.Order.{after_blocks, place_after}
 use Rattle.lv_validity.specs.Units.{units, choice_literal}
-use Rattle.lv_validity.specs.Counting.{pairs_of_numbers}
 use Rattle.lv_validity.specs.Judging.{Judged, with_conflict, clauses_of_choices}
 use Rattle.lv_certlines.specs.Lines.{pair_numbers, clause_lines}
 use Rattle.lv_certlines.specs.Ending.{Ends, BeginApart}
@@ -49,7 +47,7 @@ abbrev pub place_behind_blocks : Place → List Block → Place
 place_behind_blocks p [] = p
 place_behind_blocks p (b ∷ bs) = place.MoreClauses Diagnosis
 
-module _ (plant : Plant) (h : is_well_formed plant ≡ true) (few_parts : length (move_counts plant) ≤ 4096) (few_bools : bool_count plant ≤ 10 ^ 30) (facts : Facts) (final : Judged) (rest : List Line) (apart : BeginApart rest) where
+module _ (plant : Plant) (h : is_well_formed plant ≡ true) (few_parts : length (move_counts plant) ≤ 4096) (few_bools : bool_count plant ≤ 10 ^ 30) (few_clauses : length (model_clauses plant) ≤ 10 ^ 20) (facts : Facts) (final : Judged) (rest : List Line) (apart : BeginApart rest) where
   blocks_apart : (bs : List Block) → BeginApart (flat_map block_lines bs ++ rest)
   blocks_apart [] = apart
   blocks_apart (b ∷ bs) = record { same = λ is_empty. refl }
@@ -62,6 +60,10 @@ module _ (plant : Plant) (h : is_well_formed plant ≡ true) (few_parts : length
       → Ends Diagnosis plant (place.MoreClauses Diagnosis) (behind_block plant facts j b) more final → Ends Diagnosis plant p j (block_lines b ++ more) final
   one_block b is p takes j literals_are more more_apart ends =
       let begun : Judged = record j { excluded = j.excluded ++ b.pairs ∷ []; own = own_clauses plant facts b.pairs } in
+      let few_own = is.few_own in
+      let few_lines = is.few_lines in
+      let long = length-append (model_clauses plant) (own_clauses plant facts b.pairs) in
+      let few : length (model_clauses plant ++ own_clauses plant facts b.pairs) + length b.lines ≤ 10 ^ 30 = omega (arith, few_clauses, few_own, few_lines, long) in
       let two = and_parts (derives (bool_count plant) (model_clauses plant ++ own_clauses plant facts b.pairs) b.lines) (lines_end_empty b.lines) is.refuted in
       line_first Diagnosis plant final p (place.Clauses Diagnosis) j begun (line.Numbers head.Conflict (pair_numbers b.pairs)) (clause_lines b.lines ++ more)
       (ap (option_and_then (λ pairs. with_conflict j pairs (clauses_of_choices plant j pairs) (clause_lines b.lines ++ more))) (pairs_read (move_counts plant) b.pairs is.choices is.rising)
@@ -69,7 +71,7 @@ module _ (plant : Plant) (h : is_well_formed plant ≡ true) (few_parts : length
       ∙ ap (λ e. cond e (Some begun) None) (ends_before false b.lines more more_apart two.1))
       (takes.conflict (pair_numbers b.pairs) ∙ ap (λ e. cond e (Some (place.Clauses Diagnosis)) None) (pairs_even b.pairs))
       (λ w. pairs_formed (move_counts plant) b.pairs (few-move_counts plant h) few_parts is.choices)
-      (block_first Diagnosis plant few_bools final more (place.Clauses Diagnosis) (place.MoreClauses Diagnosis) (record { begins = λ ls hs. refl }) (record { begins = λ ls hs. refl }) b.lines begun is.few two.0 two.1 ends)
+      (block_first Diagnosis plant few_bools final more (place.Clauses Diagnosis) (place.MoreClauses Diagnosis) (record { begins = λ ls hs. refl }) (record { begins = λ ls hs. refl }) b.lines begun few two.0 two.1 ends)
 
   pub blocks_first : (bs : List Block) → All (IsRefuted plant facts) bs → (p : Place) → TakesConflicts p → (j : Judged) → j.stated.literals ≡ stated_literals plant facts
       → Ends Diagnosis plant (place_behind_blocks p bs) (with_blocks plant facts j bs) rest final → Ends Diagnosis plant p j (flat_map block_lines bs ++ rest) final

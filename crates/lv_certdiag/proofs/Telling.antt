@@ -1,36 +1,36 @@
 -- What a refuter tells of choices under facts: values exactly where they are possible together.
-use Rattle.std.proofs.Common.{◌≡◌, ℕ, zero, suc, ◌+◌, ◌<◌, ◌≤◌, Bool, true, false, ◌&&◌, nat_eq, nat_lt, List, [], ◌∷◌, ◌++◌, length, map, get_or, slice_index_or, Option, Some, None, refl, sym, subst, ◌∙◌, ap, ap₂, arith, All}
-use Rattle.std.specs.List.{list_all, sum}
-use Rattle.std.proofs.lemmas.Bool.{and_parts, and_from, lt-ltb, ltb-true, eqb-true}
+use Rattle.std.proofs.Common.{◌≡◌, ℕ, suc, ◌+◌, ◌^◌, ◌<◌, ◌≤◌, Bool, true, false, ◌&&◌, nat_eq, nat_lt, List, [], ◌∷◌, ◌++◌, length, map, get_or, slice_index_or, refl, sym, subst, ◌∙◌, ap, ap₂, arith, All}
+use Rattle.std.specs.List.{list_all}
+use Rattle.std.proofs.lemmas.Bool.{and_parts, and_from, lt-ltb, eqb-true}
 use Rattle.std.proofs.lemmas.List.{append_assoc, map-append}
-use Rattle.std.proofs.lemmas.List.Elements.{All-head, All-tail, All-cons, All-append}
+use Rattle.std.proofs.lemmas.List.Elements.{All-head, All-tail, All-cons}
 use Rattle.std.proofs.lemmas.List.Folds.{list_all-append}
+use Rattle.lv_base.specs.declared.limits.TheConstants.{MODEL_CLAUSES}
 use Rattle.lv_base.specs.declared.ids.Lit.{Lit}
 use Rattle.lv_base.specs.declared.ids.ValId.{ValId}
 use Rattle.lv_base.specs.declared.ids.MoveId.{MoveId}
 use Rattle.lv_base.specs.declared.rank.Rank.{Rank}
 use Rattle.lv_base.specs.declared.search.Pair.{Pair}
 use Rattle.lv_base.specs.Choices.{pairs_from, pairs_of}
-use Rattle.lv_clauses.specs.Literals.{lit_holds, clause_holds, in_range, is_clause}
-use Rattle.lv_clauses.specs.ClauseMap.{satisfies}
+use Rattle.lv_clauses.specs.Literals.{lit_holds, in_range}
 use Rattle.lv_model.specs.declared.plant.Plant.{Plant}
 use Rattle.lv_model.specs.Lists.{sizes, move_counts, controls}
 use Rattle.lv_model.specs.WellFormed.{is_well_formed}
 use Rattle.lv_model.specs.Meaning.{is_step}
-use Rattle.lv_meaning.specs.declared.facts.Observation.{Observation}
 use Rattle.lv_meaning.specs.declared.facts.Facts.{Facts}
 use Rattle.lv_meaning.specs.Facts.{meets, commanded, now_facts, meets_facts}
 use Rattle.lv_meaning.specs.Possible.{move_number, gives, extends, is_possible}
-use Rattle.lv_meaning.specs.Candidates.{is_possible_rank}
-use Rattle.lv_compile.specs.Booleans.{Booleans, booleans_now, booleans_next, first_choice, bool_count}
+use Rattle.lv_compile.specs.Booleans.{booleans_now, booleans_next, first_choice, bool_count}
 use Rattle.lv_compile.specs.ModelClauses.{model_clauses}
-use Rattle.lv_compile.specs.Laws.{literal_is_true, Encode, EncodeMoves}
+use Rattle.lv_compile.specs.Laws.{literal_is_true, Encode}
 use Rattle.lv_steps.specs.Numbering.{IsOver}
-use Rattle.lv_steps.specs.System.{SystemValue, IsSystemOf}
+use Rattle.lv_laws.specs.Possible.{are_below}
+use Rattle.lv_steps.specs.Choices.{Choices}
+use Rattle.lv_steps.specs.System.{SystemValue, IsSystemOf, IsKept, choices_of}
 use Rattle.lv_steps.specs.Encoding.{truth_in}
-use Rattle.lv_steps.specs.Laws.{IsAssignment, IsWholeStep, IsModelOf}
+use Rattle.lv_steps.specs.Laws.{IsWholeStep, IsModelOf}
 use Rattle.lv_steps.specs.Decoding.{IsDecoded}
-use Rattle.lv_steps.proofs.SystemLemmas.{model_is_a_step, choices_fit}
+use Rattle.lv_steps.proofs.SystemLemmas.{model_is_a_step, choices_fit, kept_of}
 use Rattle.lv_blocks.specs.Blocks.{clauses_of}
 use Rattle.lv_blocks.specs.Deriving.{Derived, refutes}
 use Rattle.lv_blocks.proofs.DerivingLemmas.{refuted_fail}
@@ -39,6 +39,8 @@ use Rattle.lv_ident.specs.Literals.{observed_literals, fact_literals, FactsInRan
 use Rattle.lv_ident.proofs.MeaningLemmas.{facts_hold, pairs_hold, step_makes_possible}
 use Rattle.lv_ident.proofs.ClauseLemmas.{facts_positive}
 use Rattle.lv_steps.proofs.LiteralLemmas.{choice_in_range}
+use Rattle.lv_ident.proofs.ReasonLemmas.{full_is_partial}
+use Rattle.lv_refute.specs.declared.derivation.Derivation.{Derivation}
 use Rattle.lv_refute.specs.declared.refuter.Refuted.{Refuted}
 use Rattle.lv_refute.specs.declared.refuter.Refuted.TheVariants.{Values, Lines}
 use Rattle.lv_refute.specs.Lines.{derived_of}
@@ -46,19 +48,19 @@ use Rattle.lv_refute.specs.Refuting.{MakeTrue, Tells}
 use Rattle.lv_validity.specs.Counting.{is_one_of, are_of}
 use Rattle.lv_validity.specs.Stated.{Stated, observed_literal}
 use Rattle.lv_validity.specs.Units.{units, choice_literal}
-use Rattle.lv_validity.specs.Judging.{is_step_of}
 use Rattle.lv_certlaws.proofs.Saying.{Says}
 use Rattle.lv_certlaws.proofs.Blocks.{units_hold, refuted_choices}
 use Rattle.lv_certlines.specs.Asking.{are_values, are_lines}
 use Rattle.lv_certlines.specs.Lines.{value_numbers}
 use Rattle.lv_certlines.proofs.Numbers.{one_of_place}
-use Rattle.lv_certdiag.specs.Showing.{stated_literals, own_clauses, ShowsStep}
+use Rattle.lv_certdiag.specs.Showing.{Asked, TellsOf, stated_literals, own_clauses, ShowsStep}
+use Rattle.lv_certdiag.specs.Keeping.{IsAsking}
 
 -- the literals of the facts as identification and as certificates have them
 pub same_literals : (plant : Plant) (facts : Facts) → fact_literals plant facts ≡ stated_literals plant facts
 same_literals plant facts =
     ap (λ (ls : List Lit). ls ++ observed_literals (booleans_next plant) facts.next)
-    (map-append (commanded (controls plant) facts.controls) facts.present (observed_literal (booleans_now plant)))
+    (map-append (observed_literal (booleans_now plant)) (commanded (controls plant) facts.controls) facts.present)
 
 -- a literal in range is a clause alone
 pub units_over : (bools : ℕ) (ls : List Lit) → list_all (in_range bools) ls ≡ true → All (IsOver bools) (units ls)
@@ -134,14 +136,6 @@ module _ (plant : Plant) (h : is_well_formed plant ≡ true) (system : SystemVal
     values_possible : is_possible plant facts pairs ≡ true
     values_possible = step_makes_possible plant facts pairs fit have values (model_is_a_step plant h system is values true_of.set_holds) both_hold.1 facts_true
 
-  pub possible_told : (told : Refuted) → Tells system (own_clauses plant facts pairs) told → is_possible plant facts pairs ≡ true → are_values told ≡ true
-  possible_told (Values values) tells can = refl
-  possible_told (Lines lines) tells can = let never : true ≡ false = sym can ∙ lines_impossible (map derived_of lines) tells in absurd (cc never)
-
-  pub impossible_told : (told : Refuted) → Tells system (own_clauses plant facts pairs) told → is_possible plant facts pairs ≡ false → are_lines told ≡ true
-  impossible_told (Lines lines) tells cannot = refl
-  impossible_told (Values values) tells cannot = let never : true ≡ false = sym (values_possible values tells) ∙ cannot in absurd (cc never)
-
 -- moves that extend all choices are these choices
 given_all : (front ms : List MoveId) (cs : List ℕ) (slot : ℕ) → slot ≡ length front → length ms ≡ length cs → extends (front ++ ms) (pairs_from slot cs) ≡ true → ms ≡ map move_number cs
 given_all front [] [] slot at long h = refl
@@ -161,7 +155,7 @@ given_all front (m ∷ ms) (c ∷ cs) slot at long h =
 
     longer : (xs : List MoveId) → length (xs ++ m ∷ []) ≡ length xs + 1
     longer [] = refl
-    longer (x ∷ xs) = ap suc (longer xs)
+    longer (x ∷ xs) = let rest = longer xs in omega (arith, rest)
 
 -- the numbers of an assignment's values
 assigned : (sizes : List ℕ) (a : List ValId) → length a ≡ length sizes → ((x : ℕ) → x < length sizes → (get_or a x (record { 0 = 0 })).0 < slice_index_or sizes x 0) → are_of sizes (value_numbers a) ≡ true
@@ -187,3 +181,58 @@ module _ (plant : Plant) (h : is_well_formed plant ≡ true) (system : SystemVal
         after_of = assigned (sizes plant) b step.after.whole step.after.in_range;
         step = and_from (is_step plant a b (map move_number r.choices)) (meets_facts plant facts a b) (ap (is_step plant a b) (sym moves) ∙ step.step) met;
       }
+
+-- the same of what is kept to ask
+module _ (v : Asked) (refuter : SystemValue) (stated : List Lit) (k : IsAsking v.plant v.facts v.system refuter stated) where
+  choices_are : choices_of v.system ≡ plant_choices v.plant
+  choices_are = λ i. record { first = k.of_plant.first_choice i; counts = k.of_plant.counts i }
+
+  -- the clauses that state facts and choices
+  pub own_made : (choices : Choices) → choices ≡ choices_of v.system → (pairs : List Pair) → units (stated ++ pair_literals choices pairs) ≡ own_clauses v.plant v.facts pairs
+  own_made choices is pairs = (λ i. units ((k.stated_are ∙ same_literals v.plant v.facts) i ++ pair_literals ((is ∙ choices_are) i) pairs))
+
+  pub moves_there : (choices : Choices) → choices ≡ choices_of v.system → (pairs : List Pair) → All (HasMove (move_counts v.plant)) pairs → All (HasMove choices.counts) pairs
+  moves_there choices is pairs have = subst (λ (c : Choices). All (HasMove c.counts) pairs) (sym (is ∙ choices_are)) have
+
+  pub stated_over : (own : List (List Lit)) (pairs : List Pair) → own ≡ own_clauses v.plant v.facts pairs → All (HasMove (move_counts v.plant)) pairs → All (IsOver refuter.set.bools) own
+  stated_over own pairs is have =
+      let bools : refuter.set.bools ≡ bool_count v.plant = ap (λ (s : SystemValue). s.set.bools) k.refuter_is ∙ k.of_plant.bools in
+      subst (λ n. All (IsOver n) own) (sym bools) (subst (All (IsOver (bool_count v.plant))) (sym is) (own_over v.plant v.facts k.fit pairs have))
+
+  pub tells_of : (pairs : List Pair) → All (HasMove (move_counts v.plant)) pairs → (told : Refuted) → Tells v.system (own_clauses v.plant v.facts pairs) told → TellsOf v pairs told
+  tells_of pairs have (Values values) tells = (tells, values_possible v.plant k.well_formed v.system k.of_plant v.facts k.fit pairs have values tells)
+  tells_of pairs have (Lines lines) tells =
+      (refuted_there v.plant k.well_formed v.system k.of_plant v.facts k.fit pairs have (map derived_of lines) tells, lines_impossible v.plant k.well_formed v.system k.of_plant v.facts k.fit pairs have (map derived_of lines) tells)
+
+  pub values_show : (r : Rank) → are_below (move_counts v.plant) r.choices ≡ true → (values : List Bool) → MakeTrue v.system.set (own_clauses v.plant v.facts (pairs_of r.choices)) values
+      → (a b : List ValId) (ms : List MoveId) → IsDecoded v.system values a b ms → ShowsStep v.plant v.facts r a b
+  values_show r full values true_of a b ms d =
+      decoded_shows v.plant k.well_formed v.system k.of_plant v.facts k.fit r (full_is_partial v.plant r.choices full).moves (long (move_counts v.plant) r.choices full) values true_of a b ms d
+    where
+      long : (ns cs : List ℕ) → are_below ns cs ≡ true → length cs ≡ length ns
+      long [] [] h = refl
+      long [] (c ∷ cs) h = absurd (cc h)
+      long (n ∷ ns) [] h = absurd (cc h)
+      long (n ∷ ns) (c ∷ cs) h = ap suc (long ns cs ((and_parts (nat_lt c n) (are_below ns cs) h).1))
+
+-- by whether the choices are possible the one or the other is told
+pub possible_told : (v : Asked) (pairs : List Pair) (told : Refuted) → TellsOf v pairs told → is_possible v.plant v.facts pairs ≡ true → are_values told ≡ true
+possible_told v pairs (Values values) tells can = refl
+possible_told v pairs (Lines lines) tells can = let never : true ≡ false = sym can ∙ tells.1 in absurd (cc never)
+
+pub impossible_told : (v : Asked) (pairs : List Pair) (told : Refuted) → TellsOf v pairs told → is_possible v.plant v.facts pairs ≡ false → are_lines told ≡ true
+impossible_told v pairs (Lines lines) tells cannot = refl
+impossible_told v pairs (Values values) tells cannot = let never : true ≡ false = sym tells.1 ∙ cannot in absurd (cc never)
+
+pub values_true : (v : Asked) (pairs : List Pair) (told : Refuted) → TellsOf v pairs told → (values : List Bool) → told ≡ Values values → MakeTrue v.system.set (own_clauses v.plant v.facts pairs) values
+values_true v pairs told tells values is = (subst (TellsOf v pairs) is tells).0
+
+pub lines_refute : (v : Asked) (pairs : List Pair) (told : Refuted) → TellsOf v pairs told → (lines : List Derivation) → told ≡ Lines lines
+    → refutes (bool_count v.plant) (model_clauses v.plant ++ own_clauses v.plant v.facts pairs) (map derived_of lines) ≡ true
+lines_refute v pairs told tells lines is = (subst (TellsOf v pairs) is tells).0
+
+-- a list that is few by what it is made of
+pub few_model : (plant : Plant) → is_well_formed plant ≡ true → (system : SystemValue) → IsSystemOf plant system → length (model_clauses plant) ≤ MODEL_CLAUSES
+few_model plant h system is =
+    let kept : IsKept system.set.slots system.ids = kept_of plant h system.set system.ids (model_clauses plant) refl is.numbered in
+    subst (λ n. n ≤ MODEL_CLAUSES) is.total kept.few

@@ -1,24 +1,21 @@
 -- All lines together are a certificate of the answer.
-use Rattle.std.proofs.Common.{◌≡◌, ℕ, ◌+◌, ◌^◌, ◌≤◌, Bool, true, nat_eq, List, [], ◌∷◌, ◌++◌, length, map, Some, None, refl, sym, subst, ◌∙◌, ap, ap₂, arith, All}
-use Rattle.std.specs.List.{list_all, flat_map}
+use Rattle.std.proofs.Common.{◌≡◌, ℕ, ◌+◌, ◌^◌, ◌≤◌, true, List, [], ◌∷◌, ◌++◌, length, map, Some, None, refl, sym, subst, ◌∙◌, ap, arith, All}
+use Rattle.std.specs.List.{flat_map}
 use Rattle.std.proofs.lemmas.List.{append_assoc, append-nil, length-map}
 use Rattle.lv_base.specs.declared.rank.Rank.{Rank}
 use Rattle.lv_base.specs.declared.search.Pair.{Pair}
-use Rattle.lv_boxes.specs.Members.{ZoneValue}
 use Rattle.lv_model.specs.declared.plant.Plant.{Plant}
 use Rattle.lv_model.specs.declared.state.TrackedState.{TrackedState}
 use Rattle.lv_model.specs.Lists.{move_counts}
 use Rattle.lv_meaning.specs.declared.facts.Facts.{Facts}
 use Rattle.lv_compile.specs.Booleans.{bool_count}
-use Rattle.lv_compile.specs.FormulaClauses.{Clauses}
+use Rattle.lv_compile.specs.ModelClauses.{model_clauses}
 use Rattle.lv_zones.specs.Moves.{move_slots, zones_from}
 use Rattle.lv_cert.specs.declared.line.Question.TheVariants.{Diagnosis}
 use Rattle.lv_cert.specs.declared.line.Line.{Line}
 use Rattle.lv_cert.specs.declared.line.Line.TheVariants as line
 use Rattle.lv_cert.specs.declared.order.Place.{Place}
 use Rattle.lv_cert.specs.declared.order.Place.TheVariants as place
-use Rattle.lv_cert.specs.Words.{is_word}
-use Rattle.lv_cert.specs.Form.{is_formed}
 use Rattle.lv_validity.specs.Stated.{Stated}
 use Rattle.lv_validity.specs.Space.{Space, all_passed}
 use Rattle.lv_validity.specs.Judging.{Judged, unjudged, full_to}
@@ -28,7 +25,7 @@ use Rattle.lv_certlines.proofs.Splits.{TakesSplits, splits_end}
 use Rattle.lv_certify.specs.Certifying.{CertifiesDiagnosis, AreFormed}
 use Rattle.lv_certdiag.specs.Showing.{Shown, Block, head_lines, listed_lines, block_lines, IsShown, IsRefuted}
 use Rattle.lv_certdiag.proofs.HeadingLemmas.{IsAskedOf, headed, head_first}
-use Rattle.lv_certdiag.proofs.ListingLemmas.{TakesListed, with_shown, place_with, rise_after, listed_first}
+use Rattle.lv_certdiag.proofs.ListingLemmas.{with_shown, place_with, rise_after, listed_first}
 use Rattle.lv_certdiag.proofs.RefutingLemmas.{TakesConflicts, behind_block, with_blocks, place_behind_blocks, blocks_first}
 
 -- what listing and refuting leave and add
@@ -76,6 +73,7 @@ pub record IsMade (plant : Plant) (tracked : List TrackedState) (facts : Facts) 
   pub asked : IsAskedOf plant tracked facts k
   pub few_parts : length (move_counts plant) ≤ 4096
   pub few_bools : bool_count plant ≤ 10 ^ 30
+  pub few_clauses : length (model_clauses plant) ≤ 10 ^ 20
   pub shown : All (IsShown plant tracked facts) ws
   pub ranks : map (λ (w : Shown). w.rank) ws ≡ listed
   pub few_listed : length listed ≤ k
@@ -132,7 +130,7 @@ module _ (plant : Plant) (tracked : List TrackedState) (facts : Facts) (k : ℕ)
       head_first plant tracked facts k is.asked ended_is (flat_map listed_lines ws ++ (flat_map block_lines bs ++ (splits ++ line.End ∷ [])))
       (listed_first plant is.asked.well_formed tracked is.asked.few facts ended_is (flat_map block_lines bs ++ (splits ++ line.End ∷ [])) ws is.shown k 0 start (record { listed = λ ns. refl }) few head_is refl refl
       (ap (rise_after None) is.ranks ∙ is.rising)
-      (blocks_first plant is.asked.well_formed is.few_parts is.few_bools facts ended_is (splits ++ line.End ∷ []) (splits_apart made) bs is.refuted (place_with k start 0 ws) all.conflicts listed_is
+      (blocks_first plant is.asked.well_formed is.few_parts is.few_bools is.few_clauses facts ended_is (splits ++ line.End ∷ []) (splits_apart made) bs is.refuted (place_with k start 0 ws) all.conflicts listed_is
       (ap (λ (s : Stated). s.literals) first_grown.stated)
       (splits_end Diagnosis plant (place_behind_blocks (place_with k start 0 ws) bs) (splits_behind (place_with k start 0 ws) bs all.splits) made last)))
 

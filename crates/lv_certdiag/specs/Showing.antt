@@ -1,6 +1,7 @@
 -- What a certificate of a diagnosis shows, and by which lines.
-use Rattle.std.specs.Prelude.{◌≡◌, ◌+◌, ◌≤◌, ◌^◌, ℕ, true, List, [], ◌∷◌, ◌++◌, length, map, All}
+use Rattle.std.specs.Prelude.{◌≡◌, ◌<◌, ◌^◌, ℕ, true, false, List, [], ◌∷◌, ◌++◌, length, map, Option, All}
 use Rattle.std.specs.List.{flat_map}
+use Rattle.lv_base.specs.declared.ids.Cost.{Cost}
 use Rattle.lv_base.specs.declared.ids.Lit.{Lit}
 use Rattle.lv_base.specs.declared.ids.ValId.{ValId}
 use Rattle.lv_base.specs.declared.rank.Rank.{Rank}
@@ -11,12 +12,24 @@ use Rattle.lv_model.specs.declared.state.TrackedState.{TrackedState}
 use Rattle.lv_model.specs.Lists.{sizes, move_counts, controls}
 use Rattle.lv_meaning.specs.declared.facts.Facts.{Facts}
 use Rattle.lv_meaning.specs.Facts.{commanded}
+use Rattle.lv_meaning.specs.Possible.{is_possible}
+use Rattle.lv_meaning.specs.Candidates.{is_possible_rank}
+use Rattle.lv_laws.specs.Possible.{are_below}
 use Rattle.lv_laws.specs.Candidates.{IsCandidate}
+use Rattle.lv_ident.specs.Literals.{HasMove}
 use Rattle.lv_compile.specs.Booleans.{booleans_now, booleans_next, bool_count}
 use Rattle.lv_compile.specs.FormulaClauses.{Clauses}
 use Rattle.lv_compile.specs.ModelClauses.{model_clauses}
-use Rattle.lv_steps.specs.System.{SystemValue, IsSystemOf}
+use Rattle.lv_steps.specs.System.{SystemValue}
 use Rattle.lv_blocks.specs.Deriving.{Derived, refutes}
+use Rattle.lv_refute.specs.declared.refuter.Refuted.{Refuted}
+use Rattle.lv_refute.specs.declared.refuter.Refuted.TheVariants.{Values, Lines}
+use Rattle.lv_refute.specs.Lines.{derived_of}
+use Rattle.lv_refute.specs.Refuting.{MakeTrue}
+use Rattle.lv_boxes.specs.Members.{ZoneValue}
+use Rattle.lv_closing.specs.declared.closing.Split.{Split}
+use Rattle.lv_closing.specs.Closing.{Closes, SplitIsSmall}
+use Rattle.lv_cert.specs.declared.line.Question.{Question}
 use Rattle.lv_cert.specs.declared.line.Question.TheVariants.{Diagnosis}
 use Rattle.lv_cert.specs.declared.line.Moment.TheVariants.{Now, Next}
 use Rattle.lv_cert.specs.declared.line.Head.TheVariants as head
@@ -74,7 +87,8 @@ pub record IsRefuted (plant : Plant) (facts : Facts) (b : Block) : Type 0 where
   pub choices : All (HasChoice (move_counts plant)) b.pairs
   pub rising : slots_rise b.pairs ≡ true
   pub refuted : refutes (bool_count plant) (model_clauses plant ++ own_clauses plant facts b.pairs) b.lines ≡ true
-  pub few : length (model_clauses plant ++ own_clauses plant facts b.pairs) + length b.lines ≤ 10 ^ 30
+  pub few_own : length (own_clauses plant facts b.pairs) < 2 ^ 64
+  pub few_lines : length b.lines < 2 ^ 64
 
 -- values of a step by the candidate's moves that meets the facts
 pub record ShowsStep (plant : Plant) (facts : Facts) (r : Rank) (before after : List ValId) : Type 0 where
@@ -88,10 +102,30 @@ pub record Asked : Type 0 where
   pub facts : Facts
   pub system : SystemValue
 
+-- a candidate that is possible, with a move of each part
+pub record CanBeShown (plant : Plant) (facts : Facts) (r : Rank) : Type 0 where
+  pub full : are_below (move_counts plant) r.choices ≡ true
+  pub possible : is_possible_rank plant facts r ≡ true
+
+-- moves of parts that aren't possible together
+pub record CanBeRefuted (plant : Plant) (facts : Facts) (pairs : List Pair) : Type 0 where
+  pub moves : All (HasMove (move_counts plant)) pairs
+  pub impossible : is_possible plant facts pairs ≡ false
+
+-- so the values of a candidate that is shown
+pub record StepIsShown (plant : Plant) (facts : Facts) (w : Shown) : Type 0 where
+  pub shows : ShowsStep plant facts w.rank w.before w.after
+
+-- what is told of choices under the facts: values, and they are possible together; or lines that refute them, and they are not
+abbrev pub TellsOf : Asked → List Pair → Refuted → Type 0
+TellsOf v pairs (Values values) = MakeTrue v.system.set (own_clauses v.plant v.facts pairs) values × (is_possible v.plant v.facts pairs ≡ true)
+TellsOf v pairs (Lines lines) =
+    (refutes (bool_count v.plant) (model_clauses v.plant ++ own_clauses v.plant v.facts pairs) (map derived_of lines) ≡ true) × (is_possible v.plant v.facts pairs ≡ false)
+
 -- each listed candidate is shown by lines
-pub record AddsShown (plant : Plant) (tracked : List TrackedState) (facts : Facts) (listed : List Rank) (old new : List Line) : Type 0 where
+pub record AddsShown (plant : Plant) (facts : Facts) (listed : List Rank) (old new : List Line) : Type 0 where
   pub shown : List Shown
-  pub are : All (IsShown plant tracked facts) shown
+  pub are : All (StepIsShown plant facts) shown
   pub ranks : map (λ (w : Shown). w.rank) shown ≡ listed
   pub lines : new ≡ old ++ flat_map listed_lines shown
 
@@ -101,3 +135,14 @@ pub record AddsBlocks (plant : Plant) (facts : Facts) (kept : List (List Pair)) 
   pub are : All (IsRefuted plant facts) blocks
   pub pairs : map (λ (b : Block). b.pairs) blocks ≡ kept
   pub lines : new ≡ old ++ flat_map block_lines blocks
+
+-- what is listed is shown, and what was kept refuted
+pub record HoldsAnswer (plant : Plant) (facts : Facts) (listed : List Rank) (kept : List (List Pair)) (old new : List Line) : Type 0 where
+  pub between : List Line
+  pub shown : AddsShown plant facts listed old between
+  pub refuted : AddsBlocks plant facts kept between new
+
+-- splits that close the zones, with small numbers
+pub record HoldsSplits (question : Question) (slots : List (List Cost)) (zones : List ZoneValue) (last : Option Rank) (listed : List Rank) (excluded : List (List Pair)) (made : List Split) : Type 0 where
+  pub closes : Closes question slots zones last listed excluded made
+  pub small : All SplitIsSmall made

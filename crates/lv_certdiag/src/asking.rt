@@ -1,7 +1,7 @@
 //! What is asked of a refuter about the choices of a candidate or a conflict under the facts.
 #![tactic(auto)]
 
-ghost use Rattle.std.specs.Prelude.{◌≡◌, ◌++◌, true, false, All, IfOk, map};
+ghost use Rattle.std.specs.Prelude.{◌≡◌, ◌<◌, ◌^◌, ◌++◌, true, false, All, IfOk, length, map};
 ghost use Rattle.lv_base.specs.Choices.{pairs_of};
 ghost use Rattle.lv_model.specs.Lists.{move_counts};
 ghost use Rattle.lv_meaning.specs.Facts.{FactsFit};
@@ -14,8 +14,7 @@ ghost use Rattle.lv_steps.specs.System.{IsSystemOf};
 ghost use Rattle.lv_blocks.specs.Deriving.{refutes};
 ghost use Rattle.lv_ident.specs.Literals.{FactsInRange, HasMove, fact_literals};
 ghost use Rattle.lv_refute.specs.Lines.{derived_of};
-ghost use Rattle.lv_refute.specs.Refuting.{Tells};
-ghost use Rattle.lv_certdiag.specs.Showing.{own_clauses, ShowsStep};
+ghost use Rattle.lv_certdiag.specs.Showing.{own_clauses, ShowsStep, TellsOf};
 
 use lv_base::{Lit, Pair, Rank, Seq, pairs_of};
 use lv_certlines::asking::{lines_told, push_units, values_told};
@@ -92,7 +91,8 @@ impl<'a> Asking<'a> {
     /// What the refuter tells of these choices under the facts.
     fn ask(&self, pairs: &[Pair]) -> Result<Refuted, AllocError>
         requires { All (HasMove (move_counts self.now.plant)) pairs.now }
-        ensures { IfOk result (Tells self.now.system (own_clauses self.now.plant self.now.facts pairs.now)) }
+        ensures told { IfOk result (TellsOf self.now pairs.now) }
+        ensures few { IfOk result (λ _. length (own_clauses self.now.plant self.now.facts pairs.now) < 2 ^ 64) }
     {
         let own = self.own(pairs)?;
         self.refuter.refute(own.as_slice())
@@ -113,7 +113,8 @@ impl<'a> Asking<'a> {
     pub fn refutation_of(&self, pairs: &[Pair]) -> Result<Seq<Derivation>, AllocError>
         requires moves { All (HasMove (move_counts self.now.plant)) pairs.now }
         requires impossible { is_possible self.now.plant self.now.facts pairs.now ≡ false }
-        ensures { IfOk result (λ lines. refutes (bool_count self.now.plant) (model_clauses self.now.plant ++ own_clauses self.now.plant self.now.facts pairs.now) (map derived_of lines) ≡ true) }
+        ensures refute { IfOk result (λ lines. refutes (bool_count self.now.plant) (model_clauses self.now.plant ++ own_clauses self.now.plant self.now.facts pairs.now) (map derived_of lines) ≡ true) }
+        ensures few { IfOk result (λ _. length (own_clauses self.now.plant self.now.facts pairs.now) < 2 ^ 64) }
     {
         Ok(lines_told(self.ask(pairs)?))
     }

@@ -11,5 +11,10 @@
 //! | `whole` | all lines together |
 #![tactic(auto)]
 
+mod asking;
 mod heading;
+mod listing;
+mod refuting;
+pub mod whole;
 
+pub use whole::{Settled, certify_diagnosis};

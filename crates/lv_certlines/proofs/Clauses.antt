@@ -1,8 +1,8 @@
 -- The clause lines of a block: each is good where it follows from the clauses before it.
-use Rattle.std.proofs.Common.{◌≡◌, ℕ, zero, suc, ◌+◌, ◌-◌, ◌^◌, ◌<◌, ◌≤◌, Bool, true, false, ◌&&◌, nat_eq, nat_lt, nat_le, List, [], ◌∷◌, ◌++◌, length, map, slice_get, Option, Some, None, cond, refl, sym, subst, ◌∙◌, ap, arith}
+use Rattle.std.proofs.Common.{◌≡◌, ℕ, zero, suc, ◌+◌, ◌-◌, ◌^◌, ◌<◌, ◌≤◌, Bool, true, false, nat_eq, nat_lt, nat_le, List, [], ◌∷◌, ◌++◌, length, map, slice_get, Option, Some, None, cond, refl, sym, subst, ◌∙◌, ap, arith}
 use Rattle.std.specs.List.{list_all}
 use Rattle.std.specs.Option.{option_and_then}
-use Rattle.std.proofs.lemmas.Bool.{and_parts, and_from, lt-ltb, le-leb, leb-true, ltb-true}
+use Rattle.std.proofs.lemmas.Bool.{and_parts, and_from, lt-ltb, leb-true}
 use Rattle.std.proofs.lemmas.Bool.Decides.{nat_tests}
 use Rattle.std.proofs.lemmas.List.{append_assoc, append-nil, length-append}
 use Rattle.lv_base.specs.declared.ids.Lit.{Lit}
@@ -22,11 +22,10 @@ use Rattle.lv_cert.specs.declared.line.Line.TheVariants as line
 use Rattle.lv_cert.specs.declared.order.Place.{Place}
 use Rattle.lv_cert.specs.declared.order.Place.TheVariants.{Done}
 use Rattle.lv_cert.specs.Order.{place_after, place_behind}
-use Rattle.lv_cert.specs.Words.{is_word}
 use Rattle.lv_cert.specs.Form.{is_formed, is_formed_literal, is_formed_hint, is_within_limit}
 use Rattle.lv_blocks.specs.Following.{names_boolean, literal_of, numbered, is_last, ends_well, follows}
 use Rattle.lv_blocks.specs.Deriving.{Derived, clause_of_line, derives, ends_empty as lines_end_empty}
-use Rattle.lv_validity.specs.Judging.{Judged, judge_clause, ends_empty_after, ends_empty}
+use Rattle.lv_validity.specs.Judging.{Judged, ends_empty_after}
 use Rattle.lv_certlines.specs.Lines.{clause_line, clause_lines}
 use Rattle.lv_certlines.specs.Ending.{Ends, BeginApart}
 use Rattle.lv_certlines.proofs.Ending.{line_first}

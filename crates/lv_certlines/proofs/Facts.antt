@@ -1,11 +1,9 @@
 -- The lines of observations: each is good where an observable has the value.
-use Rattle.std.proofs.Common.{◌≡◌, ℕ, suc, ◌+◌, ◌-◌, ◌<◌, ◌≤◌, Bool, true, ◌&&◌, nat_lt, nat_le, List, [], ◌∷◌, ◌++◌, length, map, slice_index_or, Option, Some, None, option_map, cond, refl, sym, subst, ◌∙◌, ap, ap₂, arith, All}
-use Rattle.std.proofs.lemmas.Bool.{and_from, le-leb}
+use Rattle.std.proofs.Common.{◌≡◌, ℕ, ◌+◌, ◌-◌, ◌<◌, ◌≤◌, true, ◌&&◌, List, [], ◌∷◌, ◌++◌, length, map, slice_index_or, Some, None, option_map, cond, sym, subst, ◌∙◌, ap, ap₂, arith, All}
+use Rattle.std.proofs.lemmas.Bool.{and_from}
 use Rattle.std.proofs.lemmas.List.{append_assoc, append-nil}
 use Rattle.std.proofs.lemmas.List.Elements.{All-head, All-tail}
 use Rattle.lv_base.specs.declared.ids.Lit.{Lit}
-use Rattle.lv_base.specs.declared.ids.VarId.{VarId}
-use Rattle.lv_base.specs.declared.ids.ValId.{ValId}
 use Rattle.lv_model.specs.declared.plant.Plant.{Plant}
 use Rattle.lv_model.specs.Lists.{sizes, variable_count}
 use Rattle.lv_model.specs.WellFormed.{is_well_formed}
@@ -24,7 +22,7 @@ use Rattle.lv_cert.specs.Order.{place_after}
 use Rattle.lv_cert.specs.Form.{is_formed, is_within_limit}
 use Rattle.lv_validity.specs.Counting.{is_one_of}
 use Rattle.lv_validity.specs.Stated.{Stated, observed_literal, observation_of, with_observation}
-use Rattle.lv_validity.specs.Judging.{Judged, judge_line}
+use Rattle.lv_validity.specs.Judging.{Judged}
 use Rattle.lv_certlines.specs.Lines.{fact_line, fact_lines}
 use Rattle.lv_certlines.specs.Ending.{Ends}
 use Rattle.lv_certlines.proofs.Ending.{line_first}

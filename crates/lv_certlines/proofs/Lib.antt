@@ -5,3 +5,4 @@ pub mod Facts
 pub mod Clauses
 pub mod Pairs
 pub mod Splits
+pub mod ClosedLemmas

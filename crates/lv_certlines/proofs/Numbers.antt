@@ -1,5 +1,5 @@
 -- Places and values by their numbers, and back.
-use Rattle.std.proofs.Common.{◌≡◌, ℕ, zero, suc, ◌+◌, ◌-◌, ◌^◌, ◌<◌, ◌≤◌, Bool, true, false, ◌&&◌, nat_lt, nat_le, List, [], ◌∷◌, length, map, slice_index_or, refl, sym, ◌∙◌, ap, ap₂, arith, All}
+use Rattle.std.proofs.Common.{◌≡◌, ℕ, zero, suc, ◌+◌, ◌-◌, ◌^◌, ◌<◌, ◌≤◌, true, nat_lt, nat_le, List, [], ◌∷◌, length, map, slice_index_or, refl, ap₂, arith, All}
 use Rattle.std.specs.List.{list_all}
 use Rattle.std.proofs.lemmas.Bool.{and_parts, and_from, lt-ltb, ltb-true, le-leb, leb-true}
 use Rattle.std.proofs.lemmas.List.Elements.{All-tail, All-cons}
@@ -8,8 +8,7 @@ use Rattle.lv_formula.specs.declared.range.Range.{Range}
 use Rattle.lv_formula.specs.Fits.{has_value}
 use Rattle.lv_model.specs.Lists.{IsFew}
 use Rattle.lv_cert.specs.Form.{is_within_limit}
-use Rattle.lv_validity.specs.Counting.{is_one_of, are_of, places_of, values_of, values_at}
-use Rattle.lv_laws.specs.Possible.{are_below}
+use Rattle.lv_validity.specs.Counting.{is_one_of, are_of, places_of, values_of}
 use Rattle.lv_certlines.specs.Lines.{numbers_of, value_numbers}
 
 pub back_again : (n : ℕ) → n + 1 - 1 ≡ n

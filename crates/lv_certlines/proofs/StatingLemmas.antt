@@ -1,5 +1,5 @@
 -- The lines of tracked states: each is good where the state is one of the plant, within its cost.
-use Rattle.std.proofs.Common.{◌≡◌, ℕ, suc, ◌+◌, ◌<◌, ◌≤◌, Bool, true, false, ◌&&◌, nat_lt, nat_le, List, [], ◌∷◌, ◌++◌, length, map, slice_index_or, Option, Some, None, option_map, cond, refl, sym, subst, ◌∙◌, ap, arith, All}
+use Rattle.std.proofs.Common.{◌≡◌, ℕ, suc, ◌+◌, ◌<◌, ◌≤◌, true, nat_lt, nat_le, List, [], ◌∷◌, ◌++◌, length, map, slice_index_or, Some, None, option_map, cond, refl, sym, subst, ◌∙◌, ap, arith, All}
 use Rattle.std.specs.List.{list_all}
 use Rattle.std.proofs.lemmas.Bool.{and_parts, and_from, lt-ltb, le-leb}
 use Rattle.std.proofs.lemmas.List.{append_assoc, append-nil}
@@ -11,7 +11,7 @@ use Rattle.lv_formula.specs.Fits.{has_value}
 use Rattle.lv_model.specs.declared.plant.Plant.{Plant}
 use Rattle.lv_model.specs.declared.plant.Part.{Part}
 use Rattle.lv_model.specs.declared.state.TrackedState.{TrackedState}
-use Rattle.lv_model.specs.Lists.{sizes, IsFew}
+use Rattle.lv_model.specs.Lists.{sizes}
 use Rattle.lv_model.specs.Ranges.{plant_ranges}
 use Rattle.lv_model.specs.WellFormed.{is_well_formed}
 use Rattle.lv_model.proofs.Sizes.{few-sizes}
@@ -22,11 +22,10 @@ use Rattle.lv_cert.specs.declared.line.Line.{Line}
 use Rattle.lv_cert.specs.declared.line.Line.TheVariants as line
 use Rattle.lv_cert.specs.declared.order.Place.{Place}
 use Rattle.lv_cert.specs.Order.{place_after}
-use Rattle.lv_cert.specs.Words.{is_word}
 use Rattle.lv_cert.specs.Form.{is_formed, is_within_limit}
 use Rattle.lv_validity.specs.Counting.{is_one_of, are_of, values_of, mode_counts}
 use Rattle.lv_validity.specs.Stated.{state_of, with_state}
-use Rattle.lv_validity.specs.Judging.{Judged, judge_line}
+use Rattle.lv_validity.specs.Judging.{Judged}
 use Rattle.lv_certlines.specs.Lines.{value_numbers, state_line, state_lines}
 use Rattle.lv_certlines.specs.Ending.{Ends}
 use Rattle.lv_certlines.proofs.Ending.{line_first}

@@ -5,6 +5,7 @@ use Rattle.lv_base.specs.declared.search.Pair.{Pair}
 use Rattle.lv_model.specs.declared.state.TrackedState.{TrackedState}
 use Rattle.lv_meaning.specs.declared.facts.Observation.{Observation}
 use Rattle.lv_blocks.specs.Deriving.{Derived}
+use Rattle.lv_closing.specs.declared.closing.Split.{Split}
 use Rattle.lv_cert.specs.declared.line.Moment.{Moment}
 use Rattle.lv_cert.specs.declared.line.Head.{Head}
 use Rattle.lv_cert.specs.declared.line.Head.TheVariants.{State}
@@ -48,3 +49,10 @@ clause_line d = line.Clause d.literals d.hints
 
 abbrev pub clause_lines : List Derived → List Line
 clause_lines ds = map clause_line ds
+
+-- a split
+abbrev pub split_line : Split → Line
+split_line s = line.Split s.zone s.by
+
+abbrev pub split_lines : List Split → List Line
+split_lines made = map split_line made

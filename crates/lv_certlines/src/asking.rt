@@ -49,6 +49,7 @@ pub fn lines_told(told: Refuted) -> Seq<Derivation>
 pub fn push_clauses(lines: &mut Vec<Line>, told: Seq<Derivation>) -> Result<usize, AllocError>
     ensures lines { IfOk result (λ _. lines.new.items ≡ lines.old.items ++ clause_lines (map derived_of told)) }
     ensures count { IfOk result (λ n. n ≡ length told) }
+    ensures few { IfOk result (λ _. length told < 2 ^ 64) }
 {
     let count = told.len();
     for line in told.into_vec() {

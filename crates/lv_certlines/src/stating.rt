@@ -7,6 +7,7 @@ ghost use Rattle.lv_certlines.specs.Lines.{value_numbers, numbers_of, pair_numbe
 
 use lv_base::{Pair, Seq, ValId};
 use lv_cert::{Head, Line, Moment};
+use lv_closing::Split;
 use lv_meaning::Observation;
 use lv_model::TrackedState;
 use std::alloc::{AllocError, Global};
@@ -86,6 +87,16 @@ pub fn push_facts(
     for o in observations {
         let x = u128::from(o.var.0) + 1;
         lines.push(Line::Fact(moment, x, u128::from(o.val.0) + 1))?;
+    }
+    Ok(())
+}
+
+/// Adds a line for each split.
+pub fn push_splits(lines: &mut Vec<Line>, made: &[Split]) -> Result<(), AllocError>
+    ensures { IfOk result (λ _. lines.new.items ≡ lines.old.items ++ Lines.split_lines made.now) }
+{
+    for split in made {
+        lines.push(Line::Split(split.zone, split.by))?;
     }
     Ok(())
 }

@@ -2,7 +2,6 @@
 use Rattle.std.proofs.Common.{◌≡◌, ℕ, Bool, true, false, not, ◌&&◌, ◌||◌, nat_eq, List, Option, Some, None, option_map, refl, sym, ◌∙◌, ap, ap₂}
 use Rattle.lv_base.specs.declared.ids.Cost.{Cost}
 use Rattle.lv_base.specs.declared.rank.Rank.{Rank}
-use Rattle.lv_base.specs.Rank.{ranks_before}
 use Rattle.lv_boxes.specs.Members.{ZoneValue, choices_cost, are_left, rank_in}
 use Rattle.lv_boxes.specs.Least.{lacks_choice, cheapest_choices, IsLeastMember}
 use Rattle.lv_boxes.proofs.LeastLemmas.{sum_none, sum_some, written_is_least, lacks_choice-none}

@@ -2,9 +2,9 @@
 //! certificate splits can be followed line by line.
 #![tactic(auto)]
 
-ghost use Rattle.std.specs.Prelude.{◌≡◌, ◌-◌, ◌++◌, ◌∷◌, [], map, Some, None, IfOk, OnOk, length, slice_set};
+ghost use Rattle.std.specs.Prelude.{◌≡◌, ◌≤◌, ◌-◌, ◌++◌, ◌∷◌, [], map, Some, None, IfOk, IfSome, OnOk, length, slice_set};
 ghost use Rattle.lv_boxes.specs.Members.{ZoneValue};
-ghost use Rattle.std.specs.Option.{option_copied};
+ghost use Rattle.std.specs.Option.{option_copied, option_and_then};
 ghost use Rattle.lv_validity.specs.Counting.{at_number};
 ghost use Rattle.lv_validity.specs.Space as Spaces;
 
@@ -75,6 +75,26 @@ impl Space {
         }
     }
 
+    /// How many zones there are, those that were split too.
+    pub fn len(&self) -> usize
+        ensures { result ≡ length self.now.zones }
+    {
+        self.zones.len()
+    }
+
+    /// The rank of the least member of the zone of this number, if that is open and has members. It has a choice for each
+    /// slot, which are 4,096 at most.
+    pub fn least_of(&self, alloc: Global, n: u128) -> Result<Option<Rank>, AllocError>
+        ensures rank { IfOk result (λ r. r ≡ option_and_then (Spaces.least_rank self.now.slots) (Spaces.open_zone self.now n)) }
+        ensures few { IfOk result (λ r. IfSome r (λ rank. length rank.choices ≤ 4096)) }
+    {
+        let mut room = vec![in alloc; 0; self.grid.len()]?;
+        match self.open_zone(n) {
+            Some(zone) => self.least_rank(alloc, zone, room.as_mut_slice()),
+            None => Ok(None),
+        }
+    }
+
     /// Splits the zone of this number, which is open, by these choices.
     pub fn split(&mut self, alloc: Global, n: u128, conflict: &Conflict) -> Result<(), AllocError>
         ensures { (zone : ZoneValue) → Spaces.open_zone self.old n ≡ Some zone → OnOk result (self.new ≡ Spaces.with_split self.old n zone conflict.now) }
@@ -122,6 +142,7 @@ impl Space {
     ) -> Result<Option<Rank>, AllocError>
         requires { length room.old ≡ length self.now.slots }
         ensures rank { IfOk result (λ r. r ≡ Spaces.least_rank self.now.slots zone.now) }
+        ensures places { IfOk result (λ r. IfSome r (λ rank. length rank.choices ≡ length room.old)) }
     {
         match self.grid.write_best(zone, room) {
             Some(cost) => Ok(Some(Rank {

@@ -1,0 +1,4 @@
+pub mod Explained
+pub mod Closing
+pub mod Laws
+pub mod Lines
