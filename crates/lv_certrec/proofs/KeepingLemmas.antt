@@ -33,6 +33,9 @@ choices_from : (slot : ℕ) (u : List ℕ) → choices_of (pairs_from slot u) �
 choices_from slot [] = refl
 choices_from slot (v ∷ vs) = ap (λ (us : List ℕ). v ∷ us) (choices_from (slot + 1) vs)
 
+pub values_same : (plant : Plant) (u : List ℕ) (pairs : List Pair) → pairs ≡ pairs_of u → choices_of pairs ≡ u
+values_same plant u pairs is = ap choices_of is ∙ choices_from 0 u
+
 pub values_of_all : (plant : Plant) (u : List ℕ) (pairs : List Pair) → is_command_set plant u ≡ true → pairs ≡ pairs_of u → AreValues plant pairs
 values_of_all plant u pairs set is =
     let same : choices_of pairs ≡ u = ap choices_of is ∙ choices_from 0 u in

@@ -11,3 +11,4 @@ pub mod UnitLemmas
 pub mod AskingLemmas
 pub mod GivingLemmas
 pub mod BlockLemmas
+pub mod DoneLemmas

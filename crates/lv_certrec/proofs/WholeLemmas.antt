@@ -25,7 +25,7 @@ splits_apart none = record { same = λ is_empty. refl }
 splits_apart (one_more n by good fits formed rest) = record { same = λ is_empty. refl }
 
 module _ (plant : Plant) (aim : Aim) (texts : List (List ℕ)) (is : IsAskedOf plant aim texts) (listed : List Rank) (kept : List (List Pair)) (more splits : List Line)
-    (lead : Lead plant aim (record { phase = asked; listed = []; excluded = [] }) (record { phase = excluding; listed = listed; excluded = kept }) more) (closing : AreClosing plant aim listed kept splits) where
+    (lead : Lead plant aim (record { phase = asked; listed = []; excluded = [] }) (record { phase = excluding; listed = listed; excluded = kept }) more) (closing : AreClosing plant listed kept splits) where
   abbrev last : Standing
   last = record { phase = excluding; listed = listed; excluded = kept }
 
