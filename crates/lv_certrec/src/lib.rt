@@ -1,39 +1,23 @@
-//! STUB, to be replaced.
+//! The certificate of a settled recovery. It states the tracked states, what is seen now and the goals; gives the command
+//! set that was found, if one was, and shows of each state that there is a step under it and that no goal is missed;
+//! excludes the other command sets, by values that don't reach the goals from some state and by steps that miss one; and
+//! splits the zone of all command sets by these until no part is left open.
+//!
+//! | file | what it holds |
+//! |---|---|
+//! | `heading` | the lines that state the question |
+//! | `units` | the literals that say that a step is nominal and from where it begins |
+//! | `asking` | what is asked of a refuter about nominal steps |
+//! | `showing` | the lines of the recovery |
+//! | `excluding` | the blocks that exclude command sets |
+//! | `whole` | all lines together |
 #![tactic(auto)]
 
-ghost use Rattle.std.specs.Prelude.{◌≡◌, ◌≤◌, IfOk};
-ghost use Rattle.lv_steps.specs.System.{IsSystemOf};
-ghost use Rattle.lv_certify.specs.Certifying.{CertifiesRecovery, IsAsked, AreTexts, IsSettledRecovery, AreFormed};
+mod asking;
+mod excluding;
+mod heading;
+mod showing;
+mod units;
+mod whole;
 
-use lv_base::{Conflict, Rank, Seq};
-use lv_cert::Cert;
-use lv_model::Model;
-use lv_recovery::Aim;
-use lv_steps::StepSystem;
-use std::alloc::{AllocError, Global};
-
-/// What a settled search came to: what it lists, and the conflicts that it kept.
-pub struct Settled<'a> {
-    pub listed: &'a [Rank],
-    pub kept: &'a [Conflict],
-}
-
-/// A certificate of a settled recovery: it states the tracked states, what is seen and the goals, which have these texts,
-/// and shows, line by line, that what is given is the first command set that recovers, or that none does.
-pub fn certify_recovery(
-    alloc: Global,
-    model: &Model,
-    system: &StepSystem,
-    aim: &Aim,
-    texts: &[Seq<u8>],
-    answer: &Settled<'_>,
-) -> Result<Cert, AllocError>
-    requires system { IsSystemOf model.now system.now }
-    requires asked { IsAsked model.now aim.now }
-    requires texts { AreTexts model.now texts.now aim.now.goals }
-    requires settled { IsSettledRecovery model.now aim.now answer.now.listed.now answer.now.kept.now }
-    ensures certifies { IfOk result (λ cert. CertifiesRecovery model.now aim.now answer.now.listed.now cert.lines) }
-    ensures formed { IfOk result (λ cert. AreFormed model.now cert.lines) }
-{
-    Err(AllocError)
-}
+pub use whole::{Settled, certify_recovery};

@@ -1,0 +1,14 @@
+pub mod LeadingLemmas
+pub mod HeadingLemmas
+pub mod ShowingLemmas
+pub mod ExcludingLemmas
+pub mod WholeLemmas
+pub mod MeaningLemmas
+pub mod StepLemmas
+pub mod TellingLemmas
+pub mod KeepingLemmas
+pub mod UnitLemmas
+pub mod AskingLemmas
+pub mod GivingLemmas
+pub mod BlockLemmas
+pub mod DoneLemmas
