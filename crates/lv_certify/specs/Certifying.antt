@@ -32,17 +32,17 @@ pub record CertifiesDiagnosis (plant : Plant) (tracked : List TrackedState) (fac
   pub question : question_of lines ≡ Diagnosis
   pub valid : IsValid plant lines judged
   pub limit : judged.stated.k ≡ k
-  pub tracked : judged.stated.tracked ≡ tracked
-  pub facts : judged.stated.facts ≡ facts
-  pub listed : judged.listed ≡ listed
+  pub tracked_are : judged.stated.tracked ≡ tracked
+  pub facts_are : judged.stated.facts ≡ facts
+  pub listed_are : judged.listed ≡ listed
 
 -- valid lines that state what is asked of a recovery, and give this one, or none
 pub record CertifiesRecovery (plant : Plant) (aim : Aim) (listed : List Rank) (lines : List Line) : Type 0 where
   pub judged : Judged
   pub question : question_of lines ≡ Recovery
   pub valid : IsValid plant lines judged
-  pub aim : aim_of judged.stated ≡ aim
-  pub listed : judged.listed ≡ listed
+  pub aim_is : aim_of judged.stated ≡ aim
+  pub listed_are : judged.listed ≡ listed
 
 -- a tracked state of the plant, whose cost is within its limit
 pub record StateStands (plant : Plant) (s : TrackedState) : Type 0 where
@@ -89,7 +89,7 @@ pub record IsSettledRecovery (plant : Plant) (aim : Aim) (listed : List Rank) (k
 -- each is one word, and the canonical text of the goal at its place
 pub record AreTexts (plant : Plant) (texts : List (List ℕ)) (goals : List Tree) : Type 0 where
   pub words : list_all is_word texts ≡ true
-  pub goals : map (goal_of plant) texts ≡ map Some goals
+  pub read : map (goal_of plant) texts ≡ map Some goals
 
 -- where the plant's name is one word, each line has its form, so that their text reads as them
 abbrev pub AreFormed : Plant → List Line → Type 0
