@@ -86,15 +86,15 @@ module _ (plant : Plant) (state : SessionState) where
   no_refusal Settled w = refl
   no_refusal Unsettled w = refl
 
-  diagnosis_due : {next : SessionState} (o : Outcome) (w : Walked) → IsDue plant next (reply_by o w)
-  diagnosis_due Settled w = tt
-  diagnosis_due Unsettled w = tt
+  diagnosis_due : (next : SessionState) (o : Outcome) (w : Walked) → IsDue plant next (reply_by o w)
+  diagnosis_due next Settled w = tt
+  diagnosis_due next Unsettled w = tt
 
   fair_diagnosis : (sum : ℕ) → IsFair plant state false (diagnosed plant state sum)
   fair_diagnosis sum = record {
     kept = λ e. let clash : true ≡ false = sym e ∙ no_refusal (walked plant state sum).outcome (walked plant state sum) in absurd (cc clash);
     carried = λ e _. absurd (cc e);
-    due = diagnosis_due (walked plant state sum).outcome (walked plant state sum);
+    due = diagnosis_due (diagnosed plant state sum).state (walked plant state sum).outcome (walked plant state sum);
   }
 
   -- nor is a recovery
@@ -106,19 +106,19 @@ module _ (plant : Plant) (state : SessionState) where
       by (r ∷ rs) = refl
   recovery_no_refusal Unsettled w = refl
 
-  recovery_due : {next : SessionState} (o : Outcome) (w : Walked) → IsDue plant next (recovery_reply_by o w)
-  recovery_due {next} Settled w = by w.listed
+  recovery_due : (next : SessionState) (o : Outcome) (w : Walked) → IsDue plant next (recovery_reply_by o w)
+  recovery_due next Settled w = by w.listed
     where
       by : (rs : List Rank) → IsDue plant next (found rs)
       by [] = tt
       by (r ∷ rs) = tt
-  recovery_due Unsettled w = tt
+  recovery_due next Unsettled w = tt
 
   fair_recovery : (sum : ℕ) → IsFair plant state false (recovered plant state sum)
   fair_recovery sum = record {
     kept = λ e. let clash : true ≡ false = sym e ∙ recovery_no_refusal (recovery plant state sum).outcome (recovery plant state sum) in absurd (cc clash);
     carried = λ e _. absurd (cc e);
-    due = recovery_due (recovery plant state sum).outcome (recovery plant state sum);
+    due = recovery_due (recovered plant state sum).state (recovery plant state sum).outcome (recovery plant state sum);
   }
 
   fair_recover : IsFair plant state false (recover plant state)

@@ -86,7 +86,7 @@ impl State {
             listed: run.query.listed(),
             kept: run.query.conflicts(),
         };
-        certify_diagnosis(
+        let cert = certify_diagnosis(
             alloc,
             model,
             system,
@@ -94,7 +94,9 @@ impl State {
             &facts,
             self.k,
             &answer,
-        )
+        );
+        let SettledDiagnosis { listed: _, kept: _ } = answer;
+        cert
     }
 
     /// The text of a certificate of a settled diagnosis of the state.
@@ -136,7 +138,9 @@ impl State {
             listed: run.query.listed(),
             kept: run.query.conflicts(),
         };
-        certify_recovery(alloc, model, system, &aim, texts.as_slice(), &answer)
+        let cert = certify_recovery(alloc, model, system, &aim, texts.as_slice(), &answer);
+        let SettledRecovery { listed: _, kept: _ } = answer;
+        cert
     }
 
     /// The text of a certificate of a settled recovery from the state.
