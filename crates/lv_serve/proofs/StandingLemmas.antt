@@ -217,16 +217,6 @@ stands_handed plant read before text after old new is now at =
       waits = record { written = written.written; added = written.added; is_transcript = subst (IsTranscriptFrom plant (start plant) (lines_of (ended read))) (sym (append-nil written.written)) written.is_transcript };
     })
 
--- a text that a session says of its reply is one to the line that has come
-pub says_line : (old : Standing) (session : RunningSession) (reply : Reply) (text : List ℕ)
-    → session ≡ record old.session { state = (line_step old).state }
-    → reply ≡ (line_step old).reply
-    → IsTextOf session.plant session.state reply text
-    → IsLineReply old text
-says_line old session reply text is same says =
-    subst (λ (r : Reply). IsTextOf old.session.plant (line_step old).state r text) same
-    (subst (λ (s : RunningSession). IsTextOf s.plant s.state reply text) is says)
-
 -- an answered line, from its reply put behind those that wait and what was written of these
 pub handed_answer : (old middle new : Standing) (before after : Option (List ℕ))
     → IsReplied old middle
