@@ -1,6 +1,7 @@
 -- What holds of every step of a session.
 use Rattle.std.proofs.Common.{◌≡◌, ℕ, ◌+◌, Bool, true, false, ◌||◌, cond, nat_eq, nat_le, ◌-◌, slice_get, Option, None, Some, List, ◌∷◌, [], ◌++◌, length, filter, Result, Ok, Err, refl, sym, ◌∙◌, ap, subst}
 use Rattle.std.specs.Option.{option_map_or}
+use Rattle.std.proofs.lemmas.Bool.{or_parts}
 use Rattle.lv_base.specs.declared.limits.TheConstants.{COMMITS}
 use Rattle.lv_base.specs.declared.rank.Rank.{Rank}
 use Rattle.lv_model.specs.declared.plant.Plant.{Plant}
@@ -34,50 +35,56 @@ use Rattle.lv_session.specs.Laws.{is_refused, is_certificate, clears}
 abbrev keeps : Reply → Bool
 keeps reply = is_refused reply || is_certificate reply
 
+-- the line asks for a certificate
+abbrev pub asks_certificate : Request → Bool
+asks_certificate Certificate = true
+asks_certificate request = false
+
 -- where the reply is a refusal or a certificate the state is this one; where it is no refusal, and the request clears, no query is
--- current; and where it is a certificate the query is settled
-pub record IsFair (plant : Plant) (state : SessionState) (clearing : Bool) (s : Stepped) : Type 0 where
+-- current; where it is a certificate the query is settled; and it is none unless one is asked for
+pub record IsFair (plant : Plant) (state : SessionState) (clearing certifying : Bool) (s : Stepped) : Type 0 where
   pub kept : keeps s.reply ≡ true → s.state ≡ state
   pub carried : clearing ≡ true → is_refused s.reply ≡ false → s.state.query ≡ Absent
   pub due : IsDue plant s.state s.reply
+  pub told : certifying ≡ false → is_certificate s.reply ≡ false
 
 -- a refusal
-fair_refusal : (plant : Plant) (state : SessionState) (b : Bool) (refusal : Refusal) → IsFair plant state b (unchanged state (Refused refusal))
-fair_refusal plant state b refusal = record { kept = λ _. refl; carried = λ _ e. absurd (cc e); due = tt }
+fair_refusal : (plant : Plant) (state : SessionState) (b : Bool) (refusal : Refusal) → IsFair plant state b false (unchanged state (Refused refusal))
+fair_refusal plant state b refusal = record { kept = λ _. refl; carried = λ _ e. absurd (cc e); due = tt; told = λ _. refl }
 
 -- accepted, and cleared
-fair_clearing : (plant : Plant) (state next : SessionState) (b : Bool) → IsFair plant state b (cleared next)
-fair_clearing plant state next b = record { kept = λ e. absurd (cc e); carried = λ _ _. refl; due = tt }
+fair_clearing : (plant : Plant) (state next : SessionState) (b : Bool) → IsFair plant state b false (cleared next)
+fair_clearing plant state next b = record { kept = λ e. absurd (cc e); carried = λ _ _. refl; due = tt; told = λ _. refl }
 
 module _ (plant : Plant) (state : SessionState) where
-  fair_observe : (s : Sighting) → IsFair plant state true (observe state s)
+  fair_observe : (s : Sighting) → IsFair plant state true false (observe state s)
   fair_observe s = by (is_held state s.name) (has_no_room state s.name)
     where
-      by : (a b : Bool) → IsFair plant state true (cond a (unchanged state (Refused NameHeld)) (cond b (unchanged state (Refused TooManyHeld)) (cleared (record state { next = state.next ++ (s ∷ []) }))))
+      by : (a b : Bool) → IsFair plant state true false (cond a (unchanged state (Refused NameHeld)) (cond b (unchanged state (Refused TooManyHeld)) (cleared (record state { next = state.next ++ (s ∷ []) }))))
       by true b = fair_refusal plant state true NameHeld
       by false true = fair_refusal plant state true TooManyHeld
       by false false = fair_clearing plant state (record state { next = state.next ++ (s ∷ []) }) true
 
-  fair_retract : (name : List ℕ) → IsFair plant state true (retract state name)
+  fair_retract : (name : List ℕ) → IsFair plant state true false (retract state name)
   fair_retract name = by (is_held state name)
     where
       by : (b : Bool)
-          → IsFair plant state true (cond b (cleared (record state { present = filter (lacks_name name) state.present; next = filter (lacks_name name) state.next })) (unchanged state (Refused NameNotHeld)))
+          → IsFair plant state true false (cond b (cleared (record state { present = filter (lacks_name name) state.present; next = filter (lacks_name name) state.next })) (unchanged state (Refused NameNotHeld)))
       by true = fair_clearing plant state (record state { present = filter (lacks_name name) state.present; next = filter (lacks_name name) state.next }) true
       by false = fair_refusal plant state true NameNotHeld
 
-  fair_goal : (g : Goal) → IsFair plant state true (set_goal state g)
+  fair_goal : (g : Goal) → IsFair plant state true false (set_goal state g)
   fair_goal g = by (is_goal state g.name) (has_no_goal_room state g.name)
     where
-      by : (a b : Bool) → IsFair plant state true (cond a (unchanged state (Refused NameHeld)) (cond b (unchanged state (Refused TooManyHeld)) (cleared (record state { goals = state.goals ++ (g ∷ []) }))))
+      by : (a b : Bool) → IsFair plant state true false (cond a (unchanged state (Refused NameHeld)) (cond b (unchanged state (Refused TooManyHeld)) (cleared (record state { goals = state.goals ++ (g ∷ []) }))))
       by true b = fair_refusal plant state true NameHeld
       by false true = fair_refusal plant state true TooManyHeld
       by false false = fair_clearing plant state (record state { goals = state.goals ++ (g ∷ []) }) true
 
-  fair_drop : (name : List ℕ) → IsFair plant state true (drop_goal state name)
+  fair_drop : (name : List ℕ) → IsFair plant state true false (drop_goal state name)
   fair_drop name = by (is_goal state name)
     where
-      by : (b : Bool) → IsFair plant state true (cond b (cleared (record state { goals = filter (lacks_goal_name name) state.goals })) (unchanged state (Refused NameNotHeld)))
+      by : (b : Bool) → IsFair plant state true false (cond b (cleared (record state { goals = filter (lacks_goal_name name) state.goals })) (unchanged state (Refused NameNotHeld)))
       by true = fair_clearing plant state (record state { goals = filter (lacks_goal_name name) state.goals }) true
       by false = fair_refusal plant state true NameNotHeld
 
@@ -90,11 +97,12 @@ module _ (plant : Plant) (state : SessionState) where
   diagnosis_due next Settled w = tt
   diagnosis_due next Unsettled w = tt
 
-  fair_diagnosis : (sum : ℕ) → IsFair plant state false (diagnosed plant state sum)
+  fair_diagnosis : (sum : ℕ) → IsFair plant state false false (diagnosed plant state sum)
   fair_diagnosis sum = record {
     kept = λ e. let clash : true ≡ false = sym e ∙ no_refusal (walked plant state sum).outcome (walked plant state sum) in absurd (cc clash);
     carried = λ e _. absurd (cc e);
     due = diagnosis_due (diagnosed plant state sum).state (walked plant state sum).outcome (walked plant state sum);
+    told = λ _. (or_parts (is_refused (diagnosed plant state sum).reply) _ (no_refusal (walked plant state sum).outcome (walked plant state sum))).1;
   }
 
   -- nor is a recovery
@@ -114,85 +122,91 @@ module _ (plant : Plant) (state : SessionState) where
       by (r ∷ rs) = tt
   recovery_due next Unsettled w = tt
 
-  fair_recovery : (sum : ℕ) → IsFair plant state false (recovered plant state sum)
+  fair_recovery : (sum : ℕ) → IsFair plant state false false (recovered plant state sum)
   fair_recovery sum = record {
     kept = λ e. let clash : true ≡ false = sym e ∙ recovery_no_refusal (recovery plant state sum).outcome (recovery plant state sum) in absurd (cc clash);
     carried = λ e _. absurd (cc e);
     due = recovery_due (recovered plant state sum).state (recovery plant state sum).outcome (recovery plant state sum);
+    told = λ _. (or_parts (is_refused (recovered plant state sum).reply) _ (recovery_no_refusal (recovery plant state sum).outcome (recovery plant state sum))).1;
   }
 
-  fair_recover : IsFair plant state false (recover plant state)
+  fair_recover : IsFair plant state false false (recover plant state)
   fair_recover = by (nat_eq (length state.goals) 0)
     where
-      by : (b : Bool) → IsFair plant state false (cond b (unchanged state (Refused NoGoal)) (recovered plant state state.budget))
+      by : (b : Bool) → IsFair plant state false false (cond b (unchanged state (Refused NoGoal)) (recovered plant state state.budget))
       by true = fair_refusal plant state false NoGoal
       by false = fair_recovery state.budget
 
   -- what propagation finds is no refusal, and changes nothing
-  fair_labels : (of : Option State) → IsFair plant state false (labelled plant state of)
+  fair_labels : (of : Option State) → IsFair plant state false false (labelled plant state of)
   fair_labels of =
-      record { kept = λ _. refl; carried = λ e _. absurd (cc e); due = labels_due (labelling plant (fact_literals plant (facts_of state) ++ state_literals plant of)) }
+      let found = labelling plant (fact_literals plant (facts_of state) ++ state_literals plant of) in
+      record { kept = λ _. refl; carried = λ e _. absurd (cc e); due = labels_due found; told = λ _. labels_told found }
     where
       labels_due : (l : Labelling) → IsDue plant state (labels_reply l)
       labels_due labelling.Contradiction = tt
       labels_due (labelling.Labels labels) = tt
 
-  fair_labels_from : (n : ℕ) → IsFair plant state false (labelled_from plant state n)
+      labels_told : (l : Labelling) → is_certificate (labels_reply l) ≡ false
+      labels_told labelling.Contradiction = refl
+      labels_told (labelling.Labels labels) = refl
+
+  fair_labels_from : (n : ℕ) → IsFair plant state false false (labelled_from plant state n)
   fair_labels_from n = by (slice_get state.tracked (n - 1))
     where
-      by : (o : Option TrackedState) → IsFair plant state false (option_map_or (λ (s : TrackedState). labelled plant state (Some s.state)) o (unchanged state (Refused OutOfLimits)))
+      by : (o : Option TrackedState) → IsFair plant state false false (option_map_or (λ (s : TrackedState). labelled plant state (Some s.state)) o (unchanged state (Refused OutOfLimits)))
       by None = fair_refusal plant state false OutOfLimits
       by (Some s) = fair_labels (Some s.state)
 
-  fair_more : (q : Query) (n : ℕ) → IsFair plant state false (more q plant state n)
-  fair_more Absent n = record { kept = λ _. refl; carried = λ e _. absurd (cc e); due = tt }
+  fair_more : (q : Query) (n : ℕ) → IsFair plant state false false (more q plant state n)
+  fair_more Absent n = record { kept = λ _. refl; carried = λ e _. absurd (cc e); due = tt; told = λ _. refl }
   fair_more (Diagnosis sum) n = by (walked plant state sum).outcome
     where
-      by : (o : Outcome) → IsFair plant state false (more_by o plant state (sum + n))
-      by Settled = record { kept = λ _. refl; carried = λ e _. absurd (cc e); due = tt }
+      by : (o : Outcome) → IsFair plant state false false (more_by o plant state (sum + n))
+      by Settled = record { kept = λ _. refl; carried = λ e _. absurd (cc e); due = tt; told = λ _. refl }
       by Unsettled = fair_diagnosis (sum + n)
   fair_more (Recovery sum) n = by (recovery plant state sum).outcome
     where
-      by : (o : Outcome) → IsFair plant state false (more_recovery_by o plant state (sum + n))
-      by Settled = record { kept = λ _. refl; carried = λ e _. absurd (cc e); due = tt }
+      by : (o : Outcome) → IsFair plant state false false (more_recovery_by o plant state (sum + n))
+      by Settled = record { kept = λ _. refl; carried = λ e _. absurd (cc e); due = tt; told = λ _. refl }
       by Unsettled = fair_recovery (sum + n)
 
-  fair_conflicts : (q : Query) → IsFair plant state false (conflicts q plant state)
-  fair_conflicts Absent = record { kept = λ _. refl; carried = λ e _. absurd (cc e); due = tt }
-  fair_conflicts (Diagnosis sum) = record { kept = λ _. refl; carried = λ e _. absurd (cc e); due = tt }
-  fair_conflicts (Recovery sum) = record { kept = λ _. refl; carried = λ e _. absurd (cc e); due = tt }
+  fair_conflicts : (q : Query) → IsFair plant state false false (conflicts q plant state)
+  fair_conflicts Absent = record { kept = λ _. refl; carried = λ e _. absurd (cc e); due = tt; told = λ _. refl }
+  fair_conflicts (Diagnosis sum) = record { kept = λ _. refl; carried = λ e _. absurd (cc e); due = tt; told = λ _. refl }
+  fair_conflicts (Recovery sum) = record { kept = λ _. refl; carried = λ e _. absurd (cc e); due = tt; told = λ _. refl }
 
-  fair_certificate : IsFair plant state false (certificate state.query plant state)
+  fair_certificate : IsFair plant state false true (certificate state.query plant state)
   fair_certificate = by (is_settled state.query plant state) refl
     where
-      by : (b : Bool) → is_settled state.query plant state ≡ b → IsFair plant state false (cond b (unchanged state Certified) (unchanged state (Refused NoQuery)))
-      by true e = record { kept = λ _. refl; carried = λ c _. absurd (cc c); due = e }
-      by false e = fair_refusal plant state false NoQuery
+      by : (b : Bool) → is_settled state.query plant state ≡ b → IsFair plant state false true (cond b (unchanged state Certified) (unchanged state (Refused NoQuery)))
+      by true e = record { kept = λ _. refl; carried = λ c _. absurd (cc c); due = e; told = λ c. absurd (cc c) }
+      by false e = record { kept = λ _. refl; carried = λ c _. absurd (cc c); due = tt; told = λ _. refl }
 
-  fair_taking : (listed : List Rank) → IsFair plant state true (taken_over plant state listed)
+  fair_taking : (listed : List Rank) → IsFair plant state true false (taken_over plant state listed)
   fair_taking listed = by (nat_eq (length listed) 0) (nat_le COMMITS state.time)
     where
-      by : (a b : Bool) → IsFair plant state true (cond a (unchanged state (Refused NothingListed)) (cond b (unchanged state (Refused TooManyCommits))
+      by : (a b : Bool) → IsFair plant state true false (cond a (unchanged state (Refused NothingListed)) (cond b (unchanged state (Refused TooManyCommits))
           (record { state = advanced_to plant state listed; reply = Committed (state.time + 1) (length (advanced plant listed)) })))
       by true b = fair_refusal plant state true NothingListed
       by false true = fair_refusal plant state true TooManyCommits
-      by false false = record { kept = λ e. absurd (cc e); carried = λ _ _. refl; due = tt }
+      by false false = record { kept = λ e. absurd (cc e); carried = λ _ _. refl; due = tt; told = λ _. refl }
 
-  fair_commit : (q : Query) → IsFair plant state true (commit q plant state)
-  fair_commit Absent = record { kept = λ _. refl; carried = λ _ e. absurd (cc e); due = tt }
+  fair_commit : (q : Query) → IsFair plant state true false (commit q plant state)
+  fair_commit Absent = record { kept = λ _. refl; carried = λ _ e. absurd (cc e); due = tt; told = λ _. refl }
   fair_commit (Diagnosis sum) = by (walked plant state sum).outcome
     where
-      by : (o : Outcome) → IsFair plant state true (commit_by o plant state (walked plant state sum).listed)
+      by : (o : Outcome) → IsFair plant state true false (commit_by o plant state (walked plant state sum).listed)
       by Settled = fair_taking (walked plant state sum).listed
-      by Unsettled = record { kept = λ _. refl; carried = λ _ e. absurd (cc e); due = tt }
-  fair_commit (Recovery sum) = record { kept = λ _. refl; carried = λ _ e. absurd (cc e); due = tt }
+      by Unsettled = record { kept = λ _. refl; carried = λ _ e. absurd (cc e); due = tt; told = λ _. refl }
+  fair_commit (Recovery sum) = record { kept = λ _. refl; carried = λ _ e. absurd (cc e); due = tt; told = λ _. refl }
 
-  pub fair_request : (request : Request) → IsFair plant state (clears request) (carried_out plant state request)
-  fair_request Nothing = record { kept = λ _. refl; carried = λ e _. absurd (cc e); due = tt }
+  pub fair_request : (request : Request) → IsFair plant state (clears request) (asks_certificate request) (carried_out plant state request)
+  fair_request Nothing = record { kept = λ _. refl; carried = λ e _. absurd (cc e); due = tt; told = λ _. refl }
   fair_request (Track n) = fair_clearing plant state (record state { k = n }) true
-  fair_request (SetBudget n) = record { kept = λ e. absurd (cc e); carried = λ e _. absurd (cc e); due = tt }
-  fair_request (SetControl c) = record { kept = λ e. absurd (cc e); carried = λ _ _. refl; due = tt }
-  fair_request (Release place) = record { kept = λ e. absurd (cc e); carried = λ _ _. refl; due = tt }
+  fair_request (SetBudget n) = record { kept = λ e. absurd (cc e); carried = λ e _. absurd (cc e); due = tt; told = λ _. refl }
+  fair_request (SetControl c) = record { kept = λ e. absurd (cc e); carried = λ _ _. refl; due = tt; told = λ _. refl }
+  fair_request (Release place) = record { kept = λ e. absurd (cc e); carried = λ _ _. refl; due = tt; told = λ _. refl }
   fair_request (Observe s) = fair_observe s
   fair_request (Retract name) = fair_retract name
   fair_request (SetGoal g) = fair_goal g
@@ -205,13 +219,17 @@ module _ (plant : Plant) (state : SessionState) where
   fair_request Certificate = fair_certificate
   fair_request Labels = fair_labels None
   fair_request (LabelsFrom n) = fair_labels_from n
-  fair_request States = record { kept = λ _. refl; carried = λ e _. absurd (cc e); due = tt }
-  fair_request Reset = record { kept = λ e. absurd (cc e); carried = λ _ _. refl; due = tt }
-  fair_request Quit = record { kept = λ e. absurd (cc e); carried = λ e _. absurd (cc e); due = tt }
+  fair_request States = record { kept = λ _. refl; carried = λ e _. absurd (cc e); due = tt; told = λ _. refl }
+  fair_request Reset = record { kept = λ e. absurd (cc e); carried = λ _ _. refl; due = tt; told = λ _. refl }
+  fair_request Quit = record { kept = λ e. absurd (cc e); carried = λ e _. absurd (cc e); due = tt; told = λ _. refl }
 
   answered_due : (r : Result Request Refusal) → IsDue plant (answered plant state r).state (answered plant state r).reply
   answered_due (Ok request) = (fair_request request).due
   answered_due (Err refusal) = tt
+
+  -- a certificate is told where one is asked for
+  pub request_told : (request : Request) → asks_certificate request ≡ false → is_certificate (carried_out plant state request).reply ≡ false
+  request_told request none = (fair_request request).told none
 
   -- a certificate is told of a settled query alone
   pub stepped_due : (line : List ℕ) → IsDue plant (stepped plant state line).state (stepped plant state line).reply
