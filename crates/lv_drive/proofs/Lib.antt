@@ -1,1 +1,3 @@
 pub mod Tallying
+pub mod AskingLemmas
+pub mod CalmTexts

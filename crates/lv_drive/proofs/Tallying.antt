@@ -9,10 +9,13 @@ use Rattle.lv_reply.specs.declared.reply.Reply.{Reply}
 use Rattle.lv_reply.specs.declared.reply.Reply.TheVariants.{Nothing, Accepted, Refused, Settled, Unsettled, Conflicts, Committed, States}
 use Rattle.lv_reply.specs.Texts.{reply_text}
 use Rattle.lv_session.specs.Session.{SessionState, RunningSession, start, stepped}
-use Rattle.lv_session.specs.Laws.{replies}
+use Rattle.lv_session.specs.Transcript.{IsTranscriptFrom}
+use Rattle.lv_session.specs.Laws.{replies_to, replies}
+use Rattle.lv_session.proofs.Transcripts.{some_transcript}
 use Rattle.lv_drive.specs.declared.tally.Tally.{Tally}
 use Rattle.lv_drive.specs.Tallies.{none_counted, counted, IsSmall}
-use Rattle.lv_drive.specs.Drives.{replies_to, tally_of, summary_text, drive_text, RepliesAreTranscript}
+use Rattle.lv_drive.specs.Drives.{tally_of, summary_text, drive_text, RepliesAreTranscript}
+use Rattle.lv_drive.proofs.CalmTexts.{none_told}
 
 texts_are : (plant : Plant) (state : SessionState) (lines : List (List ℕ))
     → concat (map (reply_text plant) (replies_to plant state lines)) ≡ replies plant state lines
@@ -21,7 +24,12 @@ texts_are plant state (line ∷ lines) =
     ap (λ (l : List ℕ). reply_text plant (stepped plant state line).reply ++ l) (texts_are plant (stepped plant state line).state lines)
 
 pub are_transcript : RepliesAreTranscript
-are_transcript plant session = texts_are plant (start plant) (lines_of session)
+are_transcript = record {
+  of_session = λ plant session none.
+      subst (IsTranscriptFrom plant (start plant) (lines_of session)) (sym (texts_are plant (start plant) (lines_of session)))
+      (some_transcript plant (start plant) (lines_of session) none);
+  of_number = none_told;
+}
 
 -- what was counted, with the replies to the lines that are left, comes to what all replies do; and no more was counted than
 -- bytes were passed

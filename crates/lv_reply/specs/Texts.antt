@@ -4,7 +4,7 @@ use Rattle.lv_model.specs.declared.plant.Plant.{Plant}
 use Rattle.lv_reply.specs.declared.reply.Refusal.{Refusal}
 use Rattle.lv_reply.specs.declared.reply.Refusal.TheVariants.{UnknownWord, Form, UnknownName, NoControl, NoObservable, NoValue, NameHeld, NameNotHeld, OutOfLimits, NoQuery, NotUnsettled, NothingListed, NoGoal, TooManyHeld, LineTooLong, ByteNotAllowed, TooComplex, TooManyCommits}
 use Rattle.lv_reply.specs.declared.reply.Reply.{Reply}
-use Rattle.lv_reply.specs.declared.reply.Reply.TheVariants.{Nothing, Accepted, Refused, Settled, Unsettled, Conflicts, Committed, States, Recovered, NoRecovery, Undecided, CommandConflicts, Labels, Contradiction}
+use Rattle.lv_reply.specs.declared.reply.Reply.TheVariants.{Nothing, Accepted, Refused, Settled, Unsettled, Conflicts, Committed, States, Recovered, NoRecovery, Undecided, CommandConflicts, Labels, Contradiction, Certificate}
 use Rattle.lv_reply.specs.Diagnosis.{settled_text, unsettled_text}
 use Rattle.lv_reply.specs.Conflicts.{conflicts_text, command_conflicts_text}
 use Rattle.lv_reply.specs.Recovery.{recovery_text, undecided_text}
@@ -36,7 +36,7 @@ code_of TooManyCommits = codes "S18"
 abbrev pub refusal_text : Refusal → List ℕ
 refusal_text refusal = codes "error " ++ code_of refusal ++ codes "\n"
 
--- the text of a reply over a plant
+-- the text of a reply over a plant; that of a certificate is written where the query is, and isn't told here
 abbrev pub reply_text : Plant → Reply → List ℕ
 reply_text plant Nothing = []
 reply_text plant Accepted = codes "ok\n"
@@ -52,3 +52,4 @@ reply_text plant (Undecided trials) = undecided_text trials
 reply_text plant (CommandConflicts kept trials) = command_conflicts_text plant kept trials
 reply_text plant (Labels labels) = labels_text plant labels
 reply_text plant Contradiction = codes "contradiction\n"
+reply_text plant Certificate = []

@@ -109,4 +109,6 @@ pub enum Reply {
     Labels(Seq<Label>),
     /// Propagation finds a contradiction.
     Contradiction,
+    /// A certificate of the current query. It is written where the query is.
+    Certificate,
 }

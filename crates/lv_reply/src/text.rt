@@ -22,7 +22,8 @@ fn refusal_text(alloc: Global, refusal: Refusal) -> Result<Vec<u8>, AllocError>
     Ok(text)
 }
 
-/// The text of a reply to a line of a session over this model.
+/// The text of a reply to a line of a session over this model; of a certificate nothing, as that is written where the
+/// query is.
 pub fn reply_text(alloc: Global, model: &Model, reply: &Reply) -> Result<Vec<u8>, AllocError>
     ensures { IfOk result (λ text. text.items ≡ reply_text model.now reply.now) }
 {
@@ -46,5 +47,6 @@ pub fn reply_text(alloc: Global, model: &Model, reply: &Reply) -> Result<Vec<u8>
         }
         Reply::Labels(labels) => labels_text(alloc, plant, labels.as_slice()),
         Reply::Contradiction => Vec::from_slice(alloc, b"contradiction\n"),
+        Reply::Certificate => Ok(Vec::new(alloc)),
     }
 }

@@ -1,1 +1,3 @@
 pub mod RequestLaws
+pub mod GoalLaws
+pub mod WordLaws

@@ -1,31 +1,24 @@
 -- The numbers in what a line asks for are in range.
-use Rattle.std.proofs.Common.{◌≡◌, ℕ, Bool, true, false, if◌then◌else◌, List, position, slice_get, Option, Some, None, option_map, Result, Ok, Err, refl, sym, ap, subst, ◌∙◌}
+use Rattle.std.proofs.Common.{◌≡◌, ℕ, Bool, true, false, cond, List, position, slice_get, Option, Some, None, option_map, Result, Ok, Err, refl, sym, ap, subst, ◌∙◌}
 use Rattle.std.specs.Option.{ok_or}
 use Rattle.std.proofs.lemmas.Bool.{eqb-true}
 use Rattle.std.proofs.lemmas.List.Quantifiers.{position-Some}
 use Rattle.std.proofs.lemmas.Option.{get_or_from_slice_get}
 use Rattle.lv_base.specs.declared.ids.ValId.{ValId}
 use Rattle.lv_base.specs.declared.ids.VarId.{VarId}
-use Rattle.lv_formula.specs.Fits.{fits, has_value}
-use Rattle.lv_formula.specs.Tree.{Tree}
+use Rattle.lv_formula.specs.Fits.{has_value}
 use Rattle.lv_model.specs.declared.plant.Plant.{Plant}
 use Rattle.lv_model.specs.Lists.{controls, is_variable}
 use Rattle.lv_model.specs.Ranges.{plant_ranges}
-use Rattle.lv_phrase.specs.PhraseTree.{PhraseTree}
-use Rattle.lv_phrase.specs.Resolving.{resolved}
-use Rattle.lv_phrase.specs.declared.resolver.NameFault.{NameFault}
-use Rattle.lv_phrase.specs.declared.resolver.NameFault.TheVariants as name_fault
-use Rattle.lv_phrase.proofs.FittingLemmas.{resolved_fits}
 use Rattle.lv_reply.specs.declared.reply.Refusal.{Refusal}
-use Rattle.lv_reply.specs.declared.reply.Refusal.TheVariants.{NoControl, NoValue, TooComplex}
+use Rattle.lv_reply.specs.declared.reply.Refusal.TheVariants.{NoControl, NoObservable, NoValue}
 use Rattle.lv_scope.specs.declared.lists.Lists.{Lists}
 use Rattle.lv_scope.specs.Lists.{lists_of}
-use Rattle.lv_scope.specs.Names.{value_of, names_over, plant_names}
-use Rattle.lv_scope.proofs.ScopeLemmas.{value_fits, scope_fits}
+use Rattle.lv_scope.specs.Names.{value_of, is_observable}
+use Rattle.lv_scope.proofs.ScopeLemmas.{value_fits}
 use Rattle.lv_request.specs.Chain.{and_then}
 use Rattle.lv_request.specs.declared.names.Controlled.{Controlled}
-use Rattle.lv_request.specs.Goals.{with_refusal, formula_of, is_simple, simple, IsGoalIn}
-use Rattle.lv_request.specs.Names.{control_among, control_of, value_in, variable_named}
+use Rattle.lv_request.specs.Names.{control_among, control_of, observable_among, observable_of, value_in, variable_named}
 use Rattle.lv_request.specs.Requests.{IsSightingIn, IsCommandIn}
 
 -- numbers in range
@@ -69,29 +62,24 @@ command_fits plant lists part name value c v same control is =
           subst (λ n. has_value (plant_ranges plant) n v.0 ≡ true) (sym var) (value_named plant lists c.var value v same is);
     }
 
-pub sighting_fits : (plant : Plant) (lists : Lists) (name value : List ℕ) (x : VarId) (v : ValId) → lists ≡ lists_of plant → value_in plant lists x value ≡ Ok v
-    → IsSightingIn plant (record { name = name; var = x; val = v })
-sighting_fits plant lists name value x v same is = record { value = value_named plant lists x value v same is }
-
--- a formula that resolves fits
-of_phrase : (r : Result Tree NameFault) (f : Tree) → with_refusal r ≡ Ok f → r ≡ Ok f
-of_phrase (Ok g) f h = let e : g ≡ f = cc h in ap Ok e
-of_phrase (Err name_fault.UnknownName) f h = absurd (cc h)
-of_phrase (Err name_fault.NoFit) f h = absurd (cc h)
-
--- of few clauses is the formula itself
-the_same : (lists : Lists) (f g : Tree) → simple lists f ≡ Ok g → f ≡ g
-the_same lists f g = by (is_simple lists f)
+-- a variable that is found among the observables is one
+observable_stands : (lists : Lists) (x y : VarId) → observable_among lists x ≡ Ok y → is_observable lists.classes y.0 ≡ true
+observable_stands lists x y h = by (is_observable lists.classes x.0) refl h
   where
-    by : (b : Bool) → (if b then Ok f else Err TooComplex) ≡ Ok g → f ≡ g
-    by true h = cc h
-    by false h = absurd (cc h)
+    by : (b : Bool) → is_observable lists.classes x.0 ≡ b → cond b (Ok x) (Err NoObservable) ≡ Ok y → is_observable lists.classes y.0 ≡ true
+    by true is e = let same : x ≡ y = cc e in ap (λ (z : VarId). is_observable lists.classes z.0) (sym same) ∙ is
+    by false is e = absurd (cc)
 
-pub goal_is_in : (plant : Plant) (lists : Lists) (name : List ℕ) (phrase : PhraseTree) (f g : Tree) → lists ≡ lists_of plant → formula_of plant lists phrase ≡ Ok f → simple lists f ≡ Ok g
-    → IsGoalIn plant (record { name = name; formula = g })
-goal_is_in plant lists name phrase f g same is few =
-    let own : resolved (plant_names plant) phrase ≡ Ok f =
-    ap (λ (l : Lists). resolved (names_over plant l.ranges) phrase) (sym same) ∙ of_phrase (resolved (names_over plant lists.ranges) phrase) f is in
-    record {
-      fits = subst (λ (t : Tree). fits (plant_ranges plant) t ≡ true) (the_same lists f g few) (resolved_fits (plant_names plant) (plant_ranges plant) (scope_fits plant) phrase f own);
-    }
+observable_named : (plant : Plant) (lists : Lists) (part name : List ℕ) (x : VarId) → observable_of plant lists part name ≡ Ok x → is_observable lists.classes x.0 ≡ true
+observable_named plant lists part name x h = by (variable_named plant part name) h
+  where
+    by : (r : Result VarId Refusal) → and_then r (observable_among lists) ≡ Ok x → is_observable lists.classes x.0 ≡ true
+    by (Ok y) g = observable_stands lists y x g
+    by (Err refusal) g = absurd (cc)
+
+pub sighting_fits : (plant : Plant) (lists : Lists) (name part variable value : List ℕ) (x : VarId) (v : ValId) → lists ≡ lists_of plant → observable_of plant lists part variable ≡ Ok x
+    → value_in plant lists x value ≡ Ok v → IsSightingIn plant (record { name = name; var = x; val = v })
+sighting_fits plant lists name part variable value x v same seen is = record {
+  observable = ap (λ (l : Lists). is_observable l.classes x.0) (sym same) ∙ observable_named plant lists part variable x seen;
+  value = value_named plant lists x value v same is;
+}

@@ -1,5 +1,5 @@
 -- The forms of lines, by their tokens. The first token is the word that a line begins with.
-use Rattle.std.specs.Prelude.{ℕ, Bool, true, false, ◌&&◌, ◌||◌, nat_eq, nat_le, List, length, Option, Some, None, if◌then◌else◌, codes, Result, Ok, Err}
+use Rattle.std.specs.Prelude.{ℕ, ◌≤◌, Bool, true, false, ◌&&◌, ◌||◌, nat_eq, nat_le, List, length, Option, Some, None, if◌then◌else◌, codes, Result, Ok, Err}
 use Rattle.std.specs.Option.{option_and_then, option_map_or}
 use Rattle.lv_base.specs.Names.{is_named}
 use Rattle.lv_text.specs.declared.lexer.TokenKind.{TokenKind}
@@ -8,7 +8,7 @@ use Rattle.lv_text.specs.Lexemes.{Lexeme, is_number, kind_at, word_at, number_at
 use Rattle.lv_reply.specs.declared.reply.Refusal.{Refusal}
 use Rattle.lv_reply.specs.declared.reply.Refusal.TheVariants.{Form, OutOfLimits}
 use Rattle.lv_request.specs.declared.words.Word.{Word}
-use Rattle.lv_request.specs.declared.words.Word.TheVariants.{Track, Budget, Command, Release, Observe, Retract, Goal, Drop, Diagnose, Recover, More, Commit, Conflicts, Labels, States, Reset, Quit}
+use Rattle.lv_request.specs.declared.words.Word.TheVariants.{Track, Budget, Command, Release, Observe, Retract, Goal, Drop, Diagnose, Recover, More, Commit, Conflicts, Certificate, Labels, States, Reset, Quit}
 
 -- the word that a line begins with
 abbrev pub first_word : List Lexeme → Option Word
@@ -26,11 +26,12 @@ first_word line =
     else (if says (codes "more") line 0 then Some More
     else (if says (codes "commit") line 0 then Some Commit
     else (if says (codes "conflicts") line 0 then Some Conflicts
+    else (if says (codes "certificate") line 0 then Some Certificate
     else (if says (codes "labels") line 0 then Some Labels
     else (if says (codes "states") line 0 then Some States
     else (if says (codes "reset") line 0 then Some Reset
     else (if says (codes "quit") line 0 then Some Quit
-    else None))))))))))))))))
+    else None)))))))))))))))))
 
 abbrev pub is_dot : TokenKind → Bool
 is_dot Dot = true
@@ -72,6 +73,10 @@ abbrev pub name_at : List Lexeme → ℕ → Option (List ℕ)
 name_at line place = option_and_then unless_reserved (word_at line place)
 
 -- a number from 1 up to a limit
+pub record IsUpTo (most n : ℕ) : Type 0 where
+  pub some : 1 ≤ n
+  pub few : n ≤ most
+
 abbrev pub from_1_to : ℕ → ℕ → Result ℕ Refusal
 from_1_to most n = if nat_le 1 n && nat_le n most then Ok n else Err OutOfLimits
 

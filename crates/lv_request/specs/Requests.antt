@@ -14,19 +14,20 @@ use Rattle.lv_reply.specs.declared.reply.Refusal.{Refusal}
 use Rattle.lv_reply.specs.declared.reply.Refusal.TheVariants.{UnknownWord, Form, LineTooLong, ByteNotAllowed, TooComplex}
 use Rattle.lv_scope.specs.declared.lists.Lists.{Lists}
 use Rattle.lv_scope.specs.Lists.{lists_of}
+use Rattle.lv_scope.specs.Names.{classes, is_observable}
 use Rattle.lv_request.specs.declared.words.Word.{Word}
-use Rattle.lv_request.specs.declared.words.Word.TheVariants.{Track, Budget, Command as CommandWord, Release, Observe, Retract, Goal as GoalWord, Drop as DropWord, Diagnose, Recover, More, Commit, Conflicts, Labels, States, Reset, Quit}
+use Rattle.lv_request.specs.declared.words.Word.TheVariants.{Track, Budget, Command as CommandWord, Release, Observe, Retract, Goal as GoalWord, Drop as DropWord, Diagnose, Recover, More, Commit, Conflicts, Certificate, Labels, States, Reset, Quit}
 use Rattle.lv_request.specs.declared.names.Controlled.{Controlled}
 use Rattle.lv_request.specs.declared.request.Command.{Command}
 use Rattle.lv_request.specs.declared.request.Sighting.{Sighting}
 use Rattle.lv_request.specs.declared.request.Request.{Request}
-use Rattle.lv_request.specs.declared.request.Request.TheVariants.{Nothing, Track as ToTrack, SetBudget, SetControl, Release as ToRelease, Observe as ToObserve, Retract as ToRetract, SetGoal, DropGoal, Diagnose as ToDiagnose, Recover as ToRecover, More as ToGoOn, Commit as ToCommit, Conflicts as ToShowConflicts, Labels as ToLabel, LabelsFrom, States as ToShowStates, Reset as ToReset, Quit as ToQuit}
+use Rattle.lv_request.specs.declared.request.Request.TheVariants.{Nothing, Track as ToTrack, SetBudget, SetControl, Release as ToRelease, Observe as ToObserve, Retract as ToRetract, SetGoal, DropGoal, Diagnose as ToDiagnose, Recover as ToRecover, More as ToGoOn, Commit as ToCommit, Conflicts as ToShowConflicts, Certificate as ToCertify, Labels as ToLabel, LabelsFrom, States as ToShowStates, Reset as ToReset, Quit as ToQuit}
 use Rattle.lv_request.specs.declared.unread.Unread.{Unread}
 use Rattle.lv_request.specs.declared.unread.Unread.TheVariants.{Refused, Memory}
 use Rattle.lv_request.specs.Chain.{and_then}
 use Rattle.lv_request.specs.Names.{control_of, observable_of, value_in}
 use Rattle.lv_request.specs.Goals.{goal_of, IsGoalIn}
-use Rattle.lv_request.specs.Forms.{first_word, has_command_signs, has_release_signs, has_observe_signs, name_at, number_to}
+use Rattle.lv_request.specs.Forms.{first_word, has_command_signs, has_release_signs, has_observe_signs, name_at, IsUpTo, number_to}
 
 -- the word at a place, which has to be one
 abbrev pub word : List Lexeme → ℕ → Result (List ℕ) Refusal
@@ -105,6 +106,7 @@ request_by plant lists Recover line = alone ToRecover line
 request_by plant lists More line = more_of line
 request_by plant lists Commit line = alone ToCommit line
 request_by plant lists Conflicts line = alone ToShowConflicts line
+request_by plant lists Certificate line = alone ToCertify line
 request_by plant lists Labels line = labels_of line
 request_by plant lists States line = alone ToShowStates line
 request_by plant lists Reset line = alone ToReset line
@@ -132,8 +134,9 @@ abbrev pub Explains : {X : Type 0} → Unread → Result X Refusal → Type 0
 Explains (Refused refusal) due = due ≡ Err refusal
 Explains Memory due = Unit {0}
 
--- an observation of a value that the variable has
+-- an observation of an observable, and of a value that it has
 pub record IsSightingIn (plant : Plant) (s : Sighting) : Type 0 where
+  pub observable : is_observable (classes plant) s.var.0 ≡ true
   pub value : has_value (plant_ranges plant) s.var.0 s.val.0 ≡ true
 
 -- a command of a value that the control has
@@ -142,7 +145,7 @@ pub record IsCommandIn (plant : Plant) (c : Command) : Type 0 where
 
 -- the numbers in a request are in range
 abbrev pub IsRequestOf : Plant → Request → Type 0
-IsRequestOf plant (ToTrack n) = n ≤ TRACKED
+IsRequestOf plant (ToTrack n) = IsUpTo TRACKED n
 IsRequestOf plant (ToGoOn n) = n ≤ BUDGET
 IsRequestOf plant (SetControl c) = IsCommandIn plant c
 IsRequestOf plant (ToObserve s) = IsSightingIn plant s

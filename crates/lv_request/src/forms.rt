@@ -1,11 +1,11 @@
 //! The forms of lines: how many tokens a line has, which signs stand where, and the numbers and names in it.
 #![tactic(auto)]
 
-ghost use Rattle.std.specs.Prelude.{◌≡◌, ◌≤◌, IfOk, codes};
+ghost use Rattle.std.specs.Prelude.{◌≡◌, IfOk, codes};
 ghost use Rattle.std.specs.Option.{option_copied};
 ghost use Rattle.lv_base.specs.Names.{is_named};
 ghost use Rattle.lv_text.specs.Lexemes.{is_number};
-ghost use Rattle.lv_request.specs.Forms.{is_dot, is_equals, has_kind, has_number_form, has_command_signs, has_release_signs, has_observe_signs, is_reserved, name_at, from_1_to, number_to};
+ghost use Rattle.lv_request.specs.Forms.{is_dot, is_equals, has_kind, has_number_form, has_command_signs, has_release_signs, has_observe_signs, is_reserved, name_at, IsUpTo, from_1_to, number_to};
 
 use lv_reply::Refusal;
 use lv_text::{TokenKind, TokenLine};
@@ -75,7 +75,7 @@ pub fn name_at<'a>(line: &TokenLine<'a>, place: usize) -> Option<&'a [u8]>
 /// A number from 1 up to a limit.
 fn from_1_to(most: u64, n: u128) -> Result<u64, Refusal>
     ensures number { result ≡ from_1_to most n }
-    ensures within { IfOk result (λ n. n ≤ most) }
+    ensures within { IfOk result (IsUpTo most) }
 {
     if 1 <= n && n <= u128::from(most) {
         Ok(n as u64)
@@ -94,7 +94,7 @@ fn has_number_form(line: &TokenLine<'_>) -> bool
 /// The number of a line that is a word and a number, which has to be from 1 up to a limit.
 pub fn number_to(most: u64, line: &TokenLine<'_>) -> Result<u64, Refusal>
     ensures number { result ≡ number_to most line.now }
-    ensures within { IfOk result (λ n. n ≤ most) }
+    ensures within { IfOk result (IsUpTo most) }
 {
     if !has_number_form(line) {
         return Err(Refusal::Form);

@@ -1,13 +1,16 @@
 //! The goal that a line names.
 #![tactic(auto)]
 
-ghost use Rattle.std.specs.Prelude.{◌≡◌, false, IfOk, IfErr, Ok, Some, Err, drop};
+ghost use Rattle.std.specs.Prelude.{◌≡◌, ◌≢◌, None, true, false, IfOk, IfErr, Ok, Some, Err, drop, take};
+ghost use Rattle.std.specs.List.{list_all};
 ghost use Rattle.std.specs.Option.{ok_or};
 ghost use Rattle.lv_model.specs.Counts.{has_count};
+ghost use Rattle.lv_text.specs.Lexemes.{word_at};
 ghost use Rattle.lv_phrase.specs.Nesting.{is_too_deep};
+ghost use Rattle.lv_phrase.specs.Laws.{is_flat};
 ghost use Rattle.lv_grammar.specs.Descent.{phrase_of};
 ghost use Rattle.lv_scope.specs.Lists.{lists_of};
-ghost use Rattle.lv_request.specs.Goals.{phrase_in, formula_of, is_simple, simple, goal_as, goal_of, IsGoalIn};
+ghost use Rattle.lv_request.specs.Goals.{phrase_in, formula_of, is_simple, simple, goal_as, goal_of, AreRead, ReadsBack, IsGoalIn};
 ghost use Rattle.lv_request.specs.Requests.{Explains};
 
 use crate::forms::name_at;
@@ -15,7 +18,7 @@ use crate::unread::Unread;
 use lv_base::{Name, Seq};
 use lv_formula::Condition;
 use lv_model::Plant;
-use lv_phrase::{Phrase, PhraseFault, ResolveFault, read_phrase};
+use lv_phrase::{Phrase, PhraseFault, ResolveFault, print_phrase, read_phrase};
 use lv_reply::Refusal;
 use lv_scope::{Lists, goal_formula};
 use lv_text::TokenLine;
@@ -25,14 +28,19 @@ use std::alloc::Global;
 #[derive(Debug, Drop)]
 pub struct Goal {
     pub name: Name,
+    /// The formula's canonical text.
+    pub text: Seq<u8>,
     pub formula: Condition,
 }
 
 /// The formula that the tokens behind a goal's name are, its names as they are written.
 fn phrase_in(alloc: Global, line: &TokenLine<'_>) -> Result<Phrase, Unread>
-    requires { is_too_deep line.now ≡ false }
+    requires shallow { is_too_deep line.now ≡ false }
+    requires read { AreRead line.now }
+    requires front { list_all is_flat (take 2 line.now) ≡ true }
     ensures ok { IfOk result (λ phrase. phrase_in line.now ≡ Ok phrase) }
     ensures fault { IfErr result (λ fault. Explains fault (phrase_in line.now)) }
+    ensures back { IfOk result (λ phrase. ReadsBack phrase) }
 {
     match read_phrase(alloc, line, 2) {
         Ok(phrase) => Ok(phrase),
@@ -83,7 +91,7 @@ fn simple(lists: &Lists, formula: Condition) -> Result<Condition, Refusal>
     }
 }
 
-/// A phrase as a goal of this name.
+/// A phrase as a goal of this name, with its canonical text.
 fn goal_as(
     alloc: Global,
     plant: &Plant,
@@ -91,7 +99,8 @@ fn goal_as(
     name: &[u8],
     phrase: &Phrase,
 ) -> Result<Goal, Unread>
-    requires { lists.now ≡ lists_of plant.now }
+    requires lists { lists.now ≡ lists_of plant.now }
+    requires back { ReadsBack phrase.now }
     ensures ok { IfOk result (λ g. goal_as plant.now lists.now name.now phrase.now ≡ Ok g) }
     ensures fault { IfErr result (λ fault. Explains fault (goal_as plant.now lists.now name.now phrase.now)) }
     ensures within { IfOk result (IsGoalIn plant.now) }
@@ -99,7 +108,12 @@ fn goal_as(
     let name = Seq::from_slice(alloc, name)?;
     let formula = formula_of(alloc, plant, lists, phrase)?;
     let formula = simple(lists, formula)?;
-    Ok(Goal { name, formula })
+    let text = Seq::from_vec(print_phrase(alloc, phrase)?);
+    Ok(Goal {
+        name,
+        text,
+        formula,
+    })
 }
 
 /// `goal NAME FORMULA`
@@ -112,6 +126,8 @@ pub fn goal_of(
 ) -> Result<Goal, Unread>
     requires lists { lists.now ≡ lists_of plant.now }
     requires shallow { is_too_deep line.now ≡ false }
+    requires read { AreRead line.now }
+    requires word { word_at line.now 0 ≢ None }
     ensures ok { IfOk result (λ g. goal_of plant.now lists.now line.now ≡ Ok g) }
     ensures fault { IfErr result (λ fault. Explains fault (goal_of plant.now lists.now line.now)) }
     ensures within { IfOk result (IsGoalIn plant.now) }

@@ -4,12 +4,13 @@
 //! right: the first that is wrong is told. What depends on the state of the session is not judged here.
 #![tactic(auto)]
 
-ghost use Rattle.std.specs.Prelude.{◌≡◌, false, IfOk, IfErr, Ok};
-ghost use Rattle.lv_text.specs.Lexemes.{line_reading};
+ghost use Rattle.std.specs.Prelude.{◌≡◌, ◌≢◌, false, None, IfOk, IfErr, Ok};
+ghost use Rattle.lv_text.specs.Lexemes.{line_reading, word_at};
 ghost use Rattle.lv_model.specs.declared.plant.Plant.{Plant};
 ghost use Rattle.lv_scope.specs.declared.lists.Lists.{Lists as ListsOf};
 ghost use Rattle.lv_scope.specs.Lists.{lists_of};
 ghost use Rattle.lv_phrase.specs.Nesting.{is_too_deep};
+ghost use Rattle.lv_request.specs.Goals.{AreRead};
 ghost use Rattle.lv_request.specs.Requests.{alone, track_of, budget_of, more_of, command_to, command_of, release_of, seen_as, sighting_of, retracted_of, labels_of, request_by, asked, asked_by, request_of, Explains, IsSightingIn, IsCommandIn, IsRequestOf};
 
 use crate::forms::{has_command_signs, has_observe_signs, has_release_signs, name_at, number_to};
@@ -66,6 +67,8 @@ pub enum Request {
     More(u64),
     Commit,
     Conflicts,
+    /// A certificate of the current query.
+    Certificate,
     /// What propagation finds under the facts.
     Labels,
     /// The same from the tracked state of this number, counted from 1.
@@ -241,6 +244,8 @@ fn request_by(
 ) -> Result<Request, Unread>
     requires lists { lists.now ≡ lists_of plant.now }
     requires shallow { is_too_deep line.now ≡ false }
+    requires read { AreRead line.now }
+    requires word { word_at line.now 0 ≢ None }
     ensures ok { IfOk result (λ request. request_by plant.now lists.now word line.now ≡ Ok request) }
     ensures fault { IfErr result (λ fault. Explains fault (request_by plant.now lists.now word line.now)) }
     ensures within { IfOk result (IsRequestOf plant.now) }
@@ -259,6 +264,7 @@ fn request_by(
         Word::More => Ok(more_of(line)?),
         Word::Commit => Ok(alone(Request::Commit, line)?),
         Word::Conflicts => Ok(alone(Request::Conflicts, line)?),
+        Word::Certificate => Ok(alone(Request::Certificate, line)?),
         Word::Labels => Ok(labels_of(line)?),
         Word::States => Ok(alone(Request::States, line)?),
         Word::Reset => Ok(alone(Request::Reset, line)?),
@@ -273,7 +279,8 @@ fn asked(
     lists: &Lists,
     line: &TokenLine<'_>,
 ) -> Result<Request, Unread>
-    requires { lists.now ≡ lists_of plant.now }
+    requires lists { lists.now ≡ lists_of plant.now }
+    requires read { AreRead line.now }
     ensures ok { IfOk result (λ request. asked plant.now lists.now line.now ≡ Ok request) }
     ensures fault { IfErr result (λ fault. Explains fault (asked plant.now lists.now line.now)) }
     ensures within { IfOk result (IsRequestOf plant.now) }
@@ -298,6 +305,7 @@ fn tokens_in<'a>(
 ) -> Result<TokenLine<'a>, Unread>
     ensures ok { (plant : Plant) (lists : ListsOf) → IfOk result (λ found. asked_by plant lists (line_reading line.now) ≡ asked plant lists found) }
     ensures fault { (plant : Plant) (lists : ListsOf) → IfErr result (λ fault. Explains fault (asked_by plant lists (line_reading line.now))) }
+    ensures read { IfOk result (λ found. AreRead found) }
 {
     match TokenLine::read_into(alloc, room, line) {
         Ok(found) => Ok(found),

@@ -22,6 +22,7 @@ pub enum Word {
     More,
     Commit,
     Conflicts,
+    Certificate,
     Labels,
     States,
     Reset,
@@ -58,6 +59,8 @@ pub fn first_word(line: &TokenLine<'_>) -> Option<Word>
         Some(Word::Commit)
     } else if line.says(0, b"conflicts") {
         Some(Word::Conflicts)
+    } else if line.says(0, b"certificate") {
+        Some(Word::Certificate)
     } else if line.says(0, b"labels") {
         Some(Word::Labels)
     } else if line.says(0, b"states") {

@@ -4,4 +4,6 @@ pub mod SecondLemmas
 pub mod ExpectedLemmas
 pub mod OpenLemmas
 pub mod TopLemmas
+pub mod NameLemmas
+pub mod PrintedLemmas
 pub mod ServedLemmas

@@ -8,10 +8,13 @@ use Rattle.lv_io.specs.declared.Role.TheVariants.{Model, Second}
 use Rattle.lv_model.specs.declared.plant.Plant.{Plant}
 use Rattle.std.proofs.lemmas.List.{take-append-drop, take-take}
 use Rattle.lv_base.specs.declared.limits.TheConstants.{SESSION_BYTES}
+use Rattle.lv_text.specs.Lines.{lines_of}
+use Rattle.lv_session.specs.Session.{start}
 use Rattle.lv_session.specs.Transcript.{AddsTranscript, AddsFrontOfTranscript}
 use Rattle.lv_session.proofs.Writing.{whole_front}
 use Rattle.lv_serve.specs.Ends.{ended}
 use Rattle.lv_serve.specs.Served.{within_limit}
+use Rattle.lv_serve.proofs.TranscriptLemmas.{front_of_lines}
 use Rattle.lv_serve.proofs.PieceLemmas.{front_of_all, front_of_longer}
 use Rattle.lv_words.specs.Words.{Said, checks, command_of}
 use Rattle.lv_certcheck.specs.Verdicts.{IsVerdictOn}
@@ -38,11 +41,8 @@ silent_front e before after same = subst (AddsSome e before) (sym same) (adds_no
 
 -- all is a front of itself
 transcript_front : (plant : Plant) (text : List ℕ) (before after : Option (List ℕ)) → AddsTranscript plant text before after → AddsFrontOfTranscript plant text before after
-transcript_front plant text before after all = record {
-  whole = all.written;
-  is_transcript = all.is_transcript;
-  front = whole_front all.written before after all.added;
-}
+transcript_front plant text before after all =
+    front_of_lines plant (start plant) (lines_of text) all.written before after all.is_transcript (whole_front all.written before after all.added)
 
 all_front : (e : Expected) (before after : Option (List ℕ)) → AddsAll e before after → AddsSome e before after
 all_front (serves plant session) before after all = transcript_front plant session before after all

@@ -3,6 +3,7 @@ pub mod Faults
 pub mod Inputs
 pub mod Judged
 pub mod Opens
+pub mod Printed
 pub mod Statuses
 pub mod Telling
 pub mod Top

@@ -10,12 +10,14 @@
 //! - `status`: how a call ends, and its number.
 //! - `telling`: a fault told on standard error.
 //! - `top`: the whole of a call.
+//! - `laws`: what holds of the parts of a call together.
 #![tactic(auto)]
 
 mod certificate;
 mod commands;
 pub mod fault;
 mod inputs;
+pub mod laws;
 mod session;
 pub mod status;
 pub mod telling;

@@ -1,14 +1,12 @@
 -- How far a piece leads, line by line.
 use Rattle.std.proofs.Common.{◌≡◌, ℕ, ◌-◌, true, false, List, [], ◌∷◌, ◌++◌, length, take, drop, Option, refl, sym, ◌∙◌, ap, subst, append_assoc}
-use Rattle.std.proofs.lemmas.List.{append-nil}
+use Rattle.std.proofs.lemmas.List.{append-nil, take-append-drop}
 use Rattle.std.specs.List.{list_any}
 use Rattle.lv_io.proofs.Pieces.{rest_of_bytes}
 use Rattle.lv_text.specs.Lines.{lines_of, is_line_feed}
 use Rattle.lv_model.specs.declared.plant.Plant.{Plant}
 use Rattle.lv_session.specs.Session.{SessionState, RunningSession, start}
 use Rattle.lv_session.specs.Transcript.{IsTranscriptFrom, AddsTranscript, AddsTranscriptFront, AddsFrontOfTranscript, AddsTranscriptFrom}
-use Rattle.lv_session.specs.Laws.{replies}
-use Rattle.lv_session.proofs.Transcripts.{some_transcript}
 use Rattle.lv_session.proofs.Writing.{no_front}
 use Rattle.lv_serve.specs.Ends.{ended, unended}
 use Rattle.lv_serve.specs.Kept.{Kept}
@@ -17,19 +15,17 @@ use Rattle.lv_serve.specs.Standing.{Standing}
 use Rattle.lv_serve.specs.Served.{state_after, state_at, quits}
 use Rattle.lv_serve.specs.Serving.{StandsAt}
 use Rattle.lv_serve.proofs.EndLemmas.{ended_more, lines_cut, parts_joined}
-use Rattle.lv_serve.proofs.TranscriptLemmas.{state_after-append, transcript-append, ended_state, ended_transcript}
-use Rattle.lv_serve.proofs.StandingLemmas.{longer_front, stands_pushed, waits_front}
+use Rattle.lv_serve.proofs.TranscriptLemmas.{state_after-append, transcript-append, ended_state, ended_transcript, front_of_first}
+use Rattle.lv_serve.proofs.StandingLemmas.{stands_pushed, waits_front}
 
 -- what a front of a transcript is of some lines, it is of those and more
 pub front_of_more : (plant : Plant) (lines more : List (List ℕ)) (before after : Option (List ℕ))
     → AddsTranscriptFront plant (start plant) lines before after
     → AddsTranscriptFront plant (start plant) (lines ++ more) before after
-front_of_more plant lines more before after front = record {
-  whole = front.whole ++ replies plant (state_after plant (start plant) lines) more;
-  is_transcript = transcript-append plant (start plant) lines more front.whole (replies plant (state_after plant (start plant) lines) more)
-      front.is_transcript (some_transcript plant (state_after plant (start plant) lines) more);
-  front = longer_front front.whole (replies plant (state_after plant (start plant) lines) more) before after front.front;
-}
+front_of_more plant lines more before after front =
+    front_of_first plant (start plant) (take front.answered lines) (drop front.answered lines ++ more) (lines ++ more) front.whole before after
+    (ap (λ (ls : List (List ℕ)). ls ++ more) (sym (take-append-drop front.answered lines)) ∙ append_assoc (take front.answered lines) (drop front.answered lines) more)
+    front.is_transcript front.front
 
 -- the lines that have ended in a longer text
 pub lines_more : (read more : List ℕ) → lines_of (ended (read ++ more)) ≡ lines_of (ended read) ++ lines_of (ended (unended read ++ more))

@@ -10,18 +10,19 @@ use Rattle.lv_io.specs.Whole.{AddsFront}
 use Rattle.lv_io.proofs.Pieces.{append-append}
 use Rattle.lv_text.specs.Lines.{lines_of, is_line_feed}
 use Rattle.lv_model.specs.declared.plant.Plant.{Plant}
-use Rattle.lv_reply.specs.Texts.{reply_text}
+use Rattle.lv_reply.specs.declared.reply.Reply.{Reply}
 use Rattle.lv_session.specs.Session.{SessionState, RunningSession, Stepped, start, stepped}
+use Rattle.lv_session.specs.Certificates.{IsTextOf}
 use Rattle.lv_session.specs.Transcript.{IsTranscriptFrom, ends, AddsTranscriptFrom, AddsTranscriptFront, AddsFrontOfTranscript}
-use Rattle.lv_session.proofs.Writing.{append-none, front_more}
+use Rattle.lv_session.proofs.Writing.{append-none, front_more, whole_front, longer_front}
 use Rattle.lv_serve.specs.Ends.{ended, unended}
 use Rattle.lv_serve.specs.Kept.{Kept, most_kept}
 use Rattle.lv_serve.specs.Unfinished.{kept_of, shown}
 use Rattle.lv_serve.specs.Standing.{Standing}
 use Rattle.lv_serve.specs.Served.{state_after, state_at}
-use Rattle.lv_serve.specs.Serving.{Waits, StandsAt, IsAnswered, IsHandedOn, line_reply}
+use Rattle.lv_serve.specs.Serving.{Waits, StandsAt, line_step, IsLineReply, IsReplied, IsAnswered, IsCutOff, before_reply, in_reply, IsHandedOn}
 use Rattle.lv_serve.proofs.EndLemmas.{ended_stays, unended_grows, lines_one_more, unended_whole, lines_last, lines_all_ended}
-use Rattle.lv_serve.proofs.TranscriptLemmas.{state_after-append, transcript-append, one_line, shown_line}
+use Rattle.lv_serve.proofs.TranscriptLemmas.{state_after-append, transcript-append, one_line, shown_line, front_of_first, front_of_lines}
 
 pub stands_at_start : (plant : Plant) (session : RunningSession) (line : Kept) (replies : List ℕ) (text : Option (List ℕ))
     → session ≡ record { plant = plant; state = start plant; is_out_of_memory = false }
@@ -70,21 +71,23 @@ own_line plant read before text now at =
     ∙ ap (λ (k : Kept). stepped plant (state_at plant read) (shown k)) at.line_is
     ∙ shown_line plant (state_at plant read) (unended read)
 
-own_reply : (plant : Plant) (read : List ℕ) (before text : Option (List ℕ)) (now : Standing) → StandsAt plant read before now text
-    → line_reply now ≡ reply_text plant (stepped plant (state_at plant read) (strip_carriage_return (unended read))).reply
-own_reply plant read before text now at =
-    ap₂ (λ (p : Plant) (s : Stepped). reply_text p s.reply) at.plant_is (own_line plant read before text now at)
+own_reply : (plant : Plant) (read : List ℕ) (before text : Option (List ℕ)) (now : Standing) (reply : List ℕ) → StandsAt plant read before now text
+    → IsLineReply now reply
+    → IsTextOf plant (stepped plant (state_at plant read) (strip_carriage_return (unended read))).state (stepped plant (state_at plant read) (strip_carriage_return (unended read))).reply reply
+own_reply plant read before text now reply at says =
+    subst (λ (s : Stepped). IsTextOf plant s.state s.reply reply) (own_line plant read before text now at)
+    (subst (λ (p : Plant). IsTextOf p (line_step now).state (line_step now).reply reply) at.plant_is says)
 
--- the transcript with the reply to the line that has come
-with_reply : (plant : Plant) (read : List ℕ) (before text : Option (List ℕ)) (now : Standing) (at : StandsAt plant read before now text)
-    → IsTranscriptFrom plant (start plant) (lines_of (ended read) ++ strip_carriage_return (unended read) ∷ []) (at.waits.written ++ (now.replies ++ line_reply now))
-with_reply plant read before text now at =
+-- the transcript with a reply to the line that has come
+with_reply : (plant : Plant) (read : List ℕ) (before text : Option (List ℕ)) (now : Standing) (reply : List ℕ) (at : StandsAt plant read before now text)
+    → IsLineReply now reply
+    → IsTranscriptFrom plant (start plant) (lines_of (ended read) ++ strip_carriage_return (unended read) ∷ []) (at.waits.written ++ (now.replies ++ reply))
+with_reply plant read before text now reply at says =
     subst (IsTranscriptFrom plant (start plant) (lines_of (ended read) ++ strip_carriage_return (unended read) ∷ []))
-    (append_assoc at.waits.written now.replies (line_reply now))
-    (transcript-append plant (start plant) (lines_of (ended read)) (strip_carriage_return (unended read) ∷ []) (at.waits.written ++ now.replies) (line_reply now)
+    (append_assoc at.waits.written now.replies reply)
+    (transcript-append plant (start plant) (lines_of (ended read)) (strip_carriage_return (unended read) ∷ []) (at.waits.written ++ now.replies) reply
     at.waits.is_transcript
-    (subst (IsTranscriptFrom plant (state_at plant read) (strip_carriage_return (unended read) ∷ [])) (sym (own_reply plant read before text now at))
-    (one_line plant (state_at plant read) (strip_carriage_return (unended read)))))
+    (one_line plant (state_at plant read) (strip_carriage_return (unended read)) reply (own_reply plant read before text now reply at says)))
 
 waits_answered : (plant : Plant) (read : List ℕ) (before text after : Option (List ℕ)) (old new : Standing)
     → StandsAt plant read before old text
@@ -95,23 +98,25 @@ waits_answered plant read before text after old new at answered = record {
   added = answered.added ∙ ap (λ (t : Option (List ℕ)). append_known t answered.handed) at.waits.added ∙ append-append before at.waits.written answered.handed;
   is_transcript = subst (IsTranscriptFrom plant (start plant) (lines_of (ended read) ++ strip_carriage_return (unended read) ∷ []))
       (ap (λ (l : List ℕ). at.waits.written ++ l) (sym answered.joined) ∙ sym (append_assoc at.waits.written answered.handed new.replies))
-      (with_reply plant read before text old at);
+      (with_reply plant read before text old answered.reply at answered.says);
 }
+
+-- a front written behind what was written before
+more_front : (written more : List ℕ) (before text after : Option (List ℕ)) → text ≡ append_known before written → AddsFront more text after → AddsFront (written ++ more) before after
+more_front written more before text after added front =
+    front_more (written ++ more) more [] before text after (record { front = written; joined = ap (λ (l : List ℕ). written ++ l) (append-nil more); added = added }) front
 
 front_answered : (plant : Plant) (read : List ℕ) (before text after : Option (List ℕ)) (old : Standing)
     → StandsAt plant read before old text
-    → AddsFront (old.replies ++ line_reply old) text after
+    → IsCutOff old text after
     → AddsTranscriptFront plant (start plant) (lines_of (ended read) ++ strip_carriage_return (unended read) ∷ []) before after
-front_answered plant read before text after old at front = record {
-  whole = at.waits.written ++ (old.replies ++ line_reply old);
-  is_transcript = with_reply plant read before text old at;
-  front = front_more (at.waits.written ++ (old.replies ++ line_reply old)) (old.replies ++ line_reply old) [] before text after
-      (record {
-        front = at.waits.written;
-        joined = ap (λ (l : List ℕ). at.waits.written ++ l) (append-nil (old.replies ++ line_reply old));
-        added = at.waits.added;
-      }) front;
-}
+front_answered plant read before text after old at (before_reply front) =
+    front_of_first plant (start plant) (lines_of (ended read)) (strip_carriage_return (unended read) ∷ []) _ (at.waits.written ++ old.replies) before after refl at.waits.is_transcript
+    (more_front at.waits.written old.replies before text after at.waits.added front)
+front_answered plant read before text after old at (in_reply reply says front) =
+    front_of_lines plant (start plant) (lines_of (ended read) ++ strip_carriage_return (unended read) ∷ []) (at.waits.written ++ (old.replies ++ reply)) before after
+    (with_reply plant read before text old reply at says)
+    (more_front at.waits.written (old.replies ++ reply) before text after at.waits.added front)
 
 -- a line feed has come, and the line was answered
 pub stands_answered : (plant : Plant) (read : List ℕ) (before text after : Option (List ℕ)) (old new : Standing)
@@ -130,7 +135,7 @@ stands_answered plant read before text after old new at answered =
 
 pub front_of_ended : (plant : Plant) (read : List ℕ) (before text after : Option (List ℕ)) (old : Standing)
     → StandsAt plant read before old text
-    → AddsFront (old.replies ++ line_reply old) text after
+    → IsCutOff old text after
     → AddsFrontOfTranscript plant (ended (read ++ 10 ∷ [])) before after
 front_of_ended plant read before text after old at front =
     subst (λ (ls : List (List ℕ)). AddsTranscriptFront plant (start plant) ls before after) (sym (lines_one_more read))
@@ -161,7 +166,7 @@ waits_last plant read before text after old new some answered at =
 
 pub front_last : (plant : Plant) (read : List ℕ) (before text after : Option (List ℕ)) (old : Standing)
     → nat_eq (length old.line.bytes) 0 ≡ false
-    → AddsFront (old.replies ++ line_reply old) text after
+    → IsCutOff old text after
     → StandsAt plant read before old text
     → AddsFrontOfTranscript plant read before after
 front_last plant read before text after old some front at =
@@ -193,12 +198,9 @@ pub waits_front : (plant : Plant) (lines : List (List ℕ)) (replies : List ℕ)
     → Waits plant lines before replies text
     → AddsFront replies text after
     → AddsTranscriptFront plant (start plant) lines before after
-waits_front plant lines replies before text after waits front = record {
-  whole = waits.written ++ replies;
-  is_transcript = waits.is_transcript;
-  front = front_more (waits.written ++ replies) replies [] before text after
-      (record { front = waits.written; joined = ap (λ (l : List ℕ). waits.written ++ l) (append-nil replies); added = waits.added }) front;
-}
+waits_front plant lines replies before text after waits front =
+    front_of_lines plant (start plant) lines (waits.written ++ replies) before after waits.is_transcript
+    (more_front waits.written replies before text after waits.added front)
 
 pub stands_handed : (plant : Plant) (read : List ℕ) (before text after : Option (List ℕ)) (old new : Standing)
     → new ≡ record old { replies = [] }
@@ -217,36 +219,23 @@ stands_handed plant read before text after old new is now at =
 
 -- an answered line, from its reply put behind those that wait and what was written of these
 pub handed_answer : (old middle new : Standing) (before after : Option (List ℕ))
-    → middle.session ≡ record old.session { state = (stepped old.session.plant old.session.state (shown old.line)).state }
-    → middle.line ≡ kept_of []
-    → middle.replies ≡ old.replies ++ line_reply old
+    → IsReplied old middle
     → IsHandedOn middle new before after
     → IsAnswered old new before after
-handed_answer old middle new before after session line replies handed = record {
-  session_is = handed.session_is ∙ session;
-  line_is = handed.line_is ∙ line;
+handed_answer old middle new before after replied handed = record {
+  session_is = handed.session_is ∙ replied.session_is;
+  line_is = handed.line_is ∙ replied.line_is;
+  reply = replied.reply;
+  says = replied.says;
   handed = handed.handed;
   added = handed.added;
-  joined = handed.joined ∙ replies;
+  joined = handed.joined ∙ replied.joined;
 }
 
--- a front of the first of two texts is one of both
-pub longer_front : (first more : List ℕ) (before after : Option (List ℕ)) → AddsFront first before after → AddsFront (first ++ more) before after
-longer_front first more before after front =
-    front_more (first ++ more) first more before before after (record { front = []; joined = refl; added = sym (append-none before) }) front
-
-pub handed_front : (old new : Standing) (more : List ℕ) (before after : Option (List ℕ)) → IsHandedOn old new before after → AddsFront (old.replies ++ more) before after
-handed_front old new more before after handed =
-    longer_front old.replies more before after
-    (subst (λ (l : List ℕ). AddsFront l before after) handed.joined
-    (longer_front handed.handed new.replies before after
-    (front_more handed.handed handed.handed [] before before after
-    (record { front = []; joined = append-nil handed.handed; added = sym (append-none before) })
-    (length handed.handed, handed.added ∙ ap (append_known before) (sym (take-all handed.handed))))))
-  where
-    take-all : (l : List ℕ) → take (length l) l ≡ l
-    take-all [] = refl
-    take-all (x ∷ l) = ap (λ (r : List ℕ). x ∷ r) (take-all l)
+handed_front : (old new : Standing) (before after : Option (List ℕ)) → IsHandedOn old new before after → AddsFront old.replies before after
+handed_front old new before after handed =
+    subst (λ (l : List ℕ). AddsFront l before after) handed.joined
+    (longer_front handed.handed new.replies before after (whole_front handed.handed before after handed.added))
 
 -- what holds anyway holds where a call failed
 pub at_err : {T E : Type 0} {P : Type 0} (result : Result T E) → P → OnErr result P
@@ -254,23 +243,22 @@ at_err (Ok x) holds = tt
 at_err (Err e) holds = holds
 
 -- the replies that waited when a line was answered, or was not
-pub either_front : {T E : Type 0} (result : Result T E) (old new reply : List ℕ) (before after : Option (List ℕ))
-    → OnOk result (new ≡ old ++ reply)
-    → OnErr result (new ≡ old)
-    → AddsFront new before after
-    → AddsFront (old ++ reply) before after
-either_front (Ok x) old new reply before after is was front = subst (λ (l : List ℕ). AddsFront l before after) is front
-either_front (Err e) old new reply before after is was front =
-    longer_front old reply before after (subst (λ (l : List ℕ). AddsFront l before after) was front)
+pub either_front : {T E : Type 0} (result : Result T E) (old middle : Standing) (before after : Option (List ℕ))
+    → OnOk result (IsReplied old middle)
+    → OnErr result (middle.replies ≡ old.replies)
+    → AddsFront middle.replies before after
+    → IsCutOff old before after
+either_front (Ok x) old middle before after is was front = in_reply is.reply is.says (subst (λ (l : List ℕ). AddsFront l before after) is.joined front)
+either_front (Err e) old middle before after is was front = before_reply (subst (λ (l : List ℕ). AddsFront l before after) was front)
 
-pub unanswered_front : {T E : Type 0} (result : Result T E) (fault : E) (old middle new : Standing) (more : List ℕ) (before after : Option (List ℕ))
+pub unanswered_front : {T E : Type 0} (result : Result T E) (fault : E) (old middle new : Standing) (before after : Option (List ℕ))
     → result ≡ Err fault
     → OnErr result (middle.replies ≡ old.replies)
     → IsHandedOn middle new before after
-    → AddsFront (old.replies ++ more) before after
-unanswered_front (Ok x) fault old middle new more before after is was handed = absurd (cc)
-unanswered_front (Err e) fault old middle new more before after is was handed =
-    subst (λ (l : List ℕ). AddsFront (l ++ more) before after) was (handed_front middle new more before after handed)
+    → IsCutOff old before after
+unanswered_front (Ok x) fault old middle new before after is was handed = absurd (cc)
+unanswered_front (Err e) fault old middle new before after is was handed =
+    before_reply (subst (λ (l : List ℕ). AddsFront l before after) was (handed_front middle new before after handed))
 
 pub ok_weaker : {T E : Type 0} {P Q : Type 0} (result : Result T E) → (P → Q) → OnOk result P → OnOk result Q
 ok_weaker (Ok x) goes holds = goes holds

@@ -2,22 +2,22 @@
 use Rattle.std.proofs.Common.{◌≡◌, ℕ, ◌+◌, ◌-◌, ◌<◌, ◌≤◌, nat_lt, nat_eq, Bool, true, false, cond, get_or, List, [], ◌∷◌, ◌++◌, length, take, Option, Err, refl, sym, ◌∙◌, ap, subst, arith, append_assoc, length-take}
 use Rattle.std.proofs.lemmas.Bool.Decides.{nat_tests}
 use Rattle.std.proofs.lemmas.List.{take_all, append-nil}
+use Rattle.std.proofs.Math.Seq.{take-append_seam}
 use Rattle.std.specs.Str.Lines.{strip_carriage_return}
 use Rattle.lv_base.specs.declared.limits.TheConstants.{LINE_BYTES}
+use Rattle.lv_io.specs.Whole.{AddsFront}
 use Rattle.lv_text.specs.Tokens.{long_line, all_tokens}
 use Rattle.lv_text.specs.Lexemes.{line_reading, reading_by, is_too_long}
 use Rattle.lv_model.specs.declared.plant.Plant.{Plant}
 use Rattle.lv_scope.specs.Lists.{lists_of}
 use Rattle.lv_reply.specs.declared.reply.Refusal.TheVariants.{LineTooLong}
 use Rattle.lv_reply.specs.declared.reply.Reply.TheVariants.{Nothing as Silence}
-use Rattle.lv_reply.specs.Texts.{reply_text}
 use Rattle.lv_request.specs.Requests.{request_of, asked_by}
 use Rattle.lv_session.specs.Session.{SessionState, Stepped, unchanged, answered, stepped}
+use Rattle.lv_session.specs.Certificates.{IsTextOf}
 use Rattle.lv_session.specs.Transcript.{SessionStep, IsTranscriptFrom, ends, goes_on, AddsTranscriptFront}
-use Rattle.lv_session.specs.Laws.{replies}
 use Rattle.lv_session.proofs.Writing.{no_front}
 use Rattle.lv_session.proofs.StepLaws.{ended_stays}
-use Rattle.lv_session.proofs.Transcripts.{own_step, some_transcript}
 use Rattle.lv_serve.specs.Kept.{most_kept}
 use Rattle.lv_serve.specs.Unfinished.{kept_of, shown}
 use Rattle.lv_serve.specs.Served.{state_after}
@@ -38,10 +38,11 @@ transcript-append plant state (l ∷ ls) ms text more (goes_on {next} {reply} {r
     (subst (λ (s : SessionState). IsTranscriptFrom plant (state_after plant s ls) ms more) (sym step.goes) later))
     (ap (λ (l : List ℕ). l ++ more) joined ∙ append_assoc reply rest more)
 
--- the reply to one line
-pub one_line : (plant : Plant) (state : SessionState) (line : List ℕ)
-    → IsTranscriptFrom plant state (line ∷ []) (reply_text plant (stepped plant state line).reply)
-one_line plant state line = goes_on (own_step plant state line) ends (sym (append-nil (reply_text plant (stepped plant state line).reply)))
+-- a reply to one line
+pub one_line : (plant : Plant) (state : SessionState) (line reply : List ℕ)
+    → IsTextOf plant (stepped plant state line).state (stepped plant state line).reply reply
+    → IsTranscriptFrom plant state (line ∷ []) reply
+one_line plant state line reply says = goes_on {next = (stepped plant state line).state} {reply = reply} {rest = []} (record { goes = refl; says = says }) ends (sym (append-nil reply))
 
 -- in an ended session lines get no reply and change nothing
 pub ended_state : (plant : Plant) (state : SessionState) (ls : List (List ℕ)) → state.is_ended ≡ true → state_after plant state ls ≡ state
@@ -56,7 +57,7 @@ ended_transcript plant state (l ∷ ls) is = goes_on {next = state} {reply = []}
     step : SessionStep plant state l state []
     step = record {
       goes = sym (ap (λ (s : Stepped). s.state) (ended_stays plant state l is));
-      says = sym (ap (λ (s : Stepped). reply_text plant s.reply) (ended_stays plant state l is));
+      says = subst (λ (s : Stepped). IsTextOf plant state s.reply []) (sym (ended_stays plant state l is)) refl;
     }
 
 -- all lines that are too long are refused alike
@@ -97,10 +98,27 @@ shown_line plant state line = by (nat_lt most_kept (length line)) refl
         let short : length line ≤ most_kept = grind (arith, nat_tests) in
         ap (λ (l : List ℕ). stepped plant state (strip_carriage_return l)) (take_all most_kept line short)
 
+-- a front of a transcript of the first lines
+pub front_of_first : (plant : Plant) (state : SessionState) (first more lines : List (List ℕ)) (whole : List ℕ) (before after : Option (List ℕ))
+    → lines ≡ first ++ more
+    → IsTranscriptFrom plant state first whole
+    → AddsFront whole before after
+    → AddsTranscriptFront plant state lines before after
+front_of_first plant state first more lines whole before after is transcript front = record {
+  answered = length first;
+  whole = whole;
+  is_transcript = subst (λ (ls : List (List ℕ)). IsTranscriptFrom plant state ls whole) (sym (ap (take (length first)) is ∙ take-append_seam first more)) transcript;
+  front = front;
+}
+
+-- of all lines
+pub front_of_lines : (plant : Plant) (state : SessionState) (lines : List (List ℕ)) (whole : List ℕ) (before after : Option (List ℕ))
+    → IsTranscriptFrom plant state lines whole
+    → AddsFront whole before after
+    → AddsTranscriptFront plant state lines before after
+front_of_lines plant state lines whole before after transcript front =
+    front_of_first plant state lines [] lines whole before after (sym (append-nil lines)) transcript front
+
 -- nothing is a front of any transcript
 pub none_of_front : (plant : Plant) (state : SessionState) (lines : List (List ℕ)) (text : Option (List ℕ)) → AddsTranscriptFront plant state lines text text
-none_of_front plant state lines text = record {
-  whole = replies plant state lines;
-  is_transcript = some_transcript plant state lines;
-  front = no_front (replies plant state lines) text;
-}
+none_of_front plant state lines text = front_of_first plant state [] lines lines [] text text refl ends (no_front [] text)

@@ -11,13 +11,10 @@ ghost use Rattle.lv_io.specs.Outside.{HasCause};
 ghost use Rattle.lv_io.specs.Whole.{AddsFront};
 ghost use Rattle.lv_text.specs.Lines.{is_line_feed, lines_of};
 ghost use Rattle.lv_model.specs.declared.plant.Plant.{Plant};
-ghost use Rattle.lv_reply.specs.Texts.{reply_text};
-ghost use Rattle.lv_session.specs.Session.{stepped};
 ghost use Rattle.lv_session.specs.Transcript.{AddsTranscript, AddsFrontOfTranscript};
 ghost use Rattle.lv_serve.specs.Standing.{Standing};
 ghost use Rattle.lv_serve.specs.Ends.{ended};
-ghost use Rattle.lv_serve.specs.Unfinished.{kept_of, shown};
-ghost use Rattle.lv_serve.specs.Serving.{StandsAt, Waits, IsAnswered, IsHandedOn, line_reply};
+ghost use Rattle.lv_serve.specs.Serving.{StandsAt, Waits, IsReplied, IsAnswered, IsCutOff, IsHandedOn};
 
 use crate::unfinished::Unfinished;
 use lv_io::{IoFault, Sink, write_all};
@@ -148,7 +145,7 @@ impl<'a> Serving<'a> {
     /// that none of those before is lost.
     fn answer<O: Sink>(&mut self, out: &mut O) -> Result<(), IoFault>
         ensures ok { OnOk result (IsAnswered self.old self.new (O.text out.old) (O.text out.new)) }
-        ensures err { OnErr result (AddsFront (self.old.replies ++ line_reply self.old) (O.text out.old) (O.text out.new)) }
+        ensures err { OnErr result (IsCutOff self.old (O.text out.old) (O.text out.new)) }
         ensures flushed { O.is_flushed out.old ≡ true → OnOk result (O.is_flushed out.new ≡ true) }
         ensures cause { HasCause (O.faults out.old) (O.faults out.new) result }
     {
@@ -159,11 +156,9 @@ impl<'a> Serving<'a> {
         Ok(())
     }
 
-    /// Carries the line out and puts the text of its reply behind those that wait.
+    /// Carries the line out and puts a text of its reply behind those that wait.
     fn put_reply(&mut self) -> Result<(), AllocError>
-        ensures session { OnOk result (self.new.session ≡ record self.old.session { state = (stepped self.old.session.plant self.old.session.state (shown self.old.line)).state }) }
-        ensures line { OnOk result (self.new.line ≡ kept_of []) }
-        ensures replies { OnOk result (self.new.replies ≡ self.old.replies ++ line_reply self.old) }
+        ensures ok { OnOk result (IsReplied self.old self.new) }
         ensures err { OnErr result (self.new.replies ≡ self.old.replies) }
     {
         let reply = self.session.step(self.line.line())?;

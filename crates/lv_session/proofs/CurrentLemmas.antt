@@ -8,19 +8,19 @@ use Rattle.lv_model.specs.declared.state.TrackedState.{TrackedState}
 use Rattle.lv_walk.specs.declared.outcome.Outcome.{Outcome}
 use Rattle.lv_walk.specs.declared.outcome.Outcome.TheVariants.{Settled, Unsettled}
 use Rattle.lv_tracker.specs.Tracked.{advanced}
-use Rattle.lv_reply.specs.declared.reply.Refusal.TheVariants.{NameHeld, NameNotHeld, OutOfLimits, NothingListed, TooManyHeld, TooManyCommits}
+use Rattle.lv_reply.specs.declared.reply.Refusal.TheVariants.{NameHeld, NameNotHeld, OutOfLimits, NoQuery, NothingListed, TooManyHeld, TooManyCommits}
 use Rattle.lv_reply.specs.declared.reply.Reply.{Reply}
-use Rattle.lv_reply.specs.declared.reply.Reply.TheVariants.{Refused, Committed}
+use Rattle.lv_reply.specs.declared.reply.Reply.TheVariants.{Refused, Committed, Certificate as Certified}
 use Rattle.lv_request.specs.declared.goals.Goal.{Goal}
 use Rattle.lv_request.specs.declared.request.Sighting.{Sighting}
 use Rattle.lv_request.specs.declared.request.Request.{Request}
-use Rattle.lv_request.specs.declared.request.Request.TheVariants.{Nothing, Track, SetBudget, SetControl, Release, Observe, Retract, SetGoal, DropGoal, Diagnose, Recover, More, Commit, Conflicts, Labels, LabelsFrom, States, Reset, Quit}
+use Rattle.lv_request.specs.declared.request.Request.TheVariants.{Nothing, Track, SetBudget, SetControl, Release, Observe, Retract, SetGoal, DropGoal, Diagnose, Recover, More, Commit, Conflicts, Certificate, Labels, LabelsFrom, States, Reset, Quit}
 use Rattle.lv_session.specs.declared.query.Query.{Query}
 use Rattle.lv_session.specs.declared.query.Query.TheVariants.{Absent, Diagnosis, Recovery}
 use Rattle.lv_session.specs.declared.running.Running.{Running}
 use Rattle.lv_session.specs.declared.running.Running.TheVariants as kept
 use Rattle.lv_held.specs.Held.{lacks_name}
-use Rattle.lv_session.specs.Session.{SessionState, Stepped, unchanged, cleared, walked, recovery, is_held, has_no_room, observe, retract, is_goal, has_no_goal_room, lacks_goal_name, set_goal, drop_goal, labelled, labelled_from, commit, commit_by, conflicts, taken_over, advanced_to, carried_out}
+use Rattle.lv_session.specs.Session.{SessionState, Stepped, unchanged, cleared, walked, recovery, is_held, has_no_room, observe, retract, is_goal, has_no_goal_room, lacks_goal_name, set_goal, drop_goal, labelled, labelled_from, is_settled, certificate, commit, commit_by, conflicts, taken_over, advanced_to, carried_out}
 use Rattle.lv_session.specs.Current.{IsKeptOf, IsCurrent, IsCaredFor}
 
 same_walk : (plant : Plant) (state : SessionState) (budget : ℕ) (ended : Bool) (sum : ℕ) → walked plant (record state { budget = budget; is_ended = ended }) sum ≡ walked plant state sum
@@ -43,7 +43,7 @@ module _ (plant : Plant) (state : SessionState) (running : Running) (is : IsCurr
       by (Diagnosis sum) (kept.Diagnosis d) h = record { plant_is = h.plant_is; facts_are = h.facts_are; k = h.k; on_walk = h.on_walk; came_to = same_walk plant state budget ended sum ∙ h.came_to }
       by (Recovery sum) kept.Nothing h = h
       by (Recovery sum) (kept.Diagnosis d) h = h
-      by (Recovery sum) (kept.Recovery r) h = record { plant_is = h.plant_is; aim_is = h.aim_is; on_walk = h.on_walk; came_to = same_recovery plant state budget ended sum ∙ h.came_to }
+      by (Recovery sum) (kept.Recovery r) h = record { plant_is = h.plant_is; aim_is = h.aim_is; some = h.some; on_walk = h.on_walk; came_to = same_recovery plant state budget ended sum ∙ h.came_to }
 
   observe_current : (s : Sighting) → IsCurrent plant (observe state s).state running
   observe_current s = by (is_held state s.name) (has_no_room state s.name)
@@ -109,6 +109,13 @@ module _ (plant : Plant) (state : SessionState) (running : Running) (is : IsCurr
   conflicts_current (Diagnosis sum) = is
   conflicts_current (Recovery sum) = is
 
+  certificate_current : (q : Query) → IsCurrent plant (certificate q plant state).state running
+  certificate_current q = by (is_settled q plant state)
+    where
+      by : (b : Bool) → IsCurrent plant (cond b (unchanged state Certified) (unchanged state (Refused NoQuery))).state running
+      by true = is
+      by false = is
+
 -- what is kept after a request is that of the state that it leads to
 module _ (plant : Plant) (old : SessionState) (before after : Running) (is : IsCurrent plant old before) where
   left : (next : SessionState) → IsCurrent plant next before → after ≡ before → IsCurrent plant next after
@@ -129,6 +136,7 @@ module _ (plant : Plant) (old : SessionState) (before after : Running) (is : IsC
   cared_for (More n) care = care
   cared_for Commit care = left (commit old.query plant old).state (commit_current plant old before is old.query) care
   cared_for Conflicts care = left (conflicts old.query plant old).state (conflicts_current plant old before is old.query) care
+  cared_for Certificate care = left (certificate old.query plant old).state (certificate_current plant old before is old.query) care
   cared_for Labels care = left old is care
   cared_for (LabelsFrom n) care = left (labelled_from plant old n).state (labelled_current plant old before is n) care
   cared_for States care = left old is care

@@ -8,7 +8,7 @@ use Rattle.lv_base.specs.declared.ids.ValId.{ValId}
 use Rattle.lv_base.specs.declared.ids.VarId.{VarId}
 use Rattle.lv_base.specs.declared.rank.Rank.{Rank}
 use Rattle.std.proofs.lemmas.List.Sums.{length-filter, count_by-le-length}
-use Rattle.lv_base.specs.declared.limits.TheConstants.{COMMITS, TRACKED, OBSERVATIONS, NAME_BYTES}
+use Rattle.lv_base.specs.declared.limits.TheConstants.{COMMITS, TRACKED, OBSERVATIONS, GOALS, NAME_BYTES}
 use Rattle.lv_model.specs.declared.plant.Plant.{Plant}
 use Rattle.lv_model.specs.declared.plant.Part.{Part}
 use Rattle.lv_model.specs.Lists.{sizes, controls, variable_count, IsVariable}
@@ -25,21 +25,22 @@ use Rattle.lv_walk.specs.declared.outcome.Outcome.TheVariants.{Settled, Unsettle
 use Rattle.lv_tracker.specs.Targets.{target_state}
 use Rattle.lv_tracker.specs.Tracked.{start_state, advanced, HasModes}
 use Rattle.lv_tracker.proofs.ListLemmas.{first_all, targets_have_modes}
-use Rattle.lv_reply.specs.declared.reply.Refusal.TheVariants.{NameHeld, NameNotHeld, OutOfLimits, NothingListed, NoGoal, TooManyHeld, TooManyCommits}
+use Rattle.lv_reply.specs.declared.reply.Refusal.TheVariants.{NameHeld, NameNotHeld, OutOfLimits, NoQuery, NothingListed, NoGoal, TooManyHeld, TooManyCommits}
 use Rattle.lv_reply.specs.declared.reply.Reply.{Reply}
-use Rattle.lv_reply.specs.declared.reply.Reply.TheVariants.{Refused, Committed}
+use Rattle.lv_reply.specs.declared.reply.Reply.TheVariants.{Refused, Committed, Certificate as Certified}
 use Rattle.lv_model.specs.declared.state.TrackedState.{TrackedState}
 use Rattle.lv_recovery.specs.Ranges.{StateFits}
 use Rattle.lv_request.specs.declared.goals.Goal.{Goal}
 use Rattle.lv_request.specs.declared.request.Sighting.{Sighting}
 use Rattle.lv_request.specs.declared.request.Request.{Request}
-use Rattle.lv_request.specs.declared.request.Request.TheVariants.{Nothing, Track, SetBudget, SetControl, Release, Observe, Retract, SetGoal, DropGoal, Diagnose, Recover, More, Commit, Conflicts, Labels, LabelsFrom, States, Reset, Quit}
+use Rattle.lv_request.specs.declared.request.Request.TheVariants.{Nothing, Track, SetBudget, SetControl, Release, Observe, Retract, SetGoal, DropGoal, Diagnose, Recover, More, Commit, Conflicts, Certificate, Labels, LabelsFrom, States, Reset, Quit}
+use Rattle.lv_request.specs.Forms.{IsUpTo}
 use Rattle.lv_request.specs.Goals.{IsGoalIn}
 use Rattle.lv_request.specs.Requests.{IsSightingIn, IsRequestOf}
 use Rattle.lv_session.specs.declared.query.Query.{Query}
 use Rattle.lv_session.specs.declared.query.Query.TheVariants.{Absent, Diagnosis, Recovery}
 use Rattle.lv_held.specs.Held.{lacks_name}
-use Rattle.lv_session.specs.Session.{SessionState, Stepped, start, rest, unchanged, cleared, walked, recovery, is_held, observe, retract, is_goal, has_no_goal_room, lacks_goal_name, set_goal, drop_goal, recovered, recover, more, more_by, more_recovery_by, labelled, labelled_from, commit, commit_by, conflicts, taken_over, advanced_to, carried_out}
+use Rattle.lv_session.specs.Session.{SessionState, Stepped, start, rest, unchanged, cleared, walked, recovery, is_held, observe, retract, is_goal, lacks_goal_name, set_goal, drop_goal, recovered, recover, more, more_by, more_recovery_by, is_settled, certificate, labelled, labelled_from, commit, commit_by, conflicts, taken_over, advanced_to, carried_out}
 use Rattle.lv_session.specs.States.{StateCosts, RankCosts, IsStateOf, IsListOf}
 use Rattle.lv_session.proofs.Fitting.{start_fits, all_fit}
 use Rattle.lv_session.proofs.Listed.{list_of}
@@ -84,14 +85,15 @@ start_kept plant h = record {
   fit = All-cons (StateFits plant) (start_state plant) [] (start_fits plant h) (All-nil (StateFits plant));
   costs = All-cons (StateCosts 0) (start_state plant) [] (record { most = omega arith }) (All-nil (StateCosts 0));
   time = omega arith;
-  k = omega arith;
+  k = record { some = omega arith; few = omega arith };
   present = All-nil (IsSightingIn plant);
   next = All-nil (IsSightingIn plant);
   held = omega arith;
   goals = All-nil (IsGoalIn plant);
+  few_goals = omega arith;
 }
 
-kept_few : (test : Sighting → Bool) (ss : List Sighting) → length (filter test ss) ≤ length ss
+kept_few : {X : Type 0} (test : X → Bool) (ss : List X) → length (filter test ss) ≤ length ss
 kept_few test ss = subst (λ n. n ≤ length ss) (sym (length-filter test ss)) (count_by-le-length test ss)
 
 costs_map : (plant : Plant) (time : ℕ) (listed : List Rank) → All (RankCosts time) listed → All (StateCosts time) (map (target_state plant) listed)
@@ -102,9 +104,9 @@ costs_map plant time (r ∷ rs) all =
 
 module _ (plant : Plant) (state : SessionState) (h : is_well_formed plant ≡ true) (is : IsStateOf plant state) where
   -- what no other field is about may change
-  numbers_kept : (k budget : ℕ) (query : Query) (ended : Bool) → k ≤ TRACKED → IsStateOf plant (record state { k = k; budget = budget; query = query; is_ended = ended })
+  numbers_kept : (k budget : ℕ) (query : Query) (ended : Bool) → IsUpTo TRACKED k → IsStateOf plant (record state { k = k; budget = budget; query = query; is_ended = ended })
   numbers_kept k budget query ended few =
-      record { controls_whole = is.controls_whole; values = is.values; modes = is.modes; fit = is.fit; costs = is.costs; time = is.time; k = few; present = is.present; next = is.next; held = is.held; goals = is.goals }
+      record { controls_whole = is.controls_whole; values = is.values; modes = is.modes; fit = is.fit; costs = is.costs; time = is.time; k = few; present = is.present; next = is.next; held = is.held; goals = is.goals; few_goals = is.few_goals }
 
   control_kept : (place : ℕ) (value : ValId) → ((x : VarId) → slice_get (controls plant) place ≡ Some x → value.0 < slice_index_or (sizes plant) x.0 0)
       → IsStateOf plant (record state { controls = slice_set state.controls place value; query = Absent })
@@ -120,16 +122,17 @@ module _ (plant : Plant) (state : SessionState) (h : is_well_formed plant ≡ tr
     next = is.next;
     held = is.held;
     goals = is.goals;
+    few_goals = is.few_goals;
   }
 
   held_kept : (present next : List Sighting) → All (IsSightingIn plant) present → All (IsSightingIn plant) next → length present + length next ≤ OBSERVATIONS
       → IsStateOf plant (record state { present = present; next = next; query = Absent })
   held_kept present next in_present in_next few =
-      record { controls_whole = is.controls_whole; values = is.values; modes = is.modes; fit = is.fit; costs = is.costs; time = is.time; k = is.k; present = in_present; next = in_next; held = few; goals = is.goals }
+      record { controls_whole = is.controls_whole; values = is.values; modes = is.modes; fit = is.fit; costs = is.costs; time = is.time; k = is.k; present = in_present; next = in_next; held = few; goals = is.goals; few_goals = is.few_goals }
 
-  goals_kept : (goals : List Goal) → All (IsGoalIn plant) goals → IsStateOf plant (record state { goals = goals; query = Absent })
-  goals_kept goals within =
-      record { controls_whole = is.controls_whole; values = is.values; modes = is.modes; fit = is.fit; costs = is.costs; time = is.time; k = is.k; present = is.present; next = is.next; held = is.held; goals = within }
+  goals_kept : (goals : List Goal) → All (IsGoalIn plant) goals → length goals ≤ GOALS → IsStateOf plant (record state { goals = goals; query = Absent })
+  goals_kept goals within few =
+      record { controls_whole = is.controls_whole; values = is.values; modes = is.modes; fit = is.fit; costs = is.costs; time = is.time; k = is.k; present = is.present; next = is.next; held = is.held; goals = within; few_goals = few }
 
   observe_kept : (s : Sighting) → IsSightingIn plant s → IsStateOf plant (observe state s).state
   observe_kept s within = by (is_held state s.name) (nat_le OBSERVATIONS (length state.present + length state.next)) (nat_lt NAME_BYTES (length s.name)) refl
@@ -163,19 +166,27 @@ module _ (plant : Plant) (state : SessionState) (h : is_well_formed plant ≡ tr
       by false = is
 
   set_goal_kept : (g : Goal) → IsGoalIn plant g → IsStateOf plant (set_goal state g).state
-  set_goal_kept g within = by (is_goal state g.name) (has_no_goal_room state g.name)
+  set_goal_kept g within = by (is_goal state g.name) (nat_le GOALS (length state.goals)) (nat_lt NAME_BYTES (length g.name)) refl
     where
-      by : (a b : Bool)
-          → IsStateOf plant (cond a (unchanged state (Refused NameHeld)) (cond b (unchanged state (Refused TooManyHeld)) (cleared (record state { goals = state.goals ++ (g ∷ []) })))).state
-      by true b = is
-      by false true = is
-      by false false = goals_kept (state.goals ++ (g ∷ [])) (All-append (IsGoalIn plant) state.goals (g ∷ []) is.goals (All-cons (IsGoalIn plant) g [] within (All-nil (IsGoalIn plant))))
+      by : (a b d : Bool) → nat_le GOALS (length state.goals) ≡ b
+          → IsStateOf plant (cond a (unchanged state (Refused NameHeld)) (cond (b || d) (unchanged state (Refused TooManyHeld)) (cleared (record state { goals = state.goals ++ (g ∷ []) })))).state
+      by true b d e = is
+      by false true d e = is
+      by false false true e = is
+      by false false false e =
+          let room = leb-false GOALS (length state.goals) e in
+          let longer = length-append state.goals (g ∷ []) in
+          goals_kept (state.goals ++ (g ∷ [])) (All-append (IsGoalIn plant) state.goals (g ∷ []) is.goals (All-cons (IsGoalIn plant) g [] within (All-nil (IsGoalIn plant))))
+          (omega (arith, room, longer))
 
   drop_goal_kept : (name : List ℕ) → IsStateOf plant (drop_goal state name).state
   drop_goal_kept name = by (is_goal state name)
     where
       by : (b : Bool) → IsStateOf plant (cond b (cleared (record state { goals = filter (lacks_goal_name name) state.goals })) (unchanged state (Refused NameNotHeld))).state
-      by true = goals_kept (filter (lacks_goal_name name) state.goals) (All-filter (lacks_goal_name name) (IsGoalIn plant) state.goals is.goals)
+      by true =
+          let fewer = kept_few (lacks_goal_name name) state.goals in
+          let few = is.few_goals in
+          goals_kept (filter (lacks_goal_name name) state.goals) (All-filter (lacks_goal_name name) (IsGoalIn plant) state.goals is.goals) (omega (arith, fewer, few))
       by false = is
 
   recover_kept : IsStateOf plant (recover plant state).state
@@ -210,6 +221,13 @@ module _ (plant : Plant) (state : SessionState) (h : is_well_formed plant ≡ tr
   conflicts_kept (Diagnosis sum) = is
   conflicts_kept (Recovery sum) = is
 
+  certificate_kept : (q : Query) → IsStateOf plant (certificate q plant state).state
+  certificate_kept q = by (is_settled q plant state)
+    where
+      by : (b : Bool) → IsStateOf plant (cond b (unchanged state Certified) (unchanged state (Refused NoQuery))).state
+      by true = is
+      by false = is
+
   advanced_kept : (listed : List Rank) → IsListOf plant state listed → nat_le COMMITS state.time ≡ false → IsStateOf plant (advanced_to plant state listed)
   advanced_kept listed l early =
       let before : state.time + 1 ≤ COMMITS = omega (arith, leb-false COMMITS state.time early) in
@@ -225,6 +243,7 @@ module _ (plant : Plant) (state : SessionState) (h : is_well_formed plant ≡ tr
         next = All-nil (IsSightingIn plant);
         held = (let held = is.held in omega (arith, held));
         goals = is.goals;
+        few_goals = is.few_goals;
       }
 
   taken_kept : (listed : List Rank) → IsListOf plant state listed → IsStateOf plant (taken_over plant state listed).state
@@ -261,6 +280,7 @@ module _ (plant : Plant) (state : SessionState) (h : is_well_formed plant ≡ tr
   request_kept (More n) within = more_kept state.query n
   request_kept Commit within = commit_kept state.query
   request_kept Conflicts within = conflicts_kept state.query
+  request_kept Certificate within = certificate_kept state.query
   request_kept Labels within = is
   request_kept (LabelsFrom n) within = labelled_kept n
   request_kept States within = is

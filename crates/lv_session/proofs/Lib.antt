@@ -8,3 +8,4 @@ pub mod Asking
 pub mod Recovering
 pub mod Labelling
 pub mod CurrentLemmas
+pub mod Certifying

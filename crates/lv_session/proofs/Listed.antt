@@ -101,7 +101,7 @@ module _ (plant : Plant) (state : SessionState) (h : is_well_formed plant ≡ tr
   pub list_of : (n : ℕ) → IsListOf plant state (walked plant state n).listed
   list_of n =
       let few : length (walked plant state n).listed ≤ state.k = few_listed n in
-      let k = is.k in
+      let k = is.k.few in
       record {
         few = omega arith;
         moves = λ i d below. (each_ready n i d below).moves;

@@ -63,12 +63,13 @@ unfolding recovery
 recovery_at plant state p aim m sum plant_is aim_is m_is = λ i. recovery_walk (plant_is i) (aim_is i) (m_is i)
 
 -- a search of the state's recovery that has run on
-pub recovery_has_run : (plant : Plant) (state : SessionState) (n sum : ℕ) (old new : QueryValue) (o : Outcome) → old.plant ≡ plant → old.aim ≡ aim_of state → trials_of old.standing + n ≡ sum
+pub recovery_has_run : (plant : Plant) (state : SessionState) (n sum : ℕ) (old new : QueryValue) (o : Outcome) → old.plant ≡ plant → old.aim ≡ aim_of state → 1 ≤ length state.goals → trials_of old.standing + n ≡ sum
     → IsQuery new → recovery_walk old.plant old.aim (trials_of old.standing + n) ≡ record { outcome = o; listed = new.standing.listed; kept = new.standing.kept }
     → new.plant ≡ old.plant → new.aim ≡ old.aim → IsRecoveryAt plant state sum (record { query = new; outcome = o })
-recovery_has_run plant state n sum old new o plant_is aim_is sum_is on walk plant_same aim_same = record {
+recovery_has_run plant state n sum old new o plant_is aim_is some sum_is on walk plant_same aim_same = record {
   plant_is = plant_same ∙ plant_is;
   aim_is = aim_same ∙ aim_is;
+  some = some;
   on_walk = on;
   came_to = sym (recovery_at plant state old.plant old.aim (trials_of old.standing + n) sum plant_is aim_is sum_is) ∙ walk;
 }
@@ -92,7 +93,7 @@ module _ (plant : Plant) (state : SessionState) (sum : ℕ) (r : Recovering) (at
       → new.plant ≡ r.query.plant → new.aim ≡ r.query.aim → IsRecoveryAt plant state (sum + n) (record { query = new; outcome = o })
   recovery_gone_on n new o unsettled on walk plant_same aim_same =
       let made : trials_of r.query.standing ≡ sum = tried_at unsettled in
-      recovery_has_run plant state n (sum + n) r.query new o at.plant_is at.aim_is (omega (arith, made)) on walk plant_same aim_same
+      recovery_has_run plant state n (sum + n) r.query new o at.plant_is at.aim_is at.some (omega (arith, made)) on walk plant_same aim_same
 
   -- the current query is that recovery
   pub recovery_stands : (q : Query) (n : ℕ) → q ≡ Recovery sum → r.outcome ≡ Settled → unchanged state (Refused NotUnsettled) ≡ more q plant state n
@@ -123,6 +124,7 @@ pub recovery_of_other_query : (plant : Plant) (state : SessionState) (q : Query)
 recovery_of_other_query plant state q sum r at = record {
   plant_is = at.plant_is;
   aim_is = at.aim_is;
+  some = at.some;
   on_walk = at.on_walk;
   came_to = other_recovery plant state q sum ∙ at.came_to;
 }

@@ -1,6 +1,7 @@
 -- What holds of every step of a session.
-use Rattle.std.proofs.Common.{◌≡◌, ℕ, ◌+◌, Bool, true, false, cond, nat_eq, nat_le, ◌-◌, slice_get, Option, None, Some, List, ◌∷◌, [], ◌++◌, length, filter, Result, Ok, Err, refl, sym, ◌∙◌, ap}
+use Rattle.std.proofs.Common.{◌≡◌, ℕ, ◌+◌, Bool, true, false, ◌||◌, cond, nat_eq, nat_le, ◌-◌, slice_get, Option, None, Some, List, ◌∷◌, [], ◌++◌, length, filter, Result, Ok, Err, refl, sym, ◌∙◌, ap, subst}
 use Rattle.std.specs.Option.{option_map_or}
+use Rattle.std.proofs.lemmas.Bool.{or_parts}
 use Rattle.lv_base.specs.declared.limits.TheConstants.{COMMITS}
 use Rattle.lv_base.specs.declared.rank.Rank.{Rank}
 use Rattle.lv_model.specs.declared.plant.Plant.{Plant}
@@ -11,151 +12,201 @@ use Rattle.lv_walk.specs.declared.outcome.Outcome.TheVariants.{Settled, Unsettle
 use Rattle.lv_walk.specs.Walk.{Walked}
 use Rattle.lv_tracker.specs.Tracked.{advanced}
 use Rattle.lv_reply.specs.declared.reply.Refusal.{Refusal}
-use Rattle.lv_reply.specs.declared.reply.Refusal.TheVariants.{NameHeld, NameNotHeld, OutOfLimits, NothingListed, NoGoal, TooManyHeld, TooManyCommits}
-use Rattle.lv_reply.specs.declared.reply.Reply.TheVariants.{Nothing as Silence, Refused, Committed}
+use Rattle.lv_reply.specs.declared.reply.Refusal.TheVariants.{NameHeld, NameNotHeld, OutOfLimits, NoQuery, NothingListed, NoGoal, TooManyHeld, TooManyCommits}
+use Rattle.lv_reply.specs.declared.reply.Reply.{Reply}
+use Rattle.lv_reply.specs.declared.reply.Reply.TheVariants.{Nothing as Silence, Refused, Committed, Certificate as Certified}
+use Rattle.lv_labels.specs.declared.labelling.Labelling.{Labelling}
 use Rattle.lv_labels.specs.declared.labelling.Labelling.TheVariants as labelling
+use Rattle.lv_labels.specs.Literals.{fact_literals, state_literals}
+use Rattle.lv_labels.specs.Finding.{labelling}
 use Rattle.lv_request.specs.declared.goals.Goal.{Goal}
 use Rattle.lv_request.specs.declared.request.Sighting.{Sighting}
 use Rattle.lv_request.specs.declared.request.Request.{Request}
-use Rattle.lv_request.specs.declared.request.Request.TheVariants.{Nothing, Track, SetBudget, SetControl, Release, Observe, Retract, SetGoal, DropGoal, Diagnose, Recover, More, Commit, Conflicts, Labels, LabelsFrom, States, Reset, Quit}
+use Rattle.lv_request.specs.declared.request.Request.TheVariants.{Nothing, Track, SetBudget, SetControl, Release, Observe, Retract, SetGoal, DropGoal, Diagnose, Recover, More, Commit, Conflicts, Certificate, Labels, LabelsFrom, States, Reset, Quit}
 use Rattle.lv_request.specs.Requests.{request_of}
 use Rattle.lv_session.specs.declared.query.Query.{Query}
 use Rattle.lv_session.specs.declared.query.Query.TheVariants.{Absent, Diagnosis, Recovery}
 use Rattle.lv_held.specs.Held.{lacks_name}
-use Rattle.lv_session.specs.Session.{SessionState, Stepped, unchanged, cleared, walked, recovery, is_held, has_no_room, observe, retract, is_goal, has_no_goal_room, lacks_goal_name, set_goal, drop_goal, reply_by, diagnosis_reply, diagnosed, found, recovery_reply_by, recovery_reply, recovered, recover, more, more_by, more_recovery_by, labelled, labelled_from, commit, commit_by, conflicts, taken_over, advanced_to, carried_out, answered, stepped}
-use Rattle.lv_session.specs.Laws.{is_refused, clears}
+use Rattle.lv_session.specs.Session.{SessionState, Stepped, unchanged, cleared, walked, recovery, is_held, has_no_room, observe, retract, is_goal, has_no_goal_room, lacks_goal_name, set_goal, drop_goal, reply_by, diagnosis_reply, diagnosed, found, recovery_reply_by, recovery_reply, recovered, recover, more, more_by, more_recovery_by, is_settled, certificate, facts_of, labels_reply, labelled, labelled_from, commit, commit_by, conflicts, taken_over, advanced_to, carried_out, answered, stepped}
+use Rattle.lv_session.specs.Certificates.{IsDue}
+use Rattle.lv_session.specs.Laws.{is_refused, is_certificate, clears}
 
--- where the reply is a refusal the state is this one; where it isn't, and the request clears, no query is current
-pub record IsFair (state : SessionState) (clearing : Bool) (s : Stepped) : Type 0 where
-  pub refused : is_refused s.reply ≡ true → s.state ≡ state
+-- a refusal, or a certificate
+abbrev keeps : Reply → Bool
+keeps reply = is_refused reply || is_certificate reply
+
+-- the line asks for a certificate
+abbrev pub asks_certificate : Request → Bool
+asks_certificate Certificate = true
+asks_certificate request = false
+
+-- where the reply is a refusal or a certificate the state is this one; where it is no refusal, and the request clears, no query is
+-- current; where it is a certificate the query is settled; and it is none unless one is asked for
+pub record IsFair (plant : Plant) (state : SessionState) (clearing certifying : Bool) (s : Stepped) : Type 0 where
+  pub kept : keeps s.reply ≡ true → s.state ≡ state
   pub carried : clearing ≡ true → is_refused s.reply ≡ false → s.state.query ≡ Absent
+  pub due : IsDue plant s.state s.reply
+  pub told : certifying ≡ false → is_certificate s.reply ≡ false
 
 -- a refusal
-fair_refusal : (state : SessionState) (b : Bool) (refusal : Refusal) → IsFair state b (unchanged state (Refused refusal))
-fair_refusal state b refusal = record { refused = λ _. refl; carried = λ _ e. absurd (cc e) }
+fair_refusal : (plant : Plant) (state : SessionState) (b : Bool) (refusal : Refusal) → IsFair plant state b false (unchanged state (Refused refusal))
+fair_refusal plant state b refusal = record { kept = λ _. refl; carried = λ _ e. absurd (cc e); due = tt; told = λ _. refl }
 
 -- accepted, and cleared
-fair_clearing : (state next : SessionState) (b : Bool) → IsFair state b (cleared next)
-fair_clearing state next b = record { refused = λ e. absurd (cc e); carried = λ _ _. refl }
+fair_clearing : (plant : Plant) (state next : SessionState) (b : Bool) → IsFair plant state b false (cleared next)
+fair_clearing plant state next b = record { kept = λ e. absurd (cc e); carried = λ _ _. refl; due = tt; told = λ _. refl }
 
 module _ (plant : Plant) (state : SessionState) where
-  fair_observe : (s : Sighting) → IsFair state true (observe state s)
+  fair_observe : (s : Sighting) → IsFair plant state true false (observe state s)
   fair_observe s = by (is_held state s.name) (has_no_room state s.name)
     where
-      by : (a b : Bool) → IsFair state true (cond a (unchanged state (Refused NameHeld)) (cond b (unchanged state (Refused TooManyHeld)) (cleared (record state { next = state.next ++ (s ∷ []) }))))
-      by true b = fair_refusal state true NameHeld
-      by false true = fair_refusal state true TooManyHeld
-      by false false = fair_clearing state (record state { next = state.next ++ (s ∷ []) }) true
+      by : (a b : Bool) → IsFair plant state true false (cond a (unchanged state (Refused NameHeld)) (cond b (unchanged state (Refused TooManyHeld)) (cleared (record state { next = state.next ++ (s ∷ []) }))))
+      by true b = fair_refusal plant state true NameHeld
+      by false true = fair_refusal plant state true TooManyHeld
+      by false false = fair_clearing plant state (record state { next = state.next ++ (s ∷ []) }) true
 
-  fair_retract : (name : List ℕ) → IsFair state true (retract state name)
+  fair_retract : (name : List ℕ) → IsFair plant state true false (retract state name)
   fair_retract name = by (is_held state name)
     where
       by : (b : Bool)
-          → IsFair state true (cond b (cleared (record state { present = filter (lacks_name name) state.present; next = filter (lacks_name name) state.next })) (unchanged state (Refused NameNotHeld)))
-      by true = fair_clearing state (record state { present = filter (lacks_name name) state.present; next = filter (lacks_name name) state.next }) true
-      by false = fair_refusal state true NameNotHeld
+          → IsFair plant state true false (cond b (cleared (record state { present = filter (lacks_name name) state.present; next = filter (lacks_name name) state.next })) (unchanged state (Refused NameNotHeld)))
+      by true = fair_clearing plant state (record state { present = filter (lacks_name name) state.present; next = filter (lacks_name name) state.next }) true
+      by false = fair_refusal plant state true NameNotHeld
 
-  fair_goal : (g : Goal) → IsFair state true (set_goal state g)
+  fair_goal : (g : Goal) → IsFair plant state true false (set_goal state g)
   fair_goal g = by (is_goal state g.name) (has_no_goal_room state g.name)
     where
-      by : (a b : Bool) → IsFair state true (cond a (unchanged state (Refused NameHeld)) (cond b (unchanged state (Refused TooManyHeld)) (cleared (record state { goals = state.goals ++ (g ∷ []) }))))
-      by true b = fair_refusal state true NameHeld
-      by false true = fair_refusal state true TooManyHeld
-      by false false = fair_clearing state (record state { goals = state.goals ++ (g ∷ []) }) true
+      by : (a b : Bool) → IsFair plant state true false (cond a (unchanged state (Refused NameHeld)) (cond b (unchanged state (Refused TooManyHeld)) (cleared (record state { goals = state.goals ++ (g ∷ []) }))))
+      by true b = fair_refusal plant state true NameHeld
+      by false true = fair_refusal plant state true TooManyHeld
+      by false false = fair_clearing plant state (record state { goals = state.goals ++ (g ∷ []) }) true
 
-  fair_drop : (name : List ℕ) → IsFair state true (drop_goal state name)
+  fair_drop : (name : List ℕ) → IsFair plant state true false (drop_goal state name)
   fair_drop name = by (is_goal state name)
     where
-      by : (b : Bool) → IsFair state true (cond b (cleared (record state { goals = filter (lacks_goal_name name) state.goals })) (unchanged state (Refused NameNotHeld)))
-      by true = fair_clearing state (record state { goals = filter (lacks_goal_name name) state.goals }) true
-      by false = fair_refusal state true NameNotHeld
+      by : (b : Bool) → IsFair plant state true false (cond b (cleared (record state { goals = filter (lacks_goal_name name) state.goals })) (unchanged state (Refused NameNotHeld)))
+      by true = fair_clearing plant state (record state { goals = filter (lacks_goal_name name) state.goals }) true
+      by false = fair_refusal plant state true NameNotHeld
 
-  -- a diagnosis is no refusal
-  no_refusal : (o : Outcome) (w : Walked) → is_refused (reply_by o w) ≡ false
+  -- a diagnosis is no refusal and no certificate
+  no_refusal : (o : Outcome) (w : Walked) → keeps (reply_by o w) ≡ false
   no_refusal Settled w = refl
   no_refusal Unsettled w = refl
 
-  fair_diagnosis : (sum : ℕ) → IsFair state false (diagnosed plant state sum)
+  diagnosis_due : (next : SessionState) (o : Outcome) (w : Walked) → IsDue plant next (reply_by o w)
+  diagnosis_due next Settled w = tt
+  diagnosis_due next Unsettled w = tt
+
+  fair_diagnosis : (sum : ℕ) → IsFair plant state false false (diagnosed plant state sum)
   fair_diagnosis sum = record {
-    refused = λ e. let clash : true ≡ false = sym e ∙ no_refusal (walked plant state sum).outcome (walked plant state sum) in absurd (cc clash);
+    kept = λ e. let clash : true ≡ false = sym e ∙ no_refusal (walked plant state sum).outcome (walked plant state sum) in absurd (cc clash);
     carried = λ e _. absurd (cc e);
+    due = diagnosis_due (diagnosed plant state sum).state (walked plant state sum).outcome (walked plant state sum);
+    told = λ _. (or_parts (is_refused (diagnosed plant state sum).reply) _ (no_refusal (walked plant state sum).outcome (walked plant state sum))).1;
   }
 
   -- nor is a recovery
-  recovery_no_refusal : (o : Outcome) (w : Walked) → is_refused (recovery_reply_by o w) ≡ false
+  recovery_no_refusal : (o : Outcome) (w : Walked) → keeps (recovery_reply_by o w) ≡ false
   recovery_no_refusal Settled w = by w.listed
     where
-      by : (rs : List Rank) → is_refused (found rs) ≡ false
+      by : (rs : List Rank) → keeps (found rs) ≡ false
       by [] = refl
       by (r ∷ rs) = refl
   recovery_no_refusal Unsettled w = refl
 
-  fair_recovery : (sum : ℕ) → IsFair state false (recovered plant state sum)
+  recovery_due : (next : SessionState) (o : Outcome) (w : Walked) → IsDue plant next (recovery_reply_by o w)
+  recovery_due next Settled w = by w.listed
+    where
+      by : (rs : List Rank) → IsDue plant next (found rs)
+      by [] = tt
+      by (r ∷ rs) = tt
+  recovery_due next Unsettled w = tt
+
+  fair_recovery : (sum : ℕ) → IsFair plant state false false (recovered plant state sum)
   fair_recovery sum = record {
-    refused = λ e. let clash : true ≡ false = sym e ∙ recovery_no_refusal (recovery plant state sum).outcome (recovery plant state sum) in absurd (cc clash);
+    kept = λ e. let clash : true ≡ false = sym e ∙ recovery_no_refusal (recovery plant state sum).outcome (recovery plant state sum) in absurd (cc clash);
     carried = λ e _. absurd (cc e);
+    due = recovery_due (recovered plant state sum).state (recovery plant state sum).outcome (recovery plant state sum);
+    told = λ _. (or_parts (is_refused (recovered plant state sum).reply) _ (recovery_no_refusal (recovery plant state sum).outcome (recovery plant state sum))).1;
   }
 
-  fair_recover : IsFair state false (recover plant state)
+  fair_recover : IsFair plant state false false (recover plant state)
   fair_recover = by (nat_eq (length state.goals) 0)
     where
-      by : (b : Bool) → IsFair state false (cond b (unchanged state (Refused NoGoal)) (recovered plant state state.budget))
-      by true = fair_refusal state false NoGoal
+      by : (b : Bool) → IsFair plant state false false (cond b (unchanged state (Refused NoGoal)) (recovered plant state state.budget))
+      by true = fair_refusal plant state false NoGoal
       by false = fair_recovery state.budget
 
   -- what propagation finds is no refusal, and changes nothing
-  fair_labels : (of : Option State) → IsFair state false (labelled plant state of)
-  fair_labels of = record { refused = λ _. refl; carried = λ e _. absurd (cc e) }
+  fair_labels : (of : Option State) → IsFair plant state false false (labelled plant state of)
+  fair_labels of =
+      let found = labelling plant (fact_literals plant (facts_of state) ++ state_literals plant of) in
+      record { kept = λ _. refl; carried = λ e _. absurd (cc e); due = labels_due found; told = λ _. labels_told found }
+    where
+      labels_due : (l : Labelling) → IsDue plant state (labels_reply l)
+      labels_due labelling.Contradiction = tt
+      labels_due (labelling.Labels labels) = tt
 
-  fair_labels_from : (n : ℕ) → IsFair state false (labelled_from plant state n)
+      labels_told : (l : Labelling) → is_certificate (labels_reply l) ≡ false
+      labels_told labelling.Contradiction = refl
+      labels_told (labelling.Labels labels) = refl
+
+  fair_labels_from : (n : ℕ) → IsFair plant state false false (labelled_from plant state n)
   fair_labels_from n = by (slice_get state.tracked (n - 1))
     where
-      by : (o : Option TrackedState) → IsFair state false (option_map_or (λ (s : TrackedState). labelled plant state (Some s.state)) o (unchanged state (Refused OutOfLimits)))
-      by None = fair_refusal state false OutOfLimits
+      by : (o : Option TrackedState) → IsFair plant state false false (option_map_or (λ (s : TrackedState). labelled plant state (Some s.state)) o (unchanged state (Refused OutOfLimits)))
+      by None = fair_refusal plant state false OutOfLimits
       by (Some s) = fair_labels (Some s.state)
 
-  fair_more : (q : Query) (n : ℕ) → IsFair state false (more q plant state n)
-  fair_more Absent n = record { refused = λ _. refl; carried = λ e _. absurd (cc e) }
+  fair_more : (q : Query) (n : ℕ) → IsFair plant state false false (more q plant state n)
+  fair_more Absent n = record { kept = λ _. refl; carried = λ e _. absurd (cc e); due = tt; told = λ _. refl }
   fair_more (Diagnosis sum) n = by (walked plant state sum).outcome
     where
-      by : (o : Outcome) → IsFair state false (more_by o plant state (sum + n))
-      by Settled = record { refused = λ _. refl; carried = λ e _. absurd (cc e) }
+      by : (o : Outcome) → IsFair plant state false false (more_by o plant state (sum + n))
+      by Settled = record { kept = λ _. refl; carried = λ e _. absurd (cc e); due = tt; told = λ _. refl }
       by Unsettled = fair_diagnosis (sum + n)
   fair_more (Recovery sum) n = by (recovery plant state sum).outcome
     where
-      by : (o : Outcome) → IsFair state false (more_recovery_by o plant state (sum + n))
-      by Settled = record { refused = λ _. refl; carried = λ e _. absurd (cc e) }
+      by : (o : Outcome) → IsFair plant state false false (more_recovery_by o plant state (sum + n))
+      by Settled = record { kept = λ _. refl; carried = λ e _. absurd (cc e); due = tt; told = λ _. refl }
       by Unsettled = fair_recovery (sum + n)
 
-  fair_conflicts : (q : Query) → IsFair state false (conflicts q plant state)
-  fair_conflicts Absent = record { refused = λ _. refl; carried = λ e _. absurd (cc e) }
-  fair_conflicts (Diagnosis sum) = record { refused = λ _. refl; carried = λ e _. absurd (cc e) }
-  fair_conflicts (Recovery sum) = record { refused = λ _. refl; carried = λ e _. absurd (cc e) }
+  fair_conflicts : (q : Query) → IsFair plant state false false (conflicts q plant state)
+  fair_conflicts Absent = record { kept = λ _. refl; carried = λ e _. absurd (cc e); due = tt; told = λ _. refl }
+  fair_conflicts (Diagnosis sum) = record { kept = λ _. refl; carried = λ e _. absurd (cc e); due = tt; told = λ _. refl }
+  fair_conflicts (Recovery sum) = record { kept = λ _. refl; carried = λ e _. absurd (cc e); due = tt; told = λ _. refl }
 
-  fair_taking : (listed : List Rank) → IsFair state true (taken_over plant state listed)
+  fair_certificate : IsFair plant state false true (certificate state.query plant state)
+  fair_certificate = by (is_settled state.query plant state) refl
+    where
+      by : (b : Bool) → is_settled state.query plant state ≡ b → IsFair plant state false true (cond b (unchanged state Certified) (unchanged state (Refused NoQuery)))
+      by true e = record { kept = λ _. refl; carried = λ c _. absurd (cc c); due = e; told = λ c. absurd (cc c) }
+      by false e = record { kept = λ _. refl; carried = λ c _. absurd (cc c); due = tt; told = λ _. refl }
+
+  fair_taking : (listed : List Rank) → IsFair plant state true false (taken_over plant state listed)
   fair_taking listed = by (nat_eq (length listed) 0) (nat_le COMMITS state.time)
     where
-      by : (a b : Bool) → IsFair state true (cond a (unchanged state (Refused NothingListed)) (cond b (unchanged state (Refused TooManyCommits))
+      by : (a b : Bool) → IsFair plant state true false (cond a (unchanged state (Refused NothingListed)) (cond b (unchanged state (Refused TooManyCommits))
           (record { state = advanced_to plant state listed; reply = Committed (state.time + 1) (length (advanced plant listed)) })))
-      by true b = fair_refusal state true NothingListed
-      by false true = fair_refusal state true TooManyCommits
-      by false false = record { refused = λ e. absurd (cc e); carried = λ _ _. refl }
+      by true b = fair_refusal plant state true NothingListed
+      by false true = fair_refusal plant state true TooManyCommits
+      by false false = record { kept = λ e. absurd (cc e); carried = λ _ _. refl; due = tt; told = λ _. refl }
 
-  fair_commit : (q : Query) → IsFair state true (commit q plant state)
-  fair_commit Absent = record { refused = λ _. refl; carried = λ _ e. absurd (cc e) }
+  fair_commit : (q : Query) → IsFair plant state true false (commit q plant state)
+  fair_commit Absent = record { kept = λ _. refl; carried = λ _ e. absurd (cc e); due = tt; told = λ _. refl }
   fair_commit (Diagnosis sum) = by (walked plant state sum).outcome
     where
-      by : (o : Outcome) → IsFair state true (commit_by o plant state (walked plant state sum).listed)
+      by : (o : Outcome) → IsFair plant state true false (commit_by o plant state (walked plant state sum).listed)
       by Settled = fair_taking (walked plant state sum).listed
-      by Unsettled = record { refused = λ _. refl; carried = λ _ e. absurd (cc e) }
-  fair_commit (Recovery sum) = record { refused = λ _. refl; carried = λ _ e. absurd (cc e) }
+      by Unsettled = record { kept = λ _. refl; carried = λ _ e. absurd (cc e); due = tt; told = λ _. refl }
+  fair_commit (Recovery sum) = record { kept = λ _. refl; carried = λ _ e. absurd (cc e); due = tt; told = λ _. refl }
 
-  pub fair_request : (request : Request) → IsFair state (clears request) (carried_out plant state request)
-  fair_request Nothing = record { refused = λ _. refl; carried = λ e _. absurd (cc e) }
-  fair_request (Track n) = fair_clearing state (record state { k = n }) true
-  fair_request (SetBudget n) = record { refused = λ e. absurd (cc e); carried = λ e _. absurd (cc e) }
-  fair_request (SetControl c) = record { refused = λ e. absurd (cc e); carried = λ _ _. refl }
-  fair_request (Release place) = record { refused = λ e. absurd (cc e); carried = λ _ _. refl }
+  pub fair_request : (request : Request) → IsFair plant state (clears request) (asks_certificate request) (carried_out plant state request)
+  fair_request Nothing = record { kept = λ _. refl; carried = λ e _. absurd (cc e); due = tt; told = λ _. refl }
+  fair_request (Track n) = fair_clearing plant state (record state { k = n }) true
+  fair_request (SetBudget n) = record { kept = λ e. absurd (cc e); carried = λ e _. absurd (cc e); due = tt; told = λ _. refl }
+  fair_request (SetControl c) = record { kept = λ e. absurd (cc e); carried = λ _ _. refl; due = tt; told = λ _. refl }
+  fair_request (Release place) = record { kept = λ e. absurd (cc e); carried = λ _ _. refl; due = tt; told = λ _. refl }
   fair_request (Observe s) = fair_observe s
   fair_request (Retract name) = fair_retract name
   fair_request (SetGoal g) = fair_goal g
@@ -165,23 +216,52 @@ module _ (plant : Plant) (state : SessionState) where
   fair_request (More n) = fair_more state.query n
   fair_request Commit = fair_commit state.query
   fair_request Conflicts = fair_conflicts state.query
+  fair_request Certificate = fair_certificate
   fair_request Labels = fair_labels None
   fair_request (LabelsFrom n) = fair_labels_from n
-  fair_request States = record { refused = λ _. refl; carried = λ e _. absurd (cc e) }
-  fair_request Reset = record { refused = λ e. absurd (cc e); carried = λ _ _. refl }
-  fair_request Quit = record { refused = λ e. absurd (cc e); carried = λ e _. absurd (cc e) }
+  fair_request States = record { kept = λ _. refl; carried = λ e _. absurd (cc e); due = tt; told = λ _. refl }
+  fair_request Reset = record { kept = λ e. absurd (cc e); carried = λ _ _. refl; due = tt; told = λ _. refl }
+  fair_request Quit = record { kept = λ e. absurd (cc e); carried = λ e _. absurd (cc e); due = tt; told = λ _. refl }
 
-  answered_fair : (r : Result Request Refusal) → is_refused (answered plant state r).reply ≡ true → (answered plant state r).state ≡ state
-  answered_fair (Ok request) = (fair_request request).refused
-  answered_fair (Err refusal) = λ _. refl
+  answered_due : (r : Result Request Refusal) → IsDue plant (answered plant state r).state (answered plant state r).reply
+  answered_due (Ok request) = (fair_request request).due
+  answered_due (Err refusal) = tt
 
-  pub refused_stays : (line : List ℕ) → is_refused (stepped plant state line).reply ≡ true → (stepped plant state line).state ≡ state
-  refused_stays line = by state.is_ended
+  -- a certificate is told where one is asked for
+  pub request_told : (request : Request) → asks_certificate request ≡ false → is_certificate (carried_out plant state request).reply ≡ false
+  request_told request none = (fair_request request).told none
+
+  -- a certificate is told of a settled query alone
+  pub stepped_due : (line : List ℕ) → IsDue plant (stepped plant state line).state (stepped plant state line).reply
+  stepped_due line = by state.is_ended
     where
-      by : (b : Bool) → is_refused (cond b (unchanged state Silence) (answered plant state (request_of plant line))).reply ≡ true
+      by : (b : Bool)
+          → IsDue plant (cond b (unchanged state Silence) (answered plant state (request_of plant line))).state (cond b (unchanged state Silence) (answered plant state (request_of plant line))).reply
+      by true = tt
+      by false = answered_due (request_of plant line)
+
+  answered_kept : (r : Result Request Refusal) → keeps (answered plant state r).reply ≡ true → (answered plant state r).state ≡ state
+  answered_kept (Ok request) = (fair_request request).kept
+  answered_kept (Err refusal) = λ _. refl
+
+  stepped_kept : (line : List ℕ) → keeps (stepped plant state line).reply ≡ true → (stepped plant state line).state ≡ state
+  stepped_kept line = by state.is_ended
+    where
+      by : (b : Bool) → keeps (cond b (unchanged state Silence) (answered plant state (request_of plant line))).reply ≡ true
           → (cond b (unchanged state Silence) (answered plant state (request_of plant line))).state ≡ state
       by true = λ _. refl
-      by false = answered_fair (request_of plant line)
+      by false = answered_kept (request_of plant line)
+
+  pub refused_stays : (line : List ℕ) → is_refused (stepped plant state line).reply ≡ true → (stepped plant state line).state ≡ state
+  refused_stays line e = stepped_kept line (ap (λ (b : Bool). b || is_certificate (stepped plant state line).reply) e)
+
+  pub certified_stays : (line : List ℕ) → (stepped plant state line).reply ≡ Certified → (stepped plant state line).state ≡ state
+  certified_stays line e = stepped_kept line (ap keeps e)
+
+  pub certified_settled : (line : List ℕ) → (stepped plant state line).reply ≡ Certified → is_settled state.query plant state ≡ true
+  certified_settled line e =
+      subst (λ (s : SessionState). is_settled s.query plant s ≡ true) (certified_stays line e)
+      (subst (λ (r : Reply). IsDue plant (stepped plant state line).state r) e (stepped_due line))
 
   pub sum_walked : (sum n : ℕ) (q : Query) → q ≡ Diagnosis sum → (walked plant state sum).outcome ≡ Unsettled
       → (more q plant state n).reply ≡ diagnosis_reply (walked plant state (sum + n))

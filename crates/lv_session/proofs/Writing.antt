@@ -67,3 +67,8 @@ pub whole_front : (whole : List ℕ) (before after : Option (List ℕ))
     → AddsFront whole before after
 whole_front whole before after written =
     written_front whole [] before after (record { front = whole; joined = append-nil whole; added = written })
+
+-- a front of the first of two texts is one of both
+pub longer_front : (first more : List ℕ) (before after : Option (List ℕ)) → AddsFront first before after → AddsFront (first ++ more) before after
+longer_front first more before after front =
+    front_more (first ++ more) first more before before after (record { front = []; joined = refl; added = sym (append-none before) }) front

@@ -1,5 +1,5 @@
 -- The current query, and what is kept of it from line to line.
-use Rattle.std.specs.Prelude.{◌≡◌, ℕ, Bool, false, Option, IfSome}
+use Rattle.std.specs.Prelude.{◌≡◌, ◌≤◌, ℕ, Bool, false, length, Option, IfSome}
 use Rattle.lv_model.specs.declared.plant.Plant.{Plant}
 use Rattle.lv_walk.specs.Walk.{Walked}
 use Rattle.lv_scope.specs.Lists.{lists_of}
@@ -30,13 +30,14 @@ pub record IsDiagnosisAt (plant : Plant) (state : SessionState) (sum : ℕ) (d :
   pub on_walk : IsQueryOf state.tracked d.query
   pub came_to : walked plant state sum ≡ come_to d
 
--- the same of a recovery
+-- the same of a recovery, for which some goal is held
 abbrev pub recovery_come_to : Recovering → Walked
 recovery_come_to r = record { outcome = r.outcome; listed = r.query.standing.listed; kept = r.query.standing.kept }
 
 pub record IsRecoveryAt (plant : Plant) (state : SessionState) (sum : ℕ) (r : Recovering) : Type 0 where
   pub plant_is : r.query.plant ≡ plant
   pub aim_is : r.query.aim ≡ aim_of state
+  pub some : 1 ≤ length state.goals
   pub on_walk : IsRecoveryQuery r.query
   pub came_to : recovery plant state sum ≡ recovery_come_to r
 

@@ -1,16 +1,35 @@
--- What holds of every step of a session; and as long as each reply has one text, a session has exactly one transcript.
-use Rattle.std.specs.Prelude.{◌≡◌, ℕ, ◌+◌, Bool, true, false, List, [], ◌∷◌, ◌++◌}
+-- What holds of every step of a session; and where no certificate is told, a session has exactly one transcript.
+use Rattle.std.specs.Prelude.{◌≡◌, ℕ, ◌+◌, Bool, true, false, List, [], ◌∷◌, ◌++◌, Option}
+use Rattle.std.specs.List.{list_any}
+use Rattle.lv_io.specs.Whole.{AddsFront}
 use Rattle.lv_text.specs.Lines.{lines_of}
 use Rattle.lv_model.specs.declared.plant.Plant.{Plant}
 use Rattle.lv_walk.specs.declared.outcome.Outcome.TheVariants.{Unsettled}
 use Rattle.lv_reply.specs.declared.reply.Reply.{Reply}
-use Rattle.lv_reply.specs.declared.reply.Reply.TheVariants.{Nothing, Refused}
+use Rattle.lv_reply.specs.declared.reply.Reply.TheVariants.{Nothing, Refused, Certificate}
 use Rattle.lv_reply.specs.Texts.{reply_text}
 use Rattle.lv_request.specs.declared.request.Request.{Request}
 use Rattle.lv_request.specs.declared.request.Request.TheVariants.{Track, SetControl, Release, Observe, Retract, SetGoal, DropGoal, More, Commit, Reset}
 use Rattle.lv_session.specs.declared.query.Query.TheVariants.{Absent, Diagnosis, Recovery}
-use Rattle.lv_session.specs.Session.{SessionState, start, walked, recovery, diagnosis_reply, recovery_reply, carried_out, stepped}
-use Rattle.lv_session.specs.Transcript.{IsTranscript}
+use Rattle.lv_session.specs.Session.{SessionState, start, walked, recovery, diagnosis_reply, recovery_reply, is_settled, carried_out, stepped}
+use Rattle.lv_session.specs.Transcript.{IsTranscript, AddsFrontOfTranscript}
+
+-- the replies to lines, in order
+abbrev pub replies_to : Plant → SessionState → List (List ℕ) → List Reply
+replies_to plant state [] = []
+replies_to plant state (line ∷ lines) = (stepped plant state line).reply ∷ replies_to plant (stepped plant state line).state lines
+
+-- the replies to a session
+abbrev pub session_replies : Plant → List ℕ → List Reply
+session_replies plant session = replies_to plant (start plant) (lines_of session)
+
+abbrev pub is_certificate : Reply → Bool
+is_certificate Certificate = true
+is_certificate reply = false
+
+-- one of the replies to a session is a certificate
+abbrev pub tells_certificate : Plant → List ℕ → Bool
+tells_certificate plant session = list_any is_certificate (session_replies plant session)
 
 -- the texts of the replies to lines, one behind the other
 abbrev pub replies : Plant → SessionState → List (List ℕ) → List ℕ
@@ -21,10 +40,13 @@ replies plant state (line ∷ lines) =
 abbrev pub transcript : Plant → List ℕ → List ℕ
 transcript plant session = replies plant (start plant) (lines_of session)
 
--- it is a transcript, and no other text is one
+-- where no certificate is told, it is a transcript, and no other text is one; and what is a front of a transcript of the first lines is
+-- one of it
 pub record TranscriptIsOne : Type 0 where
-  pub some : (plant : Plant) (session : List ℕ) → IsTranscript plant session (transcript plant session)
-  pub one : (plant : Plant) (session text : List ℕ) → IsTranscript plant session text → text ≡ transcript plant session
+  pub some : (plant : Plant) (session : List ℕ) → tells_certificate plant session ≡ false → IsTranscript plant session (transcript plant session)
+  pub one : (plant : Plant) (session text : List ℕ) → tells_certificate plant session ≡ false → IsTranscript plant session text → text ≡ transcript plant session
+  pub front : (plant : Plant) (session : List ℕ) (before after : Option (List ℕ)) → tells_certificate plant session ≡ false
+      → AddsFrontOfTranscript plant session before after → AddsFront (transcript plant session) before after
 
 abbrev pub is_refused : Reply → Bool
 is_refused (Refused refusal) = true
@@ -59,6 +81,11 @@ pub record MoreIsTheSum : Type 0 where
       → (carried_out plant state (More n)).reply ≡ diagnosis_reply (walked plant state (sum + n))
   pub of_recovery : (plant : Plant) (state : SessionState) (sum n : ℕ) → state.query ≡ Recovery sum → (recovery plant state sum).outcome ≡ Unsettled
       → (carried_out plant state (More n)).reply ≡ recovery_reply (recovery plant state (sum + n))
+
+-- a certificate is told of a settled query alone, and the line changes nothing
+pub record CertificateChangesNothing : Type 0 where
+  pub settled : (plant : Plant) (state : SessionState) (line : List ℕ) → (stepped plant state line).reply ≡ Certificate → is_settled state.query plant state ≡ true
+  pub stays : (plant : Plant) (state : SessionState) (line : List ℕ) → (stepped plant state line).reply ≡ Certificate → (stepped plant state line).state ≡ state
 
 -- in an ended session a line does nothing
 pub record EndedIsSilent : Type 0 where

@@ -28,13 +28,13 @@ use Rattle.lv_tracker.specs.Tracked.{start_state, advanced}
 use Rattle.lv_reply.specs.declared.reply.Refusal.{Refusal}
 use Rattle.lv_reply.specs.declared.reply.Refusal.TheVariants.{NameHeld, NameNotHeld, OutOfLimits, NoQuery, NotUnsettled, NothingListed, NoGoal, TooManyHeld, TooManyCommits}
 use Rattle.lv_reply.specs.declared.reply.Reply.{Reply}
-use Rattle.lv_reply.specs.declared.reply.Reply.TheVariants.{Nothing as Silence, Accepted, Refused, Settled as SettledReply, Unsettled as UnsettledReply, Conflicts as ConflictsReply, Committed, States as StatesReply, Recovered, NoRecovery, Undecided, CommandConflicts, Labels as LabelsReply, Contradiction}
+use Rattle.lv_reply.specs.declared.reply.Reply.TheVariants.{Nothing as Silence, Accepted, Refused, Settled as SettledReply, Unsettled as UnsettledReply, Conflicts as ConflictsReply, Committed, States as StatesReply, Recovered, NoRecovery, Undecided, CommandConflicts, Labels as LabelsReply, Contradiction, Certificate as CertificateReply}
 use Rattle.lv_held.specs.Held.{observation_of, has_name, lacks_name}
 use Rattle.lv_request.specs.declared.goals.Goal.{Goal}
 use Rattle.lv_request.specs.declared.request.Command.{Command}
 use Rattle.lv_request.specs.declared.request.Sighting.{Sighting}
 use Rattle.lv_request.specs.declared.request.Request.{Request}
-use Rattle.lv_request.specs.declared.request.Request.TheVariants.{Nothing, Track, SetBudget, SetControl, Release, Observe, Retract, SetGoal, DropGoal, Diagnose, Recover, More, Commit, Conflicts, Labels, LabelsFrom, States, Reset, Quit}
+use Rattle.lv_request.specs.declared.request.Request.TheVariants.{Nothing, Track, SetBudget, SetControl, Release, Observe, Retract, SetGoal, DropGoal, Diagnose, Recover, More, Commit, Conflicts, Certificate, Labels, LabelsFrom, States, Reset, Quit}
 use Rattle.lv_request.specs.Requests.{request_of}
 use Rattle.lv_session.specs.declared.query.Query.{Query}
 use Rattle.lv_session.specs.declared.query.Query.TheVariants.{Absent, Diagnosis, Recovery}
@@ -89,10 +89,14 @@ facts_of state = record {
 unfoldable pub walked : Plant → SessionState → ℕ → Walked
 walked plant state trials = diagnosis_walk plant (facts_of state) state.k trials (candidates plant state.tracked)
 
--- what is asked of a recovery: from the tracked states, with what is observed now, to the goals
 abbrev pub formula_of : Goal → Tree
 formula_of g = g.formula
 
+-- the canonical text of its formula
+abbrev pub text_of_goal : Goal → List ℕ
+text_of_goal g = g.text
+
+-- what is asked of a recovery: from the tracked states, with what is observed now, to the goals
 abbrev pub aim_of : SessionState → Aim
 aim_of state = record {
   tracked = state.tracked;
@@ -243,6 +247,21 @@ conflicts Absent plant state = unchanged state (Refused NoQuery)
 conflicts (Diagnosis sum) plant state = unchanged state (ConflictsReply (walked plant state sum).kept (trials (walked plant state sum)))
 conflicts (Recovery sum) plant state = unchanged state (CommandConflicts (recovery plant state sum).kept (trials (recovery plant state sum)))
 
+-- with this outcome a query is settled
+abbrev pub is_settled_by : Outcome → Bool
+is_settled_by Settled = true
+is_settled_by Unsettled = false
+
+-- a query is current, and is settled
+abbrev pub is_settled : Query → Plant → SessionState → Bool
+is_settled Absent plant state = false
+is_settled (Diagnosis sum) plant state = is_settled_by (walked plant state sum).outcome
+is_settled (Recovery sum) plant state = is_settled_by (recovery plant state sum).outcome
+
+-- `certificate`: one of the current query, which has to be settled
+abbrev pub certificate : Query → Plant → SessionState → Stepped
+certificate q plant state = if is_settled q plant state then unchanged state CertificateReply else unchanged state (Refused NoQuery)
+
 -- the listed candidates are taken over: what they lead to is tracked, the next observations become present, the controls rest
 abbrev pub advanced_to : Plant → SessionState → List Rank → SessionState
 advanced_to plant state listed = record state {
@@ -308,6 +327,7 @@ carried_out plant state Recover = recover plant state
 carried_out plant state (More n) = more state.query plant state n
 carried_out plant state Commit = commit state.query plant state
 carried_out plant state Conflicts = conflicts state.query plant state
+carried_out plant state Certificate = certificate state.query plant state
 carried_out plant state Labels = labelled plant state None
 carried_out plant state (LabelsFrom n) = labelled_from plant state n
 carried_out plant state States = unchanged state (StatesReply state.time state.tracked)

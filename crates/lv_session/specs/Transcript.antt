@@ -1,22 +1,17 @@
 -- Transcripts: the texts of the replies to a session's lines, one behind the other. Which text may stand for a reply is
 -- a relation, and so are the step of a session and its transcript.
-use Rattle.std.specs.Prelude.{◌≡◌, ℕ, List, [], ◌∷◌, ◌++◌, Option}
+use Rattle.std.specs.Prelude.{◌≡◌, ℕ, List, [], ◌∷◌, ◌++◌, take, Option}
 use Rattle.std.specs.Io.KnownBytes.{append_known}
 use Rattle.lv_io.specs.Whole.{AddsFront}
 use Rattle.lv_text.specs.Lines.{lines_of}
 use Rattle.lv_model.specs.declared.plant.Plant.{Plant}
-use Rattle.lv_reply.specs.declared.reply.Reply.{Reply}
-use Rattle.lv_reply.specs.Texts.{reply_text}
 use Rattle.lv_session.specs.Session.{SessionState, start, stepped}
-
--- the text may stand for the reply: each has one text
-abbrev pub IsTextOf : Plant → Reply → List ℕ → Type 0
-IsTextOf plant reply text = text ≡ reply_text plant reply
+use Rattle.lv_session.specs.Certificates.{IsTextOf}
 
 -- a line takes the session from one state to the next, and this text may be its reply
 pub record SessionStep (plant : Plant) (state : SessionState) (line : List ℕ) (next : SessionState) (text : List ℕ) : Type 0 where
   pub goes : next ≡ (stepped plant state line).state
-  pub says : IsTextOf plant (stepped plant state line).reply text
+  pub says : IsTextOf plant next (stepped plant state line).reply text
 
 -- the text is a transcript of these lines, from a state on: no text where there are none; else a reply to the first, and
 -- behind it a transcript of the others from the state that the first leads to
@@ -38,10 +33,11 @@ pub record AddsTranscriptFrom (plant : Plant) (state : SessionState) (lines : Li
   pub is_transcript : IsTranscriptFrom plant state lines written
   pub added : after ≡ append_known before written
 
--- a front of a transcript of these lines was added to the text
+-- a front was added to the text of a transcript of the first of these lines, so many
 pub record AddsTranscriptFront (plant : Plant) (state : SessionState) (lines : List (List ℕ)) (before after : Option (List ℕ)) : Type 0 where
+  pub answered : ℕ
   pub whole : List ℕ
-  pub is_transcript : IsTranscriptFrom plant state lines whole
+  pub is_transcript : IsTranscriptFrom plant state (take answered lines) whole
   pub front : AddsFront whole before after
 
 -- the same of a whole session

@@ -3,11 +3,11 @@
 
 ghost use Rattle.std.specs.Prelude.{◌≡◌, IfOk, OnErr, map, filter};
 ghost use Rattle.std.specs.List.{list_any};
-ghost use Rattle.lv_session.specs.Session.{formula_of, has_goal_name, lacks_goal_name, is_goal, has_no_goal_room, set_goal, drop_goal};
+ghost use Rattle.lv_session.specs.Session.{formula_of, text_of_goal, has_goal_name, lacks_goal_name, is_goal, has_no_goal_room, set_goal, drop_goal};
 
 use crate::state::State;
-use lv_base::has_name;
 use lv_base::limits::{GOALS, NAME_BYTES};
+use lv_base::{Seq, has_name};
 use lv_formula::Condition;
 use lv_reply::{Refusal, Reply};
 use lv_request::Goal;
@@ -35,6 +35,17 @@ pub(crate) fn formulas_of(alloc: Global, goals: &[Goal]) -> Result<Vec<Condition
     let mut out = Vec::new(alloc);
     for goal in goals {
         out.push(copied(alloc, &goal.formula)?)?;
+    }
+    Ok(out)
+}
+
+/// The texts of the goals.
+pub(crate) fn texts_of(alloc: Global, goals: &[Goal]) -> Result<Vec<Seq<u8>>, AllocError>
+    ensures { IfOk result (λ out. out.items ≡ map text_of_goal goals.now) }
+{
+    let mut out = Vec::new(alloc);
+    for goal in goals {
+        out.push(Seq::from_slice(alloc, goal.text.as_slice())?)?;
     }
     Ok(out)
 }

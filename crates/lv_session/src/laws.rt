@@ -1,9 +1,9 @@
 //! What holds of steps and transcripts. The functions do nothing; their clauses are the laws.
 #![tactic(auto)]
 
-ghost use Rattle.lv_session.specs.Laws.{TranscriptIsOne, RefusedLineChangesNothing, NoQuerySurvivesAChange, MoreIsTheSum, EndedIsSilent};
+ghost use Rattle.lv_session.specs.Laws.{TranscriptIsOne, RefusedLineChangesNothing, NoQuerySurvivesAChange, MoreIsTheSum, CertificateChangesNothing, EndedIsSilent};
 
-/// As long as each reply has one text, a session has exactly one transcript.
+/// Where no certificate is told, a session has exactly one transcript.
 pub fn transcript_is_one()
     ensures { TranscriptIsOne }
 {}
@@ -21,6 +21,11 @@ pub fn no_query_survives_a_change()
 /// A diagnosis that goes on is the diagnosis with the sum of all its trials.
 pub fn more_is_the_sum()
     ensures { MoreIsTheSum }
+{}
+
+/// A certificate is told of a settled query alone, and changes nothing.
+pub fn certificate_changes_nothing()
+    ensures { CertificateChangesNothing }
 {}
 
 /// In an ended session a line gets no reply and changes nothing.

@@ -11,6 +11,7 @@
 //! | `diagnoses` | diagnoses asked for, gone on with and taken over |
 //! | `recoveries` | recoveries asked for and gone on with |
 //! | `queries` | the current query gone on with, shown and taken over |
+//! | `certificates` | certificates of the current query |
 //! | `labels` | what propagation finds |
 //! | `query` | the current query |
 //! | `running` | what is kept of it from line to line |
@@ -21,6 +22,7 @@
 //! of a session: the texts of its replies, one behind the other.
 #![tactic(auto)]
 
+mod certificates;
 mod diagnoses;
 pub mod flush;
 mod goals;

@@ -60,7 +60,7 @@ fn reply_of(alloc: Global, run: &Recovering<'_>) -> Result<Reply, AllocError>
 
 impl State {
     /// What is asked of a recovery.
-    fn aim(&self, alloc: Global) -> Result<Aim, AllocError>
+    pub(crate) fn aim(&self, alloc: Global) -> Result<Aim, AllocError>
         ensures { IfOk result (λ aim. aim ≡ aim_of self.now) }
     {
         Ok(Aim {
@@ -80,6 +80,7 @@ impl State {
     ) -> Result<Recovering<'a>, AllocError>
         requires state { IsStateOf model.now self.now }
         requires system { IsSystemOf model.now system.now }
+        requires some { 1 ≤ length self.now.goals }
         ensures at { IfOk result (λ run. IsRecoveryAt model.now self.now n run) }
     {
         let _plant = model.plant();
@@ -100,6 +101,7 @@ impl State {
     ) -> Result<Reply, AllocError>
         requires state { IsStateOf model.now self.old }
         requires system { IsSystemOf model.now system.now }
+        requires some { 1 ≤ length self.old.goals }
         ensures ok { IfOk result (λ reply. record { state = self.new; reply = reply } ≡ recovered model.now self.old n) }
         ensures err { OnErr result (self.new ≡ self.old) }
         ensures running { OnOk result (IsCurrent model.now self.new running.new) }

@@ -2,9 +2,9 @@
 #![tactic(auto)]
 
 ghost use Rattle.std.specs.Prelude.{◌≡◌, IfOk, OnOk, OnErr, IsErr, true, false};
-ghost use Rattle.lv_session.specs.Session.{start, stepped};
+ghost use Rattle.lv_session.specs.Session.{start, stepped, is_settled};
 ghost use Rattle.lv_session.specs.Current.{IsSession};
-ghost use Rattle.lv_reply.specs.Texts.{reply_text};
+ghost use Rattle.lv_session.specs.Certificates.{Certifies, IsTextOf, IsDue};
 
 use crate::state::State;
 use crate::workings::{Workings, answer};
@@ -73,6 +73,7 @@ impl<'a> Session<'a> {
     pub fn step(&mut self, line: &[u8]) -> Result<Reply, AllocError>
         ensures reply { IfOk result (λ reply. reply ≡ (stepped self.old.plant self.old.state line.now).reply) }
         ensures state { OnOk result (self.new ≡ record self.old { state = (stepped self.old.plant self.old.state line.now).state }) }
+        ensures due { IfOk result (IsDue self.new.plant self.new.state) }
         ensures err { OnErr result (self.new ≡ record self.old { is_out_of_memory = true }) }
         ensures stays { self.old.is_out_of_memory ≡ true → IsErr result }
     {
@@ -101,10 +102,32 @@ impl<'a> Session<'a> {
         self.state.is_ended()
     }
 
-    /// The text of a reply of this session.
+    /// The text of the last reply of this session, or of any other that is no certificate. A certificate is made here, of
+    /// the current query.
     pub fn text_of(&self, reply: &Reply) -> Result<Vec<u8>, AllocError>
-        ensures { IfOk result (λ text. text.items ≡ reply_text self.now.plant reply.now) }
+        requires { IsDue self.now.plant self.now.state reply.now }
+        ensures { IfOk result (λ text. IsTextOf self.now.plant self.now.state reply.now text.items) }
     {
-        reply_text(self.alloc, self.model, reply)
+        match reply {
+            Reply::Certificate => self.certificate_text(),
+            _ => reply_text(self.alloc, self.model, reply),
+        }
+    }
+
+    /// The text of a certificate of the current query, which is settled. Once memory was wanting, nothing is known of the
+    /// query.
+    fn certificate_text(&self) -> Result<Vec<u8>, AllocError>
+        requires { is_settled self.now.state.query self.now.plant self.now.state ≡ true }
+        ensures { IfOk result (λ text. Certifies self.now.state.query self.now.plant self.now.state text.items) }
+    {
+        if self.is_out_of_memory {
+            return Err(AllocError);
+        }
+        self.state.certificate_text(
+            self.alloc,
+            self.model,
+            &self.workings.system,
+            &self.workings.running,
+        )
     }
 }

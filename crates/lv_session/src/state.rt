@@ -124,6 +124,7 @@ impl State {
             Request::More(n) => self.more(alloc, model, running, n),
             Request::Commit => self.commit(alloc, model, running),
             Request::Conflicts => self.conflicts(alloc, model, running),
+            Request::Certificate => Ok(self.certificate(model, running)),
             Request::Labels => self.labels(alloc, model, system, labeller),
             Request::LabelsFrom(n) => self.labels_from(alloc, model, system, labeller, n),
             Request::States => self.states(alloc),

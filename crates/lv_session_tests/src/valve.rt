@@ -138,3 +138,34 @@ fn a_query_that_goes_on(rt: HostRuntime) -> Result<(), AllocError> {
     assert!(rt; right);
     Ok(())
 }
+
+#[test]
+fn certificates_of_no_settled_query(rt: HostRuntime) -> Result<(), AllocError> {
+    let right = session_replies(
+        rt.alloc(),
+        &[
+            "certificate",
+            "certificate 1",
+            "budget 1",
+            "goal g v.out = some",
+            "recover",
+            "certificate",
+            "conflicts",
+            "drop g",
+            "certificate",
+        ],
+        &[
+            "error S10\n",
+            "error S02\n",
+            "ok\n",
+            "ok\n",
+            "unsettled trials 1\n",
+            "error S10\n",
+            "conflicts 1 trials 1\n1: v.cmd=none\n",
+            "ok\n",
+            "error S10\n",
+        ],
+    )?;
+    assert!(rt; right);
+    Ok(())
+}

@@ -15,7 +15,7 @@ returns c =
     let none : trials_of c.in_ok-query.query.standing ≡ 0 = ap (λ (q : QueryValue). trials_of q.standing) start in
     record {
       at = recovery_has_run c.args.model.now c.args.self.now c.args.n c.args.n c.in_ok-query.query c.run.new.self c.in_ok-outcome.outcome
-          (ap (λ (q : QueryValue). q.plant) start) (ap (λ (q : QueryValue). q.aim) start ∙ c.in_ok-aim.ensures) (omega (arith, none))
+          (ap (λ (q : QueryValue). q.plant) start) (ap (λ (q : QueryValue). q.aim) start ∙ c.in_ok-aim.ensures) c.requires.some (omega (arith, none))
           (c.in_ok-outcome.ensures.query c.in_ok-query.ensures.query) (c.in_ok-outcome.ensures.walk c.in_ok-query.ensures.query)
           c.in_ok-outcome.ensures.plant c.in_ok-outcome.ensures.aim;
     }

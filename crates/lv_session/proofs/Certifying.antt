@@ -1,0 +1,169 @@
+-- What the session's state gives for a certificate of its current query.
+use Rattle.std.proofs.Common.{◌≡◌, ℕ, ◌≤◌, Bool, true, false, ◌&&◌, cond, nat_eq, List, [], ◌∷◌, length, map, Option, None, Some, All, refl, rules, sym, ap, ap₂, subst, ◌∙◌, arith}
+use Rattle.std.specs.List.{list_all}
+use Rattle.std.specs.Cmp.Derive.{both_true}
+use Rattle.std.specs.Cmp.Lexicographic.{pointwise}
+use Rattle.std.specs.Option.{option_and_then}
+use Rattle.std.proofs.lemmas.Bool.{and_parts}
+use Rattle.std.proofs.lemmas.List.{length-map}
+use Rattle.std.proofs.lemmas.List.Elements.{All-cons, All-head, All-tail, All-nil}
+use Rattle.lv_base.specs.declared.limits.TheConstants.{TRACKED}
+use Rattle.lv_base.specs.declared.rank.Rank.{Rank}
+use Rattle.lv_text.specs.Lexemes.{Lexeme}
+use Rattle.lv_text.proofs.ReadBack.{lexemes_have}
+use Rattle.lv_formula.specs.Tree.{Tree}
+use Rattle.lv_model.specs.declared.plant.Plant.{Plant}
+use Rattle.lv_model.specs.declared.state.TrackedState.{TrackedState}
+use Rattle.lv_model.specs.Counts.{has_count, law_sizes}
+use Rattle.lv_phrase.specs.PhraseTree.{PhraseTree}
+use Rattle.lv_phrase.specs.Nesting.{is_too_deep}
+use Rattle.lv_phrase.specs.Canonical.{tokens_of, canonical_text}
+use Rattle.lv_phrase.specs.Resolving.{resolved}
+use Rattle.lv_grammar.specs.Descent.{phrase_of}
+use Rattle.lv_scope.specs.Names.{plant_names}
+use Rattle.lv_walk.specs.declared.outcome.Outcome.{Outcome}
+use Rattle.lv_walk.specs.declared.outcome.Outcome.TheVariants.{Settled, Unsettled}
+use Rattle.lv_walk.specs.Walk.{Walked}
+use Rattle.lv_recovery.specs.Ranges.{StateFits}
+use Rattle.lv_tracker.specs.Tracked.{IsWithinCost}
+use Rattle.lv_cert.specs.declared.line.Line.{Line}
+use Rattle.lv_cert.specs.Words.{is_word}
+use Rattle.lv_cert.specs.Texts.{text_of}
+use Rattle.lv_validity.specs.Stated.{simple_goal, goal_as, goal_in, goal_of}
+use Rattle.lv_certify.specs.Certifying.{CertifiesDiagnosis, CertifiesRecovery, StateStands, IsSeen, AreStates, AreFacts, IsSettledDiagnosis, IsAsked, IsSettledRecovery, AreTexts, AreFormed}
+use Rattle.lv_held.specs.Held.{observation_of}
+use Rattle.lv_request.specs.declared.goals.Goal.{Goal}
+use Rattle.lv_request.specs.declared.request.Sighting.{Sighting}
+use Rattle.lv_request.specs.Goals.{IsGoalIn}
+use Rattle.lv_request.specs.Requests.{IsSightingIn}
+use Rattle.lv_request.proofs.WordLaws.{formula_is_one}
+use Rattle.lv_session.specs.declared.running.Diagnosed.{Diagnosed}
+use Rattle.lv_session.specs.declared.running.Recovering.{Recovering}
+use Rattle.lv_session.specs.Session.{SessionState, facts_of, aim_of, formula_of, text_of_goal, walked, recovery, is_settled_by}
+use Rattle.lv_session.specs.States.{IsStateOf}
+use Rattle.lv_session.specs.Current.{come_to, recovery_come_to, IsDiagnosisAt, IsRecoveryAt}
+use Rattle.lv_session.specs.Certificates.{CertifiesWalked, CertifiesRecovered}
+use Rattle.lv_session.proofs.Asking.{facts_fit, facts_in_range}
+use Rattle.lv_session.proofs.Recovering.{aim_fits}
+
+-- what was observed are observables
+all_seen : (plant : Plant) (ss : List Sighting) → All (IsSightingIn plant) ss → All (IsSeen plant) (map observation_of ss)
+all_seen plant [] all = All-nil (IsSeen plant)
+all_seen plant (s ∷ ss) all =
+    All-cons (IsSeen plant) (observation_of s) (map observation_of ss) (record { observable = (All-head (IsSightingIn plant) s ss all).observable })
+    (all_seen plant ss (All-tail (IsSightingIn plant) s ss all))
+
+-- the tracked states stand
+all_stand : (plant : Plant) (ss : List TrackedState) → All (StateFits plant) ss → All IsWithinCost ss → All (StateStands plant) ss
+all_stand plant [] fit costs = All-nil (StateStands plant)
+all_stand plant (s ∷ ss) fit costs =
+    All-cons (StateStands plant) s ss (record { fits = All-head (StateFits plant) s ss fit; cost = (All-head IsWithinCost s ss costs).cost })
+    (all_stand plant ss (All-tail (StateFits plant) s ss fit) (All-tail IsWithinCost s ss costs))
+
+module _ (plant : Plant) (state : SessionState) (is : IsStateOf plant state) where
+  pub are_states : 1 ≤ length state.tracked → length state.tracked ≤ TRACKED → All IsWithinCost state.tracked → AreStates plant state.tracked
+  are_states some few costs = record { some = some; few = few; stand = all_stand plant state.tracked is.fit costs }
+
+  pub are_facts : AreFacts plant (facts_of state)
+  are_facts =
+      let present = length-map state.present observation_of in
+      let next = length-map state.next observation_of in
+      let held = is.held in
+      record {
+        fit = facts_fit plant state is;
+        in_range = facts_in_range plant state is;
+        present = all_seen plant state.present is.present;
+        next = all_seen plant state.next is.next;
+        few = omega (arith, present, next, held);
+      }
+
+  pub is_asked : AreStates plant state.tracked → 1 ≤ length state.goals → IsAsked plant (aim_of state)
+  is_asked states some =
+      let present = length-map state.present observation_of in
+      let goals = length-map state.goals formula_of in
+      let held = is.held in
+      let few = is.few_goals in
+      record {
+        states = states;
+        fits = aim_fits plant state is;
+        seen = all_seen plant state.present is.present;
+        few = omega (arith, present, held);
+        some = omega (arith, goals, some);
+        goals = omega (arith, goals, few);
+      }
+
+-- what a goal's text stands for
+same_bytes : (xs : List ℕ) → pointwise nat_eq xs xs ≡ true
+same_bytes xs = search rules
+
+goal_back : (plant : Plant) (g : Goal) → IsGoalIn plant g → goal_of plant g.text ≡ Some g.formula
+unfolding goal_of
+goal_back plant g is =
+    let text : g.text ≡ canonical_text is.phrase = is.text in
+    let few = is.simple in
+    ap (goal_of plant) text
+    ∙ ap (goal_in plant (canonical_text is.phrase)) is.reads_back.reading
+    ∙ ap (λ (b : Bool). cond b None (option_and_then (goal_as plant (canonical_text is.phrase)) (phrase_of (tokens_of is.phrase)))) is.reads_back.shallow
+    ∙ ap (option_and_then (goal_as plant (canonical_text is.phrase))) is.reads_back.read
+    ∙ ap (λ (b : Bool). cond b (simple_goal plant (resolved (plant_names plant) is.phrase)) None) (same_bytes (canonical_text is.phrase))
+    ∙ ap (simple_goal plant) is.stands_for
+    ∙ ap (λ (b : Bool). cond b (Some g.formula) None) few
+
+goal_word : (plant : Plant) (g : Goal) → IsGoalIn plant g → is_word g.text ≡ true
+goal_word plant g is =
+    ap is_word is.text ∙ formula_is_one (tokens_of is.phrase) is.phrase (lexemes_have (canonical_text is.phrase) (tokens_of is.phrase) is.reads_back.reading) is.reads_back.read
+
+goals_back : (plant : Plant) (gs : List Goal) → All (IsGoalIn plant) gs → map (goal_of plant) (map text_of_goal gs) ≡ map Some (map formula_of gs)
+goals_back plant [] all = refl
+goals_back plant (g ∷ gs) all =
+    ap₂ (λ (o : Option Tree) (os : List (Option Tree)). o ∷ os) (goal_back plant g (All-head (IsGoalIn plant) g gs all)) (goals_back plant gs (All-tail (IsGoalIn plant) g gs all))
+
+goal_words : (plant : Plant) (gs : List Goal) → All (IsGoalIn plant) gs → list_all is_word (map text_of_goal gs) ≡ true
+goal_words plant [] all = refl
+goal_words plant (g ∷ gs) all =
+    both_true (goal_word plant g (All-head (IsGoalIn plant) g gs all)) (goal_words plant gs (All-tail (IsGoalIn plant) g gs all))
+
+pub are_texts : (plant : Plant) (state : SessionState) → IsStateOf plant state → AreTexts plant (map text_of_goal state.goals) (map formula_of state.goals)
+are_texts plant state is =
+    let words = goal_words plant state.goals is.goals in
+    let back = goals_back plant state.goals is.goals in
+    search rules
+
+-- an outcome that is settled
+settled_is : (o p : Outcome) → p ≡ o → is_settled_by p ≡ true → o ≡ Settled
+settled_is Settled p same settled = refl
+settled_is Unsettled p same settled = let clash : is_settled_by Unsettled ≡ true = subst (λ (x : Outcome). is_settled_by x ≡ true) same settled in absurd (cc clash)
+
+-- the walk that a search has come to, where it is settled
+module _ (plant : Plant) (state : SessionState) (sum : ℕ) where
+  pub settled_diagnosis : (d : Diagnosed) → IsDiagnosisAt plant state sum d → is_settled_by (walked plant state sum).outcome ≡ true
+      → IsSettledDiagnosis plant state.tracked (facts_of state) state.k d.query.standing.listed d.query.standing.kept
+  unfolding walked
+  settled_diagnosis d at settled =
+      let o : d.outcome ≡ Settled = settled_is d.outcome (walked plant state sum).outcome (ap (λ (w : Walked). w.outcome) at.came_to) settled in
+      record { budget = sum; settled = at.came_to ∙ ap (λ (x : Outcome). record { outcome = x; listed = d.query.standing.listed; kept = d.query.standing.kept }) o }
+
+  pub settled_recovery : (r : Recovering) → IsRecoveryAt plant state sum r → is_settled_by (recovery plant state sum).outcome ≡ true
+      → IsSettledRecovery plant (aim_of state) r.query.standing.listed r.query.standing.kept
+  unfolding recovery
+  settled_recovery r at settled =
+      let o : r.outcome ≡ Settled = settled_is r.outcome (recovery plant state sum).outcome (ap (λ (w : Walked). w.outcome) at.came_to) settled in
+      record { budget = sum; settled = at.came_to ∙ ap (λ (x : Outcome). record { outcome = x; listed = r.query.standing.listed; kept = r.query.standing.kept }) o }
+
+  pub certifies_walked : (d : Diagnosed) (lines : List Line) (text : List ℕ) → IsDiagnosisAt plant state sum d
+      → CertifiesDiagnosis plant state.tracked (facts_of state) state.k d.query.standing.listed lines → AreFormed plant lines → text ≡ text_of lines → CertifiesWalked plant state sum text
+  certifies_walked d lines text at certifies formed is = record {
+    lines = lines;
+    certifies = subst (λ (rs : List Rank). CertifiesDiagnosis plant state.tracked (facts_of state) state.k rs lines) (sym (ap (λ (w : Walked). w.listed) at.came_to)) certifies;
+    formed = formed;
+    is = is;
+  }
+
+  pub certifies_recovered : (r : Recovering) (lines : List Line) (text : List ℕ) → IsRecoveryAt plant state sum r
+      → CertifiesRecovery plant (aim_of state) r.query.standing.listed lines → AreFormed plant lines → text ≡ text_of lines → CertifiesRecovered plant state sum text
+  certifies_recovered r lines text at certifies formed is = record {
+    lines = lines;
+    certifies = subst (λ (rs : List Rank). CertifiesRecovery plant (aim_of state) rs lines) (sym (ap (λ (w : Walked). w.listed) at.came_to)) certifies;
+    formed = formed;
+    is = is;
+  }
