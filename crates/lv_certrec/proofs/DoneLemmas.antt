@@ -1,6 +1,6 @@
 -- What a session holds is what a certificate may state, and all lines together certify the answer.
-use Rattle.std.proofs.Common.{◌≡◌, ℕ, zero, suc, ◌+◌, ◌^◌, ◌<◌, ◌≤◌, Bool, true, false, nat_eq, nat_lt, nat_le, slice_get, slice_index_or, List, [], ◌∷◌, ◌++◌, length, map, Option, Some, None, All, if◌then◌else◌, inl, refl, sym, subst, ◌∙◌, ap, ap₂, arith}
-use Rattle.std.specs.List.{list_any}
+use Rattle.std.proofs.Common.{◌≡◌, ℕ, zero, suc, ◌+◌, ◌^◌, ◌<◌, ◌≤◌, Bool, true, false, nat_eq, nat_lt, nat_le, slice_get, slice_index_or, List, [], ◌∷◌, ◌++◌, length, map, Option, Some, None, Result, Ok, Err, All, if◌then◌else◌, inl, refl, sym, subst, ◌∙◌, ap, ap₂, arith}
+use Rattle.std.specs.Result.{IfOk}
 use Rattle.std.specs.Cmp.Lexicographic.{pointwise}
 use Rattle.std.proofs.lemmas.Bool.{and_parts, le-leb}
 use Rattle.std.proofs.lemmas.List.{append_assoc, append-nil, length-map}
@@ -185,3 +185,8 @@ module _ (plant : Plant) (aim : Aim) (listed : List Rank) (kept : List (List Pai
       formed =
           subst (AreFormed plant) (lines_are (head_lines plant aim texts) old new on.more splits lines head on.added are_lines)
           (whole_formed plant aim texts asked_of listed kept on.more splits on.lead closes)
+
+-- what two facts about a result's value say together
+pub of_both : {X Y : Type 0} (r : Result X Y) (P Q R : X → Type 0) → ((x : X) → P x → Q x → R x) → IfOk r P → IfOk r Q → IfOk r R
+of_both (Ok x) P Q R f p q = f x p q
+of_both (Err e) P Q R f p q = p
