@@ -1,5 +1,5 @@
 -- What is put to a refuter are clauses over the booleans of the system.
-use Rattle.std.proofs.Common.{◌≡◌, ℕ, suc, ◌+◌, ◌^◌, ◌<◌, ◌≤◌, Bool, true, false, ◌&&◌, List, [], ◌∷◌, ◌++◌, length, map, get_or, All, IsTrue, refl, sym, subst, ◌∙◌, ap, arith}
+use Rattle.std.proofs.Common.{◌≡◌, ℕ, suc, ◌^◌, ◌≤◌, Bool, true, false, List, [], ◌∷◌, ◌++◌, length, map, All, IsTrue, refl, sym, subst, ◌∙◌, ap, arith}
 use Rattle.std.specs.List.{list_all, flat_map}
 use Rattle.std.proofs.lemmas.Bool.{and_parts, and_from}
 use Rattle.std.proofs.lemmas.List.{append_assoc, length-append}
@@ -19,7 +19,7 @@ use Rattle.lv_model.specs.Ranges.{plant_ranges}
 use Rattle.lv_recovery.specs.declared.aim.Aim.{Aim}
 use Rattle.lv_recovery.specs.Commands.{control_sizes}
 use Rattle.lv_recovery.specs.Ranges.{AimFits, GoalFits, modes_fit}
-use Rattle.lv_compile.specs.Booleans.{Booleans, booleans_now, bool_count}
+use Rattle.lv_compile.specs.Booleans.{Booleans, bool_count}
 use Rattle.lv_compile.specs.FormulaClauses.{Clauses, formula_clauses}
 use Rattle.lv_compile.specs.Cleaning.{cleaned}
 use Rattle.lv_steps.specs.Goals.{goal_speaks}
@@ -27,8 +27,7 @@ use Rattle.lv_steps.specs.Goals as goals
 use Rattle.lv_steps.specs.Numbering.{IsOver}
 use Rattle.lv_steps.specs.System.{SystemValue, IsSystemOf}
 use Rattle.lv_steps.proofs.GoalLemmas.{goals_exact}
-use Rattle.lv_validity.specs.Stated.{observed_literal}
-use Rattle.lv_validity.specs.Units.{units, mode_literals, no_fault_literals, control_literal, nominal_units, goal_clauses}
+use Rattle.lv_validity.specs.Units.{mode_literals, no_fault_literals, control_literal, nominal_units, goal_clauses}
 use Rattle.lv_certlines.specs.Pairs.{HasChoice}
 use Rattle.lv_certrec.specs.Showing.{stated_by, own_clauses, reached_clauses, AreRefuted, IsStepFrom}
 use Rattle.lv_clauses.specs.Literals.{clause_holds}

@@ -1,16 +1,14 @@
 -- One item more of what is gone through: states, goals and conflicts.
-use Rattle.std.proofs.Common.{◌≡◌, ℕ, zero, suc, ◌+◌, ◌<◌, ◌≤◌, Bool, true, false, ◌&&◌, not, List, [], ◌∷◌, ◌++◌, length, map, drop, take, get_or, slice_get, Some, All, ⊎_elim, refl, sym, subst, ◌∙◌, ap, arith}
+use Rattle.std.proofs.Common.{◌≡◌, ℕ, zero, suc, ◌+◌, ◌<◌, ◌≤◌, Bool, true, false, ◌&&◌, not, List, [], ◌∷◌, ◌++◌, length, map, drop, take, get_or, slice_get, Some, ⊎_elim, refl, sym, subst, ◌∙◌, ap, arith}
 use Rattle.std.specs.List.{list_all}
-use Rattle.std.proofs.lemmas.Bool.{and_parts, and_from}
 use Rattle.std.proofs.lemmas.List.{append_assoc, drop_more, drop_all}
-use Rattle.lv_base.specs.declared.rank.Rank.{Rank}
 use Rattle.lv_base.specs.declared.search.Pair.{Pair}
 use Rattle.lv_formula.specs.Tree.{Tree}
 use Rattle.lv_model.specs.declared.plant.Plant.{Plant}
 use Rattle.lv_model.specs.declared.state.State.{State}
 use Rattle.lv_model.specs.declared.state.TrackedState.{TrackedState}
 use Rattle.lv_model.specs.WellFormed.{is_well_formed}
-use Rattle.lv_laws.proofs.Among.{Among, all_among}
+use Rattle.lv_laws.proofs.Among.{all_among}
 use Rattle.lv_recovery.specs.declared.aim.Aim.{Aim}
 use Rattle.lv_recovery.specs.Recovers.{reaches, can_miss}
 use Rattle.lv_refute.specs.Lines.{derived_of}
@@ -19,7 +17,7 @@ use Rattle.lv_cert.specs.declared.line.Line.{Line}
 use Rattle.lv_certlaws.proofs.Options.{got_among}
 use Rattle.lv_certify.specs.Certifying.{IsAsked}
 use Rattle.lv_certrec.specs.Keeping.{IsReason, AreValues}
-use Rattle.lv_certrec.specs.Leading.{excluding, standing, LeadsOn, Excludes, ExcludesAll, ReachFromAll, AddsConflict, MissFromNone, AddsCounter}
+use Rattle.lv_certrec.specs.Leading.{excluding, standing, LeadsOn, Excludes, ExcludesAll, ReachFromAll, AddsCounter}
 use Rattle.lv_certrec.specs.Telling.{AreUnmissed, NeverMisses, MissesLeft}
 use Rattle.lv_certrec.proofs.AskingLemmas.{all_fitting}
 use Rattle.lv_certrec.proofs.GivingLemmas.{got_at}

@@ -1,5 +1,5 @@
 -- What a session holds is what a certificate may state, and all lines together certify the answer.
-use Rattle.std.proofs.Common.{◌≡◌, ℕ, zero, suc, ◌+◌, ◌^◌, ◌<◌, ◌≤◌, Bool, true, false, nat_eq, nat_lt, nat_le, slice_get, slice_index_or, List, [], ◌∷◌, ◌++◌, length, map, Option, Some, None, Result, Ok, Err, All, if◌then◌else◌, inl, refl, sym, subst, ◌∙◌, ap, ap₂, arith}
+use Rattle.std.proofs.Common.{◌≡◌, ℕ, suc, ◌^◌, ◌<◌, ◌≤◌, true, nat_eq, nat_lt, slice_get, slice_index_or, List, [], ◌∷◌, ◌++◌, length, map, Option, Some, None, Result, Ok, Err, All, if◌then◌else◌, inl, refl, sym, subst, ◌∙◌, ap, arith}
 use Rattle.std.specs.Result.{IfOk}
 use Rattle.std.specs.Cmp.Lexicographic.{pointwise}
 use Rattle.std.proofs.lemmas.Bool.{and_parts, le-leb}
@@ -9,29 +9,26 @@ use Rattle.lv_base.specs.declared.ids.VarId.{VarId}
 use Rattle.lv_base.specs.declared.rank.Rank.{Rank}
 use Rattle.lv_base.specs.declared.search.Candidate.{Candidate}
 use Rattle.lv_base.specs.declared.search.Pair.{Pair}
-use Rattle.lv_base.specs.Choices.{contains_all, pairs_of}
-use Rattle.lv_boxes.specs.Members.{ZoneValue, is_member}
+use Rattle.lv_base.specs.Choices.{pairs_of}
+use Rattle.lv_boxes.specs.Members.{ZoneValue}
 use Rattle.lv_model.specs.declared.plant.Plant.{Plant}
-use Rattle.lv_model.specs.Lists.{sizes, controls, variable_count}
+use Rattle.lv_model.specs.Lists.{sizes, controls}
 use Rattle.lv_model.specs.WellFormed.{is_well_formed}
 use Rattle.lv_model.specs.Ranges.{plant_ranges}
 use Rattle.lv_model.proofs.Reading.{few_variables}
 use Rattle.lv_walk.specs.declared.outcome.Outcome.TheVariants.{Settled}
-use Rattle.lv_walk.specs.Walk.{Walked, walk}
+use Rattle.lv_walk.specs.Walk.{walk}
 use Rattle.lv_laws.proofs.Among.{Among}
 use Rattle.lv_recovery.specs.declared.aim.Aim.{Aim}
 use Rattle.lv_recovery.specs.Recovers.{recovers}
-use Rattle.lv_recovery.specs.Commands.{control_sizes, is_command_set, command_rank, command_sets}
-use Rattle.lv_recovery.specs.Recovery.{candidate_recovers, candidate_reason, recovery_walk}
-use Rattle.lv_recovery.specs.Ranges.{ObservationFits}
+use Rattle.lv_recovery.specs.Commands.{control_sizes, command_rank}
+use Rattle.lv_recovery.specs.Recovery.{candidate_recovers, candidate_reason}
 use Rattle.lv_recovery.proofs.CommandReasons.{reason_is_inside}
-use Rattle.lv_search.specs.Members.{ranked_members}
 use Rattle.lv_zones.specs.Commands.{control_slots, command_zone}
 use Rattle.lv_zones.proofs.CommandLemmas.{zone_has_sets}
 use Rattle.lv_zones.proofs.ControlLemmas.{few_controls}
 use Rattle.lv_closing.specs.Closing.{Closes, SplitIsSmall, can_be_listed}
 use Rattle.lv_closing.specs.Explained.{AreExplained, last_if_full}
-use Rattle.lv_closing.specs.Laws.{HasReasonsInside}
 use Rattle.lv_closing.specs.declared.closing.Split.{Split}
 use Rattle.lv_closing.proofs.WalkLemmas.{search_explains}
 use Rattle.lv_cert.specs.declared.line.Question.TheVariants.{Recovery}
@@ -50,7 +47,7 @@ use Rattle.lv_certrec.specs.Showing.{head_lines}
 use Rattle.lv_certrec.proofs.HeadingLemmas.{IsAskedOf}
 use Rattle.lv_certrec.proofs.KeepingLemmas.{walk_keeps, walk_few, walk_recovers, values_of_all, values_same}
 use Rattle.lv_certrec.proofs.LeadingLemmas.{leads_both, leads_by, asked_done}
-use Rattle.lv_certrec.proofs.WholeLemmas.{whole_lines, whole_certifies, whole_formed}
+use Rattle.lv_certrec.proofs.WholeLemmas.{whole_certifies, whole_formed}
 
 module _ (plant : Plant) (aim : Aim) (listed : List Rank) (kept : List (List Pair)) (settled : IsSettledRecovery plant aim listed kept) where
   pub kept_are : All (IsReason plant aim) kept

@@ -1,5 +1,5 @@
 -- The blocks that exclude command sets: by values that don't reach the goals from some state, and by a step that misses one.
-use Rattle.std.proofs.Common.{◌≡◌, ℕ, suc, ◌+◌, ◌-◌, ◌^◌, ◌<◌, ◌≤◌, Bool, true, false, ◌&&◌, nat_eq, nat_le, List, [], ◌∷◌, ◌++◌, length, map, slice_get, Option, Some, None, cond, refl, sym, subst, ◌∙◌, ap, arith, All}
+use Rattle.std.proofs.Common.{◌≡◌, ℕ, suc, ◌+◌, ◌-◌, ◌^◌, ◌≤◌, true, false, nat_le, List, [], ◌∷◌, ◌++◌, length, map, slice_get, Option, Some, None, cond, refl, sym, subst, ◌∙◌, ap, arith, All}
 use Rattle.std.specs.List.{list_all}
 use Rattle.std.specs.Option.{option_and_then}
 use Rattle.std.proofs.lemmas.Bool.{and_parts, and_from, le-leb}
@@ -28,8 +28,8 @@ use Rattle.lv_cert.specs.declared.order.Witness.TheVariants as witness
 use Rattle.lv_cert.specs.declared.order.Place.{Place}
 use Rattle.lv_cert.specs.declared.order.Place.TheVariants as place
 use Rattle.lv_cert.specs.Form.{is_within_limit}
-use Rattle.lv_validity.specs.Counting.{is_one_of, are_of, places_of, pairs_of_numbers, at_number}
-use Rattle.lv_validity.specs.Judging.{Aimed, Judged, with_conflict, clauses_of_goals, values_refuted, with_counter}
+use Rattle.lv_validity.specs.Counting.{is_one_of, are_of, places_of}
+use Rattle.lv_validity.specs.Judging.{Aimed, Judged, with_conflict, clauses_of_goals, values_refuted}
 use Rattle.lv_certlines.specs.Lines.{numbers_of, pair_numbers, clause_lines}
 use Rattle.lv_certlines.specs.Ending.{Ends, BeginApart}
 use Rattle.lv_certlines.specs.Pairs.{HasChoice}
@@ -37,8 +37,8 @@ use Rattle.lv_certlines.proofs.Ending.{line_first}
 use Rattle.lv_certlines.proofs.Clauses.{ends_before, block_first}
 use Rattle.lv_certlines.proofs.Numbers.{back_again, places_back, one_of_place, within, formed_of, few_found}
 use Rattle.lv_certlines.proofs.Pairs.{pairs_read, pairs_odd, pairs_formed}
-use Rattle.lv_certrec.specs.Showing.{stated_by, step_lines, conflict_lines, counter_lines, own_clauses, reached_clauses, AreRefuted}
-use Rattle.lv_certrec.specs.Leading.{excluding, StandsAt, TakesBlocks, Standing, judged_at, Answers, AnswerFrom, Lead}
+use Rattle.lv_certrec.specs.Showing.{step_lines, conflict_lines, counter_lines, own_clauses, reached_clauses, AreRefuted}
+use Rattle.lv_certrec.specs.Leading.{excluding, StandsAt, Standing, judged_at, Answers, AnswerFrom, Lead}
 use Rattle.lv_certrec.proofs.ShowingLemmas.{numbers_are, at_place, IsShownTo, step_first, shown_so}
 
 module _ (plant : Plant) (h : is_well_formed plant ≡ true) (aim : Aim) (few_states : length aim.tracked ≤ 64) (few_controls : length (control_sizes plant) ≤ 4096) (listed : List Rank) (excluded : List (List Pair)) where

@@ -1,28 +1,26 @@
 -- What is put before lines that give a recovery, or exclude command sets, leads on.
-use Rattle.std.proofs.Common.{◌≡◌, ℕ, zero, suc, ◌+◌, ◌^◌, ◌<◌, ◌≤◌, Bool, true, false, ◌&&◌, not, nat_eq, nat_lt, List, [], ◌∷◌, ◌++◌, length, map, drop, get_or, slice_get, slice_index_or, Option, Some, None, All, IsTrue, ⊎_elim, refl, sym, subst, ◌∙◌, ap, ap₂, arith}
-use Rattle.std.specs.List.{list_all}
+use Rattle.std.proofs.Common.{◌≡◌, ℕ, zero, suc, ◌+◌, ◌^◌, ◌<◌, ◌≤◌, Bool, true, false, ◌&&◌, not, nat_eq, nat_lt, List, [], ◌∷◌, ◌++◌, length, map, get_or, slice_get, slice_index_or, Some, All, refl, sym, subst, ◌∙◌, ap, arith}
 use Rattle.std.specs.Cmp.Lexicographic.{pointwise}
-use Rattle.std.proofs.lemmas.Bool.{and_parts, and_from, ltb-true, eqb-true}
-use Rattle.std.proofs.lemmas.List.{append_assoc, append-nil, length-append, length-map}
+use Rattle.std.proofs.lemmas.Bool.{and_parts, ltb-true, eqb-true}
+use Rattle.std.proofs.lemmas.List.{append-nil, length-append, length-map}
 use Rattle.std.proofs.lemmas.List.Elements.{All-nil, All-cons}
 use Rattle.lv_base.specs.declared.ids.ValId.{ValId}
 use Rattle.lv_base.specs.declared.ids.VarId.{VarId}
-use Rattle.lv_base.specs.declared.rank.Rank.{Rank}
 use Rattle.lv_base.specs.declared.search.Pair.{Pair}
 use Rattle.lv_base.specs.Choices.{picks, contains_all, pairs_of, slots_rise}
 use Rattle.lv_formula.specs.Tree.{Tree, truth_of}
 use Rattle.lv_model.specs.declared.plant.Plant.{Plant}
 use Rattle.lv_model.specs.declared.state.TrackedState.{TrackedState}
-use Rattle.lv_model.specs.Lists.{sizes, move_counts, controls, variable_count}
+use Rattle.lv_model.specs.Lists.{sizes, move_counts, controls}
 use Rattle.lv_model.specs.Ranges.{plant_ranges}
 use Rattle.lv_model.specs.WellFormed.{is_well_formed}
 use Rattle.lv_model.proofs.Reading.{All-at, few_variables}
-use Rattle.lv_laws.proofs.Among.{Among, all_among}
+use Rattle.lv_laws.proofs.Among.{all_among}
 use Rattle.lv_laws.proofs.Reasons.{own_pairs}
 use Rattle.lv_recovery.specs.declared.aim.Aim.{Aim}
 use Rattle.lv_recovery.specs.Ranges.{StateFits, GoalFits, modes_fit}
-use Rattle.lv_recovery.specs.Recovers.{meets_goals, reaches, can_miss, is_sure_from, recovers}
-use Rattle.lv_recovery.specs.Commands.{control_sizes, is_command_set}
+use Rattle.lv_recovery.specs.Recovers.{meets_goals, reaches, can_miss, is_sure_from}
+use Rattle.lv_recovery.specs.Commands.{control_sizes}
 use Rattle.lv_recovery.proofs.NominalSteps.{denied}
 use Rattle.lv_recovery.proofs.CommandReasons.{reason_is_inside}
 use Rattle.lv_compile.specs.Booleans.{first_choice, bool_count}
@@ -42,14 +40,14 @@ use Rattle.lv_certrec.specs.declared.asking.Told.{Told}
 use Rattle.lv_certrec.specs.declared.asking.Told.TheVariants.{Step, Lines}
 use Rattle.lv_certrec.specs.Showing.{IsStepFrom, AreRefuted, own_clauses, recovery_line, good_lines, proof_lines, conflict_lines, counter_lines}
 use Rattle.lv_certrec.specs.Leading.{asked, good, proved, excluding, standing, Lead, LeadsOn, Excludes}
-use Rattle.lv_certrec.specs.Telling.{IsReaching, IsMissing, AreUnreached, AreUnmissed, TellsReached, TellsMissed, IsMissingGoal, NeverMisses, is_step, are_lines}
+use Rattle.lv_certrec.specs.Telling.{IsReaching, IsMissing, AreUnreached, AreUnmissed, TellsReached, TellsMissed, IsMissingGoal, is_step, are_lines}
 use Rattle.lv_certrec.specs.Keeping.{IsReason, choices_of, AreValues, IsGiven, answer_of}
-use Rattle.lv_certrec.proofs.LeadingLemmas.{leads_by, leads_none, leads_both, goals_done, states_done}
-use Rattle.lv_certrec.proofs.ShowingLemmas.{IsShownTo, recovery_leads, good_leads, proof_leads}
+use Rattle.lv_certrec.proofs.LeadingLemmas.{leads_by, leads_both, goals_done, states_done}
+use Rattle.lv_certrec.proofs.ShowingLemmas.{recovery_leads, good_leads, proof_leads}
 use Rattle.lv_certrec.proofs.ExcludingLemmas.{conflict_leads, counter_leads}
 use Rattle.lv_certrec.proofs.StepLemmas.{step_shown}
 use Rattle.lv_certrec.proofs.AskingLemmas.{all_fitting}
-use Rattle.lv_certrec.proofs.TellingLemmas.{reaching_reaches, missing_misses, unreached_never, never_more, never_misses}
+use Rattle.lv_certrec.proofs.TellingLemmas.{missing_misses, unreached_never}
 
 -- what stands at a place
 pub got_at : {X : Type 0} (xs : List X) (n : ℕ) (x : X) → n < length xs → x ≡ get_or xs n x → slice_get xs n ≡ Some x

@@ -1,36 +1,32 @@
 -- The lines that state the question of a recovery are good, and state it.
-use Rattle.std.proofs.Common.{◌≡◌, ℕ, zero, suc, ◌+◌, ◌<◌, ◌≤◌, Bool, true, false, nat_eq, nat_lt, List, [], ◌∷◌, ◌++◌, length, map, Option, Some, None, option_map, cond, refl, sym, subst, ◌∙◌, ap, ap₂, arith, All}
+use Rattle.std.proofs.Common.{◌≡◌, ℕ, zero, suc, ◌+◌, ◌<◌, ◌≤◌, true, nat_eq, List, [], ◌∷◌, ◌++◌, length, map, Some, None, option_map, cond, refl, sym, subst, ◌∙◌, ap, arith, All}
 use Rattle.std.specs.List.{list_all}
 use Rattle.std.specs.Cmp.Lexicographic.{pointwise}
 use Rattle.std.proofs.lemmas.Bool.{and_parts, and_from, lt-ltb, eq-eqb}
 use Rattle.std.proofs.lemmas.List.{append_assoc, append-nil, length-map}
-use Rattle.lv_base.specs.declared.rank.Rank.{Rank}
 use Rattle.lv_formula.specs.Tree.{Tree}
 use Rattle.lv_model.specs.declared.plant.Plant.{Plant}
-use Rattle.lv_model.specs.declared.state.TrackedState.{TrackedState}
 use Rattle.lv_model.specs.Lists.{variable_count}
 use Rattle.lv_model.specs.WellFormed.{is_well_formed}
-use Rattle.lv_meaning.specs.declared.facts.Observation.{Observation}
 use Rattle.lv_recovery.specs.declared.aim.Aim.{Aim}
 use Rattle.lv_compile.specs.Booleans.{booleans_now}
 use Rattle.lv_zones.specs.Commands.{control_slots, command_zone}
 use Rattle.lv_cert.specs.declared.line.Question.TheVariants.{Recovery}
 use Rattle.lv_cert.specs.declared.line.Moment.TheVariants.{Now}
-use Rattle.lv_cert.specs.declared.line.Head.TheVariants as head
 use Rattle.lv_cert.specs.declared.line.Line.{Line}
 use Rattle.lv_cert.specs.declared.line.Line.TheVariants as line
 use Rattle.lv_cert.specs.declared.order.Place.{Place}
 use Rattle.lv_cert.specs.declared.order.Place.TheVariants as place
 use Rattle.lv_cert.specs.Order.{after_known_facts, place_after}
 use Rattle.lv_cert.specs.Words.{is_word}
-use Rattle.lv_validity.specs.Stated.{Stated, observed_literal, goal_of, with_goal}
+use Rattle.lv_validity.specs.Stated.{observed_literal, goal_of, with_goal}
 use Rattle.lv_validity.specs.Judging.{Judged, unjudged}
 use Rattle.lv_certlines.specs.Lines.{state_lines, fact_lines}
 use Rattle.lv_certlines.specs.Ending.{Ends}
 use Rattle.lv_certlines.proofs.Ending.{line_first}
-use Rattle.lv_certlines.proofs.StatingLemmas.{Stands, TakesStates, states_first}
+use Rattle.lv_certlines.proofs.StatingLemmas.{Stands, states_first}
 use Rattle.lv_certlines.proofs.Facts.{IsSeenIn, TakesFacts, facts_first}
-use Rattle.lv_certrec.specs.Showing.{stated_by, goal_line, goal_lines, head_lines}
+use Rattle.lv_certrec.specs.Showing.{stated_by, goal_lines, head_lines}
 use Rattle.lv_certrec.specs.Leading.{task_of}
 
 -- where so many lines of goals came, behind so many of states and of facts

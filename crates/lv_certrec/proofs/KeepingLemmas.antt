@@ -1,26 +1,24 @@
 -- What a settled walk of a recovery leaves: a command set that recovers, or none, and reasons of sets that don't.
-use Rattle.std.proofs.Common.{◌≡◌, ℕ, zero, suc, ◌+◌, ◌<◌, ◌≤◌, Bool, true, false, ◌&&◌, not, List, [], ◌∷◌, ◌++◌, length, map, slice_get, Option, Some, None, All, cond, ◌⊎◌, inl, inr, refl, sym, subst, ◌∙◌, ap, ap₂, arith}
+use Rattle.std.proofs.Common.{◌≡◌, ℕ, ◌+◌, ◌≤◌, Bool, true, false, ◌&&◌, not, List, [], ◌∷◌, ◌++◌, length, Option, Some, All, cond, ◌⊎◌, inl, inr, refl, sym, subst, ◌∙◌, ap, arith}
 use Rattle.std.specs.List.{list_all, find}
 use Rattle.std.specs.Option.{option_map_or}
-use Rattle.std.proofs.lemmas.Bool.{and_parts, and_from}
+use Rattle.std.proofs.lemmas.Bool.{and_parts}
 use Rattle.std.proofs.lemmas.List.Elements.{All-nil, All-cons, All-append}
 use Rattle.lv_base.specs.declared.rank.Rank.{Rank}
 use Rattle.lv_base.specs.declared.search.Pair.{Pair}
-use Rattle.lv_base.specs.declared.search.Candidate.{Candidate}
 use Rattle.lv_base.specs.Choices.{pairs_from, pairs_of}
 use Rattle.lv_model.specs.declared.plant.Plant.{Plant}
 use Rattle.lv_model.specs.declared.state.TrackedState.{TrackedState}
-use Rattle.lv_model.specs.Lists.{controls}
 use Rattle.lv_walk.specs.declared.outcome.Outcome.TheVariants.{Settled}
-use Rattle.lv_walk.specs.Walk.{Walked, candidate_of, walk_from}
+use Rattle.lv_walk.specs.Walk.{Walked, walk_from}
 use Rattle.lv_walk.specs.Reason.{reduced}
 use Rattle.lv_walk.proofs.WalkLemmas.{turn, at_most}
 use Rattle.lv_laws.proofs.Among.{Among, contained}
 use Rattle.lv_laws.proofs.Listing.{same_rank}
 use Rattle.lv_recovery.specs.declared.aim.Aim.{Aim}
-use Rattle.lv_recovery.specs.Recovers.{reaches, can_miss, is_sure_from, recovers}
-use Rattle.lv_recovery.specs.Commands.{is_command_set, commands_cost, command_rank, command_sets}
-use Rattle.lv_recovery.specs.Recovery.{reason_from, first_unsure, command_reason, candidate_recovers, candidate_reason, recovery_walk}
+use Rattle.lv_recovery.specs.Recovers.{reaches, can_miss, is_sure_from}
+use Rattle.lv_recovery.specs.Commands.{is_command_set, command_rank, command_sets}
+use Rattle.lv_recovery.specs.Recovery.{reason_from, command_reason, candidate_recovers, candidate_reason, recovery_walk}
 use Rattle.lv_recovery.specs.Laws.{IsRecovery}
 use Rattle.lv_recovery.proofs.NominalSteps.{each_passes}
 use Rattle.lv_recovery.proofs.CommandSets.{among_is_set}
@@ -94,9 +92,11 @@ module _ (plant : Plant) (aim : Aim) where
           → (reaches plant aim at.state.state pairs ≡ false) ⊎ ((can_miss plant aim at.state.state pairs ≡ true) × AreValues plant pairs)
       by true e =
           let all : pairs ≡ pairs_of is.values = reason ∙ ap (λ b. cond b (pairs_of is.values) (reduced (reaches plant aim at.state.state) [] (pairs_of is.values))) e in
-          inr
-          (ap (can_miss plant aim at.state.state) all
-          ∙ missed (reaches plant aim at.state.state (pairs_of is.values)) (can_miss plant aim at.state.state (pairs_of is.values)) at.unsure e, values_of_all plant is.values pairs is.set all)
+          inr (
+            ap (can_miss plant aim at.state.state) all
+                ∙ missed (reaches plant aim at.state.state (pairs_of is.values)) (can_miss plant aim at.state.state (pairs_of is.values)) at.unsure e,
+            values_of_all plant is.values pairs is.set all,
+          )
       by false e = inl (ap (reaches plant aim at.state.state) reason ∙ reason_is_blocked plant aim is.values at.state.state e)
 
   -- what a walk keeps are reasons

@@ -1,8 +1,8 @@
 -- What the clauses of a nominal step say where truth values encode a step, and that they are clauses over the plant's booleans.
-use Rattle.std.proofs.Common.{◌≡◌, ℕ, zero, suc, ◌+◌, ◌<◌, ◌≤◌, Bool, true, false, ◌&&◌, not, nat_eq, nat_lt, List, [], ◌∷◌, ◌++◌, length, map, slice_get, slice_index_or, Option, Some, None, All, IsTrue, cond, refl, sym, subst, ◌∙◌, ap, arith}
+use Rattle.std.proofs.Common.{◌≡◌, ℕ, zero, suc, ◌+◌, ◌<◌, ◌≤◌, Bool, true, false, ◌&&◌, not, nat_eq, List, [], ◌∷◌, ◌++◌, length, map, slice_get, slice_index_or, Option, Some, None, All, cond, refl, sym, subst, ◌∙◌, ap, arith}
 use Rattle.std.specs.List.{list_all}
 use Rattle.std.specs.Option.{option_map_or, option_and_then}
-use Rattle.std.proofs.lemmas.Bool.{and_parts, and_from, eq-eqb, ltb-true}
+use Rattle.std.proofs.lemmas.Bool.{and_parts, and_from, eq-eqb}
 use Rattle.std.proofs.lemmas.Option.{slice_get_within, get_or_from_slice_get}
 use Rattle.std.proofs.lemmas.List.{length-map, get_or-map}
 use Rattle.std.proofs.lemmas.List.Elements.{All-head, All-tail}
@@ -12,8 +12,7 @@ use Rattle.lv_base.specs.declared.ids.MoveId.{MoveId}
 use Rattle.lv_base.specs.declared.ids.ValId.{ValId}
 use Rattle.lv_base.specs.declared.ids.VarId.{VarId}
 use Rattle.lv_base.specs.declared.search.Pair.{Pair}
-use Rattle.lv_clauses.specs.Literals.{in_range, is_clause, distinct}
-use Rattle.lv_formula.specs.declared.range.Range.{Range}
+use Rattle.lv_clauses.specs.Literals.{in_range, is_clause}
 use Rattle.lv_formula.specs.Fits.{has_value}
 use Rattle.lv_formula.specs.Tree.{number_of}
 use Rattle.lv_model.specs.declared.plant.Plant.{Plant}
@@ -32,11 +31,9 @@ use Rattle.lv_recovery.specs.Recovers.{has_modes, has_control, has_controls}
 use Rattle.lv_compile.specs.Booleans.{value_literal, booleans_now, first_choice, choice_bool, literal, bool_count}
 use Rattle.lv_compile.specs.FormulaClauses.{size_of}
 use Rattle.lv_compile.specs.Laws.{literal_is_true, Encode, EncodeMoves, move_number}
-use Rattle.lv_compile.proofs.BooleanLemmas.{is_there}
-use Rattle.lv_steps.specs.Numbering.{IsOver}
 use Rattle.lv_steps.proofs.LiteralLemmas.{value_true, choice_false, now_in_range, choice_in_range}
 use Rattle.lv_validity.specs.Stated.{observed_literal}
-use Rattle.lv_validity.specs.Units.{units, mode_literals, no_fault_of, no_fault_literals, control_literal, nominal_units}
+use Rattle.lv_validity.specs.Units.{units, mode_literals, no_fault_of, no_fault_literals, control_literal}
 use Rattle.lv_certlines.specs.Pairs.{HasChoice}
 use Rattle.lv_certlines.proofs.Numbers.{have_value}
 

@@ -1,20 +1,17 @@
 -- The lines of the recovery that is given: each state is good, and no goal is missed from it.
-use Rattle.std.proofs.Common.{◌≡◌, ℕ, zero, suc, ◌+◌, ◌-◌, ◌^◌, ◌<◌, ◌≤◌, Bool, true, false, ◌&&◌, nat_eq, nat_lt, nat_le, List, [], ◌∷◌, ◌++◌, length, map, slice_get, slice_index_or, Option, Some, None, cond, refl, sym, subst, ◌∙◌, ap, ap₂, arith, All}
+use Rattle.std.proofs.Common.{◌≡◌, ℕ, suc, ◌+◌, ◌-◌, ◌^◌, ◌<◌, ◌≤◌, Bool, true, false, ◌&&◌, nat_eq, nat_lt, List, [], ◌∷◌, ◌++◌, length, map, slice_get, Option, Some, None, cond, refl, sym, subst, ◌∙◌, ap, arith}
 use Rattle.std.specs.List.{list_all}
 use Rattle.std.specs.Option.{option_map_or, option_and_then}
 use Rattle.std.specs.Cmp.Lexicographic.{pointwise}
 use Rattle.std.proofs.lemmas.Bool.{and_parts, and_from, lt-ltb, ltb-true}
 use Rattle.std.proofs.lemmas.Option.{slice_get_within}
-use Rattle.lv_base.specs.declared.ids.Lit.{Lit}
 use Rattle.lv_base.specs.declared.ids.ValId.{ValId}
 use Rattle.lv_base.specs.declared.ids.VarId.{VarId}
 use Rattle.lv_base.specs.declared.rank.Rank.{Rank}
-use Rattle.lv_base.specs.declared.search.Pair.{Pair}
 use Rattle.lv_base.specs.Choices.{pairs_of}
 use Rattle.lv_clauses.specs.Literals.{same_truth}
 use Rattle.lv_formula.specs.Tree.{Tree}
 use Rattle.lv_model.specs.declared.plant.Plant.{Plant}
-use Rattle.lv_model.specs.declared.state.State.{State}
 use Rattle.lv_model.specs.declared.state.TrackedState.{TrackedState}
 use Rattle.lv_model.specs.Lists.{sizes, controls}
 use Rattle.lv_model.specs.WellFormed.{is_well_formed}
@@ -34,11 +31,11 @@ use Rattle.lv_cert.specs.declared.order.Witness.{Witness}
 use Rattle.lv_cert.specs.declared.order.Witness.TheVariants as witness
 use Rattle.lv_cert.specs.declared.order.Place.{Place}
 use Rattle.lv_cert.specs.declared.order.Place.TheVariants as place
-use Rattle.lv_cert.specs.Order.{after_witness, place_after}
+use Rattle.lv_cert.specs.Order.{after_witness}
 use Rattle.lv_cert.specs.Form.{is_within_limit}
 use Rattle.lv_validity.specs.Counting.{is_one_of, are_of, places_of, values_of, at_number}
-use Rattle.lv_validity.specs.Units.{nominal_units, goal_clauses}
-use Rattle.lv_validity.specs.Judging.{Aimed, Judged, is_aimed_step, is_as_aimed, shows_aimed, with_proof, clauses_of_miss, answer_values}
+use Rattle.lv_validity.specs.Units.{goal_clauses}
+use Rattle.lv_validity.specs.Judging.{Aimed, Judged, is_aimed_step, is_as_aimed, shows_aimed, with_proof}
 use Rattle.lv_certlines.specs.Lines.{numbers_of, value_numbers, values_line, clause_lines}
 use Rattle.lv_certlines.specs.Ending.{Ends, BeginApart}
 use Rattle.lv_certlines.proofs.Ending.{line_first}
@@ -46,7 +43,6 @@ use Rattle.lv_certlines.proofs.Clauses.{ends_before, block_first}
 use Rattle.lv_certlines.proofs.Numbers.{back_again, places_back, values_back, one_of_place, within, formed_of, few_found}
 use Rattle.lv_certrec.specs.Showing.{stated_by, recovery_line, step_lines, good_lines, proof_lines, own_clauses, AreRefuted}
 use Rattle.lv_certrec.specs.Leading.{task_of, stage_of, good_place, proved_place, asked, good, proved, StandsAt, Standing, judged_at, Answers, AnswerFrom, Lead}
-use Rattle.lv_certrec.proofs.HeadingLemmas.{IsAskedOf}
 use Rattle.lv_certrec.proofs.LeadingLemmas.{good_after, proof_after}
 
 -- values below these counts have numbers of them

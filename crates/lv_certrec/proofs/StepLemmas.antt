@@ -1,8 +1,6 @@
 -- Truth values that make a block's clauses true encode a nominal step, and the lines of such a step show it.
-use Rattle.std.proofs.Common.{◌≡◌, ◌≢◌, ℕ, zero, suc, ◌+◌, ◌<◌, ◌≤◌, Bool, true, false, ◌&&◌, ◌||◌, nat_eq, nat_lt, List, [], ◌∷◌, ◌++◌, length, map, slice_get, Option, Some, None, All, IsTrue, cond, ◌⊎◌, inl, inr, refl, sym, subst, ◌∙◌, ap, ap₂, arith}
+use Rattle.std.proofs.Common.{◌≡◌, ◌≢◌, ℕ, zero, suc, ◌+◌, ◌<◌, ◌≤◌, Bool, true, false, ◌&&◌, ◌||◌, nat_lt, List, [], ◌∷◌, ◌++◌, map, slice_get, Some, All, ◌⊎◌, inl, inr, refl, sym, subst, ◌∙◌, ap, arith}
 use Rattle.std.specs.List.{list_all, list_any, flat_map, range_with_len}
-use Rattle.std.specs.Option.{option_map_or}
-use Rattle.std.specs.Cmp.Lexicographic.{pointwise}
 use Rattle.std.proofs.lemmas.Bool.{and_parts, and_from, cases_eq, ltb-true}
 use Rattle.std.proofs.lemmas.List.Folds.{list_all-append}
 use Rattle.lv_base.specs.declared.ids.Lit.{Lit}
@@ -30,7 +28,7 @@ use Rattle.lv_recovery.specs.Commands.{control_sizes}
 use Rattle.lv_recovery.specs.Ranges.{modes_fit, ObservationFits}
 use Rattle.lv_recovery.specs.Recovers.{has_modes, has_controls, meets_goals}
 use Rattle.lv_recovery.specs.Laws.{NominalStep}
-use Rattle.lv_compile.specs.Booleans.{booleans_now, booleans_next}
+use Rattle.lv_compile.specs.Booleans.{booleans_next}
 use Rattle.lv_compile.specs.FormulaClauses.{Clauses, formula_clauses}
 use Rattle.lv_compile.specs.Laws.{Encode}
 use Rattle.lv_compile.proofs.CleaningLemmas.{cleaned_true}
@@ -42,7 +40,6 @@ use Rattle.lv_steps.specs.Laws.{IsWholeStep, IsModelOf}
 use Rattle.lv_steps.specs.System.{SystemValue, IsSystemOf}
 use Rattle.lv_steps.proofs.RangeLemmas.{below_from_assignment, below_from_full_choice, values_back, moves_back}
 use Rattle.lv_validity.specs.Counting.{are_of}
-use Rattle.lv_validity.specs.Stated.{Stated, observed_literal}
 use Rattle.lv_validity.specs.Units.{mode_literals, no_fault_literals, control_literal, nominal_units, goal_clauses}
 use Rattle.lv_validity.specs.Judging.{Judged, steps_nominally, is_nominal_pair, is_aimed_step}
 use Rattle.lv_certlaws.proofs.Blocks.{units_hold}

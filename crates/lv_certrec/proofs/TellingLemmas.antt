@@ -1,6 +1,6 @@
 -- What steps, and lines that refute them, tell of the values that they are of.
-use Rattle.std.proofs.Common.{◌≡◌, ℕ, ◌<◌, Bool, true, false, not, List, [], ◌∷◌, ◌++◌, length, map, get_or, All, IsTrue, inl, inr, refl, sym, subst, ◌∙◌, ap}
-use Rattle.std.specs.List.{list_all, flat_map}
+use Rattle.std.proofs.Common.{◌≡◌, ℕ, ◌<◌, Bool, true, false, not, List, [], ◌∷◌, ◌++◌, length, map, get_or, All, refl, sym, ◌∙◌, ap}
+use Rattle.std.specs.List.{list_all}
 use Rattle.std.proofs.lemmas.Bool.{and_parts, and_from, false_from_ne_true}
 use Rattle.std.proofs.lemmas.List.Elements.{All-head, All-tail}
 use Rattle.std.proofs.lemmas.List.Folds.{list_all_at}
@@ -11,11 +11,10 @@ use Rattle.lv_formula.specs.Tree.{Tree, truth_of}
 use Rattle.lv_formula.specs.Fits.{fits}
 use Rattle.lv_model.specs.declared.plant.Plant.{Plant}
 use Rattle.lv_model.specs.declared.state.State.{State}
-use Rattle.lv_model.specs.Lists.{sizes, controls}
 use Rattle.lv_model.specs.Ranges.{plant_ranges}
 use Rattle.lv_model.specs.WellFormed.{is_well_formed}
 use Rattle.lv_meaning.specs.declared.facts.Observation.{Observation}
-use Rattle.lv_meaning.specs.Facts.{agrees, meets, commanded}
+use Rattle.lv_meaning.specs.Facts.{agrees, meets}
 use Rattle.lv_meaning.specs.Possible.{value}
 use Rattle.lv_laws.proofs.Among.{Among, all_among}
 use Rattle.lv_recovery.specs.declared.aim.Aim.{Aim}
@@ -23,19 +22,18 @@ use Rattle.lv_recovery.specs.Ranges.{ObservationFits}
 use Rattle.lv_recovery.specs.Recovers.{meets_goals, reaches, can_miss}
 use Rattle.lv_recovery.specs.Laws.{NominalStep}
 use Rattle.lv_recovery.proofs.NominalSteps.{StepFound, step_found, found_step, denied}
-use Rattle.lv_compile.specs.Booleans.{booleans_now, booleans_next, bool_count}
+use Rattle.lv_compile.specs.Booleans.{booleans_now, bool_count}
 use Rattle.lv_compile.specs.FormulaClauses.{Clauses}
 use Rattle.lv_compile.specs.ModelClauses.{model_clauses}
 use Rattle.lv_compile.specs.Laws.{literal_is_true, Encode}
 use Rattle.lv_steps.proofs.LiteralLemmas.{value_true}
 use Rattle.lv_blocks.specs.Deriving.{Derived}
 use Rattle.lv_blocks.proofs.DerivingLemmas.{refuted_fail}
-use Rattle.lv_validity.specs.Stated.{Stated, observed_literal}
-use Rattle.lv_validity.specs.Units.{nominal_units, goal_clauses}
+use Rattle.lv_validity.specs.Stated.{observed_literal}
+use Rattle.lv_validity.specs.Units.{goal_clauses}
 use Rattle.lv_certlines.proofs.Numbers.{have_value}
-use Rattle.lv_certlaws.proofs.Saying.{Says}
 use Rattle.lv_certlaws.proofs.Blocked.{IsKnown, never_reached, never_missed}
-use Rattle.lv_certrec.specs.Showing.{stated_by, own_clauses, reached_clauses, IsStepFrom, AreRefuted}
+use Rattle.lv_certrec.specs.Showing.{stated_by, own_clauses, reached_clauses, AreRefuted}
 use Rattle.lv_certrec.specs.Telling.{IsReaching, IsMissing, AreUnreached, AreUnmissed, NeverMisses}
 
 -- what is seen is said by its literals

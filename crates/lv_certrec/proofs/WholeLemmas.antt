@@ -1,5 +1,5 @@
 -- All lines together are a certificate of the answer.
-use Rattle.std.proofs.Common.{◌≡◌, ℕ, Bool, true, List, [], ◌∷◌, ◌++◌, Some, None, refl, sym, subst, ◌∙◌, ap}
+use Rattle.std.proofs.Common.{ℕ, List, [], ◌∷◌, ◌++◌, None, refl, ap}
 use Rattle.lv_base.specs.declared.rank.Rank.{Rank}
 use Rattle.lv_base.specs.declared.search.Pair.{Pair}
 use Rattle.lv_model.specs.declared.plant.Plant.{Plant}
@@ -7,7 +7,6 @@ use Rattle.lv_recovery.specs.declared.aim.Aim.{Aim}
 use Rattle.lv_cert.specs.declared.line.Question.TheVariants.{Recovery}
 use Rattle.lv_cert.specs.declared.line.Line.{Line}
 use Rattle.lv_cert.specs.declared.line.Line.TheVariants as line
-use Rattle.lv_cert.specs.declared.order.Place.{Place}
 use Rattle.lv_cert.specs.declared.order.Place.TheVariants as place
 use Rattle.lv_validity.specs.Judging.{Judged, unjudged}
 use Rattle.lv_validity.specs.Laws.{aim_of}

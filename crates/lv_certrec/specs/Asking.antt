@@ -1,6 +1,5 @@
 -- What is kept of a plant and an aim to ask a refuter about nominal steps.
-use Rattle.std.specs.Prelude.{◌≡◌, true, List, map}
-use Rattle.lv_base.specs.declared.ids.Lit.{Lit}
+use Rattle.std.specs.Prelude.{◌≡◌, true, List}
 use Rattle.lv_base.specs.declared.ids.VarId.{VarId}
 use Rattle.lv_model.specs.declared.plant.Plant.{Plant}
 use Rattle.lv_model.specs.Lists.{controls}

@@ -1,19 +1,12 @@
 -- What a certificate of a recovery states and shows, and by which lines.
-use Rattle.std.specs.Prelude.{◌≡◌, ◌+◌, ◌≤◌, ◌^◌, ℕ, true, false, List, [], ◌∷◌, ◌++◌, length, map, All, slice_get, Some}
+use Rattle.std.specs.Prelude.{◌≡◌, ◌+◌, ◌≤◌, ◌^◌, ℕ, true, List, [], ◌∷◌, ◌++◌, length, map}
 use Rattle.std.specs.List.{flat_map}
 use Rattle.lv_base.specs.declared.ids.ValId.{ValId}
 use Rattle.lv_base.specs.declared.search.Pair.{Pair}
-use Rattle.lv_base.specs.Choices.{slots_rise}
-use Rattle.lv_formula.specs.Tree.{Tree}
 use Rattle.lv_model.specs.declared.plant.Plant.{Plant}
 use Rattle.lv_model.specs.declared.state.State.{State}
-use Rattle.lv_model.specs.declared.state.TrackedState.{TrackedState}
-use Rattle.lv_model.specs.Lists.{sizes}
-use Rattle.lv_meaning.specs.declared.facts.Observation.{Observation}
 use Rattle.lv_meaning.specs.Possible.{value}
 use Rattle.lv_recovery.specs.declared.aim.Aim.{Aim}
-use Rattle.lv_recovery.specs.Recovers.{meets_goals}
-use Rattle.lv_recovery.specs.Commands.{control_sizes, is_command_set}
 use Rattle.lv_recovery.specs.Laws.{NominalStep}
 use Rattle.lv_compile.specs.Booleans.{booleans_now, bool_count}
 use Rattle.lv_compile.specs.FormulaClauses.{Clauses}
@@ -24,10 +17,9 @@ use Rattle.lv_cert.specs.declared.line.Moment.TheVariants.{Now}
 use Rattle.lv_cert.specs.declared.line.Head.TheVariants as head
 use Rattle.lv_cert.specs.declared.line.Line.{Line}
 use Rattle.lv_cert.specs.declared.line.Line.TheVariants as line
-use Rattle.lv_validity.specs.Counting.{are_of}
 use Rattle.lv_validity.specs.Stated.{Stated, observed_literal}
 use Rattle.lv_validity.specs.Units.{nominal_units, goal_clauses}
-use Rattle.lv_certlines.specs.Lines.{numbers_of, value_numbers, state_lines, fact_lines, values_line, pair_numbers, clause_lines}
+use Rattle.lv_certlines.specs.Lines.{numbers_of, state_lines, fact_lines, values_line, pair_numbers, clause_lines}
 
 -- what is stated of what a recovery is asked
 abbrev pub stated_by : Plant → Aim → Stated

@@ -133,8 +133,19 @@ impl<'a> Asking<'a> {
         let mut lits = Vec::new(self.alloc);
         push_modes(self.model, self.system, &mut lits, state.modes.as_slice())?;
         push_no_faults(self.model, self.system, &mut lits)?;
-        push_seen(self.model, self.system, &mut lits, self.aim.present.as_slice())?;
-        push_controls(self.model, self.system, self.vars.as_slice(), &mut lits, pairs)?;
+        push_seen(
+            self.model,
+            self.system,
+            &mut lits,
+            self.aim.present.as_slice(),
+        )?;
+        push_controls(
+            self.model,
+            self.system,
+            self.vars.as_slice(),
+            &mut lits,
+            pairs,
+        )?;
         let mut own = Vec::new(self.alloc);
         push_units(self.alloc, &mut own, lits.as_slice())?;
         Ok(own)
@@ -176,12 +187,7 @@ impl<'a> Asking<'a> {
     }
 
     /// Such a step that ends with the goal false, or lines by which none does.
-    pub fn miss(
-        &self,
-        state: &State,
-        pairs: &[Pair],
-        goal: &Condition,
-    ) -> Result<Told, AllocError>
+    pub fn miss(&self, state: &State, pairs: &[Pair], goal: &Condition) -> Result<Told, AllocError>
         requires fit { modes_fit (plant_ranges self.now.plant) self.now.plant.parts state.now.modes ≡ true }
         requires have { All (HasChoice (control_sizes self.now.plant)) pairs.now }
         requires goal { GoalFits self.now.plant goal.now }

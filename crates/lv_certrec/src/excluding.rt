@@ -48,11 +48,7 @@ fn counter_line(alloc: Global, place: usize, pairs: &[Pair]) -> Result<Line, All
 }
 
 /// Excludes these values by the first state from which they don't reach the goals, if there is one.
-fn push_conflict(
-    asking: &Asking,
-    pairs: &[Pair],
-    lines: &mut Vec<Line>,
-) -> Result<bool, AllocError>
+fn push_conflict(asking: &Asking, pairs: &[Pair], lines: &mut Vec<Line>) -> Result<bool, AllocError>
     requires have { All (HasChoice (control_sizes asking.now.plant)) pairs.now }
     requires rising { slots_rise pairs.now ≡ true }
     ensures { IfOk result (AddsConflict asking.now.plant asking.now.aim pairs.now lines.old.items lines.new.items) }
@@ -92,11 +88,7 @@ fn missing_step(
 }
 
 /// Excludes these values of all controls by the first state from which they can miss a goal, if there is one.
-fn push_counter(
-    asking: &Asking,
-    pairs: &[Pair],
-    lines: &mut Vec<Line>,
-) -> Result<bool, AllocError>
+fn push_counter(asking: &Asking, pairs: &[Pair], lines: &mut Vec<Line>) -> Result<bool, AllocError>
     requires { AreValues asking.now.plant pairs.now }
     ensures { IfOk result (AddsCounter asking.now.plant asking.now.aim pairs.now lines.old.items lines.new.items) }
 {
@@ -104,7 +96,12 @@ fn push_counter(
     for (place, s) in aim.tracked.as_slice().iter().enumerate() {
         if let Some(step) = missing_step(asking, &s.state, pairs)? {
             lines.push(counter_line(asking.alloc(), place, pairs)?)?;
-            push_step(asking.alloc(), lines, step.now.as_slice(), step.next.as_slice())?;
+            push_step(
+                asking.alloc(),
+                lines,
+                step.now.as_slice(),
+                step.next.as_slice(),
+            )?;
             return Ok(true);
         }
     }
@@ -112,11 +109,7 @@ fn push_counter(
 }
 
 /// Excludes the reason of a command set that doesn't recover.
-fn push_block(
-    asking: &Asking,
-    conflict: &Conflict,
-    lines: &mut Vec<Line>,
-) -> Result<(), AllocError>
+fn push_block(asking: &Asking, conflict: &Conflict, lines: &mut Vec<Line>) -> Result<(), AllocError>
     requires { IsReason asking.now.plant asking.now.aim conflict.now }
     ensures { IfOk result (λ _. Excludes asking.now.plant asking.now.aim conflict.now lines.old.items lines.new.items) }
 {

@@ -21,11 +21,7 @@ fn model_line(alloc: Global, model: &Model) -> Result<Line, AllocError>
 }
 
 /// Adds a line for each goal, with its text.
-fn push_goals(
-    alloc: Global,
-    lines: &mut Vec<Line>,
-    texts: &[Seq<u8>],
-) -> Result<(), AllocError>
+fn push_goals(alloc: Global, lines: &mut Vec<Line>, texts: &[Seq<u8>]) -> Result<(), AllocError>
     ensures { IfOk result (λ _. lines.new.items ≡ lines.old.items ++ goal_lines texts.now) }
 {
     for text in texts {

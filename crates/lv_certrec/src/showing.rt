@@ -77,7 +77,12 @@ fn push_good(
     let _aim = asking.aim();
     let step = step_told(asking.reach(&state.state, pairs)?);
     lines.push(good_line(asking.alloc(), place)?)?;
-    push_step(asking.alloc(), lines, step.now.as_slice(), step.next.as_slice())
+    push_step(
+        asking.alloc(),
+        lines,
+        step.now.as_slice(),
+        step.next.as_slice(),
+    )
 }
 
 /// Shows that from the state of this place no step under the recovery misses the goal of that place.

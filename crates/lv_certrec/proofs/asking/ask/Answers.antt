@@ -1,10 +1,7 @@
 -- values that were told make the system's clauses true
-use Rattle.std.proofs.Common.{◌≡◌, ◌∙◌, true, length, subst, sym, ap}
-use Rattle.std.proofs.lemmas.Result.{IfOk-weaker}
+use Rattle.std.proofs.Common.{◌∙◌, length, subst, sym, ap}
 use Rattle.lv_clauses.specs.ClauseMap.{satisfies}
 use Rattle.lv_steps.specs.System.{SystemValue, IsSystemOf}
-use Rattle.lv_refute.specs.declared.refuter.Refuted.{Refuted}
-use Rattle.lv_refute.specs.declared.refuter.Refuted.TheVariants.{Values}
 use Rattle.lv_refute.specs.Refuting.{MakeTrue, Tells}
 use Rattle.lv_certrec.proofs.asking.ask.Goals as goal
 

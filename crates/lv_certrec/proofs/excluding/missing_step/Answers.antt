@@ -1,5 +1,5 @@
 -- one goal more that no step misses
-use Rattle.std.proofs.Common.{◌≡◌, ◌∙◌, subst, sym, ap}
+use Rattle.std.proofs.Common.{◌∙◌, subst, ap}
 use Rattle.lv_recovery.specs.declared.aim.Aim.{Aim}
 use Rattle.lv_certrec.specs.Telling.{TellsMissed}
 use Rattle.lv_certrec.proofs.BlockLemmas.{left_more, left_none}

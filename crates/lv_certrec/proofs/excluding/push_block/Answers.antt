@@ -1,5 +1,5 @@
 -- where the values reach the goals from each state, they can miss one from some state
-use Rattle.std.proofs.Common.{◌≡◌, ◌∷◌, ◌++◌, ◌∙◌, List, All, Bool, subst, sym, ap}
+use Rattle.std.proofs.Common.{List, All, subst, sym}
 use Rattle.lv_base.specs.declared.search.Pair.{Pair}
 use Rattle.lv_recovery.specs.Commands.{control_sizes}
 use Rattle.lv_certrec.specs.Keeping.{AreValues}

@@ -1,5 +1,5 @@
 -- the first state from which the values don't reach the goals, or one more from which they do
-use Rattle.std.proofs.Common.{◌≡◌, ◌∷◌, ◌++◌, ◌∙◌, List, [], map, subst, sym, ap, arith}
+use Rattle.std.proofs.Common.{◌∷◌, ◌++◌, ◌∙◌, List, [], map, subst, ap, arith}
 use Rattle.lv_model.specs.declared.state.TrackedState.{TrackedState}
 use Rattle.lv_recovery.specs.declared.aim.Aim.{Aim}
 use Rattle.lv_recovery.specs.Recovers.{reaches}

@@ -1,5 +1,5 @@
 -- the first state from which the values can miss a goal
-use Rattle.std.proofs.Common.{◌≡◌, ◌∷◌, ◌++◌, ◌∙◌, List, [], subst, sym, ap}
+use Rattle.std.proofs.Common.{◌∷◌, ◌++◌, ◌∙◌, List, [], subst, ap}
 use Rattle.lv_recovery.specs.declared.aim.Aim.{Aim}
 use Rattle.lv_cert.specs.declared.line.Line.{Line}
 use Rattle.lv_certrec.specs.Showing.{step_lines}

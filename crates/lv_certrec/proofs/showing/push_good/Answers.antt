@@ -1,8 +1,6 @@
 -- there is a step, and its lines show it
-use Rattle.std.proofs.Common.{◌≡◌, ◌∷◌, ◌++◌, ◌∙◌, List, map, subst, sym, ap}
+use Rattle.std.proofs.Common.{◌++◌, ◌∙◌, subst}
 use Rattle.std.proofs.lemmas.Result.{IfOk-weaker}
-use Rattle.lv_cert.specs.declared.line.Line.{Line}
-use Rattle.lv_certrec.specs.declared.asking.Told.{Told}
 use Rattle.lv_certrec.specs.Showing.{step_lines}
 use Rattle.lv_certrec.specs.Telling.{TellsReached}
 use Rattle.lv_certrec.proofs.BlockLemmas.{joined}

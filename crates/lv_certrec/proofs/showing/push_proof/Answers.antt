@@ -1,6 +1,5 @@
 -- no step misses the goal, and the lines show it
-use Rattle.std.proofs.Common.{◌≡◌, ◌≤◌, ◌^◌, ◌∷◌, ◌++◌, ◌∙◌, List, map, subst, sym, ap, arith}
-use Rattle.lv_cert.specs.declared.line.Line.{Line}
+use Rattle.std.proofs.Common.{map, subst, arith}
 use Rattle.lv_certlines.specs.Lines.{clause_lines}
 use Rattle.lv_refute.specs.Lines.{derived_of}
 use Rattle.lv_certrec.specs.Telling.{TellsMissed}

@@ -1,6 +1,5 @@
 -- one goal more
-use Rattle.std.proofs.Common.{◌≡◌, ◌+◌, ◌∙◌, [], ap}
-use Rattle.lv_recovery.specs.declared.aim.Aim.{Aim}
+use Rattle.std.proofs.Common.{◌+◌, []}
 use Rattle.lv_certrec.specs.Keeping.{answer_of}
 use Rattle.lv_certrec.specs.Leading.{proved, standing}
 use Rattle.lv_certrec.proofs.LeadingLemmas.{leads_both}

@@ -1,5 +1,5 @@
 -- the recovery, and then each state
-use Rattle.std.proofs.Common.{◌≡◌, ◌∷◌, ◌++◌, ◌∙◌, [], ap}
+use Rattle.std.proofs.Common.{◌∷◌, ◌++◌, ◌∙◌, [], ap}
 use Rattle.std.proofs.lemmas.Result.{IfOk-weaker}
 use Rattle.lv_cert.specs.declared.line.Line.{Line}
 use Rattle.lv_certrec.proofs.GivingLemmas.{recovery_on}

@@ -1,5 +1,5 @@
 -- one state more
-use Rattle.std.proofs.Common.{◌≡◌, ◌+◌, ◌∙◌, [], ap}
+use Rattle.std.proofs.Common.{◌+◌, []}
 use Rattle.lv_certrec.specs.Keeping.{answer_of}
 use Rattle.lv_certrec.specs.Leading.{good, standing}
 use Rattle.lv_certrec.proofs.GivingLemmas.{state_on}

@@ -1,5 +1,5 @@
 -- each mode is one that the part's type has
-use Rattle.std.proofs.Common.{◌≡◌, ap, ◌∙◌}
+use Rattle.std.proofs.Common.{ap, ◌∙◌}
 use Rattle.lv_model.specs.declared.plant.Plant.{Plant}
 use Rattle.lv_certrec.proofs.UnitLemmas.{mode_there}
 use Rattle.lv_certrec.proofs.units.push_modes.Goals as goal

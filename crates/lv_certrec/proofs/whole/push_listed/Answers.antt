@@ -1,5 +1,5 @@
 -- the one that is listed recovers
-use Rattle.std.proofs.Common.{◌≡◌, ◌∙◌, ◌<◌, ◌^◌, [], List, length, subst, sym, ap}
+use Rattle.std.proofs.Common.{◌∙◌, ◌<◌, ◌^◌, [], List, length, subst, sym, ap}
 use Rattle.std.proofs.lemmas.Result.{IfOk-weaker}
 use Rattle.lv_base.specs.declared.rank.Rank.{Rank}
 use Rattle.lv_base.specs.Choices.{pairs_of}

@@ -1,9 +1,7 @@
 -- each command set is explained
-use Rattle.std.proofs.Common.{◌≡◌, ◌∙◌, ◌++◌, ◌∷◌, [], List, true, subst, sym, ap}
+use Rattle.std.proofs.Common.{◌≡◌, ◌∙◌, ◌++◌, ◌∷◌, [], List, ap}
 use Rattle.std.specs.Option.{option_copied}
 use Rattle.lv_boxes.specs.Members.{ZoneValue}
-use Rattle.lv_model.specs.declared.plant.Plant.{Plant}
-use Rattle.lv_model.specs.WellFormed.{is_well_formed}
 use Rattle.lv_zones.specs.Commands.{command_zone}
 use Rattle.lv_certrec.proofs.DoneLemmas.{one_listed, explained_so, closing, of_both}
 use Rattle.lv_certrec.proofs.whole.splits_of.Goals as goal

@@ -1,5 +1,5 @@
 -- the goal speaks of values of the system
-use Rattle.std.proofs.Common.{◌≡◌, ◌∙◌, subst, sym, ap}
+use Rattle.std.proofs.Common.{◌∙◌, subst, sym, ap}
 use Rattle.std.proofs.lemmas.Result.{IfOk-weaker}
 use Rattle.lv_formula.specs.Tree.{tree_of}
 use Rattle.lv_recovery.specs.Ranges.{GoalFits}

@@ -1,10 +1,9 @@
 -- the literals of a nominal step, in their order
-use Rattle.std.proofs.Common.{◌≡◌, ◌++◌, ◌∙◌, List, length, map, true, subst, sym, ap}
+use Rattle.std.proofs.Common.{◌≡◌, ◌++◌, ◌∙◌, List, map, true, subst, sym, ap}
 use Rattle.lv_base.specs.declared.ids.Lit.{Lit}
 use Rattle.lv_base.specs.declared.ids.ValId.{ValId}
 use Rattle.lv_compile.specs.Booleans.{booleans_now}
 use Rattle.lv_model.specs.Ranges.{plant_ranges}
-use Rattle.lv_meaning.specs.declared.facts.Observation.{Observation}
 use Rattle.lv_recovery.specs.Ranges.{modes_fit}
 use Rattle.lv_validity.specs.Stated.{observed_literal}
 use Rattle.lv_validity.specs.Units.{units, mode_literals, no_fault_literals, control_literal, nominal_units}

@@ -1,10 +1,10 @@
 -- what is stated is over the booleans of the system, and what is told of it is told of steps
-use Rattle.std.proofs.Common.{◌≡◌, ◌++◌, ◌≤◌, ◌^◌, ◌∙◌, List, All, length, false, subst, sym, ap, arith}
+use Rattle.std.proofs.Common.{◌≡◌, ◌++◌, ◌∙◌, List, All, length, subst, sym, ap, arith}
 use Rattle.std.proofs.lemmas.Result.{IfOk-weaker}
 use Rattle.lv_base.specs.declared.ids.Lit.{Lit}
 use Rattle.lv_steps.specs.Numbering.{IsOver}
 use Rattle.lv_steps.specs.System.{SystemValue}
-use Rattle.lv_validity.specs.Units.{nominal_units, goal_clauses}
+use Rattle.lv_validity.specs.Units.{nominal_units}
 use Rattle.lv_certrec.specs.Asking.{Asked, IsAsking}
 use Rattle.lv_certrec.specs.Showing.{stated_by, own_clauses, reached_clauses}
 use Rattle.lv_certrec.specs.Telling.{IsTold}
