@@ -95,11 +95,13 @@ def runs():
     yield "a diagnosis with conflicts", "run", valve("valve.lv"), SEEN.encode()
     yield "a recovery with conflicts", "run", valve("valve.lv"), AIMED.encode()
     yield "a budget that is used up three times", "run", valve("valve.lv"), BUDGET.encode()
+    yield "a certificate of a diagnosis, written", "run", valve("valve.lv"), (SEEN + "certificate\n").encode()
+    yield "a certificate of a recovery, written", "run", valve("valve.lv"), (AIMED + "certificate\n").encode()
     yield "a certificate that is valid", "check", valve("valve.lv"), valve("valve.cert")
     yield "a long session", "run", valve("valve.lv"), GONE_ON.encode()
     yield "two valves in a row", "run", read(SERIES), read("tests/sessions/series.ses")
     yield "a model printed", "print", read(SERIES), None
-    yield "a certificate of a recovery", "check", *recovery_certificate()
+    yield "a certificate of a recovery that is valid", "check", *recovery_certificate()
 
 
 def recovery_certificate():
