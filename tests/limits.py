@@ -10,7 +10,6 @@ import os
 import subprocess
 import sys
 import tempfile
-import time
 
 ROOT = os.path.dirname(os.path.dirname(os.path.abspath(__file__)))
 MOST_OF_MODEL, MOST = 4194304, 67108864
@@ -49,7 +48,7 @@ def law(power):
 
 
 def clauses(laws_of_two):
-    """A model of 1,048,568 clauses, and of two more for each of these laws."""
+    """A model of 1,048,570 clauses, and of two more for each of these laws."""
     text = "type t\nmode m\nend\npart p t m\npart q t m\n" + law(12) * 127 + "".join(law(n) for n in range(11, 2, -1))
     return text + "law p.mode = m\n" * laws_of_two
 
@@ -88,10 +87,10 @@ def rows():
     yield model("256 parts", parts(256))
     yield model("257 parts", parts(257), "model 262 M12")
     yield model("4,096 variables in 256 parts", variables(4096))
-    yield model("4,097 variables in 256 parts", variables(4097), "model 293 M12")
+    yield model("4,097 variables in 256 parts", variables(4097), "model 294 M12")
     yield run("the same with 4,096, diagnosed", "diagnose\n", None, model=variables(4096))
-    yield model("1,048,576 clauses", clauses(4))
-    yield model("1,048,578 clauses", clauses(5), "model 146 M12")
+    yield model("1,048,576 clauses", clauses(3))
+    yield model("1,048,578 clauses", clauses(4), "model 145 M12")
     yield model("a model of 4,194,304 bytes", filled(VALVE, MOST_OF_MODEL, b"# a comment that says nothing at all\n"))
     yield model("a model of 4,194,305 bytes", filled(VALVE, MOST_OF_MODEL + 1, b"# a comment that says nothing at all\n"), "model 0 M01")
     comments = b"# a comment\n"
@@ -133,17 +132,28 @@ def rows():
     yield check("a certificate of 67,108,865 bytes", filled(b"", MOST + 1, b"state 0 1\n"), 7, "", "certificate too long")
 
 
+# Runs the words behind the first and writes into that file the status, the seconds and the peak of kilobytes. A process of its
+# own does so, since what it begins would have at least the peak of this one, which holds all texts.
+MEASURES = """
+import os, sys, time
+began = time.monotonic()
+child = os.fork()
+if child == 0:
+    os.execv(sys.argv[2], sys.argv[2:])
+_, ended, used = os.wait4(child, 0)
+with open(sys.argv[1], "w") as file:
+    print(os.waitstatus_to_exitcode(ended), time.monotonic() - began, used.ru_maxrss, file=file)
+"""
+
+
 def measured(words):
-    """Status, output, standard error, seconds and peak megabytes of a run."""
-    with tempfile.TemporaryFile() as out, tempfile.TemporaryFile() as err:
-        began = time.monotonic()
-        process = subprocess.Popen(words, stdin=subprocess.DEVNULL, stdout=out, stderr=err)
-        _, ended, used = os.wait4(process.pid, 0)
-        seconds = time.monotonic() - began
-        process.returncode = 0
+    """Status, output, standard error, seconds and peak megabytes of a run. A peak below 10 MB is that of what measures."""
+    with tempfile.TemporaryFile() as out, tempfile.TemporaryFile() as err, tempfile.NamedTemporaryFile("r") as told:
+        subprocess.run([sys.executable, "-S", "-c", MEASURES, told.name, *words], stdin=subprocess.DEVNULL, stdout=out, stderr=err, check=True)
+        status, seconds, kilobytes = told.read().split()
         out.seek(0)
         err.seek(0)
-        return os.waitstatus_to_exitcode(ended), out.read(), err.read(), seconds, used.ru_maxrss / 1024
+        return int(status), out.read(), err.read(), float(seconds), int(kilobytes) / 1024
 
 
 def main(program):
