@@ -1,5 +1,5 @@
 -- The name of an accepted model is one word.
-use Rattle.std.proofs.Common.{◌≡◌, ◌+◌, ℕ, Bool, true, false, ◌&&◌, cond, nat_eq, nat_lt, List, [], ◌∷◌, ◌++◌, length, slice_get, Option, Some, None, is_some, Result, Ok, Err, All, refl, sym, ap, subst, ◌∙◌}
+use Rattle.std.proofs.Common.{◌≡◌, ◌+◌, ℕ, Bool, true, false, cond, nat_eq, nat_lt, List, [], ◌∷◌, ◌++◌, length, slice_get, Option, Some, None, is_some, Result, Ok, Err, All, refl, sym, ap, subst, ◌∙◌}
 use Rattle.std.specs.List.{list_all}
 use Rattle.std.specs.Cmp.Derive.{both_true}
 use Rattle.std.proofs.lemmas.Bool.{and_parts}
@@ -9,6 +9,8 @@ use Rattle.lv_text.specs.Kinds.{has_kind}
 use Rattle.lv_text.specs.Laws.{IsLexeme}
 use Rattle.lv_text.specs.Lexemes.{Lexeme, Reading, reads, has_bad_byte, is_too_long, line_reading, is_word as is_word_kind, word_of, word_at}
 use Rattle.lv_text.proofs.ReadBack.{lexemes_have}
+use Rattle.lv_base.specs.declared.ids.ValId.{ValId}
+use Rattle.lv_base.specs.declared.ids.VarId.{VarId}
 use Rattle.lv_model.specs.declared.plant.Plant.{Plant}
 use Rattle.lv_model.proofs.Reading.{All-at}
 use Rattle.lv_cert.specs.Words.{is_word}
@@ -28,9 +30,9 @@ use Rattle.lv_checker.specs.declared.draft.Entry.{Entry}
 use Rattle.lv_checker.specs.declared.draft.Entry.TheVariants.{Named, NewDomain, TypeBegins, NewVariable, NewMode, TypeLaw, ModeLaw, NewMove, TypeEnds, NewPart, SystemLaw, NewPrice}
 use Rattle.lv_checker.specs.Places.{type_place, mode_of_type, variable_numbered, part_of_name}
 use Rattle.lv_checker.specs.Scopes.{variable_of_part, value_of_system}
-use Rattle.lv_checker.specs.Entries.{system_formula, has_control, priced_entry, outside_entry, entry_where}
+use Rattle.lv_checker.specs.Entries.{known, system_formula, has_control, priced_entry, outside_entry, entry_where}
 use Rattle.lv_checker.specs.Faults.{judged}
-use Rattle.lv_checker.specs.Drafts.{empty, with_type, type_with, is_end, with_outside, with_where, with_entry}
+use Rattle.lv_checker.specs.Drafts.{empty, with_type, type_with, is_end, with_where, with_entry}
 use Rattle.lv_checker.specs.Checking.{Checked, fine, faulty, checked_by, after, all_added, finished, checked}
 use Rattle.lv_checker.specs.Verdicts.{Verdict, IsVerdict, not_read, is_checked, accepted, refused, verdict_of}
 use Rattle.lv_checker.proofs.FitsLists.{chained, guarded}
@@ -118,15 +120,15 @@ module _ (d : Draft) (name : List ℕ) where
   own_name (PriceLine part control value cost) h one =
       let a = known_parts (part_of_name d.plant.parts part) UnknownName _ (Named name) h in
       let b = known_parts (variable_of_part d.plant.types control a.0) UnknownName _ (Named name) a.2 in
-      absurd (controlled (has_control d.plant.types control a.0) b.2)
+      absurd (controlled b.0 (has_control d.plant.types control a.0) b.2)
     where
-      priced : {v : _} {x : _} → (b : Bool) → cond b (Ok (NewPrice (record { control = x; value = v; cost = record { 0 = cost } }))) (Err NoFit) ≡ Ok (Named name) → ⊥
-      priced true e = absurd (cc e)
-      priced false e = absurd (cc e)
+      priced : (v : ValId) (x : VarId) (b : Bool) → cond b (Ok (NewPrice (record { control = x; value = v; cost = record { 0 = cost } }))) (Err NoFit) ≡ Ok (Named name) → ⊥
+      priced v x true e = absurd (cc e)
+      priced v x false e = absurd (cc e)
 
-      controlled : {x : _} → (b : Bool) → cond b (known (value_of_system d x value) NoFit (λ v. priced_entry v x cost)) (Err NoFit) ≡ Ok (Named name) → ⊥
-      controlled {x} true e = let c = known_parts (value_of_system d x value) NoFit (λ v. priced_entry v x cost) (Named name) e in priced (nat_lt 0 c.0.0) c.2
-      controlled false e = absurd (cc e)
+      controlled : (x : VarId) (b : Bool) → cond b (known (value_of_system d x value) NoFit (λ v. priced_entry v x cost)) (Err NoFit) ≡ Ok (Named name) → ⊥
+      controlled x true e = let c = known_parts (value_of_system d x value) NoFit (λ v. priced_entry v x cost) (Named name) e in priced c.0 x (nat_lt 0 c.0.0) c.2
+      controlled x false e = absurd (cc e)
   own_name (VariableLine class n domain) h one = absurd (cc h)
   own_name (ModeLine n) h one = absurd (cc h)
   own_name (InLine mode f) h one = absurd (cc h)
@@ -203,5 +205,5 @@ accepted_name bytes plant v = by v refl
   where
     by : {w : Verdict} → IsVerdict bytes w → w ≡ accepted plant → is_word plant.name ≡ true
     by {w} (not_read code line why e) is = absurd (not_refused w plant code line is e)
-    by (is_checked text reads e) is =
-        checked_name text plant (statements_one reads.statements) (all_added empty text.statements) refl (sym (checked_is text) ∙ accepted_found (checked text) plant (sym is ∙ e))
+    by (is_checked text read e) is =
+        checked_name text plant (statements_one read.statements) (all_added empty text.statements) refl (sym (checked_is text) ∙ accepted_found (checked text) plant (sym is ∙ e))

@@ -1,5 +1,5 @@
 -- Where no certificate is told, the texts of the replies are a transcript, and the only one.
-use Rattle.std.proofs.Common.{◌≡◌, ℕ, zero, suc, Bool, true, false, ◌||◌, take, List, [], ◌∷◌, ◌++◌, Option, refl, sym, ◌∙◌, ap, ap₂, subst, append_assoc}
+use Rattle.std.proofs.Common.{◌≡◌, ℕ, zero, suc, false, take, List, [], ◌∷◌, ◌++◌, Option, refl, sym, ◌∙◌, ap, ap₂, subst, append_assoc}
 use Rattle.std.specs.List.{list_any}
 use Rattle.std.proofs.lemmas.Bool.{or_parts}
 use Rattle.lv_io.specs.Whole.{AddsFront}
@@ -89,10 +89,11 @@ front_of_replies plant state lines zero text none ends = (replies plant state li
 front_of_replies plant state [] (suc n) text none ends = ([], refl)
 front_of_replies plant state (line ∷ lines) (suc n) text none (goes_on {next} {reply} {rest} step more joined) =
     let later : NoneTold plant next lines = subst (λ (s : SessionState). NoneTold plant s lines) (sym step.goes) (none_later plant state line lines none) in
-    let others = front_of_replies plant next lines n rest later more in
-    (others.0,
+    let others = front_of_replies plant next lines n rest later more in (
+      others.0,
       ap (λ (t : List ℕ). t ++ others.0) joined ∙ append_assoc reply rest others.0
-      ∙ ap₂ (λ (a b : List ℕ). a ++ b) (only_step plant state line lines none next reply step) (others.1 ∙ ap (λ (s : SessionState). replies plant s lines) step.goes))
+          ∙ ap₂ (λ (a b : List ℕ). a ++ b) (only_step plant state line lines none next reply step) (others.1 ∙ ap (λ (s : SessionState). replies plant s lines) step.goes),
+    )
 
 pub front_of_transcript : (plant : Plant) (state : SessionState) (lines : List (List ℕ)) (n : ℕ) (text : List ℕ) (before after : Option (List ℕ)) → NoneTold plant state lines
     → IsTranscriptFrom plant state (take n lines) text → AddsFront text before after → AddsFront (replies plant state lines) before after
