@@ -119,10 +119,7 @@ goal_words plant (g ∷ gs) all =
     both_true (goal_word plant g (All-head (IsGoalIn plant) g gs all)) (goal_words plant gs (All-tail (IsGoalIn plant) g gs all))
 
 pub are_texts : (plant : Plant) (state : SessionState) → IsStateOf plant state → AreTexts plant (map text_of_goal state.goals) (map formula_of state.goals)
-are_texts plant state is =
-    let words = goal_words plant state.goals is.goals in
-    let back = goals_back plant state.goals is.goals in
-    search rules
+are_texts plant state is = record { words = goal_words plant state.goals is.goals; read = goals_back plant state.goals is.goals }
 
 -- an outcome that is settled
 settled_is : (o p : Outcome) → p ≡ o → is_settled_by p ≡ true → o ≡ Settled
