@@ -1,5 +1,5 @@
 -- A certificate is told in reply to a line that begins with the word `certificate`, and to no other.
-use Rattle.std.proofs.Common.{◌≡◌, ℕ, Bool, true, false, cond, nat_eq, List, [], ◌∷◌, length, Option, Some, None, Result, Ok, Err, refl, sym, ap, ◌∙◌, codes}
+use Rattle.std.proofs.Common.{◌≡◌, ℕ, Bool, true, false, cond, nat_eq, List, length, Option, Some, None, Result, Ok, Err, refl, codes}
 use Rattle.lv_text.specs.Lexemes.{Lexeme, Reading, reads, has_bad_byte, is_too_long, line_reading, says}
 use Rattle.lv_base.specs.declared.limits.TheConstants.{TRACKED, BUDGET}
 use Rattle.lv_model.specs.declared.plant.Plant.{Plant}
@@ -7,8 +7,7 @@ use Rattle.lv_phrase.specs.Nesting.{is_too_deep}
 use Rattle.lv_scope.specs.declared.lists.Lists.{Lists}
 use Rattle.lv_scope.specs.Lists.{lists_of}
 use Rattle.lv_reply.specs.declared.reply.Refusal.{Refusal}
-use Rattle.lv_reply.specs.declared.reply.Refusal.TheVariants.{UnknownWord, Form, TooComplex}
-use Rattle.lv_reply.specs.declared.reply.Reply.{Reply}
+use Rattle.lv_reply.specs.declared.reply.Refusal.TheVariants.{Form, TooComplex}
 use Rattle.lv_reply.specs.declared.reply.Reply.TheVariants.{Nothing as Silence}
 use Rattle.lv_request.specs.declared.words.Word.{Word}
 use Rattle.lv_request.specs.declared.words.Word.TheVariants as word

@@ -1,8 +1,8 @@
 -- In a generated session no `c` stands before an `e`, so no line of it has the word `certificate`.
-use Rattle.std.proofs.Common.{◌≡◌, ℕ, zero, suc, ◌+◌, ◌-◌, ◌<◌, ◌≤◌, ◌%◌, ◌^◌, Bool, true, false, not, ◌&&◌, ◌||◌, cond, nat_eq, List, [], ◌∷◌, ◌++◌, length, map, take, drop, get_or, Option, Some, None, refl, sym, ap, ap₂, subst, ◌∙◌, arith, codes, decimal}
+use Rattle.std.proofs.Common.{◌≡◌, ℕ, zero, suc, ◌+◌, ◌-◌, ◌<◌, ◌^◌, Bool, true, false, not, ◌&&◌, ◌||◌, cond, nat_eq, List, [], ◌∷◌, ◌++◌, length, map, take, drop, get_or, Some, None, refl, sym, ap₂, subst, arith, codes, decimal}
 use Rattle.std.specs.List.{list_all, list_any, onto_first}
 use Rattle.std.specs.Cmp.Derive.{both_true}
-use Rattle.std.specs.Cmp.Lexicographic.{pointwise, same_text}
+use Rattle.std.specs.Cmp.Lexicographic.{same_text}
 use Rattle.std.specs.Option.{option_map_or}
 use Rattle.std.specs.Str.Lines.{strip_carriage_return}
 use Rattle.std.proofs.lemmas.Bool.{and_parts, eqb-true}
@@ -10,7 +10,7 @@ use Rattle.lv_base.specs.Names.{is_named}
 use Rattle.lv_text.specs.declared.lexer.Token.{Token}
 use Rattle.lv_text.specs.Bytes.{is_digit}
 use Rattle.lv_text.specs.Kinds.{token_text}
-use Rattle.lv_text.specs.Lexemes.{Lexeme, lexemes_of, reads, reading_by, line_reading, is_word, says}
+use Rattle.lv_text.specs.Lexemes.{Lexeme, lexemes_of, reads, reading_by, is_word, says}
 use Rattle.lv_text.specs.Lines.{is_line_feed, unended_lines, lines_of}
 use Rattle.lv_text.specs.Tokens.{Lexed, lexed, bad_byte, long_line, line_tokens}
 use Rattle.lv_text.proofs.NumberFacts.{printed_law}

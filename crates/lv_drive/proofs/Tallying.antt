@@ -1,12 +1,11 @@
 -- Replies counted one by one.
-use Rattle.std.proofs.Common.{◌≡◌, false, ℕ, ◌+◌, ◌*◌, ◌-◌, ◌^◌, ◌<◌, ◌≤◌, List, [], ◌∷◌, ◌++◌, length, take, drop, map, fold, refl, sym, ◌∙◌, ap, ap₂, subst, arith, length-drop}
+use Rattle.std.proofs.Common.{◌≡◌, false, ℕ, ◌+◌, ◌-◌, ◌≤◌, List, [], ◌∷◌, ◌++◌, length, take, drop, map, fold, refl, sym, ◌∙◌, ap, ap₂, subst, arith, length-drop}
 use Rattle.std.specs.List.{concat}
 use Rattle.lv_io.proofs.Pieces.{rest_of_bytes}
 use Rattle.lv_text.specs.Lines.{lines_of, BeginsWithLine}
 use Rattle.lv_gen.specs.Session.{session_text}
 use Rattle.lv_model.specs.declared.plant.Plant.{Plant}
 use Rattle.lv_reply.specs.declared.reply.Reply.{Reply}
-use Rattle.lv_reply.specs.declared.reply.Reply.TheVariants.{Nothing, Accepted, Refused, Settled, Unsettled, Conflicts, Committed, States}
 use Rattle.lv_reply.specs.Texts.{reply_text}
 use Rattle.lv_session.specs.Session.{SessionState, RunningSession, start, stepped}
 use Rattle.lv_session.specs.Transcript.{IsTranscriptFrom}

@@ -1,7 +1,7 @@
 -- What replies come to, counted one by one.
 use Rattle.std.specs.Prelude.{ℕ, ◌+◌, ◌-◌, ◌*◌, ◌^◌, ◌≤◌, length}
 use Rattle.lv_reply.specs.declared.reply.Reply.{Reply}
-use Rattle.lv_reply.specs.declared.reply.Reply.TheVariants.{Nothing, Accepted, Refused, Settled, Unsettled, Conflicts, Committed, States}
+use Rattle.lv_reply.specs.declared.reply.Reply.TheVariants.{Nothing, Refused, Settled, Unsettled, Conflicts, Committed, States}
 use Rattle.lv_drive.specs.declared.tally.Tally.{Tally}
 
 -- before any reply

@@ -1,5 +1,5 @@
 -- The name of an accepted model is one word.
-use Rattle.std.proofs.Common.{◌≡◌, ◌+◌, ℕ, Bool, true, false, ◌&&◌, cond, nat_eq, nat_lt, List, [], ◌∷◌, ◌++◌, length, slice_get, Option, Some, None, is_some, Result, Ok, Err, All, refl, sym, ap, subst, ◌∙◌}
+use Rattle.std.proofs.Common.{◌≡◌, ◌+◌, ℕ, Bool, true, false, cond, nat_eq, nat_lt, List, [], ◌∷◌, ◌++◌, length, slice_get, Option, Some, None, is_some, Result, Ok, Err, All, refl, sym, ap, subst, ◌∙◌}
 use Rattle.std.specs.List.{list_all}
 use Rattle.std.specs.Cmp.Derive.{both_true}
 use Rattle.std.proofs.lemmas.Bool.{and_parts}
@@ -32,7 +32,7 @@ use Rattle.lv_checker.specs.Places.{type_place, mode_of_type, variable_numbered,
 use Rattle.lv_checker.specs.Scopes.{variable_of_part, value_of_system}
 use Rattle.lv_checker.specs.Entries.{known, system_formula, has_control, priced_entry, outside_entry, entry_where}
 use Rattle.lv_checker.specs.Faults.{judged}
-use Rattle.lv_checker.specs.Drafts.{empty, with_type, type_with, is_end, with_outside, with_where, with_entry}
+use Rattle.lv_checker.specs.Drafts.{empty, with_type, type_with, is_end, with_where, with_entry}
 use Rattle.lv_checker.specs.Checking.{Checked, fine, faulty, checked_by, after, all_added, finished, checked}
 use Rattle.lv_checker.specs.Verdicts.{Verdict, IsVerdict, not_read, is_checked, accepted, refused, verdict_of}
 use Rattle.lv_checker.proofs.FitsLists.{chained, guarded}

@@ -2,7 +2,6 @@
 use Rattle.std.proofs.Common.{◌≡◌, ℕ, true, List, sym, ap}
 use Rattle.std.specs.List.{list_all}
 use Rattle.lv_model.specs.declared.plant.Plant.{Plant}
-use Rattle.lv_checker.specs.Verdicts.{IsVerdict, accepted}
 use Rattle.lv_cert.specs.declared.line.Line.{Line}
 use Rattle.lv_cert.specs.Form.{is_formed}
 use Rattle.lv_cert.specs.Texts.{text_of}

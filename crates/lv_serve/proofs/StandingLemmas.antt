@@ -10,7 +10,6 @@ use Rattle.lv_io.specs.Whole.{AddsFront}
 use Rattle.lv_io.proofs.Pieces.{append-append}
 use Rattle.lv_text.specs.Lines.{lines_of, is_line_feed}
 use Rattle.lv_model.specs.declared.plant.Plant.{Plant}
-use Rattle.lv_reply.specs.declared.reply.Reply.{Reply}
 use Rattle.lv_session.specs.Session.{SessionState, RunningSession, Stepped, start, stepped}
 use Rattle.lv_session.specs.Certificates.{IsTextOf}
 use Rattle.lv_session.specs.Transcript.{IsTranscriptFrom, ends, AddsTranscriptFrom, AddsTranscriptFront, AddsFrontOfTranscript}

@@ -1,22 +1,17 @@
 -- What the session's state gives for a certificate of its current query.
-use Rattle.std.proofs.Common.{◌≡◌, ℕ, ◌≤◌, Bool, true, false, ◌&&◌, cond, nat_eq, List, [], ◌∷◌, length, map, Option, None, Some, All, refl, rules, sym, ap, ap₂, subst, ◌∙◌, arith}
+use Rattle.std.proofs.Common.{◌≡◌, ℕ, ◌≤◌, Bool, true, cond, nat_eq, List, [], ◌∷◌, length, map, Option, None, Some, All, refl, rules, sym, ap, ap₂, subst, ◌∙◌, arith}
 use Rattle.std.specs.List.{list_all}
 use Rattle.std.specs.Cmp.Derive.{both_true}
 use Rattle.std.specs.Cmp.Lexicographic.{pointwise}
 use Rattle.std.specs.Option.{option_and_then}
-use Rattle.std.proofs.lemmas.Bool.{and_parts}
 use Rattle.std.proofs.lemmas.List.{length-map}
 use Rattle.std.proofs.lemmas.List.Elements.{All-cons, All-head, All-tail, All-nil}
 use Rattle.lv_base.specs.declared.limits.TheConstants.{TRACKED}
 use Rattle.lv_base.specs.declared.rank.Rank.{Rank}
-use Rattle.lv_text.specs.Lexemes.{Lexeme}
 use Rattle.lv_text.proofs.ReadBack.{lexemes_have}
 use Rattle.lv_formula.specs.Tree.{Tree}
 use Rattle.lv_model.specs.declared.plant.Plant.{Plant}
 use Rattle.lv_model.specs.declared.state.TrackedState.{TrackedState}
-use Rattle.lv_model.specs.Counts.{has_count, law_sizes}
-use Rattle.lv_phrase.specs.PhraseTree.{PhraseTree}
-use Rattle.lv_phrase.specs.Nesting.{is_too_deep}
 use Rattle.lv_phrase.specs.Canonical.{tokens_of, canonical_text}
 use Rattle.lv_phrase.specs.Resolving.{resolved}
 use Rattle.lv_grammar.specs.Descent.{phrase_of}
@@ -41,7 +36,7 @@ use Rattle.lv_session.specs.declared.running.Diagnosed.{Diagnosed}
 use Rattle.lv_session.specs.declared.running.Recovering.{Recovering}
 use Rattle.lv_session.specs.Session.{SessionState, facts_of, aim_of, formula_of, text_of_goal, walked, recovery, is_settled_by}
 use Rattle.lv_session.specs.States.{IsStateOf}
-use Rattle.lv_session.specs.Current.{come_to, recovery_come_to, IsDiagnosisAt, IsRecoveryAt}
+use Rattle.lv_session.specs.Current.{IsDiagnosisAt, IsRecoveryAt}
 use Rattle.lv_session.specs.Certificates.{CertifiesWalked, CertifiesRecovered}
 use Rattle.lv_session.proofs.Asking.{facts_fit, facts_in_range}
 use Rattle.lv_session.proofs.Recovering.{aim_fits}
@@ -124,10 +119,7 @@ goal_words plant (g ∷ gs) all =
     both_true (goal_word plant g (All-head (IsGoalIn plant) g gs all)) (goal_words plant gs (All-tail (IsGoalIn plant) g gs all))
 
 pub are_texts : (plant : Plant) (state : SessionState) → IsStateOf plant state → AreTexts plant (map text_of_goal state.goals) (map formula_of state.goals)
-are_texts plant state is =
-    let words = goal_words plant state.goals is.goals in
-    let back = goals_back plant state.goals is.goals in
-    search rules
+are_texts plant state is = record { words = goal_words plant state.goals is.goals; read = goals_back plant state.goals is.goals }
 
 -- an outcome that is settled
 settled_is : (o p : Outcome) → p ≡ o → is_settled_by p ≡ true → o ≡ Settled

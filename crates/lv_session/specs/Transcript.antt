@@ -33,7 +33,7 @@ pub record AddsTranscriptFrom (plant : Plant) (state : SessionState) (lines : Li
   pub is_transcript : IsTranscriptFrom plant state lines written
   pub added : after ≡ append_known before written
 
--- a front was added to the text of a transcript of the first of these lines, so many
+-- a front of a transcript of the first of these lines, so many, was added to the text
 pub record AddsTranscriptFront (plant : Plant) (state : SessionState) (lines : List (List ℕ)) (before after : Option (List ℕ)) : Type 0 where
   pub answered : ℕ
   pub whole : List ℕ

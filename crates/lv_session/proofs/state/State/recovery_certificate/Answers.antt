@@ -1,5 +1,5 @@
 -- what is asked is what a session asks, and the texts are those of the goals
-use Rattle.std.proofs.Common.{◌≡◌, ◌≤◌, ℕ, List, length, map, All, sym, ap, ap₂, subst, ◌∙◌}
+use Rattle.std.proofs.Common.{◌≡◌, ◌≤◌, ℕ, List, length, map, All, sym, ap, subst, ◌∙◌}
 use Rattle.lv_base.specs.declared.limits.TheConstants.{TRACKED}
 use Rattle.lv_formula.specs.Tree.{Tree}
 use Rattle.lv_model.specs.declared.state.TrackedState.{TrackedState}
