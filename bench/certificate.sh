@@ -1,34 +1,51 @@
 #!/usr/bin/env bash
-# What certificates take, in milliseconds of the processor: to find an answer, to write its certificate too, and to check
-# that, with its size, its lines, and the most memory that the check holds. Over diagnoses of rows of 8 to 64 valves, of
-# which the last is commanded to open and lets nothing out; over recoveries of such rows from up to 64 tracked states; and
-# over one large certificate, of a fan of 64 valves with two faults and 64 candidates listed. Builds the program first.
-# Sizes of rows may be given.
+# What certificates take, in milliseconds of the processor: to find an answer, to write its certificate too, to read that, and
+# to check it, reading included, with the nanoseconds of judging for each number in it; its size, its lines, and the most
+# memory that the check holds. What reading takes is told by a check of the text without its last line, which is out of form
+# there. Over diagnoses of rows of 8 to 64 valves, of which the last is commanded to open and lets nothing out; over
+# recoveries of such rows from up to 64 tracked states; over a fan of 64 valves with two faults and 64 candidates listed; and
+# over one large recovery, with more goals, of a row of 240 valves. Builds the program first. Sizes of rows may be given, and
+# then there is no large one.
 set -eu
 . "$(dirname "$0")/common.sh"
 prepare "$@"
 [ $# -gt 0 ] || sizes="8 16 32 64"
 
-# report NAME MODEL SESSION: of a session whose last question is settled
-report() {
-  local found written checked held
-  found=$(taken_by run "$2" "$3")
-  { cat "$3" && echo certificate; } >"$work/asking.ses"
-  written=$(taken_by run "$2" "$work/asking.ses")
-  "$program" run "$2" "$work/asking.ses" | sed -n '/^certificate /,$p' >"$work/cert"
-  checked=$(taken_by check "$2" "$work/cert")
-  held=$(python3 - "$program" "$2" "$work/cert" <<'PY'
+# the most kilobytes that a check of this certificate over the model holds, which is to be valid
+held_by() {
+  python3 - "$program" "$1" "$2" <<'PY'
 import resource, subprocess, sys
 done = subprocess.run([sys.argv[1], "check", sys.argv[2], sys.argv[3]], capture_output=True)
 if done.stdout != b"valid\n":
     sys.exit(f"not valid: {done.stdout!r}, status {done.returncode}")
 print(resource.getrusage(resource.RUSAGE_CHILDREN).ru_maxrss)
 PY
-  )
-  printf '%-34s %9d %9d %9d %10d %8d %8d\n' "$1" "$found" $((written - found)) "$checked" "$(wc -c <"$work/cert")" "$(wc -l <"$work/cert")" "$held"
 }
 
-printf '%-34s %9s %9s %9s %10s %8s %8s\n' certificate 'find ms' 'write ms' 'check ms' bytes lines 'check KB'
+# report NAME MODEL SESSION: of a session whose last question is settled
+report() {
+  local found written read checked numbers held
+  found=$(taken_by run "$2" "$3")
+  { cat "$3" && echo certificate; } >"$work/asking.ses"
+  written=$(taken_by run "$2" "$work/asking.ses")
+  "$program" run "$2" "$work/asking.ses" | sed -n '/^certificate /,$p' >"$work/cert"
+  head -n -1 "$work/cert" >"$work/cut"
+  read=$(taken_by check "$2" "$work/cut")
+  checked=$(taken_by check "$2" "$work/cert")
+  numbers=$(wc -w <"$work/cert")
+  held=$(held_by "$2" "$work/cert")
+  printf '%-34s %9d %9d %9d %9d %6d %10d %8d %8d\n' "$1" "$found" $((written - found)) "$read" "$checked" \
+    $(((checked - read) * 1000000 / numbers)) "$(wc -c <"$work/cert")" "$(wc -l <"$work/cert")" "$held"
+}
+
+# recovery NAME KIND N STATES GOALS: of a row
+recovery() {
+  "$here/make_recoveries.py" "$2" "$3" "$work" "$5"
+  grep -v '^conflicts' "$work/$2.$4.ses" >"$work/recovery.ses"
+  report "$1" "$work/$2.lv" "$work/recovery.ses"
+}
+
+printf '%-34s %9s %9s %9s %9s %6s %10s %8s %8s\n' certificate 'find ms' 'write ms' 'read ms' 'check ms' ns bytes lines 'check KB'
 for n in $sizes; do
   "$here/make_plants.py" row "$n" "$work"
   grep -v '^conflicts' "$work/row.4.ses" >"$work/row.ses"
@@ -36,14 +53,12 @@ for n in $sizes; do
 done
 for n in $sizes; do
   for kind in equal none; do
-    python3 "$here/make_recoveries.py" "$kind" "$n" "$work"
-    for k in 1 64; do
-      grep -v '^conflicts' "$work/$kind.$k.ses" >"$work/recovery.ses"
-      tracked=$("$program" run "$work/$kind.lv" "$work/recovery.ses" | awk '/^time/ { print $4 }')
-      report "recovery, row of $n, $tracked states, $kind" "$work/$kind.lv" "$work/recovery.ses"
+    for states in 1 64; do
+      recovery "recovery, row of $n, track $states, $kind" "$kind" "$n" "$states" 1
     done
   done
 done
 "$here/make_plants.py" twofaults 64 "$work"
 grep -v '^conflicts' "$work/twofaults.64.ses" >"$work/large.ses"
 report 'diagnosis, fan of 64, two faults' "$work/twofaults.lv" "$work/large.ses"
+[ $# -gt 0 ] || recovery 'recovery, row of 240, 24 goals' equal 240 64 24

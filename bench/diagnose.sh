@@ -1,15 +1,16 @@
 #!/usr/bin/env bash
 # What a diagnosis takes, in milliseconds of the processor, over plants of 8 to 256 valves: in a row, of which the last is
 # commanded to open; the same with all commanded; a fan behind the first valve with one fault and with two; a ladder of
-# two rows. Nothing comes out of the last valve. The time of an empty session over the same plant is taken off, and stands
-# beside; then the number of candidates listed, and of trials and conflicts. Builds the program first. Sizes may be given.
+# two rows; and a propulsion branch of which one valve of each pair is commanded, so that one fault explains that there is
+# no thrust, and both, so that two do. The time of an empty session over the same plant is taken off, and stands beside;
+# then the number of candidates listed, and of trials and conflicts. Builds the program first. Sizes may be given.
 set -eu
 . "$(dirname "$0")/common.sh"
 prepare "$@"
 : >"$work/none.ses"
 
 printf '%-10s %6s %4s %10s %10s %7s %9s %7s\n' plant valves k 'plant ms' 'query ms' listed conflicts trials
-for kind in row opened fan twofaults ladder; do
+for kind in row opened fan twofaults ladder branch branches; do
   for n in $sizes; do
     "$here/make_plants.py" "$kind" "$n" "$work"
     plant=$(taken_by run "$work/$kind.lv" "$work/none.ses")

@@ -17,10 +17,11 @@ build bench_sat 'chain 0 0'
 
 : "${sets:=50}" "${largest:=180}" "${length:=100000}" "${rounds:=10}" "${calls:=500}"
 
-# report SETTING CALLS COUNT: a run of the setting with so many calls or rounds, in which that many calls are made
+# report SETTING CALLS COUNT: a run of the setting with so many calls or rounds, in which that many calls are made; the
+# logs are checked in a run of their own
 report() {
   local milliseconds
-  "$program" "$1 $2"
+  "$program" checked "$1 $2"
   milliseconds=$(($(taken_by "$1 $2") - $(taken_by "$1 0")))
   printf '%12d calls, %d us each\n' "$3" $((milliseconds * 1000 / $3))
 }

@@ -1,7 +1,9 @@
--- A certificate that a session prints is valid.
-use Rattle.std.proofs.Common.{◌≡◌, ℕ, true, List, sym, ap}
+-- The certificates that a session prints are valid.
+use Rattle.std.proofs.Common.{◌≡◌, ℕ, true, List, sym, ap, subst}
+use Rattle.std.specs.Prelude.{Option}
 use Rattle.std.specs.List.{list_all}
 use Rattle.lv_model.specs.declared.plant.Plant.{Plant}
+use Rattle.lv_checker.specs.Verdicts.{IsVerdict, accepted}
 use Rattle.lv_cert.specs.declared.line.Line.{Line}
 use Rattle.lv_cert.specs.Form.{is_formed}
 use Rattle.lv_cert.specs.Texts.{text_of}
@@ -13,8 +15,10 @@ use Rattle.lv_certcheck.specs.declared.check.Verdict.TheVariants.{Valid}
 use Rattle.lv_session.specs.declared.query.Query.{Query}
 use Rattle.lv_session.specs.declared.query.Query.TheVariants.{Absent, Diagnosis, Recovery}
 use Rattle.lv_session.specs.Session.{SessionState}
-use Rattle.lv_session.specs.Certificates.{Certifies}
-use Rattle.lv_run.specs.Printed.{PrintedCertificateIsValid}
+use Rattle.lv_session.specs.Certificates.{Certifies, IsTextOf}
+use Rattle.lv_session.specs.Transcript.{IsTranscriptFrom, ends, goes_on, AddsTranscript}
+use Rattle.lv_reply.specs.declared.reply.Reply.{Reply}
+use Rattle.lv_run.specs.Printed.{PrintedCertificateIsValid, IsCertifiedFrom, all_told, told, AddsCertified}
 use Rattle.lv_run.proofs.NameLemmas.{accepted_name}
 
 -- the text of valid lines in their form
@@ -28,3 +32,16 @@ certificate_valid plant state (Recovery sum) text name is = valid_text plant is.
 
 pub printed_valid : PrintedCertificateIsValid
 printed_valid text plant accepts state certificate is = certificate_valid plant state state.query certificate (accepted_name text plant accepts) is
+
+certified_from : (text : List ℕ) (plant : Plant) → IsVerdict text (accepted plant) → {state : SessionState} {lines : List (List ℕ)} {written : List ℕ}
+    → IsTranscriptFrom plant state lines written → IsCertifiedFrom plant state lines written
+certified_from text plant accepts ends = all_told
+certified_from text plant accepts (goes_on {state} {next} {line} {lines} {reply} {rest} {written} step others is) =
+    told step (λ e. printed_valid text plant accepts next reply (subst (λ (r : Reply). IsTextOf plant next r reply) e step.says))
+    (certified_from text plant accepts others) is
+
+-- a transcript that was added for a plant whose text is accepted
+pub adds_certified : (text : List ℕ) (plant : Plant) (session : List ℕ) (before after : Option (List ℕ))
+    → IsVerdict text (accepted plant) → AddsTranscript plant session before after → AddsCertified plant session before after
+adds_certified text plant session before after accepts adds =
+    record { written = adds.written; is_certified = certified_from text plant accepts adds.is_transcript; added = adds.added }

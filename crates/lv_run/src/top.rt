@@ -12,6 +12,7 @@ ghost use Rattle.lv_run.specs.Expected.{Expected, Expects, status_expected, Meet
 ghost use Rattle.lv_run.specs.Opens.{HasOpened};
 ghost use Rattle.lv_run.specs.Telling.{Tells};
 ghost use Rattle.lv_session.specs.Transcript.{AddsTranscript};
+ghost use Rattle.lv_run.specs.Printed.{AddsCertified};
 ghost use Rattle.lv_run.specs.Top.{Asks, AsksToCheck, AsksForText, HasNoFault, TellsItsVerdict, TellsOwnEnd};
 ghost use Rattle.lv_run.specs.Judged.{verdict_status};
 ghost use Rattle.lv_certcheck.specs.Verdicts.{IsVerdictOn};
@@ -41,6 +42,9 @@ pub fn livingstone<F: Shelf, O: Sink, E: Sink>(
     // nominally to the goals, or 'no recovery' exactly where none does.
     ensures headline { (plant : Plant) (session : List ℕ) → Asks (F.file shelf.old) (map string_bytes words.items) plant session → result ≡ Status.Done
         → AddsTranscript plant session (O.text out.old) (O.text out.new) × (E.text err.new ≡ E.text err.old) }
+    // Each certificate among the replies is valid for the model, so that a check over it calls it valid.
+    ensures certified { (plant : Plant) (session : List ℕ) → Asks (F.file shelf.old) (map string_bytes words.items) plant session → result ≡ Status.Done
+        → AddsCertified plant session (O.text out.old) (O.text out.new) }
     ensures complete { (plant : Plant) (session : List ℕ) → Asks (F.file shelf.old) (map string_bytes words.items) plant session
         → HasNoFault (F.faults shelf.old) (F.faults shelf.new) (O.faults out.old) (O.faults out.new) (E.faults err.old) (E.faults err.new)
         → (result ≡ Status.Done) ⊎ (result ≡ Status.OutOfMemory) }

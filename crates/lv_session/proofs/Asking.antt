@@ -1,5 +1,7 @@
 -- What a diagnosis of the state needs, and what its walk says of the current query.
 use Rattle.std.proofs.Common.{◌≡◌, ℕ, zero, suc, ◌+◌, ◌<◌, ◌≤◌, true, List, [], ◌∷◌, length, map, Result, Ok, Err, OnOk, refl, sym, ◌∙◌, ap, subst, arith, All}
+use Rattle.std.specs.declared.alloc.Global.{Global}
+use Rattle.std.specs.declared.boxed.Box.{Box}
 use Rattle.std.proofs.lemmas.List.Elements.{All-cons, All-append, All-head, All-tail, All-nil}
 use Rattle.lv_base.specs.declared.limits.TheConstants.{COMMITS}
 use Rattle.lv_base.specs.declared.rank.Rank.{Rank}
@@ -150,8 +152,8 @@ trials_at plant state sum d at unsettled =
     ap trials (sym at.came_to) ∙ all_trials plant state sum o
 
 -- what is kept of a query that is a diagnosis
-pub kept_is : (q : Query) (plant : Plant) (state : SessionState) (running : Running) (sum : ℕ) (d : Diagnosed) → q ≡ Diagnosis sum → running ≡ kept.Diagnosis d → IsKeptOf q plant state running
-    → IsDiagnosisAt plant state sum d
+pub kept_is : (q : Query) (plant : Plant) (state : SessionState) (running : Running) (sum : ℕ) (d : Box Diagnosed Global) → q ≡ Diagnosis sum → running ≡ kept.Diagnosis d → IsKeptOf q plant state running
+    → IsDiagnosisAt plant state sum d.value
 kept_is q plant state running sum d is runs at =
     subst (λ (r : Running). IsKeptOf (Diagnosis sum) plant state r) runs (subst (λ (x : Query). IsKeptOf x plant state running) is at)
 

@@ -1,5 +1,7 @@
 -- What a recovery from the state needs, and what its walk says of the current query.
 use Rattle.std.proofs.Common.{◌≡◌, ℕ, ◌+◌, ◌≤◌, List, [], ◌∷◌, length, map, refl, sym, ◌∙◌, ap, subst, arith, All}
+use Rattle.std.specs.declared.alloc.Global.{Global}
+use Rattle.std.specs.declared.boxed.Box.{Box}
 use Rattle.std.proofs.lemmas.List.Elements.{All-cons, All-head, All-tail, All-nil}
 use Rattle.lv_base.specs.declared.limits.TheConstants.{TRACKED}
 use Rattle.lv_model.specs.declared.plant.Plant.{Plant}
@@ -110,8 +112,8 @@ module _ (plant : Plant) (state : SessionState) (sum : ℕ) (r : Recovering) (at
   recovery_shown q is = ap (λ (w : Walked). unchanged state (CommandConflicts w.kept (trials w))) (sym at.came_to) ∙ sym (ap (λ (x : Query). conflicts x plant state) is)
 
 -- what is kept of a query that is a recovery
-pub kept_recovery : (q : Query) (plant : Plant) (state : SessionState) (running : Running) (sum : ℕ) (r : Recovering) → q ≡ Recovery sum → running ≡ kept.Recovery r → IsKeptOf q plant state running
-    → IsRecoveryAt plant state sum r
+pub kept_recovery : (q : Query) (plant : Plant) (state : SessionState) (running : Running) (sum : ℕ) (r : Box Recovering Global) → q ≡ Recovery sum → running ≡ kept.Recovery r → IsKeptOf q plant state running
+    → IsRecoveryAt plant state sum r.value
 kept_recovery q plant state running sum r is runs at =
     subst (λ (x : Running). IsKeptOf (Recovery sum) plant state x) runs (subst (λ (x : Query). IsKeptOf x plant state running) is at)
 

@@ -46,10 +46,10 @@ abbrev pub IsKeptOf : Query → Plant → SessionState → Running → Type 0
 IsKeptOf Absent plant state running = Unit {0}
 IsKeptOf (Diagnosis sum) plant state kept.Nothing = ⊥
 IsKeptOf (Diagnosis sum) plant state (kept.Recovery r) = ⊥
-IsKeptOf (Diagnosis sum) plant state (kept.Diagnosis d) = IsDiagnosisAt plant state sum d
+IsKeptOf (Diagnosis sum) plant state (kept.Diagnosis d) = IsDiagnosisAt plant state sum d.value
 IsKeptOf (Recovery sum) plant state kept.Nothing = ⊥
 IsKeptOf (Recovery sum) plant state (kept.Diagnosis d) = ⊥
-IsKeptOf (Recovery sum) plant state (kept.Recovery r) = IsRecoveryAt plant state sum r
+IsKeptOf (Recovery sum) plant state (kept.Recovery r) = IsRecoveryAt plant state sum r.value
 
 -- what is kept is that of the current query
 abbrev pub IsCurrent : Plant → SessionState → Running → Type 0

@@ -62,6 +62,13 @@ fn reply_of(alloc: Global, run: &Diagnosed<'_>) -> Result<Reply, AllocError>
     }
 }
 
+/// The same in a box, which is let go of with less to check than what lies in it.
+fn boxed<'a>(alloc: Global, run: Diagnosed<'a>) -> Result<Box<Diagnosed<'a>>, AllocError>
+    ensures { IfOk result (λ kept. kept.value ≡ run) }
+{
+    Ok(Box::new(alloc, run)?)
+}
+
 impl State {
     /// The facts of a diagnosis.
     pub(crate) fn facts(&self, alloc: Global) -> Result<Facts, AllocError>
@@ -106,8 +113,9 @@ impl State {
         ensures running { OnOk result (IsCurrent model.now self.new running.new) }
     {
         let run = self.diagnosis_run(alloc, model, system, n)?;
-        let reply = reply_of(alloc, &run)?;
-        *running = Running::Diagnosis(run);
+        let kept = boxed(alloc, run)?;
+        let reply = reply_of(alloc, &kept)?;
+        *running = Running::Diagnosis(kept);
         self.query = Query::Diagnosis(n);
         Ok(reply)
     }
@@ -163,13 +171,13 @@ impl State {
         &mut self,
         alloc: Global,
         model: &Model,
-        run: &mut Diagnosed<'_>,
+        run: &mut Box<Diagnosed<'_>>,
         sum: u64,
         n: u64,
     ) -> Result<Reply, AllocError>
         requires state { IsStateOf model.now self.old }
         requires query { self.old.query ≡ IsDiagnosis sum }
-        requires at { IsDiagnosisAt model.now self.old sum run.old }
+        requires at { IsDiagnosisAt model.now self.old sum run.old.value }
         requires few { n ≤ BUDGET }
         ensures ok { IfOk result (λ reply. record { state = self.new; reply = reply } ≡ more self.old.query model.now self.old n) }
         ensures err { OnErr result (self.new ≡ self.old) }

@@ -58,6 +58,13 @@ fn reply_of(alloc: Global, run: &Recovering<'_>) -> Result<Reply, AllocError>
     }
 }
 
+/// The same in a box, which is let go of with less to check than what lies in it.
+fn boxed<'a>(alloc: Global, run: Recovering<'a>) -> Result<Box<Recovering<'a>>, AllocError>
+    ensures { IfOk result (λ kept. kept.value ≡ run) }
+{
+    Ok(Box::new(alloc, run)?)
+}
+
 impl State {
     /// What is asked of a recovery.
     pub(crate) fn aim(&self, alloc: Global) -> Result<Aim, AllocError>
@@ -107,8 +114,9 @@ impl State {
         ensures running { OnOk result (IsCurrent model.now self.new running.new) }
     {
         let run = self.recovery_run(alloc, model, system, n)?;
-        let reply = reply_of(alloc, &run)?;
-        *running = Running::Recovery(run);
+        let kept = boxed(alloc, run)?;
+        let reply = reply_of(alloc, &kept)?;
+        *running = Running::Recovery(kept);
         self.query = Query::Recovery(n);
         Ok(reply)
     }
@@ -185,13 +193,13 @@ impl State {
         &mut self,
         alloc: Global,
         model: &Model,
-        run: &mut Recovering<'_>,
+        run: &mut Box<Recovering<'_>>,
         sum: u64,
         n: u64,
     ) -> Result<Reply, AllocError>
         requires state { IsStateOf model.now self.old }
         requires query { self.old.query ≡ IsRecovery sum }
-        requires at { IsRecoveryAt model.now self.old sum run.old }
+        requires at { IsRecoveryAt model.now self.old sum run.old.value }
         requires few { n ≤ BUDGET }
         ensures ok { IfOk result (λ reply. record { state = self.new; reply = reply } ≡ more self.old.query model.now self.old n) }
         ensures err { OnErr result (self.new ≡ self.old) }

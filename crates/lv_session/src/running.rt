@@ -19,10 +19,11 @@ pub struct Recovering<'a> {
     pub(crate) outcome: Outcome,
 }
 
-/// What is kept of the current query. Where no query is current, what is kept means nothing.
+/// What is kept of the current query, in a box, so that whoever holds it holds little. Where no query is current, what is
+/// kept means nothing.
 #[derive(Drop)]
 pub enum Running<'a> {
     Nothing,
-    Diagnosis(Diagnosed<'a>),
-    Recovery(Recovering<'a>),
+    Diagnosis(Box<Diagnosed<'a>>),
+    Recovery(Box<Recovering<'a>>),
 }

@@ -38,23 +38,23 @@ impl<'a> marker::Model for Session<'a> {
     ghost invariant = { λ s. IsSession s.model.now s.workings.value s.state.value s.is_out_of_memory };
 }
 
-/// A session of what it keeps, each part in a box of its own.
+/// A session of what it keeps.
 fn of_kept<'a>(
     alloc: Global,
     model: &'a Model,
-    workings: Workings<'a>,
-    state: State,
-) -> Result<Session<'a>, AllocError>
-    requires { IsSession model.now workings state false }
-    ensures { IfOk result (λ session. session ≡ record { plant = model.now; state = state; is_out_of_memory = false }) }
+    workings: Box<Workings<'a>>,
+    state: Box<State>,
+) -> Session<'a>
+    requires { IsSession model.now workings.value state.value false }
+    ensures { result ≡ record { plant = model.now; state = state.value; is_out_of_memory = false } }
 {
-    Ok(Session {
+    Session {
         model,
         alloc,
-        workings: Box::new(alloc, workings)?,
-        state: Box::new(alloc, state)?,
+        workings,
+        state,
         is_out_of_memory: false,
-    })
+    }
 }
 
 impl<'a> Session<'a> {
@@ -63,9 +63,9 @@ impl<'a> Session<'a> {
         ensures { IfOk result (λ session. session ≡ record { plant = model.now; state = start model.now; is_out_of_memory = false }) }
     {
         let _plant = model.plant();
-        let workings = Workings::new(alloc, model)?;
-        let state = State::start(alloc, model)?;
-        of_kept(alloc, model, workings, state)
+        let state = State::boxed(alloc, model)?;
+        let workings = Workings::boxed(alloc, model)?;
+        Ok(of_kept(alloc, model, workings, state))
     }
 
     /// Does what a line asks for, which is given without its end, and answers the reply. Once memory was wanting, each

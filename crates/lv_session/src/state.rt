@@ -79,6 +79,14 @@ impl State {
         })
     }
 
+    /// The state at the start, in a box.
+    pub(crate) fn boxed(alloc: Global, model: &Model) -> Result<Box<State>, AllocError>
+        ensures { IfOk result (λ state. state.value ≡ start model.now) }
+    {
+        let state = State::start(alloc, model)?;
+        Ok(Box::new(alloc, state)?)
+    }
+
     /// Whether the session has ended.
     pub fn is_ended(&self) -> bool
         ensures { result ≡ self.now.is_ended }

@@ -56,6 +56,16 @@ impl<'a> Workings<'a> {
         let system = compile(alloc, model)?;
         Ok(unused(alloc, lists, system))
     }
+
+    /// The same in a box, since letting go of it where it lies is slow to check.
+    pub(crate) fn boxed(alloc: Global, model: &'a Model) -> Result<Box<Workings<'a>>, AllocError>
+        ensures lists { IfOk result (λ w. w.value.lists ≡ lists_of model.now) }
+        ensures system { IfOk result (λ w. IsSystemOf model.now w.value.system) }
+        ensures labeller { IfOk result (λ w. IsLabellerOf model.now w.value.labeller) }
+    {
+        let workings = Workings::new(alloc, model)?;
+        Ok(Box::new(alloc, workings)?)
+    }
 }
 
 /// Does what a line asks for, which is given without its end, and answers the reply. After want of memory the state is

@@ -11,12 +11,12 @@ pub diagnosis_text-requires-clause-settled : goal.diagnosis_text-requires-clause
 diagnosis_text-requires-clause-settled c =
     let query = ap (λ (s : SessionState). s.query) (sym c.self.view_is) ∙ c.in-Diagnosis.is in
     let at = kept_is c.args.self.now.query c.args.model.now c.args.self.now c.args.running.now c.in-Diagnosis.field-0 c.in-Diagnosis-running.run' query c.in-Diagnosis-running.is c.requires.running in
-    settled_diagnosis c.args.model.now c.args.self.now c.in-Diagnosis.field-0 c.in-Diagnosis-running.run' at
+    settled_diagnosis c.args.model.now c.args.self.now c.in-Diagnosis.field-0 c.in-Diagnosis-running.run'.value at
     (subst (λ (q : Query). is_settled q c.args.model.now c.args.self.now ≡ true) query c.requires.settled)
 
 pub recovery_text-requires-clause-settled : goal.recovery_text-requires-clause-settled
 recovery_text-requires-clause-settled c =
     let query = ap (λ (s : SessionState). s.query) (sym c.self.view_is) ∙ c.in-Recovery.is in
     let at = kept_recovery c.args.self.now.query c.args.model.now c.args.self.now c.args.running.now c.in-Recovery.field-0 c.in-Recovery-running-2.run' query c.in-Recovery-running-2.is c.requires.running in
-    settled_recovery c.args.model.now c.args.self.now c.in-Recovery.field-0 c.in-Recovery-running-2.run' at
+    settled_recovery c.args.model.now c.args.self.now c.in-Recovery.field-0 c.in-Recovery-running-2.run'.value at
     (subst (λ (q : Query). is_settled q c.args.model.now c.args.self.now ≡ true) query c.requires.settled)

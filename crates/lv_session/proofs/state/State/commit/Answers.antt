@@ -14,4 +14,4 @@ take_over-requires-clause-list c =
     let query = ap (λ (s : SessionState). s.query) (sym c.self.view_is) ∙ c.in-Diagnosis.is in
     let at = kept_is c.args.self.now.query c.args.model.now c.args.self.now c.args.running.now c.in-Diagnosis.field-0 c.in-Diagnosis-running.run' query c.in-Diagnosis-running.is c.requires.running in
     subst (λ (rs : List Rank). IsListOf c.args.model.now c.args.self.now rs) (sym c.listed.ensures)
-    (listed_at c.args.model.now c.args.self.now c.in-Diagnosis.field-0 c.in-Diagnosis-running.run' well c.requires.state at)
+    (listed_at c.args.model.now c.args.self.now c.in-Diagnosis.field-0 c.in-Diagnosis-running.run'.value well c.requires.state at)

@@ -12,11 +12,11 @@ diagnosis_conflicts-requires c =
     let well : is_well_formed c.args.model.now ≡ true = subst (λ (p : Plant). is_well_formed p ≡ true) c.plant-plant.ensures.plant c.plant-plant.ensures.well_formed in
     let query = ap (λ (s : SessionState). s.query) (sym c.self.view_is) ∙ c.in-Diagnosis.is in
     let at = kept_is c.args.self.now.query c.args.model.now c.args.self.now c.args.running.now c.in-Diagnosis.field-0 c.in-Diagnosis-running.run' query c.in-Diagnosis-running.is c.requires.running in
-    (listed_at c.args.model.now c.args.self.now c.in-Diagnosis.field-0 c.in-Diagnosis-running.run' well c.requires.state at).few
+    (listed_at c.args.model.now c.args.self.now c.in-Diagnosis.field-0 c.in-Diagnosis-running.run'.value well c.requires.state at).few
 
 -- and so is what a recovery lists
 pub recovery_conflicts-requires : goal.recovery_conflicts-requires
 recovery_conflicts-requires c =
     let query = ap (λ (s : SessionState). s.query) (sym c.self.view_is) ∙ c.in-Recovery.is in
     let at = kept_recovery c.args.self.now.query c.args.model.now c.args.self.now c.args.running.now c.in-Recovery.field-0 c.in-Recovery-running-2.run' query c.in-Recovery-running-2.is c.requires.running in
-    few_at c.args.model.now c.args.self.now c.in-Recovery.field-0 c.in-Recovery-running-2.run' at
+    few_at c.args.model.now c.args.self.now c.in-Recovery.field-0 c.in-Recovery-running-2.run'.value at
