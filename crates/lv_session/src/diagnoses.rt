@@ -64,7 +64,7 @@ fn reply_of(alloc: Global, run: &Diagnosed<'_>) -> Result<Reply, AllocError>
 
 /// The same in a box, which is let go of with less to check than what lies in it.
 fn boxed<'a>(alloc: Global, run: Diagnosed<'a>) -> Result<Box<Diagnosed<'a>>, AllocError>
-    ensures { IfOk result (λ kept. kept.value ≡ run) }
+    ensures { IfOk result (λ kept. kept.value ≡ run.entry) }
 {
     Ok(Box::new(alloc, run)?)
 }

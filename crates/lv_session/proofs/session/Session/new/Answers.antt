@@ -16,5 +16,5 @@ of_kept-requires c =
       system_is = c.in_ok-workings.ensures.system;
       labeller_is = c.in_ok-workings.ensures.labeller;
       is_state = subst (IsStateOf c.args.model.now) (sym c.in_ok-state.ensures) (start_kept c.args.model.now well);
-      current = λ _. subst (λ (s : SessionState). IsCurrent c.args.model.now s c.in_ok-workings.workings.running) (sym c.in_ok-state.ensures) tt;
+      current = λ _. subst (λ (s : SessionState). IsCurrent c.args.model.now s c.in_ok-workings.workings.value.running) (sym c.in_ok-state.ensures) tt;
     }

@@ -3,7 +3,9 @@ use Rattle.std.proofs.Common.{◌≡◌, true, List, sym, ap, subst, ◌∙◌}
 use Rattle.lv_base.specs.declared.rank.Rank.{Rank}
 use Rattle.lv_model.specs.declared.plant.Plant.{Plant}
 use Rattle.lv_model.specs.WellFormed.{is_well_formed}
+use Rattle.lv_session.specs.declared.running.Diagnosed.{Diagnosed}
 use Rattle.lv_session.specs.Session.{SessionState}
+use Rattle.lv_session.specs.Current.{IsDiagnosisAt}
 use Rattle.lv_session.specs.States.{IsListOf}
 use Rattle.lv_session.proofs.Asking.{listed_at, kept_is}
 use Rattle.lv_session.proofs.state.State.commit.Goals as goal
@@ -12,6 +14,7 @@ pub take_over-requires-clause-list : goal.take_over-requires-clause-list
 take_over-requires-clause-list c =
     let well : is_well_formed c.args.model.now ≡ true = subst (λ (p : Plant). is_well_formed p ≡ true) c.plant-plant.ensures.plant c.plant-plant.ensures.well_formed in
     let query = ap (λ (s : SessionState). s.query) (sym c.self.view_is) ∙ c.in-Diagnosis.is in
-    let at = kept_is c.args.self.now.query c.args.model.now c.args.self.now c.args.running.now c.in-Diagnosis.field-0 c.in-Diagnosis-running.run' query c.in-Diagnosis-running.is c.requires.running in
+    let at = subst (λ (d : Diagnosed). IsDiagnosisAt c.args.model.now c.args.self.now c.in-Diagnosis.field-0 d) (sym c.deref-in-Settled.ensures)
+    (kept_is c.args.self.now.query c.args.model.now c.args.self.now c.args.running.now c.in-Diagnosis.field-0 c.in-Diagnosis-running.run' query c.in-Diagnosis-running.is c.requires.running) in
     subst (λ (rs : List Rank). IsListOf c.args.model.now c.args.self.now rs) (sym c.listed.ensures)
-    (listed_at c.args.model.now c.args.self.now c.in-Diagnosis.field-0 c.in-Diagnosis-running.run'.value well c.requires.state at)
+    (listed_at c.args.model.now c.args.self.now c.in-Diagnosis.field-0 c.deref-in-Settled.result.now well c.requires.state at)

@@ -2,7 +2,10 @@
 use Rattle.std.proofs.Common.{◌≡◌, true, sym, ap, subst, ◌∙◌}
 use Rattle.lv_model.specs.declared.plant.Plant.{Plant}
 use Rattle.lv_model.specs.WellFormed.{is_well_formed}
+use Rattle.lv_session.specs.declared.running.Diagnosed.{Diagnosed}
+use Rattle.lv_session.specs.declared.running.Recovering.{Recovering}
 use Rattle.lv_session.specs.Session.{SessionState}
+use Rattle.lv_session.specs.Current.{IsDiagnosisAt, IsRecoveryAt}
 use Rattle.lv_session.proofs.Asking.{listed_at, kept_is}
 use Rattle.lv_session.proofs.Recovering.{few_at, kept_recovery}
 use Rattle.lv_session.proofs.state.State.conflicts.Goals as goal
@@ -11,12 +14,14 @@ pub diagnosis_conflicts-requires : goal.diagnosis_conflicts-requires
 diagnosis_conflicts-requires c =
     let well : is_well_formed c.args.model.now ≡ true = subst (λ (p : Plant). is_well_formed p ≡ true) c.plant-plant.ensures.plant c.plant-plant.ensures.well_formed in
     let query = ap (λ (s : SessionState). s.query) (sym c.self.view_is) ∙ c.in-Diagnosis.is in
-    let at = kept_is c.args.self.now.query c.args.model.now c.args.self.now c.args.running.now c.in-Diagnosis.field-0 c.in-Diagnosis-running.run' query c.in-Diagnosis-running.is c.requires.running in
-    (listed_at c.args.model.now c.args.self.now c.in-Diagnosis.field-0 c.in-Diagnosis-running.run'.value well c.requires.state at).few
+    let at = subst (λ (d : Diagnosed). IsDiagnosisAt c.args.model.now c.args.self.now c.in-Diagnosis.field-0 d) (sym c.deref.ensures)
+    (kept_is c.args.self.now.query c.args.model.now c.args.self.now c.args.running.now c.in-Diagnosis.field-0 c.in-Diagnosis-running.run' query c.in-Diagnosis-running.is c.requires.running) in
+    (listed_at c.args.model.now c.args.self.now c.in-Diagnosis.field-0 c.deref.result.now well c.requires.state at).few
 
 -- and so is what a recovery lists
 pub recovery_conflicts-requires : goal.recovery_conflicts-requires
 recovery_conflicts-requires c =
     let query = ap (λ (s : SessionState). s.query) (sym c.self.view_is) ∙ c.in-Recovery.is in
-    let at = kept_recovery c.args.self.now.query c.args.model.now c.args.self.now c.args.running.now c.in-Recovery.field-0 c.in-Recovery-running-2.run' query c.in-Recovery-running-2.is c.requires.running in
-    few_at c.args.model.now c.args.self.now c.in-Recovery.field-0 c.in-Recovery-running-2.run'.value at
+    let at = subst (λ (r : Recovering). IsRecoveryAt c.args.model.now c.args.self.now c.in-Recovery.field-0 r) (sym c.deref-in-Recovery-running-2.ensures)
+    (kept_recovery c.args.self.now.query c.args.model.now c.args.self.now c.args.running.now c.in-Recovery.field-0 c.in-Recovery-running-2.run' query c.in-Recovery-running-2.is c.requires.running) in
+    few_at c.args.model.now c.args.self.now c.in-Recovery.field-0 c.deref-in-Recovery-running-2.result.now at

@@ -1,5 +1,5 @@
 -- one command set at most is listed; and which query is current plays no part in what the search is on
-use Rattle.std.proofs.Common.{sym, subst}
+use Rattle.std.proofs.Common.{sym, subst, ◌∙◌}
 use Rattle.lv_session.specs.declared.query.Query.TheVariants.{Recovery}
 use Rattle.lv_session.specs.declared.running.Recovering.{Recovering}
 use Rattle.lv_session.specs.Session.{SessionState}
@@ -9,8 +9,8 @@ use Rattle.lv_session.proofs.state.State.recovered.Goals as goal
 
 pub reply_of-requires : goal.reply_of-requires
 reply_of-requires c =
-    few_at c.args.model.now c.args.self.now c.args.n c.in_ok-kept.kept.value
-    (subst (λ (r : Recovering). IsRecoveryAt c.args.model.now c.args.self.now c.args.n r) (sym c.in_ok-kept.ensures) c.in_ok-run.ensures.at)
+    few_at c.args.model.now c.args.self.now c.args.n c.deref.result.now
+    (subst (λ (r : Recovering). IsRecoveryAt c.args.model.now c.args.self.now c.args.n r) (sym (c.deref.ensures ∙ c.in_ok-kept.ensures)) c.in_ok-run.ensures.at)
 
 pub returns-clause-running : goal.returns-clause-running
 returns-clause-running c =
