@@ -4,7 +4,7 @@
 # memory that the check holds. What reading takes is told by a check of the text without its last line, which is out of form
 # there. Over diagnoses of rows of 8 to 64 valves, of which the last is commanded to open and lets nothing out; over
 # recoveries of such rows from up to 64 tracked states; over a fan of 64 valves with two faults and 64 candidates listed; and
-# over one large recovery, with more goals, of a row of 240 valves. Builds the program first. Sizes of rows may be given, and
+# over one large recovery, of a row of 128 valves with 64 goals. Builds the program first. Sizes of rows may be given, and
 # then there is no large one.
 set -eu
 . "$(dirname "$0")/common.sh"
@@ -61,4 +61,4 @@ done
 "$here/make_plants.py" twofaults 64 "$work"
 grep -v '^conflicts' "$work/twofaults.64.ses" >"$work/large.ses"
 report 'diagnosis, fan of 64, two faults' "$work/twofaults.lv" "$work/large.ses"
-[ $# -gt 0 ] || recovery 'recovery, row of 240, 24 goals' equal 240 64 24
+[ $# -gt 0 ] || recovery 'recovery, row of 128, 64 goals' equal 128 64 64

@@ -33,12 +33,12 @@ certificate_valid plant state (Recovery sum) text name is = valid_text plant is.
 pub printed_valid : PrintedCertificateIsValid
 printed_valid text plant accepts state certificate is = certificate_valid plant state state.query certificate (accepted_name text plant accepts) is
 
-certified_from : (text : List ℕ) (plant : Plant) → IsVerdict text (accepted plant) → {state : SessionState} {lines : List (List ℕ)} {written : List ℕ}
+certified_from : (source : List ℕ) (plant : Plant) → IsVerdict source (accepted plant) → {state : SessionState} {lines : List (List ℕ)} {written : List ℕ}
     → IsTranscriptFrom plant state lines written → IsCertifiedFrom plant state lines written
-certified_from text plant accepts ends = all_told
-certified_from text plant accepts (goes_on {state} {next} {line} {lines} {reply} {rest} {written} step others is) =
-    told step (λ e. printed_valid text plant accepts next reply (subst (λ (r : Reply). IsTextOf plant next r reply) e step.says))
-    (certified_from text plant accepts others) is
+certified_from source plant accepts ends = all_told
+certified_from source plant accepts (goes_on {state} {next} {line} {lines} {reply} {rest} {text} step others is) =
+    told step (λ e. printed_valid source plant accepts next reply (subst (λ (r : Reply). IsTextOf plant next r reply) e step.says))
+    (certified_from source plant accepts others) is
 
 -- a transcript that was added for a plant whose text is accepted
 pub adds_certified : (text : List ℕ) (plant : Plant) (session : List ℕ) (before after : Option (List ℕ))
