@@ -46,7 +46,7 @@ returns-clause-headline g c =
 pub returns-clause-certified : goal.returns-clause-certified
 returns-clause-certified g c =
     λ plant session asks done. adds_certified asks.text plant session (g.O.Sink.text c.args.out.now) (g.O.Sink.text c.carry_out-ended.new.out) asks.verdict
-    (returns-clause-headline g c plant session asks done).1
+    (returns-clause-headline g c plant session asks done).0
 
 pub returns-clause-written : goal.returns-clause-written
 returns-clause-written g c =
