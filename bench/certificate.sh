@@ -4,7 +4,7 @@
 # memory that the check holds. What reading takes is told by a check of the text without its last line, which is out of form
 # there. Over diagnoses of rows of 8 to 64 valves, of which the last is commanded to open and lets nothing out; over
 # recoveries of such rows from up to 64 tracked states; over a fan of 64 valves with two faults and 64 candidates listed; and
-# over one large recovery, of a row of 128 valves with 64 goals. Builds the program first. Sizes of rows may be given, and
+# over one large recovery, of a row of 136 valves with 64 goals. Builds the program first. Sizes of rows may be given, and
 # then there is no large one.
 set -eu
 . "$(dirname "$0")/common.sh"
@@ -24,7 +24,7 @@ PY
 
 # report NAME MODEL SESSION: of a session whose last question is settled
 report() {
-  local found written read checked numbers held
+  local found written read checked held each=-
   found=$(taken_by run "$2" "$3")
   { cat "$3" && echo certificate; } >"$work/asking.ses"
   written=$(taken_by run "$2" "$work/asking.ses")
@@ -32,10 +32,11 @@ report() {
   head -n -1 "$work/cert" >"$work/cut"
   read=$(taken_by check "$2" "$work/cut")
   checked=$(taken_by check "$2" "$work/cert")
-  numbers=$(wc -w <"$work/cert")
+  # a time too short to be told from another says nothing
+  [ $((checked - read)) -lt 50 ] || each=$(((checked - read) * 1000000 / $(wc -w <"$work/cert")))
   held=$(held_by "$2" "$work/cert")
-  printf '%-34s %9d %9d %9d %9d %6d %10d %8d %8d\n' "$1" "$found" $((written - found)) "$read" "$checked" \
-    $(((checked - read) * 1000000 / numbers)) "$(wc -c <"$work/cert")" "$(wc -l <"$work/cert")" "$held"
+  printf '%-34s %9d %9d %9d %9d %6s %10d %8d %8d\n' "$1" "$found" $((written - found)) "$read" "$checked" "$each" \
+    "$(wc -c <"$work/cert")" "$(wc -l <"$work/cert")" "$held"
 }
 
 # recovery NAME KIND N STATES GOALS: of a row
@@ -61,4 +62,4 @@ done
 "$here/make_plants.py" twofaults 64 "$work"
 grep -v '^conflicts' "$work/twofaults.64.ses" >"$work/large.ses"
 report 'diagnosis, fan of 64, two faults' "$work/twofaults.lv" "$work/large.ses"
-[ $# -gt 0 ] || recovery 'recovery, row of 128, 64 goals' equal 128 64 64
+[ $# -gt 0 ] || recovery 'recovery, row of 136, 64 goals' equal 136 64 64
