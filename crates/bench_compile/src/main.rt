@@ -9,8 +9,8 @@
 #![tactic(auto)]
 
 mod clauses;
-mod models;
 
+use bench_models::in_file;
 use clauses::{hold, list, tally_of};
 use lv_io::{HostShelf, Shelf};
 use std::alloc::{AllocError, Global};
@@ -30,15 +30,15 @@ fn answer<F: Shelf>(alloc: Global, shelf: &mut F, setting: &str) -> Result<Strin
     let words: Vec<&str> = setting.split_whitespace().collect(alloc)?;
     match words.as_slice() {
         ["list", name] => {
-            let model = models::in_file(alloc, shelf, name);
+            let model = in_file(alloc, shelf, name);
             list(alloc, &model)
         }
         ["compile", name, rounds] => {
-            let model = models::in_file(alloc, shelf, name);
+            let model = in_file(alloc, shelf, name);
             tally_of(alloc, &model, number_of(rounds))
         }
         ["hold", name, count] => {
-            let model = models::in_file(alloc, shelf, name);
+            let model = in_file(alloc, shelf, name);
             hold(alloc, &model, number_of(count))
         }
         _ => String::from_str(alloc, "no setting\n"),

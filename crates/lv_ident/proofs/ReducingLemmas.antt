@@ -1,8 +1,8 @@
 -- One pair of a deletion after the other.
-use Rattle.std.proofs.Common.{◌≡◌, ℕ, ◌+◌, ◌<◌, ◌≤◌, true, false, nat_lt, List, [], ◌∷◌, ◌++◌, length, drop, get_or, cond, refl, sym, subst, ap, ◌∙◌, arith, All, append_assoc}
+use Rattle.std.proofs.Common.{◌≡◌, ℕ, ◌+◌, ◌<◌, ◌≤◌, true, false, nat_lt, List, [], ◌∷◌, ◌++◌, length, drop, get_or, cond, refl, sym, subst, ap, ◌∙◌, arith, All, Contains, append_assoc}
 use Rattle.std.proofs.lemmas.Bool.{and_parts, and_from, lt-ltb, ltb-true}
 use Rattle.std.proofs.lemmas.List.{drop_all, drop_more}
-use Rattle.std.proofs.lemmas.List.Elements.{All-tail, All-cons, filter-append}
+use Rattle.std.proofs.lemmas.List.Elements.{All-nil, All-tail, All-cons, Contains-append_left, filter-append}
 use Rattle.lv_base.specs.declared.search.Pair.{Pair}
 use Rattle.lv_base.specs.Choices.{slots_rise_from}
 use Rattle.lv_clauses.specs.Marks.{Marks, is_marked}
@@ -15,7 +15,7 @@ use Rattle.lv_meaning.specs.declared.facts.Facts.{Facts}
 use Rattle.lv_meaning.specs.Possible.{is_possible}
 use Rattle.lv_ident.specs.Literals.{pair_literal, HasMove, plant_choices, marked_pairs}
 use Rattle.lv_ident.specs.Reducing.{IsPartial, IsReducing}
-use Rattle.lv_ident.proofs.TrialLemmas.{impossible_by_part}
+use Rattle.lv_ident.proofs.TrialLemmas.{impossible_by_part, impossible_with_more}
 
 -- slots that rise rise without one
 rising_lower : (low high : ℕ) (ps : List Pair) → low ≤ high → slots_rise_from high ps ≡ true → slots_rise_from low ps ≡ true
@@ -37,6 +37,17 @@ rising_without low (q ∷ before) p ps is =
 all_without : (P : Pair → Type 0) (before : List Pair) (p : Pair) (ps : List Pair) → All P (before ++ (p ∷ ps)) → All P (before ++ ps)
 all_without P [] p ps all = All-tail P p ps all
 all_without P (q ∷ before) p ps all = All-cons P q (before ++ ps) (all 0 q (omega arith)) (all_without P before p ps (All-tail P q (before ++ (p ∷ ps)) all))
+
+-- so do the first of them alone
+rising_front : (low : ℕ) (front back : List Pair) → slots_rise_from low (front ++ back) ≡ true → slots_rise_from low front ≡ true
+rising_front low [] back is = refl
+rising_front low (p ∷ front) back is =
+    let parts = and_parts (nat_lt low (p.slot + 1)) (slots_rise_from (p.slot + 1) (front ++ back)) is in
+    and_from (nat_lt low (p.slot + 1)) (slots_rise_from (p.slot + 1) front) parts.0 (rising_front (p.slot + 1) front back parts.1)
+
+all_front : (P : Pair → Type 0) (front back : List Pair) → All P (front ++ back) → All P front
+all_front P [] back all = All-nil P
+all_front P (p ∷ front) back all = All-cons P p front (all 0 p (omega arith)) (all_front P front back (All-tail P p (front ++ back) all))
 
 has_middle : (P : Pair → Type 0) (before : List Pair) (p : Pair) (ps : List Pair) → All P (before ++ (p ∷ ps)) → P p
 has_middle P [] p ps all = all 0 p (omega arith)
@@ -108,3 +119,19 @@ module _ (plant : Plant) (facts : Facts) (pairs : List Pair) (at : ℕ) (kept : 
         refuted = ap (λ (ps : List Pair). is_possible plant facts (marked_pairs (plant_choices plant) core ps)) seam ∙ h.refuted;
         partial = subst (λ (ps : List Pair). IsPartial plant ps) (sym seam) h.partial;
       })
+
+module _ (plant : Plant) (facts : Facts) (pairs : List Pair) (at : ℕ) (kept : List Pair) (core : Marks) (h : IsReducing plant facts pairs at kept core) where
+  pub kept_partial : IsPartial plant kept
+  kept_partial = record { rising = rising_front 0 kept (drop at pairs) h.partial.rising; moves = all_front (HasMove (move_counts plant)) kept (drop at pairs) h.partial.moves }
+
+  -- where what is kept is impossible by itself, it needs nothing of what is left
+  pub refuted_alone : (marks : Marks) (alone : List Pair) → alone ≡ kept → is_possible plant facts (marked_pairs (plant_choices plant) marks alone) ≡ false → IsReducing plant facts pairs at kept marks
+  refuted_alone marks alone is refuted =
+      record {
+        rest = h.rest;
+        refuted =
+            impossible_with_more plant facts (marked_pairs (plant_choices plant) marks alone) (marked_pairs (plant_choices plant) marks (kept ++ drop at pairs))
+            (λ p has. subst (λ (ps : List Pair). Contains ps p) (sym (filter-append (λ (q : Pair). is_marked marks (pair_literal (plant_choices plant) q)) kept (drop at pairs)))
+            (Contains-append_left (marked_pairs (plant_choices plant) marks kept) (marked_pairs (plant_choices plant) marks (drop at pairs)) p (subst (λ (ps : List Pair). Contains (marked_pairs (plant_choices plant) marks ps) p) is has))) refuted;
+        partial = h.partial;
+      }

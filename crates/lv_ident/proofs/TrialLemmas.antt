@@ -57,11 +57,13 @@ false_by : (b c : Bool) → c ≡ false → (b ≡ true → c ≡ true) → b �
 false_by true c never follows = sym (follows refl) ∙ never
 false_by false c never follows = refl
 
+-- where pairs aren't possible together none are that have them all
+pub impossible_with_more : (plant : Plant) (facts : Facts) (part whole : List Pair) → ((p : Pair) → Contains part p → Contains whole p) → is_possible plant facts part ≡ false → is_possible plant facts whole ≡ false
+impossible_with_more plant facts part whole inside never = false_by (is_possible plant facts whole) (is_possible plant facts part) never (part_possible plant facts part whole inside)
+
 -- where the marked pairs aren't possible together all aren't
 pub impossible_by_part : (plant : Plant) (facts : Facts) (marks : Marks) (ps : List Pair) → is_possible plant facts (marked_pairs (plant_choices plant) marks ps) ≡ false → is_possible plant facts ps ≡ false
-impossible_by_part plant facts marks ps never =
-    false_by (is_possible plant facts ps) (is_possible plant facts (marked_pairs (plant_choices plant) marks ps)) never
-    (part_possible plant facts (marked_pairs (plant_choices plant) marks ps) ps (marked_is_one (plant_choices plant) marks ps))
+impossible_by_part plant facts marks ps = impossible_with_more plant facts (marked_pairs (plant_choices plant) marks ps) ps (marked_is_one (plant_choices plant) marks ps)
 
 module _ (plant : Plant) (facts : Facts) (set : ClauseMap) (choices : Choices) (assumed : List Lit) (solutions : List (List Bool)) (h : IsTrialOf plant facts set choices assumed solutions) (pairs : List Pair) (partial : IsPartial plant pairs) where
   bools_are : set.bools ≡ bool_count plant

@@ -17,11 +17,21 @@ use crate::trial::IdentTrial;
 use lv_base::{Conflict, Rank, Seq};
 use lv_meaning::Facts;
 use lv_model::{Model, TrackedState};
-use lv_search::{Outcome, Search, Split};
+use lv_sat::Effort;
+use lv_search::{By, Outcome, Search, Split};
 use lv_steps::StepSystem;
 use lv_zones::{move_grid, zones_of};
 use std::alloc::{AllocError, Global};
 use std::marker;
+
+/// What a query did, in counts that no clause speaks of: for measuring. The zones are those that it began with and those
+/// that splits gave, the ones without members too.
+#[derive(Clone, Copy, Debug, PartialEq, Eq)]
+pub struct QueryEffort {
+    pub trials: u64,
+    pub zones: u64,
+    pub solver: Effort,
+}
 
 /// A search for the first candidates that are possible under facts. It keeps the facts beside its trial, of which a run
 /// leaves only the meaning as it was. Contracts see the plant, the facts, and where the search stands.
@@ -31,6 +41,7 @@ pub struct Query<'a> {
     facts: Facts,
     trial: IdentTrial<'a>,
     search: Search,
+    first_zones: usize,
 }
 
 impl<'a> marker::Model for Query<'a> {
@@ -78,6 +89,7 @@ pub fn identify<'a>(
 {
     let grid = move_grid(alloc, model)?;
     let zones = zones_of(alloc, model, tracked)?;
+    let first_zones = zones.len();
     let search = Search::new(alloc, grid, zones, k)?;
     let trial = IdentTrial::new(alloc, model, system, copied(alloc, &facts)?)?;
     Ok(Query {
@@ -85,6 +97,7 @@ pub fn identify<'a>(
         facts,
         trial,
         search,
+        first_zones,
     })
 }
 
@@ -130,5 +143,32 @@ impl<'a> Query<'a> {
     /// The splits made, in order. Takes no memory.
     pub fn splits(&self) -> &[Split] {
         self.search.splits()
+    }
+
+    /// What it did so far. Takes no memory.
+    pub fn effort(&self) -> QueryEffort {
+        let mut zones = self.first_zones as u64;
+        for split in self.search.splits() {
+            zones = zones.wrapping_add(self.parts_of(split.by) as u64);
+        }
+        QueryEffort {
+            trials: self.search.trials(),
+            zones,
+            solver: self.trial.effort(),
+        }
+    }
+
+    /// How many zones a split by this gives.
+    fn parts_of(&self, by: By) -> usize {
+        match by {
+            By::Conflict(place) => match self.search.conflicts().get(place) {
+                Some(conflict) => conflict.pairs().len(),
+                None => 0,
+            },
+            By::Listed(place) => match self.search.listed().get(place) {
+                Some(rank) => rank.choices.len(),
+                None => 0,
+            },
+        }
     }
 }

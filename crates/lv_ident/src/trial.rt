@@ -24,7 +24,7 @@ use lv_clauses::{Marks, is_marked};
 use lv_compile::plant_clauses::sum_of;
 use lv_meaning::Facts;
 use lv_model::Model;
-use lv_sat::Solver;
+use lv_sat::{Effort, Solver};
 use lv_search::{Trial, Tried};
 use lv_steps::{ChoiceBools, Moment, StepSystem};
 use std::alloc::{AllocError, Global};
@@ -138,6 +138,11 @@ impl<'a> IdentTrial<'a> {
         Ok(self.refuted(pairs)?.is_none())
     }
 
+    /// What its solver did so far. Takes no memory.
+    pub fn effort(&self) -> Effort {
+        self.solver.effort()
+    }
+
     /// Whether the pair is one of those that the last refutation needed.
     fn is_needed(&self, core: &Marks, pair: Pair) -> bool
         requires { HasMove (move_counts self.now.plant) pair }
@@ -173,9 +178,29 @@ impl<'a> IdentTrial<'a> {
             }
             None => {
                 deletion.kept.push(pairs[at])?;
-                Ok(())
+                self.leap(pairs, at + 1, deletion)
             }
         }
+    }
+
+    /// Asks whether what is kept is impossible by itself, where pairs are left that may be needed: if so, none of them is.
+    /// It asks for one kept pair, for two, for four and so on, so that a long reason costs few questions more.
+    fn leap(
+        &mut self,
+        pairs: &[Pair],
+        at: usize,
+        deletion: &mut Deletion,
+    ) -> Result<(), AllocError>
+        requires so_far { IsReducing self.old.plant self.old.facts pairs.now at deletion.old.kept.items deletion.old.core }
+        ensures so_far { IfOk result (λ _. IsReducing self.old.plant self.old.facts pairs.now at deletion.new.kept.items deletion.new.core) }
+        ensures same { self.new ≡ self.old }
+    {
+        if at < pairs.len() && deletion.kept.len().is_power_of_two() {
+            if let Some(core) = self.refuted(deletion.kept.as_slice())? {
+                deletion.core = core;
+            }
+        }
+        Ok(())
     }
 
     /// What is left of the pairs when each that isn't needed is left out, from the first on, where a refutation needed those

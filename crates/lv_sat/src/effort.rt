@@ -3,9 +3,11 @@
 
 use super::trail::Entry;
 
-/// Literals taken as true because they were assumed or chosen, those that were forced, and clauses found false.
+/// Questions asked, literals taken as true because they were assumed or chosen, those that were forced, and clauses found
+/// false.
 #[derive(Clone, Copy, Debug, PartialEq, Eq)]
 pub struct Effort {
+    pub calls: u64,
     pub chosen: u64,
     pub forced: u64,
     pub conflicts: u64,
@@ -14,6 +16,7 @@ pub struct Effort {
 impl Effort {
     pub fn new() -> Effort {
         Effort {
+            calls: 0,
             chosen: 0,
             forced: 0,
             conflicts: 0,
@@ -23,6 +26,7 @@ impl Effort {
     /// The sums of both.
     pub fn and(self, more: Effort) -> Effort {
         Effort {
+            calls: self.calls.wrapping_add(more.calls),
             chosen: self.chosen.wrapping_add(more.chosen),
             forced: self.forced.wrapping_add(more.forced),
             conflicts: self.conflicts.wrapping_add(more.conflicts),
@@ -40,7 +44,7 @@ impl Effort {
                 .chosen
                 .wrapping_add((entries.len() as u64).wrapping_sub(forced)),
             forced: self.forced.wrapping_add(forced),
-            conflicts: self.conflicts,
+            ..self
         }
     }
 
@@ -48,6 +52,14 @@ impl Effort {
     pub fn with_conflict(self) -> Effort {
         Effort {
             conflicts: self.conflicts.wrapping_add(1),
+            ..self
+        }
+    }
+
+    /// With one question more.
+    pub fn with_call(self) -> Effort {
+        Effort {
+            calls: self.calls.wrapping_add(1),
             ..self
         }
     }

@@ -104,6 +104,9 @@ fn meet(
     if is_marked(marks, watch.other) {
         return Ok(Fate::Stays);
     }
+    if watch.is_pair {
+        return Ok(Fate::Asks);
+    }
     let (Some(kept), Some(clause)) = (
         watches.beside(watch.hint, turned),
         find_clause(set, log, watch.hint),

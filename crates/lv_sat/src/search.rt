@@ -46,6 +46,7 @@ pub fn search(
     ensures answer { IfOk result (λ answer. Answers set.now assumptions.now answer) }
     ensures kept { IsKept set.now front.new.levels.items front.new.trail.marks.items front.new.trail.entries.items }
 {
+    guide.effort = guide.effort.with_call();
     guide.watches.clear_learned();
     match find_answer(alloc, set, guide, front, assumptions) {
         Ok(answer) => Ok(answer),

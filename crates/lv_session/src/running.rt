@@ -1,7 +1,7 @@
 //! What is kept of the current query from line to line, so that it goes on where it stopped.
 #![tactic(auto)]
 
-use lv_ident::Query;
+use lv_ident::{Query, QueryEffort};
 use lv_reconf::Query as RecoveryQuery;
 use lv_walk::Outcome;
 
@@ -26,4 +26,14 @@ pub enum Running<'a> {
     Nothing,
     Diagnosis(Box<Diagnosed<'a>>),
     Recovery(Box<Recovering<'a>>),
+}
+
+impl Running<'_> {
+    /// What a diagnosis did so far, where it is one. Takes no memory.
+    pub(crate) fn effort(&self) -> Option<QueryEffort> {
+        match self {
+            Running::Diagnosis(run) => Some(run.query.effort()),
+            Running::Recovery(_) | Running::Nothing => None,
+        }
+    }
 }

@@ -8,6 +8,7 @@ ghost use Rattle.lv_session.specs.Certificates.{Certifies, IsTextOf, IsDue};
 
 use crate::state::State;
 use crate::workings::{Workings, answer};
+use lv_ident::QueryEffort;
 use lv_model::Model;
 use lv_reply::{Reply, reply_text};
 use std::alloc::{AllocError, Global};
@@ -100,6 +101,12 @@ impl<'a> Session<'a> {
         ensures { result ≡ self.now.state.is_ended }
     {
         self.state.is_ended()
+    }
+
+    /// What the last diagnosis did, in counts that no clause speaks of: for measuring. None where no diagnosis is kept. Takes
+    /// no memory.
+    pub fn effort(&self) -> Option<QueryEffort> {
+        self.workings.running.effort()
     }
 
     /// The text of the last reply of this session, or of any other that is no certificate. A certificate is made here, of

@@ -9,18 +9,21 @@ use lv_reflog::Hint;
 use std::alloc::{AllocError, Global};
 use std::mem;
 
-/// A clause that watches a literal, and another of its literals: while that one is true, the clause needs no look.
+/// A clause that watches a literal, and another of its literals: while that one is true, the clause needs no look. In a
+/// clause of two literals it is the only other one.
 #[derive(Clone, Copy, Debug)]
 pub struct Watch {
     pub hint: Hint,
     pub other: Lit,
+    pub is_pair: bool,
 }
 
-/// The two literals that a clause watches.
+/// The two literals that a clause watches, and whether it has no others.
 #[derive(Clone, Copy, Debug)]
 struct Pair {
     first: Lit,
     second: Lit,
+    is_whole: bool,
 }
 
 #[derive(Drop)]
@@ -43,11 +46,12 @@ pub struct Watches {
 impl Watches {
     /// The watches of all clauses present.
     pub fn new(alloc: Global, set: &ClauseSet) -> Result<Watches, AllocError> {
+        let counts = Counts::of(alloc, set)?;
         let mut watches = Watches {
             alloc,
-            of_true: empty_rows(alloc, set.bools())?,
-            of_false: empty_rows(alloc, set.bools())?,
-            given: Vec::new(alloc),
+            of_true: rows_for(alloc, counts.of_true.as_slice())?,
+            of_false: rows_for(alloc, counts.of_false.as_slice())?,
+            given: vec![in alloc; None; set.bound()]?,
             learned: Vec::new(alloc),
             short: Vec::new(alloc),
         };
@@ -131,17 +135,26 @@ impl Watches {
         }
     }
 
-    /// Lets a clause watch these two literals, the second of which it didn't watch before.
+    /// Lets a clause of more than two literals watch these two, the second of which it didn't watch before.
     pub fn turn_to(&mut self, hint: Hint, kept: Lit, new: Lit) -> Result<(), AllocError> {
+        let is_pair = false;
         let pair = Some(Pair {
             first: kept,
             second: new,
+            is_whole: is_pair,
         });
         match hint {
             Hint::Given(id) => put_pair(&mut self.given, id.0, pair),
             Hint::Earlier(place) => put_pair(&mut self.learned, place, pair),
         }
-        self.watch(new, Watch { hint, other: kept })
+        self.watch(
+            new,
+            Watch {
+                hint,
+                other: kept,
+                is_pair,
+            },
+        )
     }
 
     /// The watches of a literal, which are to be put back.
@@ -168,15 +181,27 @@ impl Watches {
     }
 
     fn watch_both(&mut self, pair: Pair, hint: Hint) -> Result<(), AllocError> {
-        let Pair { first, second } = pair;
+        let Pair {
+            first,
+            second,
+            is_whole: is_pair,
+        } = pair;
         self.watch(
             first,
             Watch {
                 hint,
                 other: second,
+                is_pair,
             },
         )?;
-        self.watch(second, Watch { hint, other: first })
+        self.watch(
+            second,
+            Watch {
+                hint,
+                other: first,
+                is_pair,
+            },
+        )
     }
 
     fn watch(&mut self, lit: Lit, watch: Watch) -> Result<(), AllocError> {
@@ -204,9 +229,10 @@ impl Watches {
 /// the one before it became false last.
 fn last_two(lits: &[Lit]) -> Option<Pair> {
     match lits {
-        [.., first, second] => Some(Pair {
+        [others @ .., first, second] => Some(Pair {
             first: *first,
             second: *second,
+            is_whole: others.is_empty(),
         }),
         _ => None,
     }
@@ -234,11 +260,50 @@ fn put_pair(pairs: &mut Vec<Option<Pair>>, place: usize, pair: Option<Pair>) {
     }
 }
 
-fn empty_rows(alloc: Global, bools: u32) -> Result<Vec<Row>, AllocError> {
-    let mut rows = Vec::with_capacity(alloc, bools as usize)?;
-    for _ in 0..bools {
+/// How many clauses watch each literal, true and false.
+#[derive(Drop)]
+struct Counts {
+    of_true: Vec<usize>,
+    of_false: Vec<usize>,
+}
+
+impl Counts {
+    /// Of all clauses present.
+    fn of(alloc: Global, set: &ClauseSet) -> Result<Counts, AllocError> {
+        let mut counts = Counts {
+            of_true: vec![in alloc; 0; set.bools() as usize]?,
+            of_false: vec![in alloc; 0; set.bools() as usize]?,
+        };
+        for key in 0..set.bound() {
+            if let Some(pair) = set.find(ClauseId(key)).and_then(|lits| last_two(lits)) {
+                counts.raise(pair.first);
+                counts.raise(pair.second);
+            }
+        }
+        Ok(counts)
+    }
+
+    fn of_sign(&mut self, sign: bool) -> &mut Vec<usize> {
+        if sign {
+            &mut self.of_true
+        } else {
+            &mut self.of_false
+        }
+    }
+
+    fn raise(&mut self, lit: Lit) {
+        if let Some(count) = self.of_sign(lit.sign).get_mut(lit.var.0 as usize) {
+            *count = count.wrapping_add(1);
+        }
+    }
+}
+
+/// Rows with room for so many watches each.
+fn rows_for(alloc: Global, counts: &[usize]) -> Result<Vec<Row>, AllocError> {
+    let mut rows = Vec::with_capacity(alloc, counts.len())?;
+    for count in counts {
         rows.push(Row {
-            watches: Vec::new(alloc),
+            watches: Vec::with_capacity(alloc, *count)?,
         })?;
     }
     Ok(rows)

@@ -1,4 +1,4 @@
-//! The models that are compiled.
+//! The models that benches read.
 #![tactic(auto)]
 
 use lv_base::limits::MODEL_BYTES;

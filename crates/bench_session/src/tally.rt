@@ -1,0 +1,74 @@
+//! What the diagnoses of a session did.
+#![tactic(auto)]
+
+use lv_ident::QueryEffort;
+use lv_model::Model;
+use lv_reply::Reply;
+use lv_session::Session;
+use lv_text::lines::next_line;
+use std::alloc::{AllocError, Global};
+use std::fmt::{self, Formatter, Write};
+
+/// The diagnoses whose conflicts are shown, and what they did all together.
+#[derive(Clone, Copy, Debug, PartialEq, Eq)]
+pub struct Tally {
+    diagnoses: u64,
+    trials: u64,
+    conflicts: u64,
+    zones: u64,
+    /// How often the solver was asked, and in how many of its conflicts a clause was learned.
+    calls: u64,
+    learned: u64,
+}
+
+impl Tally {
+    fn none() -> Tally {
+        Tally {
+            diagnoses: 0,
+            trials: 0,
+            conflicts: 0,
+            zones: 0,
+            calls: 0,
+            learned: 0,
+        }
+    }
+
+    /// With a diagnosis that keeps so many conflicts.
+    fn with(self, conflicts: usize, effort: QueryEffort) -> Tally {
+        Tally {
+            diagnoses: self.diagnoses.wrapping_add(1),
+            trials: self.trials.wrapping_add(effort.trials),
+            conflicts: self.conflicts.wrapping_add(conflicts as u64),
+            zones: self.zones.wrapping_add(effort.zones),
+            calls: self.calls.wrapping_add(effort.solver.calls),
+            learned: self.learned.wrapping_add(effort.solver.conflicts),
+        }
+    }
+}
+
+/// Runs a session over a model.
+pub fn tally_of(alloc: Global, model: &Model, text: &[u8]) -> Result<Tally, AllocError> {
+    let mut session = Session::new(alloc, model)?;
+    let mut tally = Tally::none();
+    let mut rest = text;
+    while let Some(line) = next_line(rest) {
+        let reply = session.step(&rest[..line.length])?;
+        if let Reply::Conflicts(conflicts, _) = &reply
+            && let Some(effort) = session.effort()
+        {
+            tally = tally.with(conflicts.len(), effort);
+        }
+        rest = &rest[line.whole..];
+    }
+    Ok(tally)
+}
+
+impl fmt::Display for Tally {
+    fn fmt<W: Write>(&self, f: &mut Formatter<W>) -> fmt::Result {
+        write!(
+            f,
+            "{} diagnoses, {} trials, {} conflicts, {} zones, {} calls, {} learned",
+            self.diagnoses, self.trials, self.conflicts, self.zones, self.calls, self.learned
+        )
+    }
+}
