@@ -1,11 +1,13 @@
 //! A plant that is being put together, with its domains, types, parts and their variables found by name.
 #![tactic(auto)]
 
-ghost use Rattle.std.specs.Prelude.{◌≡◌, ◌-◌, ◌<◌, ◌^◌, [], ◌∷◌, ◌++◌, IfOk, IfSome, OnOk, position};
+ghost use Rattle.std.specs.Prelude.{◌≡◌, ◌-◌, ◌<◌, ◌^◌, [], ◌∷◌, ◌++◌, IfOk, IfSome, OnOk, length, position};
 ghost use Rattle.std.specs.List.{list_any};
 ghost use Rattle.lv_model.specs.Prices.{is_price_of};
 ghost use Rattle.lv_model.specs.Names.{domain_named, type_named, part_named};
-ghost use Rattle.lv_directory.specs.Names.{variable_at};
+ghost use Rattle.lv_names.specs.Places.{noted};
+ghost use Rattle.lv_directory.specs.Names.{variable_at, variable_places};
+ghost use Rattle.lv_directory.specs.Priced.{with_pair};
 
 use crate::directory::Directory;
 use crate::named_type::NamedType;
@@ -14,6 +16,7 @@ use lv_formula::Condition;
 use lv_model::{Domain, Part, Plant, Price};
 use std::alloc::{AllocError, Global};
 use std::marker::Model;
+use std::mem;
 
 /// A plant, seen by contracts as the plant.
 #[derive(Debug, Drop)]
@@ -54,6 +57,13 @@ impl NamedPlant {
             },
             names: Directory::new(alloc),
         }
+    }
+
+    /// The plant, in whose place one stays that has no lists and no name. Takes no memory.
+    pub fn take(&mut self, alloc: Global) -> NamedPlant
+        ensures { result ≡ self.old }
+    {
+        mem::replace(self, NamedPlant::new(alloc, Seq::new(alloc)))
     }
 
     pub fn as_plant(&self) -> &Plant
@@ -106,6 +116,16 @@ impl NamedPlant {
         self.plant.name = name;
     }
 
+    /// Adds a domain to the lists of a plant and to what is found in them.
+    fn add_domain(plant: &mut Plant, names: &mut Directory, domain: Domain) -> Result<(), AllocError>
+        ensures plant { OnOk result (plant.new ≡ record plant.old { domains = plant.old.domains ++ domain ∷ [] }) }
+        ensures names { OnOk result (names.new ≡ record names.old { domains = noted names.old.domains domain.name (length plant.old.domains) }) }
+    {
+        let place = plant.domains.len();
+        names.domains.note(domain.name.as_slice(), place)?;
+        plant.domains.push(domain)
+    }
+
     /// The plant with one more domain.
     pub fn with_domain(self, domain: Domain) -> Result<NamedPlant, AllocError>
         ensures { IfOk result (λ p. p ≡ record self { domains = self.domains ++ domain ∷ [] }) }
@@ -114,10 +134,20 @@ impl NamedPlant {
             mut plant,
             mut names,
         } = self;
-        let place = plant.domains.len();
-        names.domains.note(domain.name.as_slice(), place)?;
-        plant.domains.push(domain)?;
+        NamedPlant::add_domain(&mut plant, &mut names, domain)?;
         Ok(NamedPlant { plant, names })
+    }
+
+    /// Adds a type to the lists of a plant and to what is found in them.
+    fn add_type(plant: &mut Plant, names: &mut Directory, of: NamedType) -> Result<(), AllocError>
+        ensures plant { OnOk result (plant.new ≡ record plant.old { types = plant.old.types ++ of ∷ [] }) }
+        ensures names { OnOk result (names.new ≡ record names.old { types = noted names.old.types of.name (length plant.old.types); variables = names.old.variables ++ variable_places of.variables ∷ [] }) }
+    {
+        let (lists, variables) = of.into_parts();
+        names.variables.push(variables)?;
+        let place = plant.types.len();
+        names.types.note(lists.name.as_slice(), place)?;
+        plant.types.push(lists)
     }
 
     /// The plant with one more type.
@@ -128,12 +158,18 @@ impl NamedPlant {
             mut plant,
             mut names,
         } = self;
-        let (lists, variables) = of.into_parts();
-        let place = plant.types.len();
-        names.types.note(lists.name.as_slice(), place)?;
-        names.variables.push(variables)?;
-        plant.types.push(lists)?;
+        NamedPlant::add_type(&mut plant, &mut names, of)?;
         Ok(NamedPlant { plant, names })
+    }
+
+    /// Adds a part to the lists of a plant and to what is found in them.
+    fn add_part(plant: &mut Plant, names: &mut Directory, part: Part) -> Result<(), AllocError>
+        ensures plant { OnOk result (plant.new ≡ record plant.old { parts = plant.old.parts ++ part ∷ [] }) }
+        ensures names { OnOk result (names.new ≡ record names.old { parts = noted names.old.parts part.name (length plant.old.parts) }) }
+    {
+        let place = plant.parts.len();
+        names.parts.note(part.name.as_slice(), place)?;
+        plant.parts.push(part)
     }
 
     /// The plant with one more part.
@@ -144,9 +180,7 @@ impl NamedPlant {
             mut plant,
             mut names,
         } = self;
-        let place = plant.parts.len();
-        names.parts.note(part.name.as_slice(), place)?;
-        plant.parts.push(part)?;
+        NamedPlant::add_part(&mut plant, &mut names, part)?;
         Ok(NamedPlant { plant, names })
     }
 
@@ -163,6 +197,15 @@ impl NamedPlant {
         self.names.prices.contains(control, value)
     }
 
+    /// Adds a price to the lists of a plant and to what is found in them.
+    fn add_price(plant: &mut Plant, names: &mut Directory, price: Price) -> Result<(), AllocError>
+        ensures plant { OnOk result (plant.new ≡ record plant.old { prices = plant.old.prices ++ price ∷ [] }) }
+        ensures names { OnOk result (names.new ≡ record names.old { prices = with_pair names.old.prices price.control.0 price.value.0 }) }
+    {
+        names.prices.insert(price.control, price.value)?;
+        plant.prices.push(price)
+    }
+
     /// The plant with one more price.
     pub fn with_price(self, price: Price) -> Result<NamedPlant, AllocError>
         ensures { IfOk result (λ p. p ≡ record self { prices = self.prices ++ price ∷ [] }) }
@@ -171,8 +214,7 @@ impl NamedPlant {
             mut plant,
             mut names,
         } = self;
-        names.prices.insert(price.control, price.value)?;
-        plant.prices.push(price)?;
+        NamedPlant::add_price(&mut plant, &mut names, price)?;
         Ok(NamedPlant { plant, names })
     }
 }

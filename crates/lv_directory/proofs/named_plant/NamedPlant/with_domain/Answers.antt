@@ -1,5 +1,6 @@
-use Rattle.std.proofs.Common.{ap}
+use Rattle.std.proofs.Common.{◌∙◌, refl, sym, ap}
 use Rattle.lv_model.specs.declared.plant.Domain.{Domain}
+use Rattle.lv_directory.specs.Names.{names_of}
 use Rattle.lv_directory.specs.declared.directory.Directory.{Directory}
 use Rattle.lv_directory.proofs.NameLemmas.{named_last}
 use Rattle.lv_directory.proofs.named_plant.NamedPlant.with_domain.Goals as goal
@@ -7,6 +8,7 @@ use Rattle.lv_directory.proofs.named_plant.NamedPlant.with_domain.Goals as goal
 pub invariant_of-result : goal.invariant_of-result
 invariant_of-result c =
     let held = ap (λ (names : Directory). names.domains) c.self.invariant in
-    let more = named_last (λ (x : Domain). x.name) c.self.inside.names.domains c.note.new.self c.self.inside.plant.domains c.push.new.self c.args.domain c.as_slice.result.now c.len-place.result
-    c.in_ok-note.ensures.ok held c.as_slice.ensures c.len-place.ensures c.in_ok-push.ensures.ok in
-    λ i. record { domains = more i; types = (c.self.invariant i).types; parts = (c.self.invariant i).parts; variables = (c.self.invariant i).variables; prices = (c.self.invariant i).prices }
+    let more = named_last (λ (x : Domain). x.name) _ _ c.self.inside.plant.domains _ c.args.domain _ _ refl held refl refl refl in
+    c.in_ok-add_domain.ensures.names
+    ∙ (λ i. record { domains = more i; types = (c.self.invariant i).types; parts = (c.self.invariant i).parts; variables = (c.self.invariant i).variables; prices = (c.self.invariant i).prices })
+    ∙ ap names_of (sym c.in_ok-add_domain.ensures.plant)

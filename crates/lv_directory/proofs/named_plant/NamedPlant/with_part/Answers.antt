@@ -1,5 +1,6 @@
-use Rattle.std.proofs.Common.{ap}
+use Rattle.std.proofs.Common.{◌∙◌, refl, sym, ap}
 use Rattle.lv_model.specs.declared.plant.Part.{Part}
+use Rattle.lv_directory.specs.Names.{names_of}
 use Rattle.lv_directory.specs.declared.directory.Directory.{Directory}
 use Rattle.lv_directory.proofs.NameLemmas.{named_last}
 use Rattle.lv_directory.proofs.named_plant.NamedPlant.with_part.Goals as goal
@@ -7,6 +8,7 @@ use Rattle.lv_directory.proofs.named_plant.NamedPlant.with_part.Goals as goal
 pub invariant_of-result : goal.invariant_of-result
 invariant_of-result c =
     let held = ap (λ (names : Directory). names.parts) c.self.invariant in
-    let more = named_last (λ (x : Part). x.name) c.self.inside.names.parts c.note.new.self c.self.inside.plant.parts c.push.new.self c.args.part c.as_slice.result.now c.len-place.result
-    c.in_ok-note.ensures.ok held c.as_slice.ensures c.len-place.ensures c.in_ok-push.ensures.ok in
-    λ i. record { domains = (c.self.invariant i).domains; types = (c.self.invariant i).types; parts = more i; variables = (c.self.invariant i).variables; prices = (c.self.invariant i).prices }
+    let more = named_last (λ (x : Part). x.name) _ _ c.self.inside.plant.parts _ c.args.part _ _ refl held refl refl refl in
+    c.in_ok-add_part.ensures.names
+    ∙ (λ i. record { domains = (c.self.invariant i).domains; types = (c.self.invariant i).types; parts = more i; variables = (c.self.invariant i).variables; prices = (c.self.invariant i).prices })
+    ∙ ap names_of (sym c.in_ok-add_part.ensures.plant)

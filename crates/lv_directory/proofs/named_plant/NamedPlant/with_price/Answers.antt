@@ -1,5 +1,6 @@
 use Rattle.std.proofs.Common.{◌∙◌, sym, ap}
-use Rattle.lv_directory.specs.Priced.{with_pair, priced}
+use Rattle.lv_directory.specs.Names.{names_of}
+use Rattle.lv_directory.specs.Priced.{with_pair}
 use Rattle.lv_directory.specs.declared.directory.Directory.{Directory}
 use Rattle.lv_directory.proofs.PriceLemmas.{priced_last}
 use Rattle.lv_directory.proofs.named_plant.NamedPlant.with_price.Goals as goal
@@ -7,6 +8,7 @@ use Rattle.lv_directory.proofs.named_plant.NamedPlant.with_price.Goals as goal
 pub invariant_of-result : goal.invariant_of-result
 invariant_of-result c =
     let more =
-    c.in_ok-insert.ensures ∙ ap (λ (names : Directory). with_pair names.prices c.args.price.control.0 c.args.price.value.0) c.self.invariant
-    ∙ sym (priced_last c.self.inside.plant.prices c.args.price) ∙ ap priced (sym c.in_ok-push.ensures.ok) in
-    λ i. record { domains = (c.self.invariant i).domains; types = (c.self.invariant i).types; parts = (c.self.invariant i).parts; variables = (c.self.invariant i).variables; prices = more i }
+    ap (λ (names : Directory). with_pair names.prices c.args.price.control.0 c.args.price.value.0) c.self.invariant ∙ sym (priced_last c.self.inside.plant.prices c.args.price) in
+    c.in_ok-add_price.ensures.names
+    ∙ (λ i. record { domains = (c.self.invariant i).domains; types = (c.self.invariant i).types; parts = (c.self.invariant i).parts; variables = (c.self.invariant i).variables; prices = more i })
+    ∙ ap names_of (sym c.in_ok-add_price.ensures.plant)
