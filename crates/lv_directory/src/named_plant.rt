@@ -60,7 +60,7 @@ impl NamedPlant {
     }
 
     /// The plant, in whose place one stays that has no lists and no name. Takes no memory.
-    pub fn take(&mut self, alloc: Global) -> NamedPlant
+    fn take(&mut self, alloc: Global) -> NamedPlant
         ensures { result ≡ self.old }
     {
         mem::replace(self, NamedPlant::new(alloc, Seq::new(alloc)))
@@ -117,7 +117,7 @@ impl NamedPlant {
     }
 
     /// Adds a domain to the lists of a plant and to what is found in them.
-    fn add_domain(plant: &mut Plant, names: &mut Directory, domain: Domain) -> Result<(), AllocError>
+    fn note_domain(plant: &mut Plant, names: &mut Directory, domain: Domain) -> Result<(), AllocError>
         ensures plant { OnOk result (plant.new ≡ record plant.old { domains = plant.old.domains ++ domain ∷ [] }) }
         ensures names { OnOk result (names.new ≡ record names.old { domains = noted names.old.domains domain.name (length plant.old.domains) }) }
     {
@@ -134,12 +134,20 @@ impl NamedPlant {
             mut plant,
             mut names,
         } = self;
-        NamedPlant::add_domain(&mut plant, &mut names, domain)?;
+        NamedPlant::note_domain(&mut plant, &mut names, domain)?;
         Ok(NamedPlant { plant, names })
     }
 
+    /// Adds a domain. After want of memory the plant has no lists.
+    pub fn add_domain(&mut self, alloc: Global, domain: Domain) -> Result<(), AllocError>
+        ensures { OnOk result (self.new ≡ record self.old { domains = self.old.domains ++ domain ∷ [] }) }
+    {
+        *self = self.take(alloc).with_domain(domain)?;
+        Ok(())
+    }
+
     /// Adds a type to the lists of a plant and to what is found in them.
-    fn add_type(plant: &mut Plant, names: &mut Directory, of: NamedType) -> Result<(), AllocError>
+    fn note_type(plant: &mut Plant, names: &mut Directory, of: NamedType) -> Result<(), AllocError>
         ensures plant { OnOk result (plant.new ≡ record plant.old { types = plant.old.types ++ of ∷ [] }) }
         ensures names { OnOk result (names.new ≡ record names.old { types = noted names.old.types of.name (length plant.old.types); variables = names.old.variables ++ variable_places of.variables ∷ [] }) }
     {
@@ -158,12 +166,20 @@ impl NamedPlant {
             mut plant,
             mut names,
         } = self;
-        NamedPlant::add_type(&mut plant, &mut names, of)?;
+        NamedPlant::note_type(&mut plant, &mut names, of)?;
         Ok(NamedPlant { plant, names })
     }
 
+    /// Adds a type. After want of memory the plant has no lists.
+    pub fn add_type(&mut self, alloc: Global, of: NamedType) -> Result<(), AllocError>
+        ensures { OnOk result (self.new ≡ record self.old { types = self.old.types ++ of ∷ [] }) }
+    {
+        *self = self.take(alloc).with_type(of)?;
+        Ok(())
+    }
+
     /// Adds a part to the lists of a plant and to what is found in them.
-    fn add_part(plant: &mut Plant, names: &mut Directory, part: Part) -> Result<(), AllocError>
+    fn note_part(plant: &mut Plant, names: &mut Directory, part: Part) -> Result<(), AllocError>
         ensures plant { OnOk result (plant.new ≡ record plant.old { parts = plant.old.parts ++ part ∷ [] }) }
         ensures names { OnOk result (names.new ≡ record names.old { parts = noted names.old.parts part.name (length plant.old.parts) }) }
     {
@@ -180,8 +196,16 @@ impl NamedPlant {
             mut plant,
             mut names,
         } = self;
-        NamedPlant::add_part(&mut plant, &mut names, part)?;
+        NamedPlant::note_part(&mut plant, &mut names, part)?;
         Ok(NamedPlant { plant, names })
+    }
+
+    /// Adds a part. After want of memory the plant has no lists.
+    pub fn add_part(&mut self, alloc: Global, part: Part) -> Result<(), AllocError>
+        ensures { OnOk result (self.new ≡ record self.old { parts = self.old.parts ++ part ∷ [] }) }
+    {
+        *self = self.take(alloc).with_part(part)?;
+        Ok(())
     }
 
     pub fn push_law(&mut self, law: Condition) -> Result<(), AllocError>
@@ -198,7 +222,7 @@ impl NamedPlant {
     }
 
     /// Adds a price to the lists of a plant and to what is found in them.
-    fn add_price(plant: &mut Plant, names: &mut Directory, price: Price) -> Result<(), AllocError>
+    fn note_price(plant: &mut Plant, names: &mut Directory, price: Price) -> Result<(), AllocError>
         ensures plant { OnOk result (plant.new ≡ record plant.old { prices = plant.old.prices ++ price ∷ [] }) }
         ensures names { OnOk result (names.new ≡ record names.old { prices = with_pair names.old.prices price.control.0 price.value.0 }) }
     {
@@ -214,7 +238,15 @@ impl NamedPlant {
             mut plant,
             mut names,
         } = self;
-        NamedPlant::add_price(&mut plant, &mut names, price)?;
+        NamedPlant::note_price(&mut plant, &mut names, price)?;
         Ok(NamedPlant { plant, names })
+    }
+
+    /// Adds a price. After want of memory the plant has no lists.
+    pub fn add_price(&mut self, alloc: Global, price: Price) -> Result<(), AllocError>
+        ensures { OnOk result (self.new ≡ record self.old { prices = self.old.prices ++ price ∷ [] }) }
+    {
+        *self = self.take(alloc).with_price(price)?;
+        Ok(())
     }
 }

@@ -11,6 +11,7 @@ use lv_model::{ComponentType, ModeFormula, Move, Variable};
 use lv_names::FirstPlaces;
 use std::alloc::{AllocError, Global};
 use std::marker::Model;
+use std::mem;
 
 /// A component type, seen by contracts as the type.
 #[derive(Debug, Drop)]
@@ -53,6 +54,13 @@ impl NamedType {
         }
     }
 
+    /// The type, in whose place one stays that has no lists and no name. Takes no memory.
+    fn take(&mut self, alloc: Global) -> NamedType
+        ensures { result ≡ self.old }
+    {
+        mem::replace(self, NamedType::new(alloc, Seq::new(alloc)))
+    }
+
     pub fn as_type(&self) -> &ComponentType
         ensures { result.now ≡ self.now }
     {
@@ -87,6 +95,14 @@ impl NamedType {
         Ok(NamedType { lists, variables })
     }
 
+    /// Adds a variable. After want of memory the type has no lists.
+    pub fn add_variable(&mut self, alloc: Global, variable: Variable) -> Result<(), AllocError>
+        ensures { OnOk result (self.new ≡ record self.old { variables = self.old.variables ++ variable ∷ [] }) }
+    {
+        *self = self.take(alloc).with_variable(variable)?;
+        Ok(())
+    }
+
     /// Adds a mode's name.
     pub fn push_mode(&mut self, name: Name) -> Result<(), AllocError>
         ensures { OnOk result (self.new ≡ record self.old { modes = self.old.modes ++ name ∷ [] }) }
@@ -117,5 +133,14 @@ impl NamedType {
         moves.insert(place, m)?;
         lists.moves = Seq::from_vec(moves);
         Ok(NamedType { lists, variables })
+    }
+
+    /// Adds a move at this place, before those from there on. After want of memory the type has no lists.
+    pub fn add_move(&mut self, alloc: Global, place: usize, m: Move) -> Result<(), AllocError>
+        requires { place ≤ length self.old.moves }
+        ensures { OnOk result (self.new ≡ record self.old { moves = insert self.old.moves place m }) }
+    {
+        *self = self.take(alloc).with_move(place, m)?;
+        Ok(())
     }
 }

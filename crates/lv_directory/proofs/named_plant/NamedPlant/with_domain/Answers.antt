@@ -9,6 +9,6 @@ pub invariant_of-result : goal.invariant_of-result
 invariant_of-result c =
     let held = ap (λ (names : Directory). names.domains) c.self.invariant in
     let more = named_last (λ (x : Domain). x.name) _ _ c.self.inside.plant.domains _ c.args.domain _ _ refl held refl refl refl in
-    c.in_ok-add_domain.ensures.names
+    c.in_ok-note_domain.ensures.names
     ∙ (λ i. record { domains = more i; types = (c.self.invariant i).types; parts = (c.self.invariant i).parts; variables = (c.self.invariant i).variables; prices = (c.self.invariant i).prices })
-    ∙ ap names_of (sym c.in_ok-add_domain.ensures.plant)
+    ∙ ap names_of (sym c.in_ok-note_domain.ensures.plant)

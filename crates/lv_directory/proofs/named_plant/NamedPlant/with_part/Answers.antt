@@ -9,6 +9,6 @@ pub invariant_of-result : goal.invariant_of-result
 invariant_of-result c =
     let held = ap (λ (names : Directory). names.parts) c.self.invariant in
     let more = named_last (λ (x : Part). x.name) _ _ c.self.inside.plant.parts _ c.args.part _ _ refl held refl refl refl in
-    c.in_ok-add_part.ensures.names
+    c.in_ok-note_part.ensures.names
     ∙ (λ i. record { domains = (c.self.invariant i).domains; types = (c.self.invariant i).types; parts = more i; variables = (c.self.invariant i).variables; prices = (c.self.invariant i).prices })
-    ∙ ap names_of (sym c.in_ok-add_part.ensures.plant)
+    ∙ ap names_of (sym c.in_ok-note_part.ensures.plant)

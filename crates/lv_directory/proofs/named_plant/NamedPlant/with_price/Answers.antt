@@ -9,6 +9,6 @@ pub invariant_of-result : goal.invariant_of-result
 invariant_of-result c =
     let more =
     ap (λ (names : Directory). with_pair names.prices c.args.price.control.0 c.args.price.value.0) c.self.invariant ∙ sym (priced_last c.self.inside.plant.prices c.args.price) in
-    c.in_ok-add_price.ensures.names
+    c.in_ok-note_price.ensures.names
     ∙ (λ i. record { domains = (c.self.invariant i).domains; types = (c.self.invariant i).types; parts = (c.self.invariant i).parts; variables = (c.self.invariant i).variables; prices = more i })
-    ∙ ap names_of (sym c.in_ok-add_price.ensures.plant)
+    ∙ ap names_of (sym c.in_ok-note_price.ensures.plant)

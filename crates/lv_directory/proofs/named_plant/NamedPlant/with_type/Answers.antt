@@ -10,6 +10,6 @@ invariant_of-result c =
     let held = ap (λ (names : Directory). names.types) c.self.invariant in
     let more = named_last (λ (x : ComponentType). x.name) _ _ c.self.inside.plant.types _ c.args.of _ _ refl held refl refl refl in
     let tables = tables_last _ _ c.self.inside.plant.types _ c.args.of _ (ap (λ (names : Directory). names.variables) c.self.invariant) refl refl refl in
-    c.in_ok-add_type.ensures.names
+    c.in_ok-note_type.ensures.names
     ∙ (λ i. record { domains = (c.self.invariant i).domains; types = more i; parts = (c.self.invariant i).parts; variables = tables i; prices = (c.self.invariant i).prices })
-    ∙ ap names_of (sym c.in_ok-add_type.ensures.plant)
+    ∙ ap names_of (sym c.in_ok-note_type.ensures.plant)
