@@ -6,7 +6,7 @@ ghost use Rattle.std.specs.List.{list_any};
 ghost use Rattle.lv_model.specs.Prices.{is_price_of};
 ghost use Rattle.lv_model.specs.Names.{domain_named, type_named, part_named};
 ghost use Rattle.lv_names.specs.Places.{noted};
-ghost use Rattle.lv_directory.specs.Names.{variable_at, variable_places};
+ghost use Rattle.lv_directory.specs.Names.{names_of, variable_at, variable_places};
 ghost use Rattle.lv_directory.specs.Priced.{with_pair};
 
 use crate::directory::Directory;
@@ -16,7 +16,6 @@ use lv_formula::Condition;
 use lv_model::{Domain, Part, Plant, Price};
 use std::alloc::{AllocError, Global};
 use std::marker::Model;
-use std::mem;
 
 /// A plant, seen by contracts as the plant.
 #[derive(Debug, Drop)]
@@ -47,23 +46,30 @@ impl NamedPlant {
         ensures { result ≡ record { name = name; domains = []; types = []; parts = []; laws = []; prices = [] } }
     {
         NamedPlant {
-            plant: Plant {
-                name,
-                domains: Seq::new(alloc),
-                types: Seq::new(alloc),
-                parts: Seq::new(alloc),
-                laws: Seq::new(alloc),
-                prices: Seq::new(alloc),
-            },
+            plant: NamedPlant::unlisted(alloc, name),
             names: Directory::new(alloc),
         }
     }
 
-    /// The plant, in whose place one stays that has no lists and no name. Takes no memory.
-    fn take(&mut self, alloc: Global) -> NamedPlant
-        ensures { result ≡ self.old }
+    fn unlisted(alloc: Global, name: Name) -> Plant
+        ensures { result ≡ record { name = name; domains = []; types = []; parts = []; laws = []; prices = [] } }
     {
-        mem::replace(self, NamedPlant::new(alloc, Seq::new(alloc)))
+        Plant {
+            name,
+            domains: Seq::new(alloc),
+            types: Seq::new(alloc),
+            parts: Seq::new(alloc),
+            laws: Seq::new(alloc),
+            prices: Seq::new(alloc),
+        }
+    }
+
+    /// Empties a plant and what is found in it, where one has grown without the other.
+    fn clear(alloc: Global, plant: &mut Plant, names: &mut Directory)
+        ensures { names.new ≡ names_of plant.new }
+    {
+        *plant = NamedPlant::unlisted(alloc, Seq::new(alloc));
+        *names = Directory::new(alloc);
     }
 
     pub fn as_plant(&self) -> &Plant
@@ -126,24 +132,17 @@ impl NamedPlant {
         plant.domains.push(domain)
     }
 
-    /// The plant with one more domain.
-    pub fn with_domain(self, domain: Domain) -> Result<NamedPlant, AllocError>
-        ensures { IfOk result (λ p. p ≡ record self { domains = self.domains ++ domain ∷ [] }) }
-    {
-        let NamedPlant {
-            mut plant,
-            mut names,
-        } = self;
-        NamedPlant::note_domain(&mut plant, &mut names, domain)?;
-        Ok(NamedPlant { plant, names })
-    }
-
     /// Adds a domain. After want of memory the plant has no lists.
     pub fn add_domain(&mut self, alloc: Global, domain: Domain) -> Result<(), AllocError>
         ensures { OnOk result (self.new ≡ record self.old { domains = self.old.domains ++ domain ∷ [] }) }
     {
-        *self = self.take(alloc).with_domain(domain)?;
-        Ok(())
+        match NamedPlant::note_domain(&mut self.plant, &mut self.names, domain) {
+            Ok(()) => Ok(()),
+            Err(failed) => {
+                NamedPlant::clear(alloc, &mut self.plant, &mut self.names);
+                Err(failed)
+            }
+        }
     }
 
     /// Adds a type to the lists of a plant and to what is found in them.
@@ -158,24 +157,17 @@ impl NamedPlant {
         plant.types.push(lists)
     }
 
-    /// The plant with one more type.
-    pub fn with_type(self, of: NamedType) -> Result<NamedPlant, AllocError>
-        ensures { IfOk result (λ p. p ≡ record self { types = self.types ++ of ∷ [] }) }
-    {
-        let NamedPlant {
-            mut plant,
-            mut names,
-        } = self;
-        NamedPlant::note_type(&mut plant, &mut names, of)?;
-        Ok(NamedPlant { plant, names })
-    }
-
     /// Adds a type. After want of memory the plant has no lists.
     pub fn add_type(&mut self, alloc: Global, of: NamedType) -> Result<(), AllocError>
         ensures { OnOk result (self.new ≡ record self.old { types = self.old.types ++ of ∷ [] }) }
     {
-        *self = self.take(alloc).with_type(of)?;
-        Ok(())
+        match NamedPlant::note_type(&mut self.plant, &mut self.names, of) {
+            Ok(()) => Ok(()),
+            Err(failed) => {
+                NamedPlant::clear(alloc, &mut self.plant, &mut self.names);
+                Err(failed)
+            }
+        }
     }
 
     /// Adds a part to the lists of a plant and to what is found in them.
@@ -188,24 +180,17 @@ impl NamedPlant {
         plant.parts.push(part)
     }
 
-    /// The plant with one more part.
-    pub fn with_part(self, part: Part) -> Result<NamedPlant, AllocError>
-        ensures { IfOk result (λ p. p ≡ record self { parts = self.parts ++ part ∷ [] }) }
-    {
-        let NamedPlant {
-            mut plant,
-            mut names,
-        } = self;
-        NamedPlant::note_part(&mut plant, &mut names, part)?;
-        Ok(NamedPlant { plant, names })
-    }
-
     /// Adds a part. After want of memory the plant has no lists.
     pub fn add_part(&mut self, alloc: Global, part: Part) -> Result<(), AllocError>
         ensures { OnOk result (self.new ≡ record self.old { parts = self.old.parts ++ part ∷ [] }) }
     {
-        *self = self.take(alloc).with_part(part)?;
-        Ok(())
+        match NamedPlant::note_part(&mut self.plant, &mut self.names, part) {
+            Ok(()) => Ok(()),
+            Err(failed) => {
+                NamedPlant::clear(alloc, &mut self.plant, &mut self.names);
+                Err(failed)
+            }
+        }
     }
 
     pub fn push_law(&mut self, law: Condition) -> Result<(), AllocError>
@@ -230,23 +215,16 @@ impl NamedPlant {
         plant.prices.push(price)
     }
 
-    /// The plant with one more price.
-    pub fn with_price(self, price: Price) -> Result<NamedPlant, AllocError>
-        ensures { IfOk result (λ p. p ≡ record self { prices = self.prices ++ price ∷ [] }) }
-    {
-        let NamedPlant {
-            mut plant,
-            mut names,
-        } = self;
-        NamedPlant::note_price(&mut plant, &mut names, price)?;
-        Ok(NamedPlant { plant, names })
-    }
-
     /// Adds a price. After want of memory the plant has no lists.
     pub fn add_price(&mut self, alloc: Global, price: Price) -> Result<(), AllocError>
         ensures { OnOk result (self.new ≡ record self.old { prices = self.old.prices ++ price ∷ [] }) }
     {
-        *self = self.take(alloc).with_price(price)?;
-        Ok(())
+        match NamedPlant::note_price(&mut self.plant, &mut self.names, price) {
+            Ok(()) => Ok(()),
+            Err(failed) => {
+                NamedPlant::clear(alloc, &mut self.plant, &mut self.names);
+                Err(failed)
+            }
+        }
     }
 }

@@ -3,6 +3,7 @@
 
 ghost use Rattle.std.specs.Prelude.{◌≡◌, ◌-◌, ◌<◌, ◌≤◌, ◌^◌, [], ◌∷◌, ◌++◌, IfOk, IfSome, OnOk, insert, length, position};
 ghost use Rattle.lv_model.specs.Names.{variable_named};
+ghost use Rattle.lv_names.specs.Places.{noted};
 ghost use Rattle.lv_directory.specs.Names.{variable_places};
 
 use lv_base::{Name, Seq};
@@ -54,13 +55,6 @@ impl NamedType {
         }
     }
 
-    /// The type, in whose place one stays that has no lists and no name. Takes no memory.
-    fn take(&mut self, alloc: Global) -> NamedType
-        ensures { result ≡ self.old }
-    {
-        mem::replace(self, NamedType::new(alloc, Seq::new(alloc)))
-    }
-
     pub fn as_type(&self) -> &ComponentType
         ensures { result.now ≡ self.now }
     {
@@ -84,23 +78,39 @@ impl NamedType {
         self.variables.find(word)
     }
 
-    /// The type with one more variable.
-    pub fn with_variable(self, variable: Variable) -> Result<NamedType, AllocError>
-        ensures { IfOk result (λ t. t ≡ record self { variables = self.variables ++ variable ∷ [] }) }
+    /// Adds a variable to a list and to what is found in it.
+    fn note_variable(
+        list: &mut Seq<Variable>,
+        places: &mut FirstPlaces,
+        variable: Variable,
+    ) -> Result<(), AllocError>
+        ensures list { OnOk result (list.new ≡ list.old ++ variable ∷ []) }
+        ensures places { OnOk result (places.new ≡ noted places.old variable.name (length list.old)) }
     {
-        let (mut lists, mut variables) = self.into_parts();
-        let place = lists.variables.len();
-        variables.note(variable.name.as_slice(), place)?;
-        lists.variables.push(variable)?;
-        Ok(NamedType { lists, variables })
+        let place = list.len();
+        places.note(variable.name.as_slice(), place)?;
+        list.push(variable)
     }
 
-    /// Adds a variable. After want of memory the type has no lists.
+    /// Empties a list and what is found in it, where one has grown without the other.
+    fn clear(alloc: Global, list: &mut Seq<Variable>, places: &mut FirstPlaces)
+        ensures { places.new ≡ variable_places list.new }
+    {
+        *list = Seq::new(alloc);
+        *places = FirstPlaces::new(alloc);
+    }
+
+    /// Adds a variable. After want of memory the type has no variables.
     pub fn add_variable(&mut self, alloc: Global, variable: Variable) -> Result<(), AllocError>
         ensures { OnOk result (self.new ≡ record self.old { variables = self.old.variables ++ variable ∷ [] }) }
     {
-        *self = self.take(alloc).with_variable(variable)?;
-        Ok(())
+        match NamedType::note_variable(&mut self.lists.variables, &mut self.variables, variable) {
+            Ok(()) => Ok(()),
+            Err(failed) => {
+                NamedType::clear(alloc, &mut self.lists.variables, &mut self.variables);
+                Err(failed)
+            }
+        }
     }
 
     /// Adds a mode's name.
@@ -123,24 +133,14 @@ impl NamedType {
         self.lists.formulas.push(formula)
     }
 
-    /// The type with a move at this place, before those from there on.
-    pub fn with_move(self, place: usize, m: Move) -> Result<NamedType, AllocError>
-        requires { place ≤ length self.moves }
-        ensures { IfOk result (λ t. t ≡ record self { moves = insert self.moves place m }) }
-    {
-        let (mut lists, variables) = self.into_parts();
-        let mut moves = lists.moves.into_vec();
-        moves.insert(place, m)?;
-        lists.moves = Seq::from_vec(moves);
-        Ok(NamedType { lists, variables })
-    }
-
-    /// Adds a move at this place, before those from there on. After want of memory the type has no lists.
+    /// Adds a move at this place, before those from there on. After want of memory the type has no moves.
     pub fn add_move(&mut self, alloc: Global, place: usize, m: Move) -> Result<(), AllocError>
         requires { place ≤ length self.old.moves }
         ensures { OnOk result (self.new ≡ record self.old { moves = insert self.old.moves place m }) }
     {
-        *self = self.take(alloc).with_move(place, m)?;
+        let mut moves = mem::replace(&mut self.lists.moves, Seq::new(alloc)).into_vec();
+        moves.insert(place, m)?;
+        self.lists.moves = Seq::from_vec(moves);
         Ok(())
     }
 }
