@@ -60,12 +60,7 @@ fn share_of_type(alloc: Global, draft: &Draft, ended: &TypeDraft) -> Result<u32,
 }
 
 /// One more type behind the others, with its share.
-fn add_shared(
-    alloc: Global,
-    draft: &mut Draft,
-    of: NamedType,
-    share: u32,
-) -> Result<(), AllocError>
+fn add_shared(alloc: Global, draft: &mut Draft, of: NamedType, share: u32) -> Result<(), AllocError>
     ensures { OnOk result (draft.new ≡ record draft.old { plant = record (draft.old.plant) { types = draft.old.plant.types ++ of ∷ [] }; shares = draft.old.shares ++ share ∷ [] }) }
 {
     draft.plant.add_type(alloc, of)?;
@@ -224,7 +219,12 @@ fn add_going_on(alloc: Global, draft: &mut Draft, entry: Entry) -> Result<(), Al
 {
     match &mut draft.current {
         Some(current) => {
-            add_inside(alloc, current, draft.plant.as_plant().domains.as_slice(), entry)
+            add_inside(
+                alloc,
+                current,
+                draft.plant.as_plant().domains.as_slice(),
+                entry,
+            )
         }
         None => add_outside(alloc, draft, entry),
     }
@@ -264,11 +264,7 @@ fn add_all(
 }
 
 /// Adds what one more statement adds.
-fn add_one(
-    alloc: Global,
-    draft: &mut Draft,
-    numbered: &NumberedStatement,
-) -> Result<(), ModelFault>
+fn add_one(alloc: Global, draft: &mut Draft, numbered: &NumberedStatement) -> Result<(), ModelFault>
     ensures ok { OnOk result (one_added draft.old numbered.now ≡ fine draft.new) }
     ensures fault { IfErr result (λ fault. Finds fault (one_added draft.old numbered.now)) }
 {

@@ -97,12 +97,7 @@ fn add_lists_move(alloc: Global, lists: &mut NamedType, m: Move) -> Result<(), A
 }
 
 /// Adds a mode with its stay.
-fn add_mode(
-    alloc: Global,
-    draft: &mut TypeDraft,
-    name: Name,
-    mode: u32,
-) -> Result<(), AllocError>
+fn add_mode(alloc: Global, draft: &mut TypeDraft, name: Name, mode: u32) -> Result<(), AllocError>
     ensures { OnOk result (draft.new ≡ with_mode draft.old name mode) }
 {
     draft.lists.push_mode(name)?;

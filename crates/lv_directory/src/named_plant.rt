@@ -1,7 +1,7 @@
 //! A plant that is being put together, with its domains, types, parts and their variables found by name.
 #![tactic(auto)]
 
-ghost use Rattle.std.specs.Prelude.{◌≡◌, ◌-◌, ◌<◌, ◌^◌, [], ◌∷◌, ◌++◌, IfOk, IfSome, OnOk, length, position};
+ghost use Rattle.std.specs.Prelude.{◌≡◌, ◌-◌, ◌<◌, ◌^◌, [], ◌∷◌, ◌++◌, IfSome, OnOk, length, position};
 ghost use Rattle.std.specs.List.{list_any};
 ghost use Rattle.lv_model.specs.Prices.{is_price_of};
 ghost use Rattle.lv_model.specs.Names.{domain_named, type_named, part_named};
@@ -123,7 +123,11 @@ impl NamedPlant {
     }
 
     /// Adds a domain to the lists of a plant and to what is found in them.
-    fn note_domain(plant: &mut Plant, names: &mut Directory, domain: Domain) -> Result<(), AllocError>
+    fn note_domain(
+        plant: &mut Plant,
+        names: &mut Directory,
+        domain: Domain,
+    ) -> Result<(), AllocError>
         ensures plant { OnOk result (plant.new ≡ record plant.old { domains = plant.old.domains ++ domain ∷ [] }) }
         ensures names { OnOk result (names.new ≡ record names.old { domains = noted names.old.domains domain.name (length plant.old.domains) }) }
     {
@@ -132,7 +136,7 @@ impl NamedPlant {
         plant.domains.push(domain)
     }
 
-    /// Adds a domain. After want of memory the plant has no lists.
+    /// Adds a domain. After want of memory the plant has no name and no lists.
     pub fn add_domain(&mut self, alloc: Global, domain: Domain) -> Result<(), AllocError>
         ensures { OnOk result (self.new ≡ record self.old { domains = self.old.domains ++ domain ∷ [] }) }
     {
@@ -157,7 +161,7 @@ impl NamedPlant {
         plant.types.push(lists)
     }
 
-    /// Adds a type. After want of memory the plant has no lists.
+    /// Adds a type. After want of memory the plant has no name and no lists.
     pub fn add_type(&mut self, alloc: Global, of: NamedType) -> Result<(), AllocError>
         ensures { OnOk result (self.new ≡ record self.old { types = self.old.types ++ of ∷ [] }) }
     {
@@ -180,7 +184,7 @@ impl NamedPlant {
         plant.parts.push(part)
     }
 
-    /// Adds a part. After want of memory the plant has no lists.
+    /// Adds a part. After want of memory the plant has no name and no lists.
     pub fn add_part(&mut self, alloc: Global, part: Part) -> Result<(), AllocError>
         ensures { OnOk result (self.new ≡ record self.old { parts = self.old.parts ++ part ∷ [] }) }
     {
@@ -215,7 +219,7 @@ impl NamedPlant {
         plant.prices.push(price)
     }
 
-    /// Adds a price. After want of memory the plant has no lists.
+    /// Adds a price. After want of memory the plant has no name and no lists.
     pub fn add_price(&mut self, alloc: Global, price: Price) -> Result<(), AllocError>
         ensures { OnOk result (self.new ≡ record self.old { prices = self.old.prices ++ price ∷ [] }) }
     {

@@ -1,7 +1,7 @@
 //! A component type that is being put together, with its variables found by name.
 #![tactic(auto)]
 
-ghost use Rattle.std.specs.Prelude.{◌≡◌, ◌-◌, ◌<◌, ◌≤◌, ◌^◌, [], ◌∷◌, ◌++◌, IfOk, IfSome, OnOk, insert, length, position};
+ghost use Rattle.std.specs.Prelude.{◌≡◌, ◌-◌, ◌<◌, ◌≤◌, ◌^◌, [], ◌∷◌, ◌++◌, IfSome, OnOk, insert, length, position};
 ghost use Rattle.lv_model.specs.Names.{variable_named};
 ghost use Rattle.lv_names.specs.Places.{noted};
 ghost use Rattle.lv_directory.specs.Names.{variable_places};
