@@ -15,7 +15,7 @@ use Rattle.lv_checker.specs.declared.draft.Draft.{Draft}
 use Rattle.lv_checker.specs.Checking.{Checked, fine, faulty, after, one_added, all_added, checked, Finds}
 use Rattle.lv_checker.specs.Verdicts.{accepted, refused, verdict_of, IsVerdict, not_read, is_checked, Tells}
 
-first_found : {A B : Type 0} (c : Checked A) (next : A → Checked B) (fault : ModelFault) → Finds fault c → Finds fault (after c next)
+pub first_found : {A B : Type 0} (c : Checked A) (next : A → Checked B) (fault : ModelFault) → Finds fault c → Finds fault (after c next)
 first_found (fine x) next (At code line) h = absurd h
 first_found (fine x) next Memory h = tt
 first_found (faulty code line) next (At c n) h = h

@@ -1,21 +1,21 @@
 //! The model that statements give, or the first of them that is refused.
 #![tactic(auto)]
 
-ghost use Rattle.std.specs.Prelude.{◌≡◌, ◌+◌, ◌<◌, ◌^◌, [], ◌∷◌, ◌++◌, IfOk, IfErr, IsTrue, OnOk, if◌then◌else◌, is_some, length, map, nat_eq, None, Some};
+ghost use Rattle.std.specs.Prelude.{◌≡◌, ◌+◌, ◌<◌, ◌^◌, [], ◌∷◌, ◌++◌, IfOk, IfErr, IsTrue, OnOk, if◌then◌else◌, false, is_some, length, map, nat_eq, None, Some};
 ghost use Rattle.lv_model.specs.Ranges.{part_ranges};
 ghost use Rattle.lv_model.specs.Counts.{held, type_count};
 ghost use Rattle.lv_model.specs.WellFormed.{is_well_formed};
 ghost use Rattle.lv_reader.specs.declared.code.ModelCode.TheVariants.{NotEnded, NoPart};
-ghost use Rattle.lv_checker.specs.declared.draft.Entry.TheVariants.{Named, NewDomain, TypeBegins, NewPrice};
+ghost use Rattle.lv_checker.specs.declared.draft.Entry.TheVariants.{Named, NewDomain, TypeBegins, NewPrice, TypeEnds};
 ghost use Rattle.lv_checker.specs.Entries.{TellsEntry};
 ghost use Rattle.lv_checker.specs.Faults.{fault_of_entry, judged};
-ghost use Rattle.lv_checker.specs.Drafts.{bare, empty, limited_size, is_end, with_type, with_inside, with_part, with_law, with_outside, with_entry};
+ghost use Rattle.lv_checker.specs.Drafts.{bare, empty, limited_size, is_end, with_type, with_part, with_law, with_outside, with_where, with_entry};
 ghost use Rattle.lv_checker.specs.Checking.{fine, one_added, all_added, finished, checked, EndsWell, IsRead, Finds};
 ghost use Rattle.lv_checker.specs.Verdicts.{IsVerdict, accepted, Tells};
 
 use crate::draft::{CheckFault, Draft, Entry, TypeDraft};
 use crate::faults::{judged, share_of};
-use crate::types::{begun, type_with};
+use crate::types::{add_inside, begun};
 use lv_base::{Name, Seq};
 use lv_directory::{NamedPlant, NamedType};
 use lv_formula::{Condition, Range};
@@ -25,17 +25,6 @@ use lv_model::totals::{limited, with};
 use lv_model::{Domain, Model, Part, Plant, Price};
 use lv_reader::{ModelCode, ModelFault, ModelText, NumberedStatement, Statement, read_model};
 use std::alloc::{AllocError, Global};
-
-/// What a draft keeps beside its plant.
-#[derive(Drop)]
-struct Beside {
-    ranges: Seq<Range>,
-    sizes: Seq<u32>,
-    shares: Seq<u32>,
-    clauses: u32,
-    current: Option<TypeDraft>,
-    has_begun: bool,
-}
 
 /// A plant before any statement; the model's name is `model` until a statement gives one.
 fn bare(alloc: Global) -> Result<NamedPlant, AllocError>
@@ -70,83 +59,37 @@ fn share_of_type(alloc: Global, draft: &Draft, ended: &TypeDraft) -> Result<u32,
     )
 }
 
-/// A draft's plant, and what it keeps beside it.
-fn taken_apart(draft: Draft) -> (NamedPlant, Beside)
-    ensures plant { result.0 ≡ draft.plant }
-    ensures beside { result.1 ≡ record { ranges = draft.ranges; sizes = draft.sizes; shares = draft.shares; clauses = draft.clauses; current = draft.current; has_begun = draft.has_begun } }
+/// One more type behind the others, with its share.
+fn add_shared(alloc: Global, draft: &mut Draft, of: NamedType, share: u32) -> Result<(), AllocError>
+    ensures { OnOk result (draft.new ≡ record draft.old { plant = record (draft.old.plant) { types = draft.old.plant.types ++ of ∷ [] }; shares = draft.old.shares ++ share ∷ [] }) }
 {
-    let beside = Beside {
-        ranges: draft.ranges,
-        sizes: draft.sizes,
-        shares: draft.shares,
-        clauses: draft.clauses,
-        current: draft.current,
-        has_begun: draft.has_begun,
-    };
-    (draft.plant, beside)
+    draft.plant.add_type(alloc, of)?;
+    draft.shares.push(share)
 }
 
-fn put_together(plant: NamedPlant, beside: Beside) -> Draft
-    ensures { result ≡ record { plant = plant; ranges = beside.ranges; sizes = beside.sizes; shares = beside.shares; clauses = beside.clauses; current = beside.current; has_begun = beside.has_begun } }
+/// A type that has ended, behind those before it, with the share of a part of it.
+fn add_type(alloc: Global, draft: &mut Draft, ended: TypeDraft) -> Result<(), AllocError>
+    requires { draft.old.current ≡ None }
+    ensures { OnOk result (draft.new ≡ with_type draft.old ended) }
 {
-    Draft {
-        plant,
-        ranges: beside.ranges,
-        sizes: beside.sizes,
-        shares: beside.shares,
-        clauses: beside.clauses,
-        current: beside.current,
-        has_begun: beside.has_begun,
+    let share = share_of_type(alloc, draft, &ended)?;
+    add_shared(alloc, draft, ended.lists, share)
+}
+
+/// Ends the type that has begun, if one has.
+fn end_type(alloc: Global, draft: &mut Draft) -> Result<(), AllocError>
+    ensures { OnOk result (draft.new ≡ with_where draft.old draft.old.current TypeEnds) }
+{
+    match draft.current.take() {
+        Some(ended) => add_type(alloc, draft, ended),
+        None => Ok(()),
     }
-}
-
-/// One more share, and no type that has begun.
-fn with_share(mut beside: Beside, share: u32) -> Result<Beside, AllocError>
-    ensures { IfOk result (λ b. b ≡ record beside { shares = beside.shares ++ share ∷ []; current = None }) }
-{
-    beside.shares.push(share)?;
-    beside.current = None;
-    Ok(beside)
-}
-
-/// One more type behind the others, and its share.
-fn with_shared(draft: Draft, of: NamedType, share: u32) -> Result<Draft, AllocError>
-    ensures { IfOk result (λ d. d ≡ record draft { plant = record (draft.plant) { types = draft.plant.types ++ of ∷ [] }; shares = draft.shares ++ share ∷ []; current = None }) }
-{
-    let (plant, beside) = taken_apart(draft);
-    let plant = plant.with_type(of)?;
-    Ok(put_together(plant, with_share(beside, share)?))
-}
-
-/// A type that ends, behind those before it, with the share of a part of it.
-fn with_type(alloc: Global, draft: Draft, ended: TypeDraft) -> Result<Draft, AllocError>
-    ensures { IfOk result (λ d. d ≡ with_type draft ended) }
-{
-    let share = share_of_type(alloc, &draft, &ended)?;
-    with_shared(draft, ended.lists, share)
 }
 
 fn is_end(entry: &Entry) -> bool
     ensures { result ≡ is_end entry.now }
 {
     matches!(entry, Entry::TypeEnds)
-}
-
-/// One more entry of a type that has not ended, which was taken out of the draft.
-fn with_inside(
-    alloc: Global,
-    mut draft: Draft,
-    current: TypeDraft,
-    entry: Entry,
-) -> Result<Draft, AllocError>
-    ensures { IfOk result (λ d. d ≡ with_inside draft current entry) }
-{
-    if is_end(&entry) {
-        return with_type(alloc, draft, current);
-    }
-    let current = type_with(current, draft.plant.as_plant().domains.as_slice(), entry)?;
-    draft.current = Some(current);
-    Ok(draft)
 }
 
 /// What the variables of a part range over.
@@ -182,130 +125,154 @@ fn push_ranges(all: &mut Seq<Range>, ranges: &[Range]) -> Result<(), AllocError>
     Ok(())
 }
 
-/// The ranges of a part's variables, and its share of clauses.
-fn with_ranges(mut beside: Beside, ranges: &[Range], share: u32) -> Result<Beside, AllocError>
-    ensures { IfOk result (λ b. b ≡ record beside { ranges = beside.ranges ++ ranges.now; sizes = beside.sizes ++ map limited_size ranges.now; clauses = held (beside.clauses + share) }) }
+/// Adds the ranges of a part's variables, and its share of clauses.
+fn add_ranges(draft: &mut Draft, ranges: &[Range], share: u32) -> Result<(), AllocError>
+    ensures { OnOk result (draft.new ≡ record draft.old { ranges = draft.old.ranges ++ ranges.now; sizes = draft.old.sizes ++ map limited_size ranges.now; clauses = held (draft.old.clauses + share) }) }
 {
-    beside.clauses = with(beside.clauses, share as usize);
-    push_sizes(&mut beside.sizes, ranges)?;
-    push_ranges(&mut beside.ranges, ranges)?;
-    Ok(beside)
+    draft.clauses = with(draft.clauses, share as usize);
+    push_sizes(&mut draft.sizes, ranges)?;
+    push_ranges(&mut draft.ranges, ranges)
 }
 
 /// One more part behind the others, whose variables have these ranges, with its share of clauses.
-fn with_ranged_part(
-    draft: Draft,
+fn add_ranged_part(
+    alloc: Global,
+    draft: &mut Draft,
     part: Part,
     ranges: &[Range],
     share: u32,
-) -> Result<Draft, AllocError>
-    ensures { IfOk result (λ d. d ≡ record draft { plant = record (draft.plant) { parts = draft.plant.parts ++ part ∷ [] }; ranges = draft.ranges ++ ranges.now; sizes = draft.sizes ++ map limited_size ranges.now; clauses = held (draft.clauses + share) }) }
+) -> Result<(), AllocError>
+    ensures { OnOk result (draft.new ≡ record draft.old { plant = record (draft.old.plant) { parts = draft.old.plant.parts ++ part ∷ [] }; ranges = draft.old.ranges ++ ranges.now; sizes = draft.old.sizes ++ map limited_size ranges.now; clauses = held (draft.old.clauses + share) }) }
 {
-    let (plant, beside) = taken_apart(draft);
-    let plant = plant.with_part(part)?;
-    Ok(put_together(plant, with_ranges(beside, ranges, share)?))
+    draft.plant.add_part(alloc, part)?;
+    add_ranges(draft, ranges, share)
 }
 
 /// A part with its variables and its share of clauses.
-fn with_part(alloc: Global, draft: Draft, part: Part) -> Result<Draft, AllocError>
-    ensures { IfOk result (λ d. d ≡ with_part draft part) }
+fn add_part(alloc: Global, draft: &mut Draft, part: Part) -> Result<(), AllocError>
+    ensures { OnOk result (draft.new ≡ with_part draft.old part) }
 {
     let ranges = ranges_of(alloc, draft.plant.as_plant(), &part)?;
-    let share = share_of(&draft, &part);
-    with_ranged_part(draft, part, ranges.as_slice(), share)
+    let share = share_of(draft, &part);
+    add_ranged_part(alloc, draft, part, ranges.as_slice(), share)
 }
 
-fn with_law(mut draft: Draft, law: Condition) -> Result<Draft, AllocError>
-    ensures { IfOk result (λ d. d ≡ with_law draft law) }
+fn add_law(draft: &mut Draft, law: Condition) -> Result<(), AllocError>
+    ensures { OnOk result (draft.new ≡ with_law draft.old law) }
 {
     draft.clauses = with(
         draft.clauses,
         law_count(&law, draft.sizes.as_slice()) as usize,
     );
-    draft.plant.push_law(law)?;
-    Ok(draft)
+    draft.plant.push_law(law)
 }
 
-fn with_domain(draft: Draft, domain: Domain) -> Result<Draft, AllocError>
-    ensures { IfOk result (λ d. d ≡ with_outside draft (NewDomain domain)) }
+fn add_domain(alloc: Global, draft: &mut Draft, domain: Domain) -> Result<(), AllocError>
+    ensures { OnOk result (draft.new ≡ with_outside draft.old (NewDomain domain)) }
 {
-    let (plant, beside) = taken_apart(draft);
-    let plant = plant.with_domain(domain)?;
-    Ok(put_together(plant, beside))
+    draft.plant.add_domain(alloc, domain)
 }
 
-fn with_price(draft: Draft, price: Price) -> Result<Draft, AllocError>
-    ensures { IfOk result (λ d. d ≡ with_outside draft (NewPrice price)) }
+fn add_price(alloc: Global, draft: &mut Draft, price: Price) -> Result<(), AllocError>
+    ensures { OnOk result (draft.new ≡ with_outside draft.old (NewPrice price)) }
 {
-    let (plant, beside) = taken_apart(draft);
-    let plant = plant.with_price(price)?;
-    Ok(put_together(plant, beside))
+    draft.plant.add_price(alloc, price)
 }
 
-fn with_name(mut draft: Draft, name: Name) -> Draft
-    ensures { result ≡ with_outside draft (Named name) }
+fn set_name(draft: &mut Draft, name: Name)
+    ensures { draft.new ≡ with_outside draft.old (Named name) }
 {
     draft.plant.set_name(name);
-    draft
 }
 
-/// A type that begins.
-fn with_begun(alloc: Global, mut draft: Draft, name: Name) -> Result<Draft, AllocError>
-    ensures { IfOk result (λ d. d ≡ with_outside draft (TypeBegins name)) }
+/// Begins a type.
+fn begin_type(alloc: Global, draft: &mut Draft, name: Name) -> Result<(), AllocError>
+    ensures { OnOk result (draft.new ≡ with_outside draft.old (TypeBegins name)) }
 {
-    draft.current = Some(begun(alloc, name)?);
-    Ok(draft)
+    let current = begun(alloc, name)?;
+    draft.current = Some(current);
+    Ok(())
 }
 
-/// One more entry outside types.
-fn with_outside(alloc: Global, draft: Draft, entry: Entry) -> Result<Draft, AllocError>
-    ensures { IfOk result (λ d. d ≡ with_outside draft entry) }
+/// Adds an entry outside types.
+fn add_outside(alloc: Global, draft: &mut Draft, entry: Entry) -> Result<(), AllocError>
+    ensures { OnOk result (draft.new ≡ with_outside draft.old entry) }
 {
     match entry {
-        Entry::Named(name) => Ok(with_name(draft, name)),
-        Entry::NewDomain(domain) => with_domain(draft, domain),
-        Entry::TypeBegins(name) => with_begun(alloc, draft, name),
-        Entry::NewPart(part) => with_part(alloc, draft, part),
-        Entry::SystemLaw(law) => with_law(draft, law),
-        Entry::NewPrice(price) => with_price(draft, price),
-        _ => Ok(draft),
+        Entry::Named(name) => {
+            set_name(draft, name);
+            Ok(())
+        }
+        Entry::NewDomain(domain) => add_domain(alloc, draft, domain),
+        Entry::TypeBegins(name) => begin_type(alloc, draft, name),
+        Entry::NewPart(part) => add_part(alloc, draft, part),
+        Entry::SystemLaw(law) => add_law(draft, law),
+        Entry::NewPrice(price) => add_price(alloc, draft, price),
+        _ => Ok(()),
     }
 }
 
-/// One more entry, against which nothing speaks.
-fn with_entry(alloc: Global, mut draft: Draft, entry: Entry) -> Result<Draft, AllocError>
-    ensures { IfOk result (λ d. d ≡ with_entry draft entry) }
+/// Adds an entry to the type that has begun, which goes on, or outside types.
+fn add_going_on(alloc: Global, draft: &mut Draft, entry: Entry) -> Result<(), AllocError>
+    requires { is_end entry ≡ false }
+    ensures { OnOk result (draft.new ≡ with_where draft.old draft.old.current entry) }
+{
+    match &mut draft.current {
+        Some(current) => {
+            add_inside(
+                alloc,
+                current,
+                draft.plant.as_plant().domains.as_slice(),
+                entry,
+            )
+        }
+        None => add_outside(alloc, draft, entry),
+    }
+}
+
+/// Adds an entry where its place is.
+fn add_where(alloc: Global, draft: &mut Draft, entry: Entry) -> Result<(), AllocError>
+    ensures { OnOk result (draft.new ≡ with_where draft.old draft.old.current entry) }
+{
+    if is_end(&entry) {
+        return end_type(alloc, draft);
+    }
+    add_going_on(alloc, draft, entry)
+}
+
+/// Adds an entry, against which nothing speaks.
+fn add_entry(alloc: Global, draft: &mut Draft, entry: Entry) -> Result<(), AllocError>
+    ensures { OnOk result (draft.new ≡ with_entry draft.old entry) }
 {
     draft.has_begun = true;
-    match draft.current.take() {
-        Some(current) => with_inside(alloc, draft, current, entry),
-        None => with_outside(alloc, draft, entry),
-    }
+    add_where(alloc, draft, entry)
 }
 
-/// A draft with these statements, one after the other.
-fn all_added(
+/// Adds what these statements add, one after the other.
+fn add_all(
     alloc: Global,
-    start: Draft,
+    draft: &mut Draft,
     statements: &[NumberedStatement],
-) -> Result<Draft, ModelFault>
-    ensures ok { IfOk result (λ d. all_added start statements.now ≡ fine d) }
-    ensures fault { IfErr result (λ fault. Finds fault (all_added start statements.now)) }
+) -> Result<(), ModelFault>
+    ensures ok { OnOk result (all_added draft.old statements.now ≡ fine draft.new) }
+    ensures fault { IfErr result (λ fault. Finds fault (all_added draft.old statements.now)) }
 {
-    let mut draft = start;
     for numbered in statements {
-        draft = one_added(alloc, draft, numbered)?;
+        add_one(alloc, draft, numbered)?;
     }
-    Ok(draft)
+    Ok(())
 }
 
-/// A draft with one more statement.
-fn one_added(alloc: Global, draft: Draft, numbered: &NumberedStatement) -> Result<Draft, ModelFault>
-    ensures ok { IfOk result (λ d. one_added draft numbered.now ≡ fine d) }
-    ensures fault { IfErr result (λ fault. Finds fault (one_added draft numbered.now)) }
+/// Adds what one more statement adds.
+fn add_one(alloc: Global, draft: &mut Draft, numbered: &NumberedStatement) -> Result<(), ModelFault>
+    ensures ok { OnOk result (one_added draft.old numbered.now ≡ fine draft.new) }
+    ensures fault { IfErr result (λ fault. Finds fault (one_added draft.old numbered.now)) }
 {
-    match judged(alloc, &draft, &numbered.statement) {
-        Ok(entry) => Ok(with_entry(alloc, draft, entry)?),
+    match judged(alloc, draft, &numbered.statement) {
+        Ok(entry) => {
+            add_entry(alloc, draft, entry)?;
+            Ok(())
+        }
         Err(CheckFault::Refused(code)) => Err(ModelFault::At {
             code,
             line: numbered.line,
@@ -331,8 +298,7 @@ fn model_of_draft(draft: Draft) -> Model
     requires { IsTrue (is_well_formed draft.plant) }
     ensures { result ≡ draft.plant }
 {
-    let (plant, _beside) = taken_apart(draft);
-    Model::of_well_formed(plant.into_plant())
+    Model::of_well_formed(draft.plant.into_plant())
 }
 
 /// What a draft comes to where the text ends, behind so many lines.
@@ -356,7 +322,8 @@ pub fn check_model(alloc: Global, text: &ModelText) -> Result<Model, ModelFault>
     ensures ok { IfOk result (λ m. checked text.now ≡ fine m) }
     ensures fault { IfErr result (λ fault. Finds fault (checked text.now)) }
 {
-    let draft = all_added(alloc, empty(alloc)?, text.statements.as_slice())?;
+    let mut draft = empty(alloc)?;
+    add_all(alloc, &mut draft, text.statements.as_slice())?;
     finished(draft, text.lines)
 }
 

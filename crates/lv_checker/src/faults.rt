@@ -3,8 +3,10 @@
 #![tactic(auto)]
 
 ghost use Rattle.lv_base.specs.declared.limits.TheConstants.{VARIABLES as MOST_VARIABLES};
-ghost use Rattle.std.specs.Prelude.{◌≡◌, ◌+◌, nat_lt, IfOk, IfErr, Ok};
+ghost use Rattle.std.specs.Prelude.{◌≡◌, ◌+◌, nat_lt, IfOk, IfErr, Ok, Err};
 ghost use Rattle.std.specs.List.{list_any};
+ghost use Rattle.std.specs.Option.{option_map_or};
+ghost use Rattle.lv_reader.specs.declared.code.ModelCode.{ModelCode};
 ghost use Rattle.lv_formula.specs.Tree.{Tree};
 ghost use Rattle.lv_model.specs.Counts.{has_count, guard_has_counts};
 ghost use Rattle.lv_model.specs.Lists.{part_width};
@@ -226,14 +228,23 @@ fn fault_of_entry(draft: &Draft, entry: &Entry) -> Option<ModelCode>
     }
 }
 
+/// The entry, unless there is a code for which it is refused.
+fn unless_refused(code: Option<ModelCode>, entry: Entry) -> Result<Entry, CheckFault>
+    ensures ok { IfOk result (λ e. option_map_or (λ (c : ModelCode). Err c) code (Ok entry) ≡ Ok e) }
+    ensures fault { IfErr result (λ fault. TellsEntry fault (option_map_or (λ (c : ModelCode). Err c) code (Ok entry))) }
+{
+    match code {
+        Some(code) => Err(CheckFault::Refused(code)),
+        None => Ok(entry),
+    }
+}
+
 /// What a statement adds, or the first code for which it is refused.
 pub fn judged(alloc: Global, draft: &Draft, statement: &Statement) -> Result<Entry, CheckFault>
     ensures ok { IfOk result (λ e. judged draft.now statement.now ≡ Ok e) }
     ensures fault { IfErr result (λ fault. TellsEntry fault (judged draft.now statement.now)) }
 {
     let entry = entry_of(alloc, draft, statement)?;
-    match fault_of_entry(draft, &entry) {
-        Some(code) => Err(CheckFault::Refused(code)),
-        None => Ok(entry),
-    }
+    let code = fault_of_entry(draft, &entry);
+    unless_refused(code, entry)
 }

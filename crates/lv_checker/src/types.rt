@@ -1,7 +1,7 @@
 //! A type, line by line.
 #![tactic(auto)]
 
-ghost use Rattle.std.specs.Prelude.{◌≡◌, [], ◌∷◌, ◌++◌, ◌<◌, ◌≤◌, OnOk, IfOk, IfSome, length, position};
+ghost use Rattle.std.specs.Prelude.{◌≡◌, ◌<◌, ◌≤◌, OnOk, IfOk, IfSome, length, position};
 ghost use Rattle.lv_model.specs.WellFormed.{kind_place};
 ghost use Rattle.lv_checker.specs.Drafts.{begun, stay_in, stands_before, place_among, with_move_in_place, with_variable, with_mode, with_type_law, with_mode_law, with_move, type_with};
 
@@ -22,13 +22,6 @@ pub fn begun(alloc: Global, name: Name) -> Result<TypeDraft, AllocError>
         lists: NamedType::new(alloc, name),
         sizes,
     })
-}
-
-fn with_size(mut sizes: Seq<u32>, size: u32) -> Result<Seq<u32>, AllocError>
-    ensures { IfOk result (λ more. more ≡ sizes ++ size ∷ []) }
-{
-    sizes.push(size)?;
-    Ok(sizes)
 }
 
 /// The move that stays in a mode.
@@ -82,83 +75,68 @@ fn place_among(m: &Move, moves: &[Move]) -> usize
     }
 }
 
-fn with_variable(
-    draft: TypeDraft,
+fn add_variable(
+    alloc: Global,
+    draft: &mut TypeDraft,
     domains: &[Domain],
     variable: Variable,
-) -> Result<TypeDraft, AllocError>
-    ensures { IfOk result (λ t. t ≡ with_variable domains.now draft variable) }
+) -> Result<(), AllocError>
+    ensures { OnOk result (draft.new ≡ with_variable domains.now draft.old variable) }
 {
-    let sizes = with_size(draft.sizes, variable_size(domains, &variable))?;
-    Ok(TypeDraft {
-        lists: draft.lists.with_variable(variable)?,
-        sizes,
-    })
+    let size = variable_size(domains, &variable);
+    draft.lists.add_variable(alloc, variable)?;
+    draft.sizes.push(size)
 }
 
-fn with_mode_name(mut lists: NamedType, name: Name) -> Result<NamedType, AllocError>
-    ensures { IfOk result (λ t. t ≡ record lists { modes = lists.modes ++ name ∷ [] }) }
-{
-    lists.push_mode(name)?;
-    Ok(lists)
-}
-
-/// A type with a new move in its place.
-fn with_lists_move(lists: NamedType, m: Move) -> Result<NamedType, AllocError>
-    ensures { IfOk result (λ t. t ≡ record lists { moves = with_move_in_place m lists.moves }) }
+/// Adds a move in its place.
+fn add_lists_move(alloc: Global, lists: &mut NamedType, m: Move) -> Result<(), AllocError>
+    ensures { OnOk result (lists.new ≡ record lists.old { moves = with_move_in_place m lists.old.moves }) }
 {
     let place = place_among(&m, lists.as_type().moves.as_slice());
-    lists.with_move(place, m)
+    lists.add_move(alloc, place, m)
 }
 
-/// A mode with its stay.
-fn with_mode(draft: TypeDraft, name: Name, mode: u32) -> Result<TypeDraft, AllocError>
-    ensures { IfOk result (λ t. t ≡ with_mode draft name mode) }
+/// Adds a mode with its stay.
+fn add_mode(alloc: Global, draft: &mut TypeDraft, name: Name, mode: u32) -> Result<(), AllocError>
+    ensures { OnOk result (draft.new ≡ with_mode draft.old name mode) }
 {
-    let lists = with_lists_move(draft.lists, stay_in(mode))?;
-    Ok(TypeDraft {
-        lists: with_mode_name(lists, name)?,
-        sizes: draft.sizes,
-    })
+    draft.lists.push_mode(name)?;
+    add_lists_move(alloc, &mut draft.lists, stay_in(mode))
 }
 
-fn with_type_law(mut draft: TypeDraft, law: Condition) -> Result<TypeDraft, AllocError>
-    ensures { IfOk result (λ t. t ≡ with_type_law draft law) }
+fn add_type_law(draft: &mut TypeDraft, law: Condition) -> Result<(), AllocError>
+    ensures { OnOk result (draft.new ≡ with_type_law draft.old law) }
 {
-    draft.lists.push_law(law)?;
-    Ok(draft)
+    draft.lists.push_law(law)
 }
 
-fn with_mode_law(mut draft: TypeDraft, law: ModeFormula) -> Result<TypeDraft, AllocError>
-    ensures { IfOk result (λ t. t ≡ with_mode_law draft law) }
+fn add_mode_law(draft: &mut TypeDraft, law: ModeFormula) -> Result<(), AllocError>
+    ensures { OnOk result (draft.new ≡ with_mode_law draft.old law) }
 {
-    draft.lists.push_formula(law)?;
-    Ok(draft)
+    draft.lists.push_formula(law)
 }
 
-fn with_move(draft: TypeDraft, m: Move) -> Result<TypeDraft, AllocError>
-    ensures { IfOk result (λ t. t ≡ with_move draft m) }
+fn add_move(alloc: Global, draft: &mut TypeDraft, m: Move) -> Result<(), AllocError>
+    ensures { OnOk result (draft.new ≡ with_move draft.old m) }
 {
-    Ok(TypeDraft {
-        lists: with_lists_move(draft.lists, m)?,
-        sizes: draft.sizes,
-    })
+    add_lists_move(alloc, &mut draft.lists, m)
 }
 
-/// A type that goes on with one more entry.
-pub fn type_with(
-    draft: TypeDraft,
+/// Adds an entry to a type that goes on.
+pub fn add_inside(
+    alloc: Global,
+    draft: &mut TypeDraft,
     domains: &[Domain],
     entry: Entry,
-) -> Result<TypeDraft, AllocError>
-    ensures { IfOk result (λ t. t ≡ type_with domains.now draft entry) }
+) -> Result<(), AllocError>
+    ensures { OnOk result (draft.new ≡ type_with domains.now draft.old entry) }
 {
     match entry {
-        Entry::NewVariable(variable) => with_variable(draft, domains, variable),
-        Entry::NewMode(name, mode) => with_mode(draft, name, mode),
-        Entry::TypeLaw(law) => with_type_law(draft, law),
-        Entry::ModeLaw(law) => with_mode_law(draft, law),
-        Entry::NewMove(m) => with_move(draft, m),
-        _ => Ok(draft),
+        Entry::NewVariable(variable) => add_variable(alloc, draft, domains, variable),
+        Entry::NewMode(name, mode) => add_mode(alloc, draft, name, mode),
+        Entry::TypeLaw(law) => add_type_law(draft, law),
+        Entry::ModeLaw(law) => add_mode_law(draft, law),
+        Entry::NewMove(m) => add_move(alloc, draft, m),
+        _ => Ok(()),
     }
 }

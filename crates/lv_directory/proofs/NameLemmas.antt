@@ -1,5 +1,5 @@
 -- Items of lists, found by their names.
-use Rattle.std.proofs.Common.{◌≡◌, ◌<◌, ◌-◌, ◌^◌, ℕ, Bool, true, false, cond, nat_lt, List, [], ◌∷◌, ◌++◌, map, length, get_or, position, slice_get, Option, None, Some, IfSome, refl, sym, ◌∙◌, ap, arith}
+use Rattle.std.proofs.Common.{◌≡◌, ◌<◌, ◌-◌, ◌^◌, ℕ, Bool, true, false, cond, nat_lt, List, [], ◌∷◌, ◌++◌, map, length, get_or, position, slice_get, Option, None, Some, IfSome, Result, Ok, OnOk, refl, sym, ◌∙◌, ap, subst, arith}
 use Rattle.std.specs.Option.{option_and_then, option_map}
 use Rattle.std.specs.List.{position_or_len}
 use Rattle.std.proofs.lemmas.List.{map-append}
@@ -11,6 +11,10 @@ use Rattle.lv_model.specs.Names.{variable_named}
 use Rattle.lv_names.specs.Places.{place_of, noted, first_places}
 use Rattle.lv_names.proofs.PlaceLemmas.{noted_item, place_of_item}
 use Rattle.lv_directory.specs.Names.{variable_places, variable_at}
+
+-- what holds where a result is one, of a result that is
+pub where_ok : {A E : Type 0} (P : Type 0) (r : Result A E) (x : A) → r ≡ Ok x → OnOk r P → P
+where_ok P r x is h = subst (λ (q : Result _ _). OnOk q P) is h
 
 -- a place is before the end of a list whose length fits
 pub short_place : {X : Type 0} (p : X → Bool) (xs : List X) (r : Option ℕ) (count : ℕ) → r ≡ position p xs → count ≡ length xs → count < 2 ^ 64 → IfSome r (λ n. n < 2 ^ 64 - 1)

@@ -1,11 +1,13 @@
 //! A plant that is being put together, with its domains, types, parts and their variables found by name.
 #![tactic(auto)]
 
-ghost use Rattle.std.specs.Prelude.{◌≡◌, ◌-◌, ◌<◌, ◌^◌, [], ◌∷◌, ◌++◌, IfOk, IfSome, OnOk, position};
+ghost use Rattle.std.specs.Prelude.{◌≡◌, ◌-◌, ◌<◌, ◌^◌, [], ◌∷◌, ◌++◌, IfSome, OnOk, length, position};
 ghost use Rattle.std.specs.List.{list_any};
 ghost use Rattle.lv_model.specs.Prices.{is_price_of};
 ghost use Rattle.lv_model.specs.Names.{domain_named, type_named, part_named};
-ghost use Rattle.lv_directory.specs.Names.{variable_at};
+ghost use Rattle.lv_names.specs.Places.{noted};
+ghost use Rattle.lv_directory.specs.Names.{names_of, variable_at, variable_places};
+ghost use Rattle.lv_directory.specs.Priced.{with_pair};
 
 use crate::directory::Directory;
 use crate::named_type::NamedType;
@@ -44,16 +46,30 @@ impl NamedPlant {
         ensures { result ≡ record { name = name; domains = []; types = []; parts = []; laws = []; prices = [] } }
     {
         NamedPlant {
-            plant: Plant {
-                name,
-                domains: Seq::new(alloc),
-                types: Seq::new(alloc),
-                parts: Seq::new(alloc),
-                laws: Seq::new(alloc),
-                prices: Seq::new(alloc),
-            },
+            plant: NamedPlant::unlisted(alloc, name),
             names: Directory::new(alloc),
         }
+    }
+
+    fn unlisted(alloc: Global, name: Name) -> Plant
+        ensures { result ≡ record { name = name; domains = []; types = []; parts = []; laws = []; prices = [] } }
+    {
+        Plant {
+            name,
+            domains: Seq::new(alloc),
+            types: Seq::new(alloc),
+            parts: Seq::new(alloc),
+            laws: Seq::new(alloc),
+            prices: Seq::new(alloc),
+        }
+    }
+
+    /// Empties a plant and what is found in it, where one has grown without the other.
+    fn clear(alloc: Global, plant: &mut Plant, names: &mut Directory)
+        ensures { names.new ≡ names_of plant.new }
+    {
+        *plant = NamedPlant::unlisted(alloc, Seq::new(alloc));
+        *names = Directory::new(alloc);
     }
 
     pub fn as_plant(&self) -> &Plant
@@ -106,48 +122,79 @@ impl NamedPlant {
         self.plant.name = name;
     }
 
-    /// The plant with one more domain.
-    pub fn with_domain(self, domain: Domain) -> Result<NamedPlant, AllocError>
-        ensures { IfOk result (λ p. p ≡ record self { domains = self.domains ++ domain ∷ [] }) }
+    /// Adds a domain to the lists of a plant and to what is found in them.
+    fn note_domain(
+        plant: &mut Plant,
+        names: &mut Directory,
+        domain: Domain,
+    ) -> Result<(), AllocError>
+        ensures plant { OnOk result (plant.new ≡ record plant.old { domains = plant.old.domains ++ domain ∷ [] }) }
+        ensures names { OnOk result (names.new ≡ record names.old { domains = noted names.old.domains domain.name (length plant.old.domains) }) }
     {
-        let NamedPlant {
-            mut plant,
-            mut names,
-        } = self;
         let place = plant.domains.len();
         names.domains.note(domain.name.as_slice(), place)?;
-        plant.domains.push(domain)?;
-        Ok(NamedPlant { plant, names })
+        plant.domains.push(domain)
     }
 
-    /// The plant with one more type.
-    pub fn with_type(self, of: NamedType) -> Result<NamedPlant, AllocError>
-        ensures { IfOk result (λ p. p ≡ record self { types = self.types ++ of ∷ [] }) }
+    /// Adds a domain. After want of memory the plant has no name and no lists.
+    pub fn add_domain(&mut self, alloc: Global, domain: Domain) -> Result<(), AllocError>
+        ensures { OnOk result (self.new ≡ record self.old { domains = self.old.domains ++ domain ∷ [] }) }
     {
-        let NamedPlant {
-            mut plant,
-            mut names,
-        } = self;
+        match NamedPlant::note_domain(&mut self.plant, &mut self.names, domain) {
+            Ok(()) => Ok(()),
+            Err(failed) => {
+                NamedPlant::clear(alloc, &mut self.plant, &mut self.names);
+                Err(failed)
+            }
+        }
+    }
+
+    /// Adds a type to the lists of a plant and to what is found in them.
+    fn note_type(plant: &mut Plant, names: &mut Directory, of: NamedType) -> Result<(), AllocError>
+        ensures plant { OnOk result (plant.new ≡ record plant.old { types = plant.old.types ++ of ∷ [] }) }
+        ensures names { OnOk result (names.new ≡ record names.old { types = noted names.old.types of.name (length plant.old.types); variables = names.old.variables ++ variable_places of.variables ∷ [] }) }
+    {
         let (lists, variables) = of.into_parts();
+        names.variables.push(variables)?;
         let place = plant.types.len();
         names.types.note(lists.name.as_slice(), place)?;
-        names.variables.push(variables)?;
-        plant.types.push(lists)?;
-        Ok(NamedPlant { plant, names })
+        plant.types.push(lists)
     }
 
-    /// The plant with one more part.
-    pub fn with_part(self, part: Part) -> Result<NamedPlant, AllocError>
-        ensures { IfOk result (λ p. p ≡ record self { parts = self.parts ++ part ∷ [] }) }
+    /// Adds a type. After want of memory the plant has no name and no lists.
+    pub fn add_type(&mut self, alloc: Global, of: NamedType) -> Result<(), AllocError>
+        ensures { OnOk result (self.new ≡ record self.old { types = self.old.types ++ of ∷ [] }) }
     {
-        let NamedPlant {
-            mut plant,
-            mut names,
-        } = self;
+        match NamedPlant::note_type(&mut self.plant, &mut self.names, of) {
+            Ok(()) => Ok(()),
+            Err(failed) => {
+                NamedPlant::clear(alloc, &mut self.plant, &mut self.names);
+                Err(failed)
+            }
+        }
+    }
+
+    /// Adds a part to the lists of a plant and to what is found in them.
+    fn note_part(plant: &mut Plant, names: &mut Directory, part: Part) -> Result<(), AllocError>
+        ensures plant { OnOk result (plant.new ≡ record plant.old { parts = plant.old.parts ++ part ∷ [] }) }
+        ensures names { OnOk result (names.new ≡ record names.old { parts = noted names.old.parts part.name (length plant.old.parts) }) }
+    {
         let place = plant.parts.len();
         names.parts.note(part.name.as_slice(), place)?;
-        plant.parts.push(part)?;
-        Ok(NamedPlant { plant, names })
+        plant.parts.push(part)
+    }
+
+    /// Adds a part. After want of memory the plant has no name and no lists.
+    pub fn add_part(&mut self, alloc: Global, part: Part) -> Result<(), AllocError>
+        ensures { OnOk result (self.new ≡ record self.old { parts = self.old.parts ++ part ∷ [] }) }
+    {
+        match NamedPlant::note_part(&mut self.plant, &mut self.names, part) {
+            Ok(()) => Ok(()),
+            Err(failed) => {
+                NamedPlant::clear(alloc, &mut self.plant, &mut self.names);
+                Err(failed)
+            }
+        }
     }
 
     pub fn push_law(&mut self, law: Condition) -> Result<(), AllocError>
@@ -163,16 +210,25 @@ impl NamedPlant {
         self.names.prices.contains(control, value)
     }
 
-    /// The plant with one more price.
-    pub fn with_price(self, price: Price) -> Result<NamedPlant, AllocError>
-        ensures { IfOk result (λ p. p ≡ record self { prices = self.prices ++ price ∷ [] }) }
+    /// Adds a price to the lists of a plant and to what is found in them.
+    fn note_price(plant: &mut Plant, names: &mut Directory, price: Price) -> Result<(), AllocError>
+        ensures plant { OnOk result (plant.new ≡ record plant.old { prices = plant.old.prices ++ price ∷ [] }) }
+        ensures names { OnOk result (names.new ≡ record names.old { prices = with_pair names.old.prices price.control.0 price.value.0 }) }
     {
-        let NamedPlant {
-            mut plant,
-            mut names,
-        } = self;
         names.prices.insert(price.control, price.value)?;
-        plant.prices.push(price)?;
-        Ok(NamedPlant { plant, names })
+        plant.prices.push(price)
+    }
+
+    /// Adds a price. After want of memory the plant has no name and no lists.
+    pub fn add_price(&mut self, alloc: Global, price: Price) -> Result<(), AllocError>
+        ensures { OnOk result (self.new ≡ record self.old { prices = self.old.prices ++ price ∷ [] }) }
+    {
+        match NamedPlant::note_price(&mut self.plant, &mut self.names, price) {
+            Ok(()) => Ok(()),
+            Err(failed) => {
+                NamedPlant::clear(alloc, &mut self.plant, &mut self.names);
+                Err(failed)
+            }
+        }
     }
 }

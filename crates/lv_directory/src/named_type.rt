@@ -1,8 +1,9 @@
 //! A component type that is being put together, with its variables found by name.
 #![tactic(auto)]
 
-ghost use Rattle.std.specs.Prelude.{◌≡◌, ◌-◌, ◌<◌, ◌≤◌, ◌^◌, [], ◌∷◌, ◌++◌, IfOk, IfSome, OnOk, insert, length, position};
+ghost use Rattle.std.specs.Prelude.{◌≡◌, ◌-◌, ◌<◌, ◌≤◌, ◌^◌, [], ◌∷◌, ◌++◌, IfSome, OnOk, insert, length, position};
 ghost use Rattle.lv_model.specs.Names.{variable_named};
+ghost use Rattle.lv_names.specs.Places.{noted};
 ghost use Rattle.lv_directory.specs.Names.{variable_places};
 
 use lv_base::{Name, Seq};
@@ -11,6 +12,7 @@ use lv_model::{ComponentType, ModeFormula, Move, Variable};
 use lv_names::FirstPlaces;
 use std::alloc::{AllocError, Global};
 use std::marker::Model;
+use std::mem;
 
 /// A component type, seen by contracts as the type.
 #[derive(Debug, Drop)]
@@ -76,15 +78,39 @@ impl NamedType {
         self.variables.find(word)
     }
 
-    /// The type with one more variable.
-    pub fn with_variable(self, variable: Variable) -> Result<NamedType, AllocError>
-        ensures { IfOk result (λ t. t ≡ record self { variables = self.variables ++ variable ∷ [] }) }
+    /// Adds a variable to a list and to what is found in it.
+    fn note_variable(
+        list: &mut Seq<Variable>,
+        places: &mut FirstPlaces,
+        variable: Variable,
+    ) -> Result<(), AllocError>
+        ensures list { OnOk result (list.new ≡ list.old ++ variable ∷ []) }
+        ensures places { OnOk result (places.new ≡ noted places.old variable.name (length list.old)) }
     {
-        let (mut lists, mut variables) = self.into_parts();
-        let place = lists.variables.len();
-        variables.note(variable.name.as_slice(), place)?;
-        lists.variables.push(variable)?;
-        Ok(NamedType { lists, variables })
+        let place = list.len();
+        places.note(variable.name.as_slice(), place)?;
+        list.push(variable)
+    }
+
+    /// Empties a list and what is found in it, where one has grown without the other.
+    fn clear(alloc: Global, list: &mut Seq<Variable>, places: &mut FirstPlaces)
+        ensures { places.new ≡ variable_places list.new }
+    {
+        *list = Seq::new(alloc);
+        *places = FirstPlaces::new(alloc);
+    }
+
+    /// Adds a variable. After want of memory the type has no variables.
+    pub fn add_variable(&mut self, alloc: Global, variable: Variable) -> Result<(), AllocError>
+        ensures { OnOk result (self.new ≡ record self.old { variables = self.old.variables ++ variable ∷ [] }) }
+    {
+        match NamedType::note_variable(&mut self.lists.variables, &mut self.variables, variable) {
+            Ok(()) => Ok(()),
+            Err(failed) => {
+                NamedType::clear(alloc, &mut self.lists.variables, &mut self.variables);
+                Err(failed)
+            }
+        }
     }
 
     /// Adds a mode's name.
@@ -107,15 +133,14 @@ impl NamedType {
         self.lists.formulas.push(formula)
     }
 
-    /// The type with a move at this place, before those from there on.
-    pub fn with_move(self, place: usize, m: Move) -> Result<NamedType, AllocError>
-        requires { place ≤ length self.moves }
-        ensures { IfOk result (λ t. t ≡ record self { moves = insert self.moves place m }) }
+    /// Adds a move at this place, before those from there on. After want of memory the type has no moves.
+    pub fn add_move(&mut self, alloc: Global, place: usize, m: Move) -> Result<(), AllocError>
+        requires { place ≤ length self.old.moves }
+        ensures { OnOk result (self.new ≡ record self.old { moves = insert self.old.moves place m }) }
     {
-        let (mut lists, variables) = self.into_parts();
-        let mut moves = lists.moves.into_vec();
+        let mut moves = mem::replace(&mut self.lists.moves, Seq::new(alloc)).into_vec();
         moves.insert(place, m)?;
-        lists.moves = Seq::from_vec(moves);
-        Ok(NamedType { lists, variables })
+        self.lists.moves = Seq::from_vec(moves);
+        Ok(())
     }
 }
