@@ -1,0 +1,19 @@
+-- what is kept is of the parts in their order, and what refutes it refutes it with what is left
+use Rattle.std.proofs.Common.{◌≡◌, List, false, subst, sym}
+use Rattle.lv_base.specs.declared.search.Pair.{Pair}
+use Rattle.lv_meaning.specs.Possible.{is_possible}
+use Rattle.lv_ident.specs.Literals.{marked_pairs, plant_choices}
+use Rattle.lv_ident.specs.Reducing.{IsPartial}
+use Rattle.lv_ident.proofs.ReducingLemmas.{kept_partial, refuted_alone}
+use Rattle.lv_ident.proofs.trial.IdentTrial.leap.Goals as goal
+
+pub refuted-requires : goal.refuted-requires
+refuted-requires c =
+    subst (λ (ps : List Pair). IsPartial c.args.self.now.plant ps) (sym c.as_slice.ensures.value)
+    (kept_partial c.args.self.now.plant c.args.self.now.facts c.args.pairs.now c.args.at c.args.deletion.now.kept.items c.args.deletion.now.core c.requires.so_far)
+
+pub returns-in-Some-clause-so_far : goal.returns-in-Some-clause-so_far
+returns-in-Some-clause-so_far c =
+    let refuted : is_possible c.args.self.now.plant c.args.self.now.facts (marked_pairs (plant_choices c.args.self.now.plant) c.in-Some.core c.as_slice.result.now) ≡ false = rw c.in-Some.is at c.in_ok-core.ensures.core in
+    refuted_alone c.args.self.now.plant c.args.self.now.facts c.args.pairs.now c.args.at c.args.deletion.now.kept.items c.args.deletion.now.core c.requires.so_far c.in-Some.core c.as_slice.result.now c.as_slice.ensures.value
+    refuted
