@@ -51,18 +51,27 @@ filtered p q (x ∷ xs) h = by (q x) (and_parts (p x) (list_all p xs) h).0 (filt
     by true one rest = and_from (p x) (list_all p (filter q xs)) one rest
     by false one rest = rest
 
--- where some of the values don't reach the goals, all of them don't
-pub part_blocks : (r : ReachingValue) (q : Pair → Bool) (ps : List Pair) → reaches_at r (filter q ps) ≡ false → reaches_at r ps ≡ false
-part_blocks r q ps blocked = by (reaches_at r ps) refl
+-- where values don't reach the goals, none do that ask for as much
+blocked_by : (r : ReachingValue) (ps qs : List Pair) → ((a : List ValId) → list_all (has_control (controls r.plant) a) ps ≡ true → list_all (has_control (controls r.plant) a) qs ≡ true) → reaches_at r qs ≡ false
+    → reaches_at r ps ≡ false
+blocked_by r ps qs as_much blocked = by (reaches_at r ps) refl
   where
-    less : (o : Option TrackedState) → option_map_or (λ (s : TrackedState). reaches r.plant r.aim s.state ps) o false ≡ true
-        → option_map_or (λ (s : TrackedState). reaches r.plant r.aim s.state (filter q ps)) o false ≡ true
+    less : (o : Option TrackedState) → option_map_or (λ (s : TrackedState). reaches r.plant r.aim s.state ps) o false ≡ true → option_map_or (λ (s : TrackedState). reaches r.plant r.aim s.state qs) o false ≡ true
     less None h = h
-    less (Some s) h = some_step_less r.plant r.aim.present s.state ps (filter q ps) (meets_goals r.aim.goals) (λ (a : List ValId) all. filtered (has_control (controls r.plant) a) q ps all) h
+    less (Some s) h = some_step_less r.plant r.aim.present s.state ps qs (meets_goals r.aim.goals) as_much h
 
     by : (b : Bool) → reaches_at r ps ≡ b → b ≡ false
     by false e = refl
     by true e = let clash : true ≡ false = sym (less (slice_get r.aim.tracked r.at) e) ∙ blocked in clash
+
+-- where some of the values don't reach the goals, all of them don't
+pub part_blocks : (r : ReachingValue) (q : Pair → Bool) (ps : List Pair) → reaches_at r (filter q ps) ≡ false → reaches_at r ps ≡ false
+part_blocks r q ps = blocked_by r ps (filter q ps) (λ a all. filtered (has_control (controls r.plant) a) q ps all)
+
+front_blocks : (r : ReachingValue) (front back : List Pair) → reaches_at r front ≡ false → reaches_at r (front ++ back) ≡ false
+front_blocks r front back =
+    blocked_by r (front ++ back) front
+    (λ a all. (and_parts (list_all (has_control (controls r.plant) a) front) (list_all (has_control (controls r.plant) a) back) (sym (list_all-append (has_control (controls r.plant) a) front back) ∙ all)).0)
 
 pub reducing_first : (r : ReachingValue) (pairs kept : List Pair) → kept ≡ [] → pairs_fit r.plant pairs ≡ true → IsReducing r pairs 0 kept None
 reducing_first r pairs kept none fit = subst (λ (ks : List Pair). IsReducing r pairs 0 ks None) (sym none) (record { rest = refl; blocked = tt; fit = fit })
@@ -132,3 +141,18 @@ module _ (r : ReachingValue) (pairs : List Pair) (at : ℕ) (kept : List Pair) (
         blocked = subst (λ (ps : List Pair). IfSome core (λ marks. reaches_at r (marked_controls r.plant marks ps) ≡ false)) (sym seam) h.blocked;
         fit = subst (λ (ps : List Pair). pairs_fit r.plant ps ≡ true) (sym seam) h.fit;
       })
+
+module _ (r : ReachingValue) (pairs : List Pair) (at : ℕ) (kept : List Pair) (core : Option Marks) (h : IsReducing r pairs at kept core) where
+  pub kept_fit : pairs_fit r.plant kept ≡ true
+  kept_fit = (and_parts (pairs_fit r.plant kept) (pairs_fit r.plant (drop at pairs)) (sym (list_all-append (pair_fits r.plant) kept (drop at pairs)) ∙ h.fit)).0
+
+  -- where what is kept doesn't reach the goals by itself, it needs nothing of what is left
+  pub refuted_alone : (marks : Marks) (alone : List Pair) → alone ≡ kept → RefutesAt r alone (Some marks) → IsReducing r pairs at kept (Some marks)
+  refuted_alone marks alone is told =
+      record {
+        rest = h.rest;
+        blocked =
+            ap (reaches_at r) (filter-append (λ (q : Pair). is_marked marks (control_literal r.plant q)) kept (drop at pairs))
+            ∙ front_blocks r (marked_controls r.plant marks kept) (marked_controls r.plant marks (drop at pairs)) (sym (ap (λ (ps : List Pair). reaches_at r (marked_controls r.plant marks ps)) is) ∙ told);
+        fit = h.fit;
+      }

@@ -157,9 +157,30 @@ impl<'s, 'a> Reaching<'s, 'a> {
             }
             None => {
                 reduction.kept.push(pairs[at])?;
-                Ok(())
+                self.leap(pairs, at + 1, reduction)
             }
         }
+    }
+
+    /// Asks whether the kept values don't reach the goals by themselves, where values are left that may be needed: if so,
+    /// none of them is. It asks for one kept value, for two, for four and so on, so that a long reason costs few questions
+    /// more.
+    fn leap(
+        &mut self,
+        pairs: &[Pair],
+        at: usize,
+        reduction: &mut Reduction,
+    ) -> Result<(), AllocError>
+        requires so_far { IsReducing self.old pairs.now at reduction.old.kept.items reduction.old.core }
+        ensures so_far { IfOk result (λ _. IsReducing self.old pairs.now at reduction.new.kept.items reduction.new.core) }
+        ensures kept { self.new ≡ self.old }
+    {
+        if at < pairs.len() && reduction.kept.len().is_power_of_two() {
+            if let Some(core) = self.refuted(reduction.kept.as_slice())? {
+                reduction.core = Some(core);
+            }
+        }
+        Ok(())
     }
 
     /// What is left of these values when each, from the first on, is left free where the others still don't reach the goals.
