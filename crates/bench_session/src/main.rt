@@ -16,7 +16,7 @@ use std::{env, io};
 use tally::{Tally, tally_of};
 
 /// The most bytes of a session's file.
-const SESSION_BYTES: usize = 16_000_000;
+const SESSION_BYTES: u64 = 16_000_000;
 
 fn main(rt: HostRuntime) -> io::Result<()> {
     let mut shelf = HostShelf::new(rt.alloc(), &rt);

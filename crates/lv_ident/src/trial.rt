@@ -185,12 +185,7 @@ impl<'a> IdentTrial<'a> {
 
     /// Asks whether what is kept is impossible by itself, where pairs are left that may be needed: if so, none of them is.
     /// It asks for one kept pair, for two, for four and so on, so that a long reason costs few questions more.
-    fn leap(
-        &mut self,
-        pairs: &[Pair],
-        at: usize,
-        deletion: &mut Deletion,
-    ) -> Result<(), AllocError>
+    fn leap(&mut self, pairs: &[Pair], at: usize, deletion: &mut Deletion) -> Result<(), AllocError>
         requires so_far { IsReducing self.old.plant self.old.facts pairs.now at deletion.old.kept.items deletion.old.core }
         ensures so_far { IfOk result (λ _. IsReducing self.old.plant self.old.facts pairs.now at deletion.new.kept.items deletion.new.core) }
         ensures same { self.new ≡ self.old }
