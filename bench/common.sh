@@ -1,9 +1,11 @@
 # What the scripts here share; each of them reads this file first.
 
+crates="$(cd "$(dirname "${BASH_SOURCE[0]}")/../crates" && pwd)"
+
 # builds the program of a crate, by a run with the words given, and goes to the crate's folder
 build() {
-  program=./out/$1
-  cd "$(dirname "${BASH_SOURCE[0]}")/../crates/$1"
+  program=$crates/$1/out/$1
+  cd "$crates/$1"
   rt run -- "${@:2}" >/dev/null
 }
 

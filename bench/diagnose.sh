@@ -3,23 +3,49 @@
 # commanded to open; the same with all commanded; a fan behind the first valve with one fault and with two; a ladder of
 # two rows; and a propulsion branch of which one valve of each pair is commanded, so that one fault explains that there is
 # no thrust, and both, so that two do. The time of an empty session over the same plant is taken off, and stands beside;
-# then the number of candidates listed, and of trials and conflicts. Builds the program first. Sizes may be given.
+# then the number of candidates listed, and of trials, conflicts, zones, and questions to the solver for each trial and
+# for each choice of the conflicts. The last line is of a whole session of 20 rounds over a row of 32 valves, its plant's
+# time with it. Builds the program and crates/bench_session first, which counts. Sizes may be given.
 set -eu
 . "$(dirname "$0")/common.sh"
 prepare "$@"
+cli=$program
+build bench_session absent
+counter=$program
+program=$cli
 : >"$work/none.ses"
 
-printf '%-10s %6s %4s %10s %10s %7s %9s %7s\n' plant valves k 'plant ms' 'query ms' listed conflicts trials
+# the counts of a session's diagnoses: trials, conflicts, choices in them, zones, questions
+counts_of() {
+  "$counter" "$1 $2" | sed 's/.* \([0-9]*\) trials, \([0-9]*\) conflicts of \([0-9]*\) choices, \([0-9]*\) zones, \([0-9]*\) questions.*/\1 \2 \3 \4 \5/'
+}
+
+# so many hundredths of so many
+hundredths() {
+  if [ "$2" -gt 0 ]; then printf '%d.%02d' $(($1 / $2)) $(($1 * 100 / $2 % 100)); else printf -- -; fi
+}
+
+# report NAME VALVES K MODEL SESSION EMPTY-SESSION
+report() {
+  local plant whole listed trials conflicts choices zones questions
+  plant=$(taken_by run "$4" "$6")
+  whole=$(taken_by run "$4" "$5")
+  listed=$("$program" run "$4" "$5" | awk '/^(un)?settled/ { listed += $2 } END { print listed + 0 }')
+  read -r trials conflicts choices zones questions <<<"$(counts_of "$4" "$5")"
+  printf '%-10s %6d %4s %10d %10d %7d %7d %9d %8d %8s %8s\n' "$1" "$2" "$3" "$plant" $((whole - plant)) "$listed" \
+    "$trials" "$conflicts" "$zones" "$(hundredths "$questions" "$trials")" "$(hundredths "$questions" "$choices")"
+}
+
+printf '%-10s %6s %4s %10s %10s %7s %7s %9s %8s %8s %8s\n' plant valves k 'plant ms' 'query ms' listed trials conflicts \
+  zones a-trial a-choice
 for kind in row opened fan twofaults ladder branch branches; do
   for n in $sizes; do
     "$here/make_plants.py" "$kind" "$n" "$work"
-    plant=$(taken_by run "$work/$kind.lv" "$work/none.ses")
     for k in 1 4 64; do
-      whole=$(taken_by run "$work/$kind.lv" "$work/$kind.$k.ses")
-      "$program" run "$work/$kind.lv" "$work/$kind.$k.ses" >"$work/out"
-      listed=$(awk '/^(un)?settled/ { print $2 }' "$work/out")
-      read -r kept trials <<<"$(awk '/^conflicts/ { print $2, $4 }' "$work/out")"
-      printf '%-10s %6d %4d %10d %10d %7d %9d %7d\n' "$kind" "$n" "$k" "$plant" $((whole - plant)) "$listed" "$kept" "$trials"
+      report "$kind" "$n" "$k" "$work/$kind.lv" "$work/$kind.$k.ses" "$work/none.ses"
     done
   done
 done
+"$program" generate model 30 >"$work/drive.lv"
+"$program" generate session 30 >"$work/drive.ses"
+report drive 32 - "$work/drive.lv" "$work/drive.ses" "$work/none.ses"

@@ -1,6 +1,7 @@
 //! What the diagnoses of a session did.
 #![tactic(auto)]
 
+use lv_base::{Pair, Seq};
 use lv_ident::QueryEffort;
 use lv_model::Model;
 use lv_reply::Reply;
@@ -15,9 +16,11 @@ pub struct Tally {
     diagnoses: u64,
     trials: u64,
     conflicts: u64,
+    /// The choices of all conflicts.
+    choices: u64,
     zones: u64,
-    /// How often the solver was asked, and in how many of its conflicts a clause was learned.
-    calls: u64,
+    /// How often the solver was asked, and how many clauses it learned.
+    questions: u64,
     learned: u64,
 }
 
@@ -27,23 +30,33 @@ impl Tally {
             diagnoses: 0,
             trials: 0,
             conflicts: 0,
+            choices: 0,
             zones: 0,
-            calls: 0,
+            questions: 0,
             learned: 0,
         }
     }
 
-    /// With a diagnosis that keeps so many conflicts.
-    fn with(self, conflicts: usize, effort: QueryEffort) -> Tally {
+    /// With a diagnosis that keeps these conflicts.
+    fn with(self, conflicts: &[Seq<Pair>], effort: QueryEffort) -> Tally {
         Tally {
             diagnoses: self.diagnoses.wrapping_add(1),
             trials: self.trials.wrapping_add(effort.trials),
-            conflicts: self.conflicts.wrapping_add(conflicts as u64),
+            conflicts: self.conflicts.wrapping_add(conflicts.len() as u64),
+            choices: self.choices.wrapping_add(count_choices(conflicts)),
             zones: self.zones.wrapping_add(effort.zones),
-            calls: self.calls.wrapping_add(effort.solver.calls),
+            questions: self.questions.wrapping_add(effort.solver.calls),
             learned: self.learned.wrapping_add(effort.solver.conflicts),
         }
     }
+}
+
+fn count_choices(conflicts: &[Seq<Pair>]) -> u64 {
+    let mut count: u64 = 0;
+    for conflict in conflicts {
+        count = count.wrapping_add(conflict.len() as u64);
+    }
+    count
 }
 
 /// Runs a session over a model.
@@ -56,7 +69,7 @@ pub fn tally_of(alloc: Global, model: &Model, text: &[u8]) -> Result<Tally, Allo
         if let Reply::Conflicts(conflicts, _) = &reply
             && let Some(effort) = session.effort()
         {
-            tally = tally.with(conflicts.len(), effort);
+            tally = tally.with(conflicts.as_slice(), effort);
         }
         rest = &rest[line.whole..];
     }
@@ -67,8 +80,14 @@ impl fmt::Display for Tally {
     fn fmt<W: Write>(&self, f: &mut Formatter<W>) -> fmt::Result {
         write!(
             f,
-            "{} diagnoses, {} trials, {} conflicts, {} zones, {} calls, {} learned",
-            self.diagnoses, self.trials, self.conflicts, self.zones, self.calls, self.learned
+            "{} diagnoses, {} trials, {} conflicts of {} choices, {} zones, {} questions, {} clauses learned",
+            self.diagnoses,
+            self.trials,
+            self.conflicts,
+            self.choices,
+            self.zones,
+            self.questions,
+            self.learned
         )
     }
 }
