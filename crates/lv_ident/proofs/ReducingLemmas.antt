@@ -49,6 +49,10 @@ all_front : (P : Pair → Type 0) (front back : List Pair) → All P (front ++ b
 all_front P [] back all = All-nil P
 all_front P (p ∷ front) back all = All-cons P p front (all 0 p (omega arith)) (all_front P front back (All-tail P p (front ++ back) all))
 
+all_back : (P : Pair → Type 0) (front back : List Pair) → All P (front ++ back) → All P back
+all_back P [] back all = all
+all_back P (p ∷ front) back all = all_back P front back (All-tail P p (front ++ back) all)
+
 has_middle : (P : Pair → Type 0) (before : List Pair) (p : Pair) (ps : List Pair) → All P (before ++ (p ∷ ps)) → P p
 has_middle P [] p ps all = all 0 p (omega arith)
 has_middle P (q ∷ before) p ps all = has_middle P before p ps (All-tail P q (before ++ (p ∷ ps)) all)
@@ -123,6 +127,9 @@ module _ (plant : Plant) (facts : Facts) (pairs : List Pair) (at : ℕ) (kept : 
 module _ (plant : Plant) (facts : Facts) (pairs : List Pair) (at : ℕ) (kept : List Pair) (core : Marks) (h : IsReducing plant facts pairs at kept core) where
   pub kept_partial : IsPartial plant kept
   kept_partial = record { rising = rising_front 0 kept (drop at pairs) h.partial.rising; moves = all_front (HasMove (move_counts plant)) kept (drop at pairs) h.partial.moves }
+
+  pub left_have_moves : All (HasMove (move_counts plant)) (drop at pairs)
+  left_have_moves = all_back (HasMove (move_counts plant)) kept (drop at pairs) h.partial.moves
 
   -- where what is kept is impossible by itself, it needs nothing of what is left
   pub refuted_alone : (marks : Marks) (alone : List Pair) → alone ≡ kept → is_possible plant facts (marked_pairs (plant_choices plant) marks alone) ≡ false → IsReducing plant facts pairs at kept marks

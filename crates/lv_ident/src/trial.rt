@@ -2,7 +2,7 @@
 //! where it is asked only about choices that its last refutation needed.
 #![tactic(auto)]
 
-ghost use Rattle.std.specs.Prelude.{◌≡◌, ◌+◌, ◌<◌, ◌++◌, [], false, drop, length, IfOk, IfSome, IsTrue, is_none};
+ghost use Rattle.std.specs.Prelude.{◌≡◌, ◌+◌, ◌<◌, ◌≤◌, ◌++◌, [], false, All, drop, length, IfOk, IfSome, IsTrue, is_none};
 ghost use Rattle.lv_base.specs.Choices.{pairs_of};
 ghost use Rattle.lv_clauses.specs.Marks.{is_marked};
 ghost use Rattle.lv_model.specs.Lists.{move_counts};
@@ -183,14 +183,28 @@ impl<'a> IdentTrial<'a> {
         }
     }
 
-    /// Asks whether what is kept is impossible by itself, where pairs are left that may be needed: if so, none of them is.
-    /// It asks for one kept pair, for two, for four and so on, so that a long reason costs few questions more.
+    /// Whether the last refutation needed one of the pairs.
+    fn needs_one(&self, core: &Marks, pairs: &[Pair]) -> bool
+        requires { All (HasMove (move_counts self.now.plant)) pairs.now }
+    {
+        for pair in pairs {
+            if self.is_needed(core, *pair) {
+                return true;
+            }
+        }
+        false
+    }
+
+    /// Asks whether what is kept is impossible by itself, where the last refutation needed pairs from this place on too: if
+    /// so, none of them is needed. It asks for one kept pair, for two, for four and so on, so that a long reason costs few
+    /// questions more.
     fn leap(&mut self, pairs: &[Pair], at: usize, deletion: &mut Deletion) -> Result<(), AllocError>
+        requires at { at ≤ length pairs.now }
         requires so_far { IsReducing self.old.plant self.old.facts pairs.now at deletion.old.kept.items deletion.old.core }
         ensures so_far { IfOk result (λ _. IsReducing self.old.plant self.old.facts pairs.now at deletion.new.kept.items deletion.new.core) }
         ensures same { self.new ≡ self.old }
     {
-        if at < pairs.len() && deletion.kept.len().is_power_of_two() {
+        if deletion.kept.len().is_power_of_two() && self.needs_one(&deletion.core, &pairs[at..]) {
             if let Some(core) = self.refuted(deletion.kept.as_slice())? {
                 deletion.core = core;
             }

@@ -1,9 +1,9 @@
 -- One value of a reduction after the other.
-use Rattle.std.proofs.Common.{◌≡◌, ◌<◌, ◌≤◌, ◌+◌, ℕ, zero, suc, arith, Bool, true, false, ◌&&◌, List, [], ◌∷◌, ◌++◌, length, drop, get_or, filter, cond, Option, Some, None, IfSome, slice_get, refl, sym, subst, ap, ◌∙◌, append_assoc}
+use Rattle.std.proofs.Common.{◌≡◌, ◌<◌, ◌≤◌, ◌+◌, ℕ, zero, suc, ◌-◌, arith, Bool, true, false, ◌&&◌, List, [], ◌∷◌, ◌++◌, length, take, drop, get_or, filter, cond, Option, Some, None, IfSome, slice_get, refl, sym, subst, ap, ◌∙◌, append_assoc}
 use Rattle.std.specs.List.{list_all}
 use Rattle.std.specs.Option.{option_map_or}
 use Rattle.std.proofs.lemmas.Bool.{and_parts, and_from}
-use Rattle.std.proofs.lemmas.List.{drop_all, drop_more}
+use Rattle.std.proofs.lemmas.List.{drop_all, drop_more, take_all, length-drop}
 use Rattle.std.proofs.lemmas.List.Elements.{filter-append}
 use Rattle.std.proofs.lemmas.List.Folds.{list_all-append}
 use Rattle.lv_base.specs.declared.ids.ValId.{ValId}
@@ -145,6 +145,12 @@ module _ (r : ReachingValue) (pairs : List Pair) (at : ℕ) (kept : List Pair) (
 module _ (r : ReachingValue) (pairs : List Pair) (at : ℕ) (kept : List Pair) (core : Option Marks) (h : IsReducing r pairs at kept core) where
   pub kept_fit : pairs_fit r.plant kept ≡ true
   kept_fit = (and_parts (pairs_fit r.plant kept) (pairs_fit r.plant (drop at pairs)) (sym (list_all-append (pair_fits r.plant) kept (drop at pairs)) ∙ h.fit)).0
+
+  pub left_fit : pairs_fit r.plant (take (length pairs - at) (drop at pairs)) ≡ true
+  left_fit =
+      let size : length (drop at pairs) ≡ length pairs - at = length-drop at pairs in
+      ap (pairs_fit r.plant) (take_all (length pairs - at) (drop at pairs) (omega (arith, size)))
+      ∙ (and_parts (pairs_fit r.plant kept) (pairs_fit r.plant (drop at pairs)) (sym (list_all-append (pair_fits r.plant) kept (drop at pairs)) ∙ h.fit)).1
 
   -- where what is kept doesn't reach the goals by itself, it needs nothing of what is left
   pub refuted_alone : (marks : Marks) (alone : List Pair) → alone ≡ kept → RefutesAt r alone (Some marks) → IsReducing r pairs at kept (Some marks)

@@ -1,7 +1,7 @@
 //! Whether values of controls reach the goals of an aim, asked of one solver.
 #![tactic(auto)]
 
-ghost use Rattle.std.specs.Prelude.{◌≡◌, ◌+◌, ◌<◌, ◌++◌, [], Bool, true, length, drop, IfOk};
+ghost use Rattle.std.specs.Prelude.{◌≡◌, ◌+◌, ◌<◌, ◌≤◌, ◌++◌, [], Bool, true, length, drop, IfOk};
 ghost use Rattle.std.specs.List.{prefix_len};
 ghost use Rattle.lv_model.specs.declared.state.TrackedState.{TrackedState};
 ghost use Rattle.lv_recovery.specs.Recovers.{reaches};
@@ -162,20 +162,33 @@ impl<'s, 'a> Reaching<'s, 'a> {
         }
     }
 
-    /// Asks whether the kept values don't reach the goals by themselves, where values are left that may be needed: if so,
-    /// none of them is. It asks for one kept value, for two, for four and so on, so that a long reason costs few questions
-    /// more.
+    /// Whether the last refutation needed one of the values.
+    fn needs_one(&self, core: &Option<Marks>, pairs: &[Pair]) -> bool
+        requires { pairs_fit self.now.plant pairs.now ≡ true }
+    {
+        for pair in pairs {
+            if self.is_needed(core, *pair) {
+                return true;
+            }
+        }
+        false
+    }
+
+    /// Asks whether the kept values don't reach the goals by themselves, where the last refutation needed values from this
+    /// place on too: if so, none of them is needed. It asks for one kept value, for two, for four and so on, so that a long
+    /// reason costs few questions more.
     fn leap(
         &mut self,
         pairs: &[Pair],
         at: usize,
         reduction: &mut Reduction,
     ) -> Result<(), AllocError>
+        requires at { at ≤ length pairs.now }
         requires so_far { IsReducing self.old pairs.now at reduction.old.kept.items reduction.old.core }
         ensures so_far { IfOk result (λ _. IsReducing self.old pairs.now at reduction.new.kept.items reduction.new.core) }
         ensures kept { self.new ≡ self.old }
     {
-        if at < pairs.len() && reduction.kept.len().is_power_of_two() {
+        if reduction.kept.len().is_power_of_two() && self.needs_one(&reduction.core, &pairs[at..]) {
             if let Some(core) = self.refuted(reduction.kept.as_slice())? {
                 reduction.core = Some(core);
             }

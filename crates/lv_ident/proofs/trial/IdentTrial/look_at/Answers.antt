@@ -1,5 +1,5 @@
 -- the pair is left out, or kept
-use Rattle.std.proofs.Common.{◌≡◌, ◌+◌, ◌++◌, List, drop, false, is_none, subst, sym, ap, ◌∙◌}
+use Rattle.std.proofs.Common.{◌≡◌, ◌+◌, ◌<◌, ◌++◌, List, length, drop, arith, false, is_none, subst, sym, ap, ◌∙◌}
 use Rattle.lv_base.specs.declared.search.Pair.{Pair}
 use Rattle.lv_meaning.specs.Possible.{is_possible}
 use Rattle.lv_ident.specs.Literals.{marked_pairs, plant_choices}
@@ -32,7 +32,9 @@ returns-in-Some-clause-so_far c =
 
 pub leap-requires : goal.leap-requires
 leap-requires c =
+    let inside : c.args.at < length c.args.pairs.now = c.requires.at in
     record {
+      at = omega (arith, inside);
       so_far =
           subst (λ (v : TrialValue). IsReducing v.plant v.facts c.args.pairs.now (c.args.at + 1) c.push.new.self.items c.args.deletion.now.core) (sym c.in_ok-core.ensures.same)
           (kept_one c.args.self.now.plant c.args.self.now.facts c.args.pairs.now c.args.at c.args.deletion.now.kept.items c.args.deletion.now.core (record { slot = 0; choice = 0 }) c.requires.at c.requires.so_far

@@ -3,8 +3,11 @@ use Rattle.std.proofs.Common.{◌≡◌, true, List, Some, subst, sym}
 use Rattle.lv_base.specs.declared.search.Pair.{Pair}
 use Rattle.lv_reconf.specs.Assuming.{pairs_fit}
 use Rattle.lv_reconf.specs.Refuting.{RefutesAt}
-use Rattle.lv_reconf.proofs.ReducingLemmas.{kept_fit, refuted_alone}
+use Rattle.lv_reconf.proofs.ReducingLemmas.{kept_fit, left_fit, refuted_alone}
 use Rattle.lv_reconf.proofs.reaching.Reaching.leap.Goals as goal
+
+pub needs_one-requires : goal.needs_one-requires
+needs_one-requires c = left_fit c.args.self.now c.args.pairs.now c.args.at c.args.reduction.now.kept.items c.args.reduction.now.core c.requires.so_far
 
 pub refuted-requires : goal.refuted-requires
 refuted-requires c =

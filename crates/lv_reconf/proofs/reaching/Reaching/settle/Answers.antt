@@ -1,5 +1,5 @@
 -- the value is left out, or kept
-use Rattle.std.proofs.Common.{◌+◌, ◌++◌, List, drop, Some, None, sym, subst, ap, ◌∙◌}
+use Rattle.std.proofs.Common.{◌+◌, ◌<◌, ◌++◌, List, length, drop, arith, Some, None, sym, subst, ap, ◌∙◌}
 use Rattle.lv_base.specs.declared.search.Pair.{Pair}
 use Rattle.lv_reconf.specs.Refuting.{RefutesAt, IsReducing}
 use Rattle.lv_reconf.specs.Trying.{ReachingValue}
@@ -20,7 +20,9 @@ returns-in-Some-clause-so_far c =
 pub leap-requires : goal.leap-requires
 leap-requires c =
     let told : RefutesAt c.args.self.now c.as_slice-2.result.now None = rw c.in-None.is at c.in_ok-core.ensures.answer in
+    let inside : c.args.at < length c.args.pairs.now = c.requires.at in
     record {
+      at = omega (arith, inside);
       so_far =
           subst (λ (r : ReachingValue). IsReducing r c.args.pairs.now (c.args.at + 1) c.push.new.self.items c.args.reduction.now.core) (sym c.in_ok-core.ensures.kept)
           (kept_one c.args.self.now c.args.pairs.now c.args.at c.args.reduction.now.kept.items c.args.reduction.now.core (record { slot = 0; choice = 0 }) c.requires.at c.requires.so_far
