@@ -1,43 +1,51 @@
-//! Each public call once, with ample memory.
+//! Each public call once, with ample memory. A test makes the arena, and its steps take it by reference.
 ghost use Rattle.std.specs.Prelude.{◌≡◌};
 
-use lv_base::{BoolId, Lit};
+use crate::literals::{A, B, C, NOT_A, NOT_B};
+use lv_base::ClauseId;
 use lv_clauses::*;
-use std::test::Fail;
+use std::alloc::{AllocError, Global};
+use std::process::Abort;
 
-/// The literal of a boolean and a sign.
-fn lit(var: u32, sign: bool) -> Lit
-    ensures { result ≡ record { var = record { 0 = var }; sign = sign } }
-{
-    Lit {
-        var: BoolId(var),
-        sign,
-    }
+fn ids_are(alloc: Global, set: &ClauseSet, ids: &[ClauseId]) -> Result<bool, AllocError> {
+    Ok(set.ids(alloc)?.as_slice() == ids)
 }
 
-#[test]
-fn clauses_come_and_go(rt: HostRuntime) -> Result<(), Fail> {
-    let mut set = ClauseSet::new(rt.alloc(), 3)?;
-    assert_eq!(rt; set.bools(), 3);
-    let first = set.add(&[lit(0, true), lit(1, false)])?;
-    let second = set.add(&[lit(2, true)])?;
+fn second_goes(rt: &impl Abort, set: &mut ClauseSet, first: ClauseId, second: ClauseId)
+    requires { set.old.bools ≡ 3 }
+{
     assert!(rt; first != second);
     assert!(rt; set.contains(first) && set.contains(second));
-    assert_eq!(rt; set.get(first), [lit(0, true), lit(1, false)].as_slice());
+    assert_eq!(rt; set.get(first), [A, NOT_B].as_slice());
     assert!(rt; set.satisfied(&[true, true, true]));
     assert!(rt; !set.satisfied(&[false, true, true]));
     assert!(rt; !set.satisfied(&[true, true, false]));
     set.remove(second);
     assert!(rt; set.satisfied(&[true, true, false]));
     assert!(rt; set.find(second).is_none());
-    assert_eq!(rt; set.ids(rt.alloc())?.as_slice(), [first].as_slice());
+}
+
+fn two_come_one_goes(rt: &impl Abort, alloc: Global, set: &mut ClauseSet) -> Result<(), AllocError>
+    requires { set.old.bools ≡ 3 }
+{
+    assert_eq!(rt; set.bools(), 3);
+    let first = set.add(&[A, NOT_B])?;
+    let second = set.add(&[C])?;
+    second_goes(rt, set, first, second);
+    assert!(rt; ids_are(alloc, set, &[first])?);
     Ok(())
 }
 
 #[test]
-fn empty_clause_comes_and_goes(rt: HostRuntime) -> Result<(), Fail> {
-    let mut set = ClauseSet::new(rt.alloc(), 2)?;
-    set.add(&[lit(0, true)])?;
+fn clauses_come_and_go(rt: HostRuntime) -> Result<(), AllocError> {
+    let mut set = ClauseSet::new(rt.alloc(), 3)?;
+    two_come_one_goes(&rt, rt.alloc(), &mut set)
+}
+
+fn empty_comes_and_goes(rt: &impl Abort, set: &mut ClauseSet) -> Result<(), AllocError>
+    requires { set.old.bools ≡ 2 }
+{
+    set.add(&[A])?;
     let empty = set.add(&[])?;
     assert!(rt; set.contains(empty));
     assert_eq!(rt; set.get(empty).len(), 0);
@@ -49,53 +57,61 @@ fn empty_clause_comes_and_goes(rt: HostRuntime) -> Result<(), Fail> {
 }
 
 #[test]
-fn number_is_given_again(rt: HostRuntime) -> Result<(), Fail> {
+fn empty_clause_comes_and_goes(rt: HostRuntime) -> Result<(), AllocError> {
     let mut set = ClauseSet::new(rt.alloc(), 2)?;
-    let first = set.add(&[lit(0, true)])?;
-    let second = set.add(&[lit(1, true)])?;
+    empty_comes_and_goes(&rt, &mut set)
+}
+
+fn second_and_third_stay(rt: &impl Abort, set: &ClauseSet, second: ClauseId, third: ClauseId) {
+    assert!(rt; set.contains(second) && set.contains(third));
+    assert_eq!(rt; set.get(second), [B].as_slice());
+    assert_eq!(rt; set.get(third), [NOT_A, NOT_B].as_slice());
+    assert!(rt; second.0 < set.bound());
+}
+
+fn third_takes_number(rt: &impl Abort, alloc: Global, set: &mut ClauseSet) -> Result<(), AllocError>
+    requires { set.old.bools ≡ 2 }
+{
+    let first = set.add(&[A])?;
+    let second = set.add(&[B])?;
     assert!(rt; set.contains(first));
     set.remove(first);
-    let third = set.add(&[lit(0, false), lit(1, false)])?;
+    let third = set.add(&[NOT_A, NOT_B])?;
     assert_eq!(rt; third, first);
-    assert!(rt; set.contains(second) && set.contains(third));
-    assert_eq!(rt; set.get(second), [lit(1, true)].as_slice());
-    assert_eq!(rt; set.get(third), [lit(0, false), lit(1, false)].as_slice());
-    assert_eq!(rt; set.ids(rt.alloc())?.as_slice(), [third, second].as_slice());
-    assert!(rt; second.0 < set.bound());
+    second_and_third_stay(rt, set, second, third);
+    assert!(rt; ids_are(alloc, set, &[third, second])?);
     Ok(())
 }
 
 #[test]
-fn literals_say_of_values(rt: HostRuntime) -> Result<(), Fail> {
-    let clause = Clause::from_slice(rt.alloc(), &[lit(0, true), negation(lit(1, true))])?;
-    assert_eq!(rt; clause.lits(), [lit(0, true), lit(1, false)].as_slice());
-    assert!(rt; clause_holds(&[false, false], clause.lits()));
-    assert!(rt; !clause_holds(&[false, true], clause.lits()));
-    assert!(rt; lit_holds(&[true], lit(0, true)));
-    Ok(())
+fn number_is_given_again(rt: HostRuntime) -> Result<(), AllocError> {
+    let mut set = ClauseSet::new(rt.alloc(), 2)?;
+    third_takes_number(&rt, rt.alloc(), &mut set)
 }
 
 #[test]
-fn clauses_are_looked_at(rt: HostRuntime) -> Result<(), Fail> {
-    let clause = [lit(0, true), lit(1, false), lit(2, true)];
-    let table = [
-        (vec![in rt.alloc(); None, None, None]?, Finding::Open),
-        (
-            vec![in rt.alloc(); Some(false), Some(true), None]?,
-            Finding::Unit(lit(2, true)),
-        ),
-        (
-            vec![in rt.alloc(); Some(false), Some(true), Some(true)]?,
-            Finding::Unit(lit(2, true)),
-        ),
-        (
-            vec![in rt.alloc(); Some(false), Some(true), Some(false)]?,
-            Finding::AllFalse,
-        ),
-    ];
-    for (marks, finding) in &table {
-        assert_eq!(rt; look(marks.as_slice(), clause.as_slice()), *finding);
+fn literals_say_of_values(rt: HostRuntime) -> Result<(), AllocError> {
+    let clause = Clause::from_slice(rt.alloc(), &[A, negation(B)])?;
+    let lits = clause.lits();
+    assert_eq!(rt; lits, [A, NOT_B].as_slice());
+    assert!(rt; clause_holds(&[false, false], lits));
+    assert!(rt; !clause_holds(&[false, true], lits));
+    assert!(rt; lit_holds(&[true], A));
+    Ok(())
+}
+
+const FINDINGS: [([Option<bool>; 3], Finding); 4] = [
+    ([None, None, None], Finding::Open),
+    ([Some(false), Some(true), None], Finding::Unit(C)),
+    ([Some(false), Some(true), Some(true)], Finding::Unit(C)),
+    ([Some(false), Some(true), Some(false)], Finding::AllFalse),
+];
+
+#[test]
+fn clauses_are_looked_at(rt: HostRuntime) {
+    let clause = [A, NOT_B, C];
+    for (marks, finding) in &FINDINGS {
+        assert_eq!(rt; look(marks, &clause), *finding);
     }
-    assert!(rt; is_marked(&[Some(true)], lit(0, true)) && !is_marked(&[None], lit(0, false)));
-    Ok(())
+    assert!(rt; is_marked(&[Some(true)], A) && !is_marked(&[None], NOT_A));
 }
