@@ -252,16 +252,22 @@ fn lists_fit(alloc: Global, model: &Model) -> Result<bool, AllocError> {
 /// The moves and the prices, and whether the lists fit.
 type Answers = ((u32, u32), (u64, u64), bool);
 
-fn answers(alloc: Global, model: &Model) -> Result<Option<Answers>, AllocError> {
-    let fit = lists_fit(alloc, model)?;
-    Ok(Some((moves_at_start(model), prices(model), fit)))
+fn answers(alloc: Global, made: &Option<Model>) -> Result<Option<Answers>, AllocError> {
+    match made {
+        Some(model) => {
+            let fit = lists_fit(alloc, model)?;
+            Ok(Some((moves_at_start(model), prices(model), fit)))
+        }
+        None => Ok(None),
+    }
+}
+
+fn made(alloc: Global) -> Result<Option<Model>, AllocError> {
+    Model::new(alloc, plant(alloc)?)
 }
 
 fn answers_of_valve(alloc: Global) -> Result<Option<Answers>, AllocError> {
-    match &Model::new(alloc, plant(alloc)?)? {
-        Some(model) => answers(alloc, model),
-        None => Ok(None),
-    }
+    answers(alloc, &made(alloc)?)
 }
 
 #[test]
