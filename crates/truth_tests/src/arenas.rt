@@ -2,7 +2,7 @@
 ghost use Rattle.std.specs.Prelude.{◌≡◌};
 
 use crate::literals::{A, B, C, NOT_A, NOT_B};
-use lv_base::ClauseId;
+use lv_base::{ClauseId, Lit};
 use lv_clauses::*;
 use std::alloc::{AllocError, Global};
 use std::process::Abort;
@@ -11,12 +11,16 @@ fn ids_are(alloc: Global, set: &ClauseSet, ids: &[ClauseId]) -> Result<bool, All
     Ok(set.ids(alloc)?.as_slice() == ids)
 }
 
+fn lits_are(set: &ClauseSet, id: ClauseId, lits: &[Lit]) -> bool {
+    set.contains(id) && set.get(id) == lits
+}
+
 fn second_goes(rt: &impl Abort, set: &mut ClauseSet, first: ClauseId, second: ClauseId)
     requires { set.old.bools ≡ 3 }
 {
     assert!(rt; first != second);
-    assert!(rt; set.contains(first) && set.contains(second));
-    assert_eq!(rt; set.get(first), [A, NOT_B].as_slice());
+    assert!(rt; set.contains(second));
+    assert!(rt; lits_are(set, first, &[A, NOT_B]));
     assert!(rt; set.satisfied(&[true, true, true]));
     assert!(rt; !set.satisfied(&[false, true, true]));
     assert!(rt; !set.satisfied(&[true, true, false]));
@@ -62,13 +66,6 @@ fn empty_clause_comes_and_goes(rt: HostRuntime) -> Result<(), AllocError> {
     empty_comes_and_goes(&rt, &mut set)
 }
 
-fn second_and_third_stay(rt: &impl Abort, set: &ClauseSet, second: ClauseId, third: ClauseId) {
-    assert!(rt; set.contains(second) && set.contains(third));
-    assert_eq!(rt; set.get(second), [B].as_slice());
-    assert_eq!(rt; set.get(third), [NOT_A, NOT_B].as_slice());
-    assert!(rt; second.0 < set.bound());
-}
-
 fn third_takes_number(rt: &impl Abort, alloc: Global, set: &mut ClauseSet) -> Result<(), AllocError>
     requires { set.old.bools ≡ 2 }
 {
@@ -78,7 +75,9 @@ fn third_takes_number(rt: &impl Abort, alloc: Global, set: &mut ClauseSet) -> Re
     set.remove(first);
     let third = set.add(&[NOT_A, NOT_B])?;
     assert_eq!(rt; third, first);
-    second_and_third_stay(rt, set, second, third);
+    assert!(rt; lits_are(set, second, &[B]));
+    assert!(rt; lits_are(set, third, &[NOT_A, NOT_B]));
+    assert!(rt; second.0 < set.bound());
     assert!(rt; ids_are(alloc, set, &[third, second])?);
     Ok(())
 }

@@ -58,9 +58,9 @@ fn marks_are_taken_and_cleared(rt: &impl Abort, marks: &mut Marks) -> Result<(),
     assert!(rt; marks.is_open(A) && marks.is_open(NOT_B));
     marks.take(NOT_A)?;
     assert!(rt; !marks.is_open(A) && marks.is_open(B));
-    assert_eq!(rt; marks.as_slice(), [Some(false), None].as_slice());
+    assert!(rt; marks.as_slice() == &[Some(false), None][..]);
     marks.clear();
-    assert_eq!(rt; marks.as_slice(), [None, None].as_slice());
+    assert!(rt; marks.as_slice() == &[None, None][..]);
     Ok(())
 }
 
@@ -81,21 +81,47 @@ fn valid_steps_follow(rt: HostRuntime) -> Result<(), AllocError> {
     Ok(())
 }
 
+/// A log of two steps, and the place of the first that doesn't follow.
+struct BadLog {
+    first: (&'static [Lit], &'static [Hint]),
+    second: (&'static [Lit], &'static [Hint]),
+    place: usize,
+}
+
+const ENDS_EARLY: BadLog = BadLog {
+    first: (&[B], &[ONE, TWO]),
+    second: (&[], &[Hint::Earlier(0)]),
+    place: 1,
+};
+
+const GOES_ON: BadLog = BadLog {
+    first: (&[B], &[ONE, TWO]),
+    second: (&[], &[Hint::Earlier(0), THREE, ONE]),
+    place: 1,
+};
+
+const ISNT_UNIT: BadLog = BadLog {
+    first: (&[], &[ONE, TWO]),
+    second: (&[B], &[ONE, TWO]),
+    place: 0,
+};
+
+const LOOKS_AHEAD: BadLog = BadLog {
+    first: (&[B], &[Hint::Earlier(1)]),
+    second: (&[B], &[ONE, TWO]),
+    place: 0,
+};
+
+const REPEATS: BadLog = BadLog {
+    first: (&[B, B], &[ONE, TWO]),
+    second: (&[B], &[ONE, TWO]),
+    place: 0,
+};
+
 #[test]
 fn bad_steps_are_found(rt: HostRuntime) -> Result<(), AllocError> {
-    let ends_early = answer(rt.alloc(), (&[B], &[ONE, TWO]), (&[], &[Hint::Earlier(0)]))?;
-    let goes_on = answer(
-        rt.alloc(),
-        (&[B], &[ONE, TWO]),
-        (&[], &[Hint::Earlier(0), THREE, ONE]),
-    )?;
-    let isnt_unit = answer(rt.alloc(), (&[], &[ONE, TWO]), (&[B], &[ONE, TWO]))?;
-    let looks_ahead = answer(rt.alloc(), (&[B], &[Hint::Earlier(1)]), (&[B], &[ONE, TWO]))?;
-    let repeats = answer(rt.alloc(), (&[B, B], &[ONE, TWO]), (&[B], &[ONE, TWO]))?;
-    assert_eq!(rt; (ends_early, goes_on), (Some(1), Some(1)));
-    assert_eq!(rt;
-        (isnt_unit, looks_ahead, repeats),
-        (Some(0), Some(0), Some(0))
-    );
+    for bad in &[ENDS_EARLY, GOES_ON, ISNT_UNIT, LOOKS_AHEAD, REPEATS] {
+        assert_eq!(rt; answer(rt.alloc(), bad.first, bad.second)?, Some(bad.place));
+    }
     Ok(())
 }
