@@ -15,15 +15,18 @@ fn lits_are(set: &ClauseSet, id: ClauseId, lits: &[Lit]) -> bool {
     set.contains(id) && set.get(id) == lits
 }
 
-fn second_goes(rt: &impl Abort, set: &mut ClauseSet, first: ClauseId, second: ClauseId)
+fn is_satisfied_where_all_are(set: &ClauseSet) -> bool
+    requires { set.now.bools ≡ 3 }
+{
+    set.satisfied(&[true, true, true])
+        && !set.satisfied(&[false, true, true])
+        && !set.satisfied(&[true, true, false])
+}
+
+fn second_goes(rt: &impl Abort, set: &mut ClauseSet, second: ClauseId)
     requires { set.old.bools ≡ 3 }
 {
-    assert!(rt; first != second);
     assert!(rt; set.contains(second));
-    assert!(rt; lits_are(set, first, &[A, NOT_B]));
-    assert!(rt; set.satisfied(&[true, true, true]));
-    assert!(rt; !set.satisfied(&[false, true, true]));
-    assert!(rt; !set.satisfied(&[true, true, false]));
     set.remove(second);
     assert!(rt; set.satisfied(&[true, true, false]));
     assert!(rt; set.find(second).is_none());
@@ -32,10 +35,11 @@ fn second_goes(rt: &impl Abort, set: &mut ClauseSet, first: ClauseId, second: Cl
 fn two_come_one_goes(rt: &impl Abort, alloc: Global, set: &mut ClauseSet) -> Result<(), AllocError>
     requires { set.old.bools ≡ 3 }
 {
-    assert_eq!(rt; set.bools(), 3);
     let first = set.add(&[A, NOT_B])?;
     let second = set.add(&[C])?;
-    second_goes(rt, set, first, second);
+    assert!(rt; first != second && lits_are(set, first, &[A, NOT_B]));
+    assert!(rt; is_satisfied_where_all_are(set));
+    second_goes(rt, set, second);
     assert!(rt; ids_are(alloc, set, &[first])?);
     Ok(())
 }
@@ -43,6 +47,7 @@ fn two_come_one_goes(rt: &impl Abort, alloc: Global, set: &mut ClauseSet) -> Res
 #[test]
 fn clauses_come_and_go(rt: HostRuntime) -> Result<(), AllocError> {
     let mut set = ClauseSet::new(rt.alloc(), 3)?;
+    assert!(rt; set.bools() == 3);
     two_come_one_goes(&rt, rt.alloc(), &mut set)
 }
 
@@ -52,7 +57,7 @@ fn empty_comes_and_goes(rt: &impl Abort, set: &mut ClauseSet) -> Result<(), Allo
     set.add(&[A])?;
     let empty = set.add(&[])?;
     assert!(rt; set.contains(empty));
-    assert_eq!(rt; set.get(empty).len(), 0);
+    assert!(rt; set.get(empty).is_empty());
     assert!(rt; !set.satisfied(&[true, true]));
     set.remove(empty);
     assert!(rt; !set.contains(empty));
@@ -66,17 +71,25 @@ fn empty_clause_comes_and_goes(rt: HostRuntime) -> Result<(), AllocError> {
     empty_comes_and_goes(&rt, &mut set)
 }
 
-fn third_takes_number(rt: &impl Abort, alloc: Global, set: &mut ClauseSet) -> Result<(), AllocError>
+/// Adds two clauses and takes the first away again; answers their numbers.
+fn first_goes(rt: &impl Abort, set: &mut ClauseSet) -> Result<(ClauseId, ClauseId), AllocError>
     requires { set.old.bools ≡ 2 }
+    ensures { set.new.bools ≡ set.old.bools }
 {
     let first = set.add(&[A])?;
     let second = set.add(&[B])?;
     assert!(rt; set.contains(first));
     set.remove(first);
+    Ok((first, second))
+}
+
+fn third_takes_number(rt: &impl Abort, alloc: Global, set: &mut ClauseSet) -> Result<(), AllocError>
+    requires { set.old.bools ≡ 2 }
+{
+    let (first, second) = first_goes(rt, set)?;
     let third = set.add(&[NOT_A, NOT_B])?;
-    assert_eq!(rt; third, first);
-    assert!(rt; lits_are(set, second, &[B]));
-    assert!(rt; lits_are(set, third, &[NOT_A, NOT_B]));
+    assert!(rt; third == first);
+    assert!(rt; lits_are(set, second, &[B]) && lits_are(set, third, &[NOT_A, NOT_B]));
     assert!(rt; second.0 < set.bound());
     assert!(rt; ids_are(alloc, set, &[third, second])?);
     Ok(())
@@ -88,13 +101,16 @@ fn number_is_given_again(rt: HostRuntime) -> Result<(), AllocError> {
     third_takes_number(&rt, rt.alloc(), &mut set)
 }
 
+fn holds_of_values(rt: &impl Abort, clause: &[Lit]) {
+    assert!(rt; clause == &[A, NOT_B][..]);
+    assert!(rt; clause_holds(&[false, false], clause));
+    assert!(rt; !clause_holds(&[false, true], clause));
+}
+
 #[test]
 fn literals_say_of_values(rt: HostRuntime) -> Result<(), AllocError> {
     let clause = Clause::from_slice(rt.alloc(), &[A, negation(B)])?;
-    let lits = clause.lits();
-    assert_eq!(rt; lits, [A, NOT_B].as_slice());
-    assert!(rt; clause_holds(&[false, false], lits));
-    assert!(rt; !clause_holds(&[false, true], lits));
+    holds_of_values(&rt, clause.lits());
     assert!(rt; lit_holds(&[true], A));
     Ok(())
 }

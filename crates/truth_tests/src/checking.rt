@@ -77,7 +77,7 @@ fn valid_steps_follow(rt: HostRuntime) -> Result<(), AllocError> {
         (&[B], &[ONE, TWO]),
         (&[], &[Hint::Earlier(0), THREE]),
     )?;
-    assert_eq!(rt; found, None);
+    assert!(rt; found.is_none());
     Ok(())
 }
 

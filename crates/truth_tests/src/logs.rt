@@ -33,7 +33,7 @@ fn second_is_cut(rt: &impl Abort, log: &mut Log) -> Result<(), AllocError> {
     assert!(rt; hints_are(log, second, &[Hint::Earlier(0), Hint::Given(ClauseId(2))]));
     assert!(rt; mark <= log.len());
     log.cut(mark);
-    assert_eq!(rt; log.len(), 1);
+    assert!(rt; log.len() == 1);
     assert!(rt; clause_is(log, first, &[LIT]));
     Ok(())
 }
