@@ -54,13 +54,17 @@ fn answer(
     answer_for(alloc, &log_of(alloc, first, second)?)
 }
 
+fn marks_are(marks: &Marks, wanted: &[Option<bool>]) -> bool {
+    marks.as_slice() == wanted
+}
+
 fn marks_are_taken_and_cleared(rt: &impl Abort, marks: &mut Marks) -> Result<(), AllocError> {
     assert!(rt; marks.is_open(A) && marks.is_open(NOT_B));
     marks.take(NOT_A)?;
     assert!(rt; !marks.is_open(A) && marks.is_open(B));
-    assert!(rt; marks.as_slice() == &[Some(false), None][..]);
+    assert!(rt; marks_are(marks, &[Some(false), None]));
     marks.clear();
-    assert!(rt; marks.as_slice() == &[None, None][..]);
+    assert!(rt; marks_are(marks, &[None, None]));
     Ok(())
 }
 
@@ -83,45 +87,53 @@ fn valid_steps_follow(rt: HostRuntime) -> Result<(), AllocError> {
 
 /// A log of two steps, and the place of the first that doesn't follow.
 struct BadLog {
+    name: &'static str,
     first: (&'static [Lit], &'static [Hint]),
     second: (&'static [Lit], &'static [Hint]),
     place: usize,
 }
 
-const ENDS_EARLY: BadLog = BadLog {
-    first: (&[B], &[ONE, TWO]),
-    second: (&[], &[Hint::Earlier(0)]),
-    place: 1,
-};
+const BAD_LOGS: &[BadLog] = &[
+    BadLog {
+        name: "ends early",
+        first: (&[B], &[ONE, TWO]),
+        second: (&[], &[Hint::Earlier(0)]),
+        place: 1,
+    },
+    BadLog {
+        name: "goes on",
+        first: (&[B], &[ONE, TWO]),
+        second: (&[], &[Hint::Earlier(0), THREE, ONE]),
+        place: 1,
+    },
+    BadLog {
+        name: "isn't unit",
+        first: (&[], &[ONE, TWO]),
+        second: (&[B], &[ONE, TWO]),
+        place: 0,
+    },
+    BadLog {
+        name: "looks ahead",
+        first: (&[B], &[Hint::Earlier(1)]),
+        second: (&[B], &[ONE, TWO]),
+        place: 0,
+    },
+    BadLog {
+        name: "repeats",
+        first: (&[B, B], &[ONE, TWO]),
+        second: (&[B], &[ONE, TWO]),
+        place: 0,
+    },
+];
 
-const GOES_ON: BadLog = BadLog {
-    first: (&[B], &[ONE, TWO]),
-    second: (&[], &[Hint::Earlier(0), THREE, ONE]),
-    place: 1,
-};
-
-const ISNT_UNIT: BadLog = BadLog {
-    first: (&[], &[ONE, TWO]),
-    second: (&[B], &[ONE, TWO]),
-    place: 0,
-};
-
-const LOOKS_AHEAD: BadLog = BadLog {
-    first: (&[B], &[Hint::Earlier(1)]),
-    second: (&[B], &[ONE, TWO]),
-    place: 0,
-};
-
-const REPEATS: BadLog = BadLog {
-    first: (&[B, B], &[ONE, TWO]),
-    second: (&[B], &[ONE, TWO]),
-    place: 0,
-};
+fn is_found(alloc: Global, bad: &BadLog) -> Result<bool, AllocError> {
+    Ok(answer(alloc, bad.first, bad.second)? == Some(bad.place))
+}
 
 #[test]
 fn bad_steps_are_found(rt: HostRuntime) -> Result<(), AllocError> {
-    for bad in &[ENDS_EARLY, GOES_ON, ISNT_UNIT, LOOKS_AHEAD, REPEATS] {
-        assert_eq!(rt; answer(rt.alloc(), bad.first, bad.second)?, Some(bad.place));
+    for bad in BAD_LOGS {
+        assert!(rt; is_found(rt.alloc(), bad)?, "{}", bad.name);
     }
     Ok(())
 }
