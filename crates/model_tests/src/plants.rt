@@ -244,9 +244,11 @@ fn moved_part_count(alloc: Global, model: &Model) -> Result<usize, AllocError> {
 
 /// Whether the lists over the model's variables and parts are those of one valve.
 fn lists_fit(alloc: Global, model: &Model) -> Result<bool, AllocError> {
-    Ok(sizes_are(alloc, model, &[3, 2, 2])?
-        && control_count(alloc, model)? == 1
-        && moved_part_count(alloc, model)? == 1)
+    Ok(
+        sizes_are(alloc, model, &[3, 2, 2])?
+            && control_count(alloc, model)? == 1
+            && moved_part_count(alloc, model)? == 1,
+    )
 }
 
 /// The moves and the prices, and whether the lists fit.
