@@ -1,6 +1,6 @@
 //! A closed valve that opens at the command to, or gets stuck.
 //!
-//! What is filled is handed on by reference, and each function owns one value: so there is little to let go of at its exits.
+//! What is filled is handed on by reference, and a function owns one value, so little is let go of at its exits.
 
 use lv_base::{Class, Cost, Name, PartId, Seq, ValId, VarId};
 use lv_formula::{Condition, Formula};
