@@ -9,6 +9,8 @@ mod arenas;
 #[cfg(test)]
 mod checking;
 #[cfg(test)]
+mod literals;
+#[cfg(test)]
 mod logs;
 #[cfg(test)]
 mod maintenance;

@@ -1,34 +1,10 @@
 //! Clauses and assumptions that come and go. Each call is made where its condition holds.
-use lv_base::{BoolId, ClauseId, Lit};
+use crate::literals::{A, B, C, NOT_A, NOT_B};
+use lv_base::{ClauseId, Lit};
 use lv_clauses::is_clause;
 use lv_ltms::{Label, Ltms, Reason, Status};
 use std::alloc::AllocError;
-use std::test::Fail;
-
-const A: Lit = Lit {
-    var: BoolId(0),
-    sign: true,
-};
-
-const B: Lit = Lit {
-    var: BoolId(1),
-    sign: true,
-};
-
-const C: Lit = Lit {
-    var: BoolId(2),
-    sign: true,
-};
-
-const NOT_A: Lit = Lit {
-    var: BoolId(0),
-    sign: false,
-};
-
-const NOT_B: Lit = Lit {
-    var: BoolId(1),
-    sign: false,
-};
+use std::process::Abort;
 
 fn add(ltms: &mut Ltms, lits: &[Lit]) -> Result<Option<ClauseId>, AllocError> {
     if is_clause(ltms.bools(), lits) {
@@ -83,57 +59,83 @@ fn core_size(ltms: &Ltms) -> Option<usize> {
     }
 }
 
-#[test]
-fn contradictions_go_with_their_assumption(rt: HostRuntime) -> Result<(), Fail> {
-    let mut ltms = Ltms::new(rt.alloc(), 3)?;
-    let not_both = add(&mut ltms, &[NOT_A, NOT_B])?;
-    assume(&mut ltms, A);
-    assert_eq!(rt;
-        (label(&ltms, A), label(&ltms, B)),
-        (Some(Label::True), Some(Label::False))
-    );
-    assert_eq!(rt; label(&ltms, C), Some(Label::Unknown));
-    assert_eq!(rt; reason(&ltms, A), Some(Reason::Assumed));
-    assert_eq!(rt; reason(&ltms, B), not_both.map(|id| Reason::Clause(id)));
-    assert_eq!(rt; reason(&ltms, C), None);
-    assume(&mut ltms, B);
-    assert_eq!(rt; (label(&ltms, A), core_size(&ltms)), (None, Some(2)));
-    retract(&mut ltms, A);
-    assert_eq!(rt;
-        (label(&ltms, A), label(&ltms, B)),
-        (Some(Label::False), Some(Label::True))
-    );
+fn by_clause(id: Option<ClauseId>) -> Option<Reason> {
+    match id {
+        Some(id) => Some(Reason::Clause(id)),
+        None => None,
+    }
+}
+
+/// Asserts the labels of the three booleans, which are none while there is a contradiction.
+fn labels_are(rt: &impl Abort, ltms: &Ltms, wanted: [Option<Label>; 3]) {
+    let found = [label(ltms, A), label(ltms, B), label(ltms, C)];
+    assert_eq!(rt; found, wanted);
+}
+
+fn reason_is(rt: &impl Abort, ltms: &Ltms, lit: Lit, wanted: Option<Reason>) {
+    assert_eq!(rt; reason(ltms, lit), wanted);
+}
+
+const TRUE: Option<Label> = Some(Label::True);
+
+const FALSE: Option<Label> = Some(Label::False);
+
+const UNKNOWN: Option<Label> = Some(Label::Unknown);
+
+fn contradiction_goes(rt: &impl Abort, ltms: &mut Ltms) -> Result<(), AllocError> {
+    let not_both = add(ltms, &[NOT_A, NOT_B])?;
+    assume(ltms, A);
+    labels_are(rt, ltms, [TRUE, FALSE, UNKNOWN]);
+    reason_is(rt, ltms, A, Some(Reason::Assumed));
+    reason_is(rt, ltms, B, by_clause(not_both));
+    reason_is(rt, ltms, C, None);
+    assume(ltms, B);
+    labels_are(rt, ltms, [None; 3]);
+    assert!(rt; core_size(ltms) == Some(2));
+    retract(ltms, A);
+    labels_are(rt, ltms, [FALSE, TRUE, UNKNOWN]);
     Ok(())
 }
 
 #[test]
-fn labels_keep_another_support(rt: HostRuntime) -> Result<(), Fail> {
+fn contradictions_go_with_their_assumption(rt: HostRuntime) -> Result<(), AllocError> {
     let mut ltms = Ltms::new(rt.alloc(), 3)?;
-    let first = add(&mut ltms, &[NOT_A, C])?;
-    let second = add(&mut ltms, &[NOT_B, C])?;
-    assume(&mut ltms, A);
-    assume(&mut ltms, B);
-    assert_eq!(rt; label(&ltms, C), Some(Label::True));
-    drop_clause(&mut ltms, first);
-    assert_eq!(rt; reason(&ltms, C), second.map(|id| Reason::Clause(id)));
-    retract(&mut ltms, A);
-    assert_eq!(rt;
-        (label(&ltms, A), label(&ltms, C)),
-        (Some(Label::Unknown), Some(Label::True))
-    );
-    drop_clause(&mut ltms, second);
-    assert_eq!(rt; label(&ltms, C), Some(Label::Unknown));
+    contradiction_goes(&rt, &mut ltms)
+}
+
+fn label_is_kept(rt: &impl Abort, ltms: &mut Ltms) -> Result<(), AllocError> {
+    let first = add(ltms, &[NOT_A, C])?;
+    let second = add(ltms, &[NOT_B, C])?;
+    assume(ltms, A);
+    assume(ltms, B);
+    labels_are(rt, ltms, [TRUE, TRUE, TRUE]);
+    drop_clause(ltms, first);
+    reason_is(rt, ltms, C, by_clause(second));
+    retract(ltms, A);
+    labels_are(rt, ltms, [UNKNOWN, TRUE, TRUE]);
+    drop_clause(ltms, second);
+    labels_are(rt, ltms, [UNKNOWN, TRUE, UNKNOWN]);
     Ok(())
 }
 
 #[test]
-fn an_empty_clause_comes_and_goes(rt: HostRuntime) -> Result<(), Fail> {
+fn labels_keep_another_support(rt: HostRuntime) -> Result<(), AllocError> {
     let mut ltms = Ltms::new(rt.alloc(), 3)?;
-    let empty = add(&mut ltms, &[])?;
-    assert_eq!(rt; ltms.status(), Status::Contradiction);
-    assume(&mut ltms, A);
-    assert_eq!(rt; ltms.status(), Status::Contradiction);
-    drop_clause(&mut ltms, empty);
-    assert_eq!(rt; label(&ltms, A), Some(Label::True));
+    label_is_kept(&rt, &mut ltms)
+}
+
+fn empty_comes_and_goes(rt: &impl Abort, ltms: &mut Ltms) -> Result<(), AllocError> {
+    let empty = add(ltms, &[])?;
+    assert!(rt; ltms.status() == Status::Contradiction);
+    assume(ltms, A);
+    assert!(rt; ltms.status() == Status::Contradiction);
+    drop_clause(ltms, empty);
+    labels_are(rt, ltms, [TRUE, UNKNOWN, UNKNOWN]);
     Ok(())
+}
+
+#[test]
+fn an_empty_clause_comes_and_goes(rt: HostRuntime) -> Result<(), AllocError> {
+    let mut ltms = Ltms::new(rt.alloc(), 3)?;
+    empty_comes_and_goes(&rt, &mut ltms)
 }
