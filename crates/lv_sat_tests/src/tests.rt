@@ -6,7 +6,6 @@ use lv_clauses::{ClauseSet, is_clause, lit_holds, negation};
 use lv_refcheck::check;
 use lv_sat::{Answer, Solver};
 use std::alloc::{AllocError, Global};
-use std::process::Abort;
 
 /// A solver over so many booleans.
 fn solver_over(alloc: Global, bools: u32) -> Result<Solver, AllocError> {
@@ -20,11 +19,13 @@ fn add(solver: &mut Solver, lits: &[Lit]) -> Result<Option<ClauseId>, AllocError
     Ok(None)
 }
 
-fn add_all(solver: &mut Solver, clauses: &[&[Lit]]) -> Result<(), AllocError> {
-    for lits in clauses {
-        add(solver, lits)?;
+/// Takes away the clause of this number, if there is one, and answers whether there was.
+fn remove(solver: &mut Solver, id: ClauseId) -> bool {
+    let is_there = solver.clauses().contains(id);
+    if is_there {
+        solver.remove(id);
     }
-    Ok(())
+    is_there
 }
 
 /// What the answer to a question is to be.
@@ -119,45 +120,77 @@ const NOT_FOUR: Lit = Lit {
     sign: false,
 };
 
-/// Clauses over so many booleans, and in a row what is assumed and how it is answered.
+/// What is done to a solver.
+enum Step {
+    /// Adds a clause, which gets this number.
+    Adds(&'static [Lit], ClauseId),
+    /// Takes away the clause of this number.
+    Removes(ClauseId),
+    /// Adds that so many pigeons sit in three holes, each in one of its own.
+    Pigeons(u32),
+    /// Asks under assumptions, and wants this answer.
+    Asks(&'static [Lit], Wanted),
+}
+
+/// Steps of a solver over so many booleans.
 struct Case {
     name: &'static str,
     bools: u32,
-    clauses: &'static [&'static [Lit]],
-    questions: &'static [(&'static [Lit], Wanted)],
+    steps: &'static [Step],
 }
 
 const CASES: &[Case] = &[
     Case {
         name: "no clause at all",
         bools: 2,
-        clauses: &[],
-        questions: &[(&[], Wanted::Values), (&[NOT_TWO, ONE], Wanted::Values)],
+        steps: &[
+            Step::Asks(&[], Wanted::Values),
+            Step::Asks(&[NOT_TWO, ONE], Wanted::Values),
+        ],
     },
     Case {
         name: "the empty clause",
         bools: 1,
-        clauses: &[&[]],
-        questions: &[(&[ONE], Wanted::Core(&[]))],
+        steps: &[
+            Step::Adds(&[], ClauseId(0)),
+            Step::Asks(&[ONE], Wanted::Core(&[])),
+        ],
     },
     Case {
         name: "a core leaves out what is not needed",
         bools: 4,
-        clauses: &[&[NOT_ONE, TWO], &[NOT_TWO, NOT_FOUR]],
-        questions: &[
-            (&[ONE, THREE], Wanted::Values),
-            (&[THREE, FOUR, ONE], Wanted::Core(&[FOUR, ONE])),
+        steps: &[
+            Step::Adds(&[NOT_ONE, TWO], ClauseId(0)),
+            Step::Adds(&[NOT_TWO, NOT_FOUR], ClauseId(1)),
+            Step::Asks(&[ONE, THREE], Wanted::Values),
+            Step::Asks(&[THREE, FOUR, ONE], Wanted::Core(&[FOUR, ONE])),
         ],
+    },
+    Case {
+        name: "three pigeons in three holes",
+        bools: 12,
+        steps: &[Step::Pigeons(3), Step::Asks(&[TWO], Wanted::Values)],
+    },
+    Case {
+        name: "four pigeons in three holes",
+        bools: 12,
+        steps: &[Step::Pigeons(4), Step::Asks(&[], Wanted::Core(&[]))],
     },
 ];
 
-fn are_answered(
-    alloc: Global,
-    solver: &mut Solver,
-    questions: &[(&[Lit], Wanted)],
-) -> Result<bool, AllocError> {
-    for (assumptions, wanted) in questions {
-        if !is_answered(alloc, solver, assumptions, *wanted)? {
+/// Whether a step can be done and answers as wanted.
+fn is_done(alloc: Global, solver: &mut Solver, step: &Step) -> Result<bool, AllocError> {
+    match step {
+        Step::Adds(lits, id) => Ok(add(solver, lits)? == Some(*id)),
+        Step::Removes(id) => Ok(remove(solver, *id)),
+        Step::Pigeons(count) => add_pigeons(solver, *count),
+        Step::Asks(assumptions, wanted) => is_answered(alloc, solver, assumptions, *wanted),
+    }
+}
+
+fn are_done(alloc: Global, solver: &mut Solver, steps: &[Step]) -> Result<bool, AllocError> {
+    for step in steps {
+        if !is_done(alloc, solver, step)? {
             return Ok(false);
         }
     }
@@ -166,58 +199,49 @@ fn are_answered(
 
 fn is_met(alloc: Global, case: &Case) -> Result<bool, AllocError> {
     let mut solver = solver_over(alloc, case.bools)?;
-    add_all(&mut solver, case.clauses)?;
-    are_answered(alloc, &mut solver, case.questions)
+    are_done(alloc, &mut solver, case.steps)
 }
 
 #[test]
-fn questions_in_a_row(rt: HostRuntime) -> Result<(), AllocError> {
+fn steps_of_a_new_solver(rt: HostRuntime) -> Result<(), AllocError> {
     for case in CASES {
         assert!(rt; is_met(rt.alloc(), case)?, "{}", case.name);
     }
     Ok(())
 }
 
-/// Adds two clauses and takes away the first, whose number it answers.
-fn first_goes(set: &mut ClauseSet) -> Result<ClauseId, AllocError>
+const FIRST: ClauseId = ClauseId(0);
+
+/// Where the first of two clauses has gone.
+const FIRST_COMES_AND_GOES: &[Step] = &[
+    Step::Asks(&[NOT_ONE], Wanted::Values),
+    Step::Adds(&[ONE], FIRST),
+    Step::Asks(&[NOT_TWO], Wanted::Refutation),
+    Step::Removes(FIRST),
+    Step::Asks(&[NOT_TWO], Wanted::Values),
+];
+
+/// Adds two clauses and takes away the first; answers whether it had its number.
+fn first_goes(set: &mut ClauseSet) -> Result<bool, AllocError>
     requires { set.old.bools ≡ 2 }
 {
     let first = set.add(&[ONE])?;
     set.add(&[NOT_ONE, TWO])?;
     set.remove(first);
-    Ok(first)
+    Ok(first == FIRST)
 }
 
-fn remove(solver: &mut Solver, id: ClauseId) {
-    if solver.clauses().contains(id) {
-        solver.remove(id);
-    }
-}
-
-fn first_comes_and_goes(
-    rt: &impl Abort,
-    alloc: Global,
-    solver: &mut Solver,
-    first: ClauseId,
-) -> Result<(), AllocError> {
-    assert!(rt; is_answered(alloc, solver, &[NOT_ONE], Wanted::Values)?);
-    assert!(rt; add(solver, &[ONE])? == Some(first));
-    assert!(rt; is_answered(alloc, solver, &[NOT_TWO], Wanted::Refutation)?);
-    remove(solver, first);
-    assert!(rt; is_answered(alloc, solver, &[NOT_TWO], Wanted::Values)?);
-    Ok(())
-}
-
-fn solver_of_second(alloc: Global) -> Result<(Solver, ClauseId), AllocError> {
-    let mut set = ClauseSet::new(alloc, 2)?;
-    let first = first_goes(&mut set)?;
-    Ok((Solver::new(alloc, &set)?, first))
+fn first_comes_and_goes(alloc: Global, set: &ClauseSet) -> Result<bool, AllocError> {
+    let mut solver = Solver::new(alloc, set)?;
+    are_done(alloc, &mut solver, FIRST_COMES_AND_GOES)
 }
 
 #[test]
 fn clauses_come_and_go(rt: HostRuntime) -> Result<(), AllocError> {
-    let (mut solver, first) = solver_of_second(rt.alloc())?;
-    first_comes_and_goes(&rt, rt.alloc(), &mut solver, first)
+    let mut set = ClauseSet::new(rt.alloc(), 2)?;
+    assert!(rt; first_goes(&mut set)?);
+    assert!(rt; first_comes_and_goes(rt.alloc(), &set)?);
+    Ok(())
 }
 
 /// Four pigeons, three holes: the boolean that a pigeon sits in a hole, each counted from 0.
@@ -252,30 +276,12 @@ fn set_apart_from_earlier(solver: &mut Solver, pigeon: u32) -> Result<(), AllocE
 }
 
 /// Each pigeon sits, and no two of so many share a hole.
-fn add_pigeons(solver: &mut Solver, count: u32) -> Result<(), AllocError> {
+fn add_pigeons(solver: &mut Solver, count: u32) -> Result<bool, AllocError> {
     for pigeon in 0..count {
         add_pigeon(solver, pigeon)?;
         set_apart_from_earlier(solver, pigeon)?;
     }
-    Ok(())
-}
-
-fn pigeons_are_answered(
-    alloc: Global,
-    count: u32,
-    assumptions: &[Lit],
-    wanted: Wanted,
-) -> Result<bool, AllocError> {
-    let mut solver = solver_over(alloc, 12)?;
-    add_pigeons(&mut solver, count)?;
-    is_answered(alloc, &mut solver, assumptions, wanted)
-}
-
-#[test]
-fn four_pigeons_in_three_holes(rt: HostRuntime) -> Result<(), AllocError> {
-    assert!(rt; pigeons_are_answered(rt.alloc(), 3, &[sits(0, 1)], Wanted::Values)?);
-    assert!(rt; pigeons_are_answered(rt.alloc(), 4, &[], Wanted::Core(&[]))?);
-    Ok(())
+    Ok(true)
 }
 
 /// The booleans of calls in a row, and how many calls there are.
@@ -325,7 +331,9 @@ fn change_clauses(solver: &mut Solver, state: &mut u64) -> Result<(), AllocError
     let lits = draw_three(state);
     match draw(state, 4) {
         0 => add_some_of(solver, &lits, state)?,
-        1 => remove(solver, ClauseId(draw(state, 60) as usize)),
+        1 => {
+            remove(solver, ClauseId(draw(state, 60) as usize));
+        }
         _ => {}
     }
     Ok(())
@@ -358,31 +366,32 @@ fn agrees(alloc: Global, solver: &mut Solver, assumptions: &[Lit]) -> Result<boo
     is_answered(alloc, solver, assumptions, wanted)
 }
 
-fn call_in_a_row(
-    rt: &impl Abort,
+fn next_agrees(
     alloc: Global,
     solver: &mut Solver,
     assumptions: &mut Vec<Lit>,
     state: &mut u64,
-) -> Result<(), AllocError> {
+) -> Result<bool, AllocError> {
     change_clauses(solver, state)?;
     change_assumptions(assumptions, state)?;
-    assert!(rt; agrees(alloc, solver, assumptions.as_slice())?);
-    Ok(())
+    agrees(alloc, solver, assumptions.as_slice())
 }
 
-fn calls_in_a_row(rt: &impl Abort, alloc: Global, solver: &mut Solver) -> Result<(), AllocError> {
+fn all_agree(alloc: Global, solver: &mut Solver) -> Result<bool, AllocError> {
     let mut state = 1;
     add_drawn(solver, &mut state)?;
     let mut assumptions = Vec::new(alloc);
     for _call in 0..CALLS {
-        call_in_a_row(rt, alloc, solver, &mut assumptions, &mut state)?;
+        if !next_agrees(alloc, solver, &mut assumptions, &mut state)? {
+            return Ok(false);
+        }
     }
-    Ok(())
+    Ok(true)
 }
 
 #[test]
 fn calls_in_a_row_answer_as_new_solvers_do(rt: HostRuntime) -> Result<(), AllocError> {
     let mut solver = solver_over(rt.alloc(), BOOLS)?;
-    calls_in_a_row(&rt, rt.alloc(), &mut solver)
+    assert!(rt; all_agree(rt.alloc(), &mut solver)?);
+    Ok(())
 }
