@@ -71,7 +71,7 @@ fn is_wanted(
     }
 }
 
-/// Whether the solver answers as wanted, which it does to no assumptions that stand for no clause.
+/// Whether the assumptions can be asked about and the answer is as wanted.
 fn is_answered(
     alloc: Global,
     solver: &mut Solver,
@@ -183,7 +183,10 @@ fn is_done(alloc: Global, solver: &mut Solver, step: &Step) -> Result<bool, Allo
     match step {
         Step::Adds(lits, id) => Ok(add(solver, lits)? == Some(*id)),
         Step::Removes(id) => Ok(remove(solver, *id)),
-        Step::Pigeons(count) => add_pigeons(solver, *count),
+        Step::Pigeons(count) => {
+            add_pigeons(solver, *count)?;
+            Ok(true)
+        }
         Step::Asks(assumptions, wanted) => is_answered(alloc, solver, assumptions, *wanted),
     }
 }
@@ -276,12 +279,12 @@ fn set_apart_from_earlier(solver: &mut Solver, pigeon: u32) -> Result<(), AllocE
 }
 
 /// Each pigeon sits, and no two of so many share a hole.
-fn add_pigeons(solver: &mut Solver, count: u32) -> Result<bool, AllocError> {
+fn add_pigeons(solver: &mut Solver, count: u32) -> Result<(), AllocError> {
     for pigeon in 0..count {
         add_pigeon(solver, pigeon)?;
         set_apart_from_earlier(solver, pigeon)?;
     }
-    Ok(true)
+    Ok(())
 }
 
 /// The booleans of calls in a row, and how many calls there are.
