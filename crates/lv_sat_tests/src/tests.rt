@@ -1,11 +1,89 @@
-//! Each public call with ample memory. A helper answers the core of a refutation whose log the checker accepts, and None
-//! where values were found that satisfy all clauses.
-use lv_base::{BoolId, ClauseId, Lit, Seq};
-use lv_clauses::{ClauseSet, is_clause, lit_holds};
+//! Each public call with ample memory. A test makes a solver, and its steps take it by reference.
+ghost use Rattle.std.specs.Prelude.{◌≡◌};
+
+use lv_base::{BoolId, ClauseId, Lit};
+use lv_clauses::{ClauseSet, is_clause, lit_holds, negation};
 use lv_refcheck::check;
 use lv_sat::{Answer, Solver};
-use std::alloc::Global;
-use std::test::Fail;
+use std::alloc::{AllocError, Global};
+
+/// A solver over so many booleans.
+fn solver_over(alloc: Global, bools: u32) -> Result<Solver, AllocError> {
+    Solver::new(alloc, &ClauseSet::new(alloc, bools)?)
+}
+
+fn add(solver: &mut Solver, lits: &[Lit]) -> Result<Option<ClauseId>, AllocError> {
+    if is_clause(solver.clauses().bools(), lits) {
+        return Ok(Some(solver.add(lits)?));
+    }
+    Ok(None)
+}
+
+/// Takes away the clause of this number, if there is one, and answers whether there was.
+fn remove(solver: &mut Solver, id: ClauseId) -> bool {
+    let is_there = solver.clauses().contains(id);
+    if is_there {
+        solver.remove(id);
+    }
+    is_there
+}
+
+/// What the answer to a question is to be.
+#[derive(Clone, Copy)]
+enum Wanted {
+    /// Values that satisfy the clauses and make the assumptions true.
+    Values,
+    /// A core of assumptions and a log that the checker accepts.
+    Refutation,
+    /// This core and a log that the checker accepts.
+    Core(&'static [Lit]),
+}
+
+fn are_values(set: &ClauseSet, assumptions: &[Lit], values: &[bool]) -> bool {
+    values.len() == set.bools() as usize
+        && set.satisfied(values)
+        && assumptions.iter().all(|lit| lit_holds(values, *lit))
+}
+
+fn is_core(assumptions: &[Lit], core: &[Lit], wanted: Wanted) -> bool {
+    match wanted {
+        Wanted::Values => false,
+        Wanted::Refutation => core.iter().all(|lit| assumptions.contains(lit)),
+        Wanted::Core(lits) => core == lits,
+    }
+}
+
+/// Whether an answer is as wanted.
+fn is_wanted(
+    alloc: Global,
+    set: &ClauseSet,
+    assumptions: &[Lit],
+    answer: &Answer,
+    wanted: Wanted,
+) -> Result<bool, AllocError> {
+    match answer {
+        Answer::Sat(values) => Ok(
+            matches!(wanted, Wanted::Values) && are_values(set, assumptions, values.as_slice()),
+        ),
+        Answer::Unsat { core, log } => Ok(
+            is_core(assumptions, core.as_slice(), wanted) && check(alloc, set, log)?.is_none(),
+        ),
+    }
+}
+
+/// Whether the assumptions can be asked about and the answer is as wanted.
+fn is_answered(
+    alloc: Global,
+    solver: &mut Solver,
+    assumptions: &[Lit],
+    wanted: Wanted,
+) -> Result<bool, AllocError> {
+    if !is_clause(solver.clauses().bools(), assumptions) {
+        return Ok(false);
+    }
+    let answer = solver.solve(assumptions)?;
+    is_wanted(alloc, solver.clauses(), assumptions, &answer, wanted)
+}
 
 const ONE: Lit = Lit {
     var: BoolId(0),
@@ -22,139 +100,190 @@ const TWO: Lit = Lit {
     sign: true,
 };
 
-/// The literal of a boolean counted from 1, negative for false.
-fn lit(number: i32) -> Lit {
-    Lit {
-        var: BoolId(number.unsigned_abs().saturating_sub(1)),
-        sign: 0 < number,
+const NOT_TWO: Lit = Lit {
+    var: BoolId(1),
+    sign: false,
+};
+
+const THREE: Lit = Lit {
+    var: BoolId(2),
+    sign: true,
+};
+
+const FOUR: Lit = Lit {
+    var: BoolId(3),
+    sign: true,
+};
+
+const NOT_FOUR: Lit = Lit {
+    var: BoolId(3),
+    sign: false,
+};
+
+/// What is done to a solver.
+enum Step {
+    /// Adds a clause, which gets this number.
+    Adds(&'static [Lit], ClauseId),
+    /// Takes away the clause of this number.
+    Removes(ClauseId),
+    /// Adds that so many pigeons sit in three holes, each in one of its own.
+    Pigeons(u32),
+    /// Asks under assumptions, and wants this answer.
+    Asks(&'static [Lit], Wanted),
+}
+
+/// Steps of a solver over so many booleans.
+struct Case {
+    name: &'static str,
+    bools: u32,
+    steps: &'static [Step],
+}
+
+const CASES: &[Case] = &[
+    Case {
+        name: "no clause at all",
+        bools: 2,
+        steps: &[
+            Step::Asks(&[], Wanted::Values),
+            Step::Asks(&[NOT_TWO, ONE], Wanted::Values),
+        ],
+    },
+    Case {
+        name: "the empty clause",
+        bools: 1,
+        steps: &[
+            Step::Adds(&[], ClauseId(0)),
+            Step::Asks(&[ONE], Wanted::Core(&[])),
+        ],
+    },
+    Case {
+        name: "a core leaves out what is not needed",
+        bools: 4,
+        steps: &[
+            Step::Adds(&[NOT_ONE, TWO], ClauseId(0)),
+            Step::Adds(&[NOT_TWO, NOT_FOUR], ClauseId(1)),
+            Step::Asks(&[ONE, THREE], Wanted::Values),
+            Step::Asks(&[THREE, FOUR, ONE], Wanted::Core(&[FOUR, ONE])),
+        ],
+    },
+    Case {
+        name: "three pigeons in three holes",
+        bools: 12,
+        steps: &[Step::Pigeons(3), Step::Asks(&[TWO], Wanted::Values)],
+    },
+    Case {
+        name: "four pigeons in three holes",
+        bools: 12,
+        steps: &[Step::Pigeons(4), Step::Asks(&[], Wanted::Core(&[]))],
+    },
+];
+
+/// Whether a step can be done and answers as wanted.
+fn is_done(alloc: Global, solver: &mut Solver, step: &Step) -> Result<bool, AllocError> {
+    match step {
+        Step::Adds(lits, id) => Ok(add(solver, lits)? == Some(*id)),
+        Step::Removes(id) => Ok(remove(solver, *id)),
+        Step::Pigeons(count) => {
+            add_pigeons(solver, *count)?;
+            Ok(true)
+        }
+        Step::Asks(assumptions, wanted) => is_answered(alloc, solver, assumptions, *wanted),
     }
 }
 
-/// A solver over so many booleans.
-fn solver_over(alloc: Global, bools: u32) -> Result<Solver, Fail> {
-    let set = ClauseSet::new(alloc, bools)?;
-    Ok(Solver::new(alloc, &set)?)
+fn are_done(alloc: Global, solver: &mut Solver, steps: &[Step]) -> Result<bool, AllocError> {
+    for step in steps {
+        if !is_done(alloc, solver, step)? {
+            return Ok(false);
+        }
+    }
+    Ok(true)
 }
 
-fn add(solver: &mut Solver, lits: &[Lit]) -> Result<Option<ClauseId>, Fail> {
-    if is_clause(solver.clauses().bools(), lits) {
-        return Ok(Some(solver.add(lits)?));
-    }
-    Ok(None)
-}
-
-/// The core where there is a refutation and the checker accepts its log.
-fn refuted(
-    alloc: Global,
-    solver: &mut Solver,
-    assumptions: &[Lit],
-) -> Result<Option<Seq<Lit>>, Fail> {
-    if !is_clause(solver.clauses().bools(), assumptions) {
-        return Ok(None);
-    }
-    match solver.solve(assumptions)? {
-        Answer::Sat(_) => Ok(None),
-        Answer::Unsat { core, log } => match check(alloc, solver.clauses(), &log)? {
-            Some(_) => Ok(None),
-            None => Ok(Some(core)),
-        },
-    }
-}
-
-/// Whether values were found that satisfy the clauses and the assumptions.
-fn satisfied(solver: &mut Solver, assumptions: &[Lit]) -> Result<bool, Fail> {
-    if !is_clause(solver.clauses().bools(), assumptions) {
-        return Ok(false);
-    }
-    match solver.solve(assumptions)? {
-        Answer::Unsat { .. } => Ok(false),
-        Answer::Sat(values) => Ok(
-            solver.clauses().satisfied(values.as_slice())
-                && assumptions
-                    .iter()
-                    .all(|lit| lit_holds(values.as_slice(), *lit)),
-        ),
-    }
+fn is_met(alloc: Global, case: &Case) -> Result<bool, AllocError> {
+    let mut solver = solver_over(alloc, case.bools)?;
+    are_done(alloc, &mut solver, case.steps)
 }
 
 #[test]
-fn no_clause_at_all(rt: HostRuntime) -> Result<(), Fail> {
-    let mut solver = solver_over(rt.alloc(), 2)?;
-    assert!(rt; satisfied(&mut solver, &[])?);
-    assert!(rt; satisfied(&mut solver, &[lit(-2), lit(1)])?);
+fn steps_of_a_new_solver(rt: HostRuntime) -> Result<(), AllocError> {
+    for case in CASES {
+        assert!(rt; is_met(rt.alloc(), case)?, "{}", case.name);
+    }
     Ok(())
 }
 
-#[test]
-fn the_empty_clause(rt: HostRuntime) -> Result<(), Fail> {
-    let mut solver = solver_over(rt.alloc(), 1)?;
-    add(&mut solver, &[])?;
-    let core = refuted(rt.alloc(), &mut solver, &[lit(1)])?;
-    assert!(rt; core.is_some_and(|lits| lits.is_empty()));
-    Ok(())
-}
+const FIRST: ClauseId = ClauseId(0);
 
-#[test]
-fn a_core_leaves_out_what_is_not_needed(rt: HostRuntime) -> Result<(), Fail> {
-    let mut solver = solver_over(rt.alloc(), 4)?;
-    add(&mut solver, &[lit(-1), lit(2)])?;
-    add(&mut solver, &[lit(-2), lit(-4)])?;
-    assert!(rt; satisfied(&mut solver, &[lit(1), lit(3)])?);
-    let core = refuted(rt.alloc(), &mut solver, &[lit(3), lit(4), lit(1)])?;
-    assert!(rt; core.is_some_and(|lits| lits.as_slice() == [lit(4), lit(1)].as_slice()));
-    Ok(())
-}
+/// Where the first of two clauses has gone.
+const FIRST_COMES_AND_GOES: &[Step] = &[
+    Step::Asks(&[NOT_ONE], Wanted::Values),
+    Step::Adds(&[ONE], FIRST),
+    Step::Asks(&[NOT_TWO], Wanted::Refutation),
+    Step::Removes(FIRST),
+    Step::Asks(&[NOT_TWO], Wanted::Values),
+];
 
-#[test]
-fn clauses_come_and_go(rt: HostRuntime) -> Result<(), Fail> {
-    let mut set = ClauseSet::new(rt.alloc(), 2)?;
+/// Adds two clauses and takes away the first; answers whether it had its number.
+fn first_goes(set: &mut ClauseSet) -> Result<bool, AllocError>
+    requires { set.old.bools ≡ 2 }
+{
     let first = set.add(&[ONE])?;
     set.add(&[NOT_ONE, TWO])?;
     set.remove(first);
-    let mut solver = Solver::new(rt.alloc(), &set)?;
-    assert!(rt; satisfied(&mut solver, &[lit(-1)])?);
-    assert_eq!(rt; add(&mut solver, &[lit(1)])?, Some(first));
-    assert!(rt; refuted(rt.alloc(), &mut solver, &[lit(-2)])?.is_some());
-    if solver.clauses().contains(first) {
-        solver.remove(first);
-    }
-    assert!(rt; satisfied(&mut solver, &[lit(-2)])?);
+    Ok(first == FIRST)
+}
+
+fn first_comes_and_goes(alloc: Global, set: &ClauseSet) -> Result<bool, AllocError> {
+    let mut solver = Solver::new(alloc, set)?;
+    are_done(alloc, &mut solver, FIRST_COMES_AND_GOES)
+}
+
+#[test]
+fn clauses_come_and_go(rt: HostRuntime) -> Result<(), AllocError> {
+    let mut set = ClauseSet::new(rt.alloc(), 2)?;
+    assert!(rt; first_goes(&mut set)?);
+    assert!(rt; first_comes_and_goes(rt.alloc(), &set)?);
     Ok(())
 }
 
 /// Four pigeons, three holes: the boolean that a pigeon sits in a hole, each counted from 0.
-fn sits(pigeon: i32, hole: i32) -> Lit {
-    lit(pigeon.wrapping_mul(3).wrapping_add(hole).wrapping_add(1))
+fn sits(pigeon: u32, hole: u32) -> Lit {
+    Lit {
+        var: BoolId(pigeon.wrapping_mul(3).wrapping_add(hole)),
+        sign: true,
+    }
+}
+
+fn add_pigeon(solver: &mut Solver, pigeon: u32) -> Result<(), AllocError> {
+    add(solver, &[sits(pigeon, 0), sits(pigeon, 1), sits(pigeon, 2)])?;
+    Ok(())
+}
+
+/// No hole holds both.
+fn set_apart(solver: &mut Solver, one: u32, two: u32) -> Result<(), AllocError> {
+    for hole in 0..3 {
+        add(
+            solver,
+            &[negation(sits(one, hole)), negation(sits(two, hole))],
+        )?;
+    }
+    Ok(())
+}
+
+fn set_apart_from_earlier(solver: &mut Solver, pigeon: u32) -> Result<(), AllocError> {
+    for other in 0..pigeon {
+        set_apart(solver, pigeon, other)?;
+    }
+    Ok(())
 }
 
 /// Each pigeon sits, and no two of so many share a hole.
-fn pigeons(alloc: Global, count: i32) -> Result<Solver, Fail> {
-    let mut solver = solver_over(alloc, 12)?;
+fn add_pigeons(solver: &mut Solver, count: u32) -> Result<(), AllocError> {
     for pigeon in 0..count {
-        add(
-            &mut solver,
-            &[sits(pigeon, 0), sits(pigeon, 1), sits(pigeon, 2)],
-        )?;
-        for other in 0..pigeon {
-            for hole in 0..3 {
-                let (one, two) = (sits(pigeon, hole), sits(other, hole));
-                add(
-                    &mut solver,
-                    &[lv_clauses::negation(one), lv_clauses::negation(two)],
-                )?;
-            }
-        }
+        add_pigeon(solver, pigeon)?;
+        set_apart_from_earlier(solver, pigeon)?;
     }
-    Ok(solver)
-}
-
-#[test]
-fn four_pigeons_in_three_holes(rt: HostRuntime) -> Result<(), Fail> {
-    let mut three = pigeons(rt.alloc(), 3)?;
-    assert!(rt; satisfied(&mut three, &[sits(0, 1)])?);
-    let mut four = pigeons(rt.alloc(), 4)?;
-    let core = refuted(rt.alloc(), &mut four, &[])?;
-    assert!(rt; core.is_some_and(|lits| lits.is_empty()));
     Ok(())
 }
 
@@ -178,23 +307,35 @@ fn draw_literal(state: &mut u64) -> Lit {
     }
 }
 
+fn draw_three(state: &mut u64) -> [Lit; 3] {
+    [
+        draw_literal(state),
+        draw_literal(state),
+        draw_literal(state),
+    ]
+}
+
+/// Adds clauses of three literals.
+fn add_drawn(solver: &mut Solver, state: &mut u64) -> Result<(), AllocError> {
+    for _clause in 0..36 {
+        add(solver, &draw_three(state))?;
+    }
+    Ok(())
+}
+
+fn add_some_of(solver: &mut Solver, lits: &[Lit; 3], state: &mut u64) -> Result<(), AllocError> {
+    let count = 1 + draw(state, 3) as usize;
+    add(solver, &lits[..count.min(3)])?;
+    Ok(())
+}
+
 /// Adds a clause of up to three literals, takes one away, or leaves all as they are.
-fn change_clauses(solver: &mut Solver, state: &mut u64) -> Result<(), Fail> {
-    let lits = [
-        draw_literal(state),
-        draw_literal(state),
-        draw_literal(state),
-    ];
+fn change_clauses(solver: &mut Solver, state: &mut u64) -> Result<(), AllocError> {
+    let lits = draw_three(state);
     match draw(state, 4) {
-        0 => {
-            let count = 1 + draw(state, 3) as usize;
-            add(solver, &lits[..count.min(3)])?;
-        }
+        0 => add_some_of(solver, &lits, state)?,
         1 => {
-            let id = ClauseId(draw(state, 60) as usize);
-            if solver.clauses().contains(id) {
-                solver.remove(id);
-            }
+            remove(solver, ClauseId(draw(state, 60) as usize));
         }
         _ => {}
     }
@@ -202,7 +343,7 @@ fn change_clauses(solver: &mut Solver, state: &mut u64) -> Result<(), Fail> {
 }
 
 /// Keeps some first assumptions and adds others behind them.
-fn change_assumptions(assumptions: &mut Vec<Lit>, state: &mut u64) -> Result<(), Fail> {
+fn change_assumptions(assumptions: &mut Vec<Lit>, state: &mut u64) -> Result<(), AllocError> {
     assumptions.truncate(draw(state, BOOLS) as usize);
     for _more in 0..draw(state, 5) {
         assumptions.push(draw_literal(state))?;
@@ -213,35 +354,47 @@ fn change_assumptions(assumptions: &mut Vec<Lit>, state: &mut u64) -> Result<(),
     Ok(())
 }
 
+/// How a new solver of the same clauses answers.
+fn new_answer(alloc: Global, set: &ClauseSet, assumptions: &[Lit]) -> Result<Wanted, AllocError> {
+    let mut solver = Solver::new(alloc, set)?;
+    if is_answered(alloc, &mut solver, assumptions, Wanted::Values)? {
+        return Ok(Wanted::Values);
+    }
+    Ok(Wanted::Refutation)
+}
+
 /// Whether the solver answers as a new one does, and a core is of assumptions.
-fn agrees(alloc: Global, solver: &mut Solver, assumptions: &[Lit]) -> Result<bool, Fail> {
-    let mut fresh = Solver::new(alloc, solver.clauses())?;
-    if satisfied(&mut fresh, assumptions)? {
-        return satisfied(solver, assumptions);
+fn agrees(alloc: Global, solver: &mut Solver, assumptions: &[Lit]) -> Result<bool, AllocError> {
+    let wanted = new_answer(alloc, solver.clauses(), assumptions)?;
+    is_answered(alloc, solver, assumptions, wanted)
+}
+
+fn next_agrees(
+    alloc: Global,
+    solver: &mut Solver,
+    assumptions: &mut Vec<Lit>,
+    state: &mut u64,
+) -> Result<bool, AllocError> {
+    change_clauses(solver, state)?;
+    change_assumptions(assumptions, state)?;
+    agrees(alloc, solver, assumptions.as_slice())
+}
+
+fn all_agree(alloc: Global, solver: &mut Solver) -> Result<bool, AllocError> {
+    let mut state = 1;
+    add_drawn(solver, &mut state)?;
+    let mut assumptions = Vec::new(alloc);
+    for _call in 0..CALLS {
+        if !next_agrees(alloc, solver, &mut assumptions, &mut state)? {
+            return Ok(false);
+        }
     }
-    match refuted(alloc, solver, assumptions)? {
-        Some(core) => Ok(core.as_slice().iter().all(|lit| assumptions.contains(lit))),
-        None => Ok(false),
-    }
+    Ok(true)
 }
 
 #[test]
-fn calls_in_a_row_answer_as_new_solvers_do(rt: HostRuntime) -> Result<(), Fail> {
-    let mut state = 1;
+fn calls_in_a_row_answer_as_new_solvers_do(rt: HostRuntime) -> Result<(), AllocError> {
     let mut solver = solver_over(rt.alloc(), BOOLS)?;
-    for _clause in 0..36 {
-        let lits = [
-            draw_literal(&mut state),
-            draw_literal(&mut state),
-            draw_literal(&mut state),
-        ];
-        add(&mut solver, &lits)?;
-    }
-    let mut assumptions = Vec::new(rt.alloc());
-    for _call in 0..CALLS {
-        change_clauses(&mut solver, &mut state)?;
-        change_assumptions(&mut assumptions, &mut state)?;
-        assert!(rt; agrees(rt.alloc(), &mut solver, assumptions.as_slice())?);
-    }
+    assert!(rt; all_agree(rt.alloc(), &mut solver)?);
     Ok(())
 }

@@ -9,7 +9,7 @@ use lv_serve::{ServeFault, serve};
 use std::alloc::{AllocError, Global};
 
 /// A valve that follows its command or is stuck, with its inflow present.
-const VALVE: &str = "model valve
+const VALVE: &[u8] = b"model valve
 domain flow zero some
 domain order none open close
 type valve
@@ -35,102 +35,246 @@ part v valve closed
 law v.inn = some
 ";
 
-/// What serving a session came to.
-#[derive(Drop)]
-struct Served {
+/// Which calls of the shelf fail, of which the first opens the session, and which of the sink; how serving then ends, and
+/// whether what was written is flushed.
+struct Outside {
+    shelf_fails: &'static [u64],
+    out_fails: &'static [u64],
     result: Result<(), ServeFault>,
-    out: MemSink,
+    is_flushed: bool,
 }
 
-fn valve(alloc: Global) -> Result<Model, AllocError> {
-    match model_of(alloc, VALVE.as_bytes()) {
-        Ok(model) => Ok(model),
-        Err(_) => Err(AllocError),
+const FAULTLESS: Outside = Outside {
+    shelf_fails: &[],
+    out_fails: &[],
+    result: Ok(()),
+    is_flushed: true,
+};
+
+/// A session and the replies to it.
+struct Case {
+    name: &'static str,
+    session: &'static [u8],
+    replies: &'static [u8],
+    outside: Outside,
+}
+
+const LINES: &[Case] = &[
+    Case {
+        name: "no line",
+        session: b"",
+        replies: b"",
+        outside: FAULTLESS,
+    },
+    Case {
+        name: "a line with no line feed",
+        session: b"jump",
+        replies: b"error S01\n",
+        outside: FAULTLESS,
+    },
+    Case {
+        name: "a line",
+        session: b"jump\n",
+        replies: b"error S01\n",
+        outside: FAULTLESS,
+    },
+    Case {
+        name: "lines with no reply",
+        session: b"jump\r\n\n# x\ncommand v.cmd=none",
+        replies: b"error S01\nok\n",
+        outside: FAULTLESS,
+    },
+    Case {
+        name: "carriage returns",
+        session: b"jump\r\r\n\r",
+        replies: b"error S16\n",
+        outside: FAULTLESS,
+    },
+    Case {
+        name: "a quit",
+        session: b"quit\njump\n",
+        replies: b"ok\n",
+        outside: FAULTLESS,
+    },
+    Case {
+        name: "no quit",
+        session: b"quit x\njump\n",
+        replies: b"error S02\nerror S01\n",
+        outside: FAULTLESS,
+    },
+];
+
+/// Two lines of one piece are one write and one flush, and the next read is the third call that can fail.
+const WRITES: &[Case] = &[
+    Case {
+        name: "the write fails",
+        session: b"jump\njump\n",
+        replies: b"",
+        outside: Outside {
+            shelf_fails: &[],
+            out_fails: &[1],
+            result: Err(ServeFault::Write),
+            is_flushed: false,
+        },
+    },
+    Case {
+        name: "the flush fails",
+        session: b"jump\njump\n",
+        replies: b"error S01\nerror S01\n",
+        outside: Outside {
+            shelf_fails: &[],
+            out_fails: &[2],
+            result: Err(ServeFault::Write),
+            is_flushed: false,
+        },
+    },
+    Case {
+        name: "there is no third call",
+        session: b"jump\njump\n",
+        replies: b"error S01\nerror S01\n",
+        outside: Outside {
+            shelf_fails: &[],
+            out_fails: &[3],
+            result: Ok(()),
+            is_flushed: true,
+        },
+    },
+];
+
+/// What was replied before a failed read stands and is flushed; a line torn by it is not served.
+const READS: &[Case] = &[
+    Case {
+        name: "the second read fails",
+        session: b"jump\n",
+        replies: b"error S01\n",
+        outside: Outside {
+            shelf_fails: &[3],
+            out_fails: &[],
+            result: Err(ServeFault::Read),
+            is_flushed: true,
+        },
+    },
+    Case {
+        name: "a line is torn",
+        session: b"jump\njump",
+        replies: b"error S01\n",
+        outside: Outside {
+            shelf_fails: &[3],
+            out_fails: &[],
+            result: Err(ServeFault::Read),
+            is_flushed: true,
+        },
+    },
+    Case {
+        name: "nothing is read after a quit",
+        session: b"quit\njump",
+        replies: b"ok\n",
+        outside: Outside {
+            shelf_fails: &[3],
+            out_fails: &[],
+            result: Ok(()),
+            is_flushed: true,
+        },
+    },
+];
+
+fn add_file(
+    alloc: Global,
+    files: &mut Vec<(String, Vec<u8>)>,
+    bytes: &[u8],
+) -> Result<(), AllocError> {
+    let name = String::from_str(alloc, "a.ses")?;
+    let bytes = Vec::from_slice(alloc, bytes)?;
+    files.push((name, bytes))?;
+    Ok(())
+}
+
+fn files_of(alloc: Global, case: &Case) -> Result<Vec<(String, Vec<u8>)>, AllocError> {
+    let mut files = Vec::new(alloc);
+    add_file(alloc, &mut files, case.session)?;
+    Ok(files)
+}
+
+fn shelf_of(alloc: Global, case: &Case, piece: usize) -> Result<MemShelf, AllocError> {
+    let fails = Vec::from_slice(alloc, case.outside.shelf_fails)?;
+    Ok(MemShelf::new(alloc, files_of(alloc, case)?, piece, fails))
+}
+
+fn sink_of(alloc: Global, case: &Case) -> Result<MemSink, AllocError> {
+    let fails = Vec::from_slice(alloc, case.outside.out_fails)?;
+    Ok(MemSink::new(alloc, 4096, fails))
+}
+
+fn is_written(out: &MemSink, case: &Case) -> bool {
+    out.text() == case.replies && out.is_flushed() == case.outside.is_flushed
+}
+
+fn is_served_to(
+    alloc: Global,
+    model: &Model,
+    shelf: &mut MemShelf,
+    out: &mut MemSink,
+    case: &Case,
+) -> bool {
+    match shelf.open(Role::Second, "a.ses") {
+        Ok(slot) => serve(alloc, model, shelf, slot, out) == case.outside.result,
+        Err(_) => false,
     }
 }
 
-/// Serves a session of which so many bytes come at a time. These calls of the shelf fail, of which the first opens the
-/// session, and these of the sink.
-fn serve_text(
+fn is_served_from(
     alloc: Global,
-    session: &[u8],
-    piece: usize,
-    shelf_fails: &[u64],
-    out_fails: &[u64],
-) -> Result<Served, AllocError> {
-    let model = valve(alloc)?;
-    let mut files = Vec::new(alloc);
-    files.push((
-        String::from_str(alloc, "a.ses")?,
-        Vec::from_slice(alloc, session)?,
-    ))?;
-    let mut shelf = MemShelf::new(alloc, files, piece, Vec::from_slice(alloc, shelf_fails)?);
-    let mut out = MemSink::new(alloc, 4096, Vec::from_slice(alloc, out_fails)?);
-    let Ok(slot) = shelf.open(Role::Second, "a.ses") else {
-        return Err(AllocError);
-    };
-    let result = serve(alloc, &model, &mut shelf, slot, &mut out);
-    Ok(Served { result, out })
+    model: &Model,
+    shelf: &mut MemShelf,
+    case: &Case,
+) -> Result<bool, AllocError> {
+    let mut out = sink_of(alloc, case)?;
+    Ok(is_served_to(alloc, model, shelf, &mut out, case) && is_written(&out, case))
 }
 
-/// Whether a session is served so, whether its bytes come one by one or as many as are asked for.
-fn replies(alloc: Global, session: &str, wanted: &str) -> Result<bool, AllocError> {
-    let whole = serve_text(alloc, session.as_bytes(), 4096, &[], &[])?;
-    let bytes = serve_text(alloc, session.as_bytes(), 1, &[], &[])?;
-    Ok(
-        whole.result.is_ok()
-            && bytes.result.is_ok()
-            && whole.out.text() == wanted.as_bytes()
-            && bytes.out.text() == wanted.as_bytes(),
-    )
+fn is_served_over(
+    alloc: Global,
+    model: &Model,
+    case: &Case,
+    piece: usize,
+) -> Result<bool, AllocError> {
+    let mut shelf = shelf_of(alloc, case, piece)?;
+    is_served_from(alloc, model, &mut shelf, case)
+}
+
+/// Whether a session of which at most so many bytes come at a time is served so.
+fn is_served(alloc: Global, case: &Case, piece: usize) -> Result<bool, AllocError> {
+    match model_of(alloc, VALVE) {
+        Ok(model) => is_served_over(alloc, &model, case, piece),
+        Err(_) => Ok(false),
+    }
 }
 
 #[test]
 fn lines_in_pieces(rt: HostRuntime) -> Result<(), AllocError> {
-    let alloc = rt.alloc();
-    assert!(rt; replies(alloc, "", "")?);
-    assert!(rt; replies(alloc, "jump", "error S01\n")?);
-    assert!(rt; replies(alloc, "jump\n", "error S01\n")?);
-    assert!(rt;
-        replies(
-            alloc,
-            "jump\r\n\n# x\ncommand v.cmd=none",
-            "error S01\nok\n"
-        )?
-    );
-    assert!(rt; replies(alloc, "jump\r\r\n\r", "error S16\n")?);
-    assert!(rt; replies(alloc, "quit\njump\n", "ok\n")?);
-    assert!(rt; replies(alloc, "quit x\njump\n", "error S02\nerror S01\n")?);
+    for case in LINES {
+        assert!(rt; is_served(rt.alloc(), case, 4096)?, "{}", case.name);
+        assert!(rt;
+            is_served(rt.alloc(), case, 1)?,
+            "{}, byte by byte",
+            case.name
+        );
+    }
     Ok(())
 }
 
-/// Two lines of one piece are one write and one flush, and the next read is the third call that can fail.
 #[test]
 fn one_write_for_a_piece(rt: HostRuntime) -> Result<(), AllocError> {
-    let alloc = rt.alloc();
-    let first = serve_text(alloc, b"jump\njump\n", 4096, &[], &[1])?;
-    assert!(rt; first.result == Err(ServeFault::Write));
-    assert!(rt; first.out.text().is_empty());
-    let flush = serve_text(alloc, b"jump\njump\n", 4096, &[], &[2])?;
-    assert!(rt; flush.result == Err(ServeFault::Write));
-    assert!(rt; flush.out.text() == b"error S01\nerror S01\n".as_slice());
-    let third = serve_text(alloc, b"jump\njump\n", 4096, &[], &[3])?;
-    assert!(rt; third.result == Ok(()));
+    for case in WRITES {
+        assert!(rt; is_served(rt.alloc(), case, 4096)?, "{}", case.name);
+    }
     Ok(())
 }
 
-/// What was replied before a failed read stands and is flushed; a line torn by it is not served.
 #[test]
 fn failed_reads(rt: HostRuntime) -> Result<(), AllocError> {
-    let alloc = rt.alloc();
-    let ended = serve_text(alloc, b"jump\n", 4096, &[3], &[])?;
-    assert!(rt; ended.result == Err(ServeFault::Read));
-    assert!(rt; ended.out.text() == b"error S01\n".as_slice());
-    assert!(rt; ended.out.is_flushed());
-    let torn = serve_text(alloc, b"jump\njump", 4096, &[3], &[])?;
-    assert!(rt; torn.result == Err(ServeFault::Read));
-    assert!(rt; torn.out.text() == b"error S01\n".as_slice());
-    let quit = serve_text(alloc, b"quit\njump", 4096, &[3], &[])?;
-    assert!(rt; quit.result == Ok(()));
+    for case in READS {
+        assert!(rt; is_served(rt.alloc(), case, 4096)?, "{}", case.name);
+    }
     Ok(())
 }
