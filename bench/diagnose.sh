@@ -3,9 +3,10 @@
 # commanded to open; the same with all commanded; a fan behind the first valve with one fault and with two; a ladder of
 # two rows; and a propulsion branch of which one valve of each pair is commanded, so that one fault explains that there is
 # no thrust, and both, so that two do. The time of an empty session over the same plant is taken off, and stands beside;
-# then the number of candidates listed, and of trials, conflicts, zones, and questions to the solver for each trial and
-# for each choice of the conflicts. The last line is of a whole session of 20 rounds over a row of 32 valves, its plant's
-# time with it. Builds the program and crates/bench_session first, which counts. Sizes may be given.
+# then the number of candidates listed, and of trials, conflicts, zones, and questions to the solver for each trial; and
+# what these are beyond one a trial for each choice of the conflicts, which a reason costs. The last line is of a whole
+# session of 20 rounds over a row of 32 valves. Builds the program and crates/bench_session first, which counts. Sizes may
+# be given.
 set -eu
 . "$(dirname "$0")/common.sh"
 prepare "$@"
@@ -20,9 +21,9 @@ counts_of() {
   "$counter" "$1 $2" | sed 's/.* \([0-9]*\) trials, \([0-9]*\) conflicts of \([0-9]*\) choices, \([0-9]*\) zones, \([0-9]*\) questions.*/\1 \2 \3 \4 \5/'
 }
 
-# so many hundredths of so many
-hundredths() {
-  if [ "$2" -gt 0 ]; then printf '%d.%02d' $(($1 / $2)) $(($1 * 100 / $2 % 100)); else printf -- -; fi
+# a quotient with two digits behind the point
+quotient() {
+  awk -v a="$1" -v b="$2" 'BEGIN { if (b > 0) printf "%.2f", a / b; else printf "-" }'
 }
 
 # report NAME VALVES K MODEL SESSION EMPTY-SESSION
@@ -33,7 +34,7 @@ report() {
   listed=$("$program" run "$4" "$5" | awk '/^(un)?settled/ { listed += $2 } END { print listed + 0 }')
   read -r trials conflicts choices zones questions <<<"$(counts_of "$4" "$5")"
   printf '%-10s %6d %4s %10d %10d %7d %7d %9d %8d %8s %8s\n' "$1" "$2" "$3" "$plant" $((whole - plant)) "$listed" \
-    "$trials" "$conflicts" "$zones" "$(hundredths "$questions" "$trials")" "$(hundredths "$questions" "$choices")"
+    "$trials" "$conflicts" "$zones" "$(quotient "$questions" "$trials")" "$(quotient $((questions - trials)) "$choices")"
 }
 
 printf '%-10s %6s %4s %10s %10s %7s %7s %9s %8s %8s %8s\n' plant valves k 'plant ms' 'query ms' listed trials conflicts \
