@@ -244,6 +244,13 @@ fn settled_by(query: &mut Query<'_>, runs: Runs) -> Result<bool, AllocError>
     }
 }
 
+fn comes_to(query: &mut Query<'_>, runs: Runs, wanted: Diagnosis) -> Result<bool, AllocError>
+    requires suit { all_suit (is_full_choice query.old.plant) query.old.standing ≡ true }
+    requires start { trials_of query.old.standing ≡ 0 }
+{
+    Ok(settled_by(query, runs)? && has_come_to(query, wanted))
+}
+
 fn query_comes_to(
     alloc: Global,
     model: &Model,
@@ -260,7 +267,7 @@ fn query_comes_to(
     requires in_range { FactsInRange model.now facts }
 {
     let mut query = identify(alloc, model, system, tracked, facts, 4)?;
-    Ok(settled_by(&mut query, runs)? && has_come_to(&query, wanted))
+    comes_to(&mut query, runs, wanted)
 }
 
 fn is_diagnosed(
@@ -316,19 +323,34 @@ fn is_possible(
     Ok(None)
 }
 
-/// Where the valve was commanded to open and nothing flows after it: of the moves from closed just the fault that leaves it
-/// stuck closed is possible, to stay stuck open isn't, and there is no eleventh move.
-fn moves_are_right(trial: &mut IdentTrial<'_>, counts: &[usize]) -> Result<bool, AllocError>
+/// Whether just the fault that leaves the valve stuck closed is possible, of the moves from closed.
+fn moves_from_closed_are_right(
+    trial: &mut IdentTrial<'_>,
+    counts: &[usize],
+) -> Result<bool, AllocError>
     requires { counts.now ≡ move_counts trial.old.plant }
+    ensures { trial.new ≡ trial.old }
 {
     Ok(
         is_possible(trial, counts, 0)? == Some(false)
             && is_possible(trial, counts, 1)? == Some(false)
             && is_possible(trial, counts, 2)? == Some(true)
-            && is_possible(trial, counts, 3)? == Some(false)
-            && is_possible(trial, counts, 9)? == Some(false)
-            && is_possible(trial, counts, 10)? == None,
+            && is_possible(trial, counts, 3)? == Some(false),
     )
+}
+
+/// Whether it isn't possible to stay stuck open, and there is no eleventh move.
+fn last_moves_are_right(trial: &mut IdentTrial<'_>, counts: &[usize]) -> Result<bool, AllocError>
+    requires { counts.now ≡ move_counts trial.old.plant }
+{
+    Ok(is_possible(trial, counts, 9)? == Some(false) && is_possible(trial, counts, 10)? == None)
+}
+
+/// Where the valve was commanded to open and nothing flows after it.
+fn moves_are_right(trial: &mut IdentTrial<'_>, counts: &[usize]) -> Result<bool, AllocError>
+    requires { counts.now ≡ move_counts trial.old.plant }
+{
+    Ok(moves_from_closed_are_right(trial, counts)? && last_moves_are_right(trial, counts)?)
 }
 
 fn trial_is_right(
