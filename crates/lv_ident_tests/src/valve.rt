@@ -1,5 +1,7 @@
 //! Diagnoses of a valve that is closed at the start. Its variables are its mode, its command, its inflow and its outflow; its
 //! moves from closed are to open, the stay, and the faults that leave it stuck closed and stuck open.
+//!
+//! A function owns one value and hands it on by reference, so little is let go of at its exits.
 ghost use Rattle.std.specs.Prelude.{◌≡◌, ◌<◌, true, All, IfOk, length};
 ghost use Rattle.lv_model.specs.Lists.{move_counts};
 ghost use Rattle.lv_meaning.specs.Facts.{FactsFit};
@@ -20,7 +22,7 @@ use lv_walk::Outcome;
 use std::alloc::{AllocError, Global};
 
 /// A valve that follows its command or is stuck, with its inflow present.
-const VALVE: &str = "model valve
+const VALVE: &[u8] = b"model valve
 domain flow zero some
 domain order none open close
 type valve
@@ -51,48 +53,105 @@ const NOTHING_OUT: Observation = Observation {
     val: ValId(0),
 };
 
+/// What the valve is commanded, and what is seen after it.
+#[derive(Clone, Copy)]
+struct Told {
+    command: ValId,
+    next: &'static [Observation],
+}
+
+/// The command to open, and that nothing flows.
+const OPENED: Told = Told {
+    command: ValId(1),
+    next: &[NOTHING_OUT],
+};
+
+/// No command and no observation.
+const RESTING: Told = Told {
+    command: ValId(0),
+    next: &[],
+};
+
+/// How a diagnosis is run.
+#[derive(Clone, Copy)]
+enum Runs {
+    One,
+    Two,
+}
+
 /// What a diagnosis is to come to: what each candidate listed costs, and its move; the moves that each are a conflict.
 #[derive(Clone, Copy)]
-struct Wanted<'a> {
-    listed: &'a [(u64, u32)],
-    refused: &'a [u32],
+struct Diagnosis {
+    listed: &'static [(u64, u32)],
+    refused: &'static [u32],
 }
 
 /// Of the command to open, after which nothing flows.
-const AFTER_COMMAND: Wanted<'static> = Wanted {
+const AFTER_COMMAND: Diagnosis = Diagnosis {
     listed: &[(3, 2)],
     refused: &[0, 1, 3],
 };
 
 /// Of a valve that rests and isn't looked at.
-const AFTER_NOTHING: Wanted<'static> = Wanted {
+const AFTER_NOTHING: Diagnosis = Diagnosis {
     listed: &[(0, 1), (3, 2), (8, 3)],
     refused: &[0],
 };
 
-fn valve(alloc: Global) -> Result<Model, AllocError> {
-    match model_of(alloc, VALVE.as_bytes()) {
-        Ok(model) => Ok(model),
-        Err(_) => Err(AllocError),
+/// What is wanted of what the valve is told.
+#[derive(Clone, Copy)]
+enum Wanted {
+    /// That it is diagnosed so.
+    Diagnosis(Runs, Diagnosis),
+    /// That moves tried alone are possible or not.
+    Moves,
+}
+
+struct Case {
+    name: &'static str,
+    told: Told,
+    wanted: Wanted,
+}
+
+const CASES: &[Case] = &[
+    Case {
+        name: "nothing flows after a command",
+        told: OPENED,
+        wanted: Wanted::Diagnosis(Runs::One, AFTER_COMMAND),
+    },
+    Case {
+        name: "the same in two runs",
+        told: OPENED,
+        wanted: Wanted::Diagnosis(Runs::Two, AFTER_COMMAND),
+    },
+    Case {
+        name: "a valve that rests",
+        told: RESTING,
+        wanted: Wanted::Diagnosis(Runs::One, AFTER_NOTHING),
+    },
+    Case {
+        name: "moves tried alone",
+        told: OPENED,
+        wanted: Wanted::Moves,
+    },
+];
+
+fn tell(facts: &mut Facts, told: Told) -> Result<(), AllocError> {
+    facts.controls.push(told.command)?;
+    for seen in told.next {
+        facts.next.push(*seen)?;
     }
+    Ok(())
 }
 
-/// The command to open, and that nothing flows.
-fn opened(alloc: Global) -> Result<Facts, AllocError> {
-    Ok(Facts {
-        controls: Seq::from_slice(alloc, &[ValId(1)])?,
-        present: Seq::new(alloc),
-        next: Seq::from_slice(alloc, &[NOTHING_OUT])?,
-    })
-}
-
-/// No command and no observation.
-fn nothing(alloc: Global) -> Result<Facts, AllocError> {
-    Ok(Facts {
-        controls: Seq::from_slice(alloc, &[ValId(0)])?,
+fn facts_of(alloc: Global, told: Told) -> Result<Facts, AllocError> {
+    let mut facts = Facts {
+        controls: Seq::new(alloc),
         present: Seq::new(alloc),
         next: Seq::new(alloc),
-    })
+    };
+    tell(&mut facts, told)?;
+    Ok(facts)
 }
 
 /// Of each part its first mode.
@@ -115,6 +174,7 @@ fn first_state(alloc: Global, model: &Model) -> Result<TrackedState, AllocError>
     })
 }
 
+/// The closed valve alone.
 fn closed(alloc: Global, model: &Model) -> Result<Vec<TrackedState>, AllocError>
     ensures one { IfOk result (λ out. length out.items ≡ 1) }
     ensures states { IfOk result (λ out. All (IsTracked (length model.now.parts)) out.items) }
@@ -148,7 +208,7 @@ fn are_kept(conflicts: &[Conflict], moves: &[u32]) -> bool {
         })
 }
 
-fn has_come_to(query: &Query<'_>, wanted: Wanted<'_>) -> bool {
+fn has_come_to(query: &Query<'_>, wanted: Diagnosis) -> bool {
     query.trials() == 4
         && are_listed(query.listed(), wanted.listed)
         && are_kept(query.conflicts(), wanted.refused)
@@ -174,13 +234,6 @@ fn settles_later(query: &mut Query<'_>) -> Result<bool, AllocError>
     Ok(before == Outcome::Unsettled && is_under_way && after == Outcome::Settled)
 }
 
-/// How a diagnosis is run.
-#[derive(Clone, Copy)]
-enum Runs {
-    One,
-    Two,
-}
-
 fn settled_by(query: &mut Query<'_>, runs: Runs) -> Result<bool, AllocError>
     requires suit { all_suit (is_full_choice query.old.plant) query.old.standing ≡ true }
     requires start { trials_of query.old.standing ≡ 0 }
@@ -191,21 +244,54 @@ fn settled_by(query: &mut Query<'_>, runs: Runs) -> Result<bool, AllocError>
     }
 }
 
+fn comes_to(query: &mut Query<'_>, runs: Runs, wanted: Diagnosis) -> Result<bool, AllocError>
+    requires suit { all_suit (is_full_choice query.old.plant) query.old.standing ≡ true }
+    requires start { trials_of query.old.standing ≡ 0 }
+{
+    Ok(settled_by(query, runs)? && has_come_to(query, wanted))
+}
+
 fn query_comes_to(
+    alloc: Global,
+    model: &Model,
+    system: &StepSystem,
+    tracked: &[TrackedState],
+    facts: Facts,
+    runs: Runs,
+    wanted: Diagnosis,
+) -> Result<bool, AllocError>
+    requires system { IsSystemOf model.now system.now }
+    requires one { length tracked.now ≡ 1 }
+    requires states { All (IsTracked (length model.now.parts)) tracked.now }
+    requires fit { FactsFit model.now facts }
+    requires in_range { FactsInRange model.now facts }
+{
+    let mut query = identify(alloc, model, system, tracked, facts, 4)?;
+    comes_to(&mut query, runs, wanted)
+}
+
+fn is_diagnosed(
     alloc: Global,
     model: &Model,
     system: &StepSystem,
     facts: Facts,
     runs: Runs,
-    wanted: Wanted<'_>,
+    wanted: Diagnosis,
 ) -> Result<bool, AllocError>
     requires system { IsSystemOf model.now system.now }
     requires fit { FactsFit model.now facts }
     requires in_range { FactsInRange model.now facts }
 {
     let tracked = closed(alloc, model)?;
-    let mut query = identify(alloc, model, system, tracked.as_slice(), facts, 4)?;
-    Ok(settled_by(&mut query, runs)? && has_come_to(&query, wanted))
+    query_comes_to(
+        alloc,
+        model,
+        system,
+        tracked.as_slice(),
+        facts,
+        runs,
+        wanted,
+    )
 }
 
 fn facts_are_of(alloc: Global, model: &Model, facts: &Facts) -> Result<bool, AllocError>
@@ -216,43 +302,6 @@ fn facts_are_of(alloc: Global, model: &Model, facts: &Facts) -> Result<bool, All
         return are_in_range(alloc, model, facts);
     }
     Ok(false)
-}
-
-fn facts_come_to(
-    alloc: Global,
-    model: &Model,
-    facts: Facts,
-    runs: Runs,
-    wanted: Wanted<'_>,
-) -> Result<bool, AllocError>
-    requires fit { FactsFit model.now facts }
-    requires in_range { FactsInRange model.now facts }
-{
-    let system = compile(alloc, model)?;
-    query_comes_to(alloc, model, &system, facts, runs, wanted)
-}
-
-fn model_comes_to(
-    alloc: Global,
-    model: &Model,
-    facts: Facts,
-    runs: Runs,
-    wanted: Wanted<'_>,
-) -> Result<bool, AllocError> {
-    if facts_are_of(alloc, model, &facts)? {
-        return facts_come_to(alloc, model, facts, runs, wanted);
-    }
-    Ok(false)
-}
-
-fn comes_to(
-    alloc: Global,
-    facts: Facts,
-    runs: Runs,
-    wanted: Wanted<'_>,
-) -> Result<bool, AllocError> {
-    let model = valve(alloc)?;
-    model_comes_to(alloc, &model, facts, runs, wanted)
 }
 
 /// Whether the move is possible; None where there is no such move.
@@ -274,19 +323,34 @@ fn is_possible(
     Ok(None)
 }
 
-/// Where the valve was commanded to open and nothing flows after it: of the moves from closed just the fault that leaves it
-/// stuck closed is possible, to stay stuck open isn't, and there is no eleventh move.
-fn moves_are_right(trial: &mut IdentTrial<'_>, counts: &[usize]) -> Result<bool, AllocError>
+/// Whether just the fault that leaves the valve stuck closed is possible, of the moves from closed.
+fn moves_from_closed_are_right(
+    trial: &mut IdentTrial<'_>,
+    counts: &[usize],
+) -> Result<bool, AllocError>
     requires { counts.now ≡ move_counts trial.old.plant }
+    ensures { trial.new ≡ trial.old }
 {
     Ok(
         is_possible(trial, counts, 0)? == Some(false)
             && is_possible(trial, counts, 1)? == Some(false)
             && is_possible(trial, counts, 2)? == Some(true)
-            && is_possible(trial, counts, 3)? == Some(false)
-            && is_possible(trial, counts, 9)? == Some(false)
-            && is_possible(trial, counts, 10)? == None,
+            && is_possible(trial, counts, 3)? == Some(false),
     )
+}
+
+/// Whether it isn't possible to stay stuck open, and there is no eleventh move.
+fn last_moves_are_right(trial: &mut IdentTrial<'_>, counts: &[usize]) -> Result<bool, AllocError>
+    requires { counts.now ≡ move_counts trial.old.plant }
+{
+    Ok(is_possible(trial, counts, 9)? == Some(false) && is_possible(trial, counts, 10)? == None)
+}
+
+/// Where the valve was commanded to open and nothing flows after it.
+fn moves_are_right(trial: &mut IdentTrial<'_>, counts: &[usize]) -> Result<bool, AllocError>
+    requires { counts.now ≡ move_counts trial.old.plant }
+{
+    Ok(moves_from_closed_are_right(trial, counts)? && last_moves_are_right(trial, counts)?)
 }
 
 fn trial_is_right(
@@ -303,61 +367,56 @@ fn trial_is_right(
     moves_are_right(&mut trial, system.choices().counts())
 }
 
-fn facts_try(alloc: Global, model: &Model, facts: Facts) -> Result<bool, AllocError>
+fn facts_meet(
+    alloc: Global,
+    model: &Model,
+    system: &StepSystem,
+    facts: Facts,
+    wanted: Wanted,
+) -> Result<bool, AllocError>
+    requires system { IsSystemOf model.now system.now }
     requires fit { FactsFit model.now facts }
     requires in_range { FactsInRange model.now facts }
 {
-    let system = compile(alloc, model)?;
-    trial_is_right(alloc, model, &system, facts)
+    match wanted {
+        Wanted::Diagnosis(runs, diagnosis) => {
+            is_diagnosed(alloc, model, system, facts, runs, diagnosis)
+        }
+        Wanted::Moves => trial_is_right(alloc, model, system, facts),
+    }
 }
 
-fn model_tries(alloc: Global, model: &Model, facts: Facts) -> Result<bool, AllocError> {
+fn system_meets(
+    alloc: Global,
+    model: &Model,
+    system: &StepSystem,
+    case: &Case,
+) -> Result<bool, AllocError>
+    requires { IsSystemOf model.now system.now }
+{
+    let facts = facts_of(alloc, case.told)?;
     if facts_are_of(alloc, model, &facts)? {
-        return facts_try(alloc, model, facts);
+        return facts_meet(alloc, model, system, facts, case.wanted);
     }
     Ok(false)
 }
 
-fn command_is_diagnosed(alloc: Global, runs: Runs) -> Result<bool, AllocError> {
-    let facts = opened(alloc)?;
-    comes_to(alloc, facts, runs, AFTER_COMMAND)
+fn model_meets(alloc: Global, model: &Model, case: &Case) -> Result<bool, AllocError> {
+    let system = compile(alloc, model)?;
+    system_meets(alloc, model, &system, case)
 }
 
-fn rest_is_diagnosed(alloc: Global) -> Result<bool, AllocError> {
-    let facts = nothing(alloc)?;
-    comes_to(alloc, facts, Runs::One, AFTER_NOTHING)
-}
-
-fn moves_are_tried(alloc: Global) -> Result<bool, AllocError> {
-    let facts = opened(alloc)?;
-    let model = valve(alloc)?;
-    model_tries(alloc, &model, facts)
+fn is_met(alloc: Global, case: &Case) -> Result<bool, AllocError> {
+    match model_of(alloc, VALVE) {
+        Ok(model) => model_meets(alloc, &model, case),
+        Err(_) => Ok(false),
+    }
 }
 
 #[test]
-fn nothing_flows_after_a_command(rt: HostRuntime) -> Result<(), AllocError> {
-    let right = command_is_diagnosed(rt.alloc(), Runs::One)?;
-    assert!(rt; right);
-    Ok(())
-}
-
-#[test]
-fn the_same_in_two_runs(rt: HostRuntime) -> Result<(), AllocError> {
-    let right = command_is_diagnosed(rt.alloc(), Runs::Two)?;
-    assert!(rt; right);
-    Ok(())
-}
-
-#[test]
-fn a_valve_that_rests(rt: HostRuntime) -> Result<(), AllocError> {
-    let right = rest_is_diagnosed(rt.alloc())?;
-    assert!(rt; right);
-    Ok(())
-}
-
-#[test]
-fn moves_tried_alone(rt: HostRuntime) -> Result<(), AllocError> {
-    let right = moves_are_tried(rt.alloc())?;
-    assert!(rt; right);
+fn a_closed_valve(rt: HostRuntime) -> Result<(), AllocError> {
+    for case in CASES {
+        assert!(rt; is_met(rt.alloc(), case)?, "{}", case.name);
+    }
     Ok(())
 }

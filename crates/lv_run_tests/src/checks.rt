@@ -1,14 +1,14 @@
 //! Checks of certificates as whole calls: each status once.
 #![tactic(auto)]
 
-use crate::calls::{Call, USAGE, ends_so, ends_so_in_pieces, faultless};
+use crate::calls::{BYTES, Call, Case, End, Fails, NOTHING, USAGE, WHOLE, Wanted, is_met};
 use lv_run::Status;
-use std::alloc::{AllocError, Global};
+use std::alloc::AllocError;
 
 pub const CHECK: &[&str] = &["livingstone", "check", "valve.lv", "a.ses"];
 
 /// The only diagnosis of an open command without an outflow: the valve is stuck closed.
-pub const WORKED: &str = "certificate diagnosis
+pub const WORKED: &[u8] = b"certificate diagnosis
 model valve
 k 4
 state 0 1
@@ -31,7 +31,7 @@ end
 ";
 
 /// The same without its last line but one: what is left of the candidates is not looked at.
-const UNSPLIT: &str = "certificate diagnosis
+const UNSPLIT: &[u8] = b"certificate diagnosis
 model valve
 k 4
 state 0 1
@@ -52,26 +52,172 @@ split 3 listed 1
 end
 ";
 
-pub const UNREAD: &str = "cannot read certificate\n";
+pub const UNREAD: &[u8] = b"cannot read certificate\n";
+
+const CERTIFICATES: &[Case] = &[
+    Case {
+        name: "a valid certificate",
+        call: Call {
+            words: CHECK,
+            second: WORKED,
+            fails: NOTHING,
+        },
+        wanted: Wanted::Just(End {
+            status: Status::Done,
+            out: b"valid\n",
+            err: b"",
+        }),
+    },
+    Case {
+        name: "an invalid certificate",
+        call: Call {
+            words: CHECK,
+            second: UNSPLIT,
+            fails: NOTHING,
+        },
+        wanted: Wanted::Just(End {
+            status: Status::Invalid,
+            out: b"invalid 19\n",
+            err: b"",
+        }),
+    },
+];
+
+const CALLS: &[Case] = &[
+    Case {
+        name: "a text out of form",
+        call: Call {
+            words: CHECK,
+            second: b"",
+            fails: NOTHING,
+        },
+        wanted: Wanted::Just(End {
+            status: Status::Invalid,
+            out: b"invalid 1\n",
+            err: b"",
+        }),
+    },
+    Case {
+        name: "too few words",
+        call: Call {
+            words: &["livingstone", "check", "valve.lv"],
+            second: WORKED,
+            fails: NOTHING,
+        },
+        wanted: Wanted::Just(End {
+            status: Status::WordsRefused,
+            out: b"",
+            err: USAGE,
+        }),
+    },
+    Case {
+        name: "a refused model",
+        call: Call {
+            words: &["livingstone", "check", "bad.lv", "absent"],
+            second: WORKED,
+            fails: NOTHING,
+        },
+        wanted: Wanted::Just(End {
+            status: Status::ModelRefused,
+            out: b"",
+            err: b"model 1 M04\n",
+        }),
+    },
+    Case {
+        name: "a certificate that is not there",
+        call: Call {
+            words: &["livingstone", "check", "valve.lv", "absent"],
+            second: WORKED,
+            fails: NOTHING,
+        },
+        wanted: Wanted::Just(End {
+            status: Status::SecondUnread,
+            out: b"",
+            err: UNREAD,
+        }),
+    },
+];
+
+const WRITES: &[Case] = &[
+    Case {
+        name: "the write fails",
+        call: Call {
+            words: CHECK,
+            second: WORKED,
+            fails: Fails {
+                shelf: &[],
+                out: &[1],
+                err: &[],
+            },
+        },
+        wanted: Wanted::Just(End {
+            status: Status::OutputFailed,
+            out: b"",
+            err: b"",
+        }),
+    },
+    Case {
+        name: "the flush fails",
+        call: Call {
+            words: CHECK,
+            second: UNSPLIT,
+            fails: Fails {
+                shelf: &[],
+                out: &[2],
+                err: &[],
+            },
+        },
+        wanted: Wanted::Just(End {
+            status: Status::OutputFailed,
+            out: b"invalid 19\n",
+            err: b"",
+        }),
+    },
+    Case {
+        name: "the line on standard error fails",
+        call: Call {
+            words: &["livingstone", "check", "bad.lv", "a.ses"],
+            second: WORKED,
+            fails: Fails {
+                shelf: &[],
+                out: &[],
+                err: &[1],
+            },
+        },
+        wanted: Wanted::Just(End {
+            status: Status::OutputFailed,
+            out: b"",
+            err: b"",
+        }),
+    },
+];
 
 #[test]
-fn valid_certificate(rt: HostRuntime) -> Result<(), AllocError> {
-    let call = faultless(CHECK, WORKED);
-    assert!(rt; ends_so_in_pieces(rt.alloc(), &call, Status::Done, "valid\n", "")?);
+fn certificates_in_pieces(rt: HostRuntime) -> Result<(), AllocError> {
+    for case in CERTIFICATES {
+        assert!(rt; is_met(rt.alloc(), case, WHOLE)?, "{}", case.name);
+        assert!(rt;
+            is_met(rt.alloc(), case, BYTES)?,
+            "{}, byte by byte",
+            case.name
+        );
+    }
     Ok(())
 }
 
 #[test]
-fn invalid_certificate(rt: HostRuntime) -> Result<(), AllocError> {
-    let call = faultless(CHECK, UNSPLIT);
-    assert!(rt; ends_so_in_pieces(rt.alloc(), &call, Status::Invalid, "invalid 19\n", "")?);
+fn calls_to_check(rt: HostRuntime) -> Result<(), AllocError> {
+    for case in CALLS {
+        assert!(rt; is_met(rt.alloc(), case, WHOLE)?, "{}", case.name);
+    }
     Ok(())
 }
 
 #[test]
-fn text_out_of_form(rt: HostRuntime) -> Result<(), AllocError> {
-    let call = faultless(CHECK, "");
-    assert!(rt; ends_so(rt.alloc(), &call, Status::Invalid, "invalid 1\n", "")?);
+fn failed_writes(rt: HostRuntime) -> Result<(), AllocError> {
+    for case in WRITES {
+        assert!(rt; is_met(rt.alloc(), case, WHOLE)?, "{}", case.name);
+    }
     Ok(())
 }
 
@@ -79,47 +225,5 @@ fn text_out_of_form(rt: HostRuntime) -> Result<(), AllocError> {
 fn numbers_of_the_statuses(rt: HostRuntime) -> Result<(), AllocError> {
     assert!(rt; Status::Done.code() == 0);
     assert!(rt; Status::Invalid.code() == 9);
-    Ok(())
-}
-
-#[test]
-fn too_few_words(rt: HostRuntime) -> Result<(), AllocError> {
-    let call = faultless(&["livingstone", "check", "valve.lv"], WORKED);
-    assert!(rt; ends_so(rt.alloc(), &call, Status::WordsRefused, "", USAGE)?);
-    Ok(())
-}
-
-#[test]
-fn refused_model(rt: HostRuntime) -> Result<(), AllocError> {
-    let call = faultless(&["livingstone", "check", "bad.lv", "absent"], WORKED);
-    assert!(rt; ends_so(rt.alloc(), &call, Status::ModelRefused, "", "model 1 M04\n")?);
-    Ok(())
-}
-
-#[test]
-fn certificate_that_is_not_there(rt: HostRuntime) -> Result<(), AllocError> {
-    let call = faultless(&["livingstone", "check", "valve.lv", "absent"], WORKED);
-    assert!(rt; ends_so(rt.alloc(), &call, Status::SecondUnread, "", UNREAD)?);
-    Ok(())
-}
-
-#[test]
-fn failed_writes(rt: HostRuntime) -> Result<(), AllocError> {
-    let alloc = rt.alloc();
-    let written = Call {
-        out_fails: &[1],
-        ..faultless(CHECK, WORKED)
-    };
-    assert!(rt; ends_so(alloc, &written, Status::OutputFailed, "", "")?);
-    let flushed = Call {
-        out_fails: &[2],
-        ..faultless(CHECK, UNSPLIT)
-    };
-    assert!(rt; ends_so(alloc, &flushed, Status::OutputFailed, "invalid 19\n", "")?);
-    let told = Call {
-        err_fails: &[1],
-        ..faultless(&["livingstone", "check", "bad.lv", "a.ses"], WORKED)
-    };
-    assert!(rt; ends_so(alloc, &told, Status::OutputFailed, "", "")?);
     Ok(())
 }

@@ -2,7 +2,7 @@
 //! sinks take a byte at a time or all.
 #![tactic(auto)]
 
-use crate::calls::{Call, Outcome, VALVE, carried_out, faultless};
+use crate::calls::{Call, Fails, NOTHING, Pieces, VALVE, Wanted, status_of};
 use crate::checks::{CHECK, UNREAD, WORKED};
 use lv_run::Status;
 use std::alloc::{AllocError, Global};
@@ -10,13 +10,13 @@ use std::alloc::{AllocError, Global};
 const RUN: &[&str] = &["livingstone", "run", "valve.lv", "a.ses"];
 
 /// An open command without an outflow, diagnosed.
-const SESSION: &str = "command v.cmd = open
+const SESSION: &[u8] = b"command v.cmd = open
 observe o v.out = zero
 diagnose
 conflicts
 ";
 
-const REPLIES: &str = "ok
+const REPLIES: &[u8] = b"ok
 ok
 settled 1
 1 cost 3 from 1: v closed>stuck_closed #3
@@ -26,6 +26,10 @@ conflicts 3 trials 4
 3: v closed>stuck_open #6
 ";
 
+const VERDICT: &[u8] = b"valid\n";
+
+const REFUSAL: &[u8] = b"model 1 M04\n";
+
 /// Whose calls fail.
 #[derive(Clone, Copy)]
 enum Failing {
@@ -34,190 +38,219 @@ enum Failing {
     Errors,
 }
 
-/// A call, what it comes to where nothing fails, and the line that tells of its second file's fault.
+/// A call, and what it comes to where nothing fails.
 #[derive(Clone, Copy)]
-struct Row<'a> {
-    call: Call<'a>,
+struct Row {
+    name: &'static str,
+    words: &'static [&'static str],
+    second: &'static [u8],
     status: Status,
-    out: &'a str,
-    err: &'a str,
-    unread: &'a str,
+    wanted: Wanted<'static>,
 }
 
-fn run_row<'a>() -> Row<'a> {
-    Row {
-        call: faultless(RUN, SESSION),
-        status: Status::Done,
+const RUNS: Row = Row {
+    name: "run",
+    words: RUN,
+    second: SESSION,
+    status: Status::Done,
+    wanted: Wanted::OrFault {
         out: REPLIES,
-        err: "",
-        unread: "cannot read session\n",
-    }
-}
+        err: b"",
+        unread: b"cannot read session\n",
+    },
+};
 
-fn check_row<'a>() -> Row<'a> {
-    Row {
-        call: faultless(CHECK, WORKED),
-        status: Status::Done,
-        out: "valid\n",
-        err: "",
+const CHECKS: Row = Row {
+    name: "check",
+    words: CHECK,
+    second: WORKED,
+    status: Status::Done,
+    wanted: Wanted::OrFault {
+        out: VERDICT,
+        err: b"",
         unread: UNREAD,
+    },
+};
+
+const REFUSED: Row = Row {
+    name: "refused",
+    words: &["livingstone", "run", "bad.lv", "a.ses"],
+    second: SESSION,
+    status: Status::ModelRefused,
+    wanted: Wanted::OrFault {
+        out: b"",
+        err: REFUSAL,
+        unread: b"",
+    },
+};
+
+/// The calls of these numbers fail.
+fn fails_of(failing: Failing, numbers: &[u64]) -> Fails<'_> {
+    match failing {
+        Failing::Shelf => Fails {
+            shelf: numbers,
+            ..NOTHING
+        },
+        Failing::Output => Fails {
+            out: numbers,
+            ..NOTHING
+        },
+        Failing::Errors => Fails {
+            err: numbers,
+            ..NOTHING
+        },
     }
 }
 
-fn refused_row<'a>() -> Row<'a> {
-    Row {
-        call: faultless(&["livingstone", "run", "bad.lv", "a.ses"], SESSION),
-        status: Status::ModelRefused,
-        out: "",
-        err: "model 1 M04\n",
-        unread: "",
+fn call_of<'a>(row: &Row, fails: Fails<'a>) -> Call<'a> {
+    Call {
+        words: row.words,
+        second: row.second,
+        fails,
     }
-}
-
-/// Whether what stands on the output is a front of what is due, and on standard error is the line of the status.
-fn tells(row: &Row<'_>, outcome: &Outcome) -> bool {
-    let out = outcome.out.text();
-    let err = outcome.err.text();
-    row.out.as_bytes().starts_with(out)
-        && match outcome.status {
-            Status::ModelUnread => out.is_empty() && err == "cannot read model\n".as_bytes(),
-            Status::SecondUnread => err == row.unread.as_bytes(),
-            Status::OutputFailed => row.err.as_bytes().starts_with(err),
-            _ => out == row.out.as_bytes() && err == row.err.as_bytes(),
-        }
 }
 
 /// The row's call with the call of this number failing: its status, if its texts are as they should be.
-fn status_of(
+fn status_with(
     alloc: Global,
-    row: &Row<'_>,
+    row: &Row,
+    pieces: Pieces,
     failing: Failing,
     number: u64,
 ) -> Result<Option<Status>, AllocError> {
-    let fails = [number];
-    let call = match failing {
-        Failing::Shelf => Call {
-            shelf_fails: fails.as_slice(),
-            ..row.call
-        },
-        Failing::Output => Call {
-            out_fails: fails.as_slice(),
-            ..row.call
-        },
-        Failing::Errors => Call {
-            err_fails: fails.as_slice(),
-            ..row.call
-        },
-    };
-    let outcome = carried_out(alloc, &call)?;
-    Ok(if tells(row, &outcome) {
-        Some(outcome.status)
-    } else {
-        None
-    })
+    let numbers = [number];
+    let call = call_of(row, fails_of(failing, numbers.as_slice()));
+    status_of(alloc, &call, pieces, row.wanted)
 }
 
-/// The statuses with the first call failing, the second, and so on, to the first run that ends as if nothing failed. Nothing
-/// where some text was not as it should be.
-fn statuses(alloc: Global, row: &Row<'_>, failing: Failing) -> Result<Vec<Status>, AllocError> {
-    let mut statuses = Vec::new(alloc);
+/// How many calls on the shelf are for the model, and for the second file: each is opened, read, and read once more at its
+/// end.
+fn shelf_calls(row: &Row, piece: usize) -> (u64, u64) {
+    if piece == 1 {
+        return (VALVE.len() as u64 + 2, row.second.len() as u64 + 2);
+    }
+    (3, 3)
+}
+
+/// The status where the shelf's call of this number fails.
+fn shelf_status(row: &Row, piece: usize, number: u64) -> Status {
+    let (model, second) = shelf_calls(row, piece);
+    if number <= model {
+        return Status::ModelUnread;
+    }
+    if number - model <= second {
+        return Status::SecondUnread;
+    }
+    Status::Done
+}
+
+/// Whether the faults of the shelf are some of the model and then some of the second file, and then there is none.
+fn fails_on_the_shelf(alloc: Global, row: &Row, piece: usize) -> Result<bool, AllocError> {
+    let pieces = Pieces {
+        file: piece,
+        out: 4096,
+        err: 7,
+    };
     for number in 1..2000u64 {
-        let Some(status) = status_of(alloc, row, failing, number)? else {
-            return Ok(Vec::new(alloc));
-        };
-        statuses.push(status)?;
-        if status == row.status {
-            return Ok(statuses);
+        let due = shelf_status(row, piece, number);
+        if status_with(alloc, row, pieces, Failing::Shelf, number)? != Some(due) {
+            return Ok(false);
+        }
+        if due == row.status {
+            return Ok(true);
         }
     }
-    Ok(statuses)
-}
-
-/// One status so often, then another so often, and then a last one.
-fn in_order(
-    alloc: Global,
-    first: (Status, usize),
-    then: (Status, usize),
-    last: Status,
-) -> Result<Vec<Status>, AllocError> {
-    let mut statuses = Vec::new(alloc);
-    for _ in 0..first.1 {
-        statuses.push(first.0)?;
-    }
-    for _ in 0..then.1 {
-        statuses.push(then.0)?;
-    }
-    statuses.push(last)?;
-    Ok(statuses)
-}
-
-/// Whether the faults of the shelf are some of the model and then some of the second file: each is opened, read, and read once
-/// more at its end.
-fn fails_on_the_shelf(alloc: Global, row: &Row<'_>, piece: usize) -> Result<bool, AllocError> {
-    let row = Row {
-        call: Call { piece, ..row.call },
-        ..*row
-    };
-    let (model, second) = if piece == 1 {
-        (VALVE.len() + 2, row.call.second.len() + 2)
-    } else {
-        (3, 3)
-    };
-    let due = in_order(
-        alloc,
-        (Status::ModelUnread, model),
-        (Status::SecondUnread, second),
-        Status::Done,
-    )?;
-    Ok(statuses(alloc, &row, Failing::Shelf)?.as_slice() == due.as_slice())
+    Ok(false)
 }
 
 #[test]
 fn each_call_on_the_shelf_failing(rt: HostRuntime) -> Result<(), AllocError> {
-    let alloc = rt.alloc();
-    for piece in [1, 4096] {
-        assert!(rt; fails_on_the_shelf(alloc, &run_row(), piece)?);
-        assert!(rt; fails_on_the_shelf(alloc, &check_row(), piece)?);
+    for row in [&RUNS, &CHECKS] {
+        assert!(rt;
+            fails_on_the_shelf(rt.alloc(), row, 1)?,
+            "{}, byte by byte",
+            row.name
+        );
+        assert!(rt; fails_on_the_shelf(rt.alloc(), row, 4096)?, "{}", row.name);
     }
     Ok(())
 }
 
-/// Whether each call on a sink that is reached ends the run with the status of a failed output, so many at least.
-fn fails_on_a_sink(
-    alloc: Global,
-    row: &Row<'_>,
+/// A row, whose calls fail, how much the sinks take at a time, and how many calls fail at least.
+struct Sunk {
+    row: Row,
     failing: Failing,
     taken: usize,
-    least: usize,
-) -> Result<bool, AllocError> {
-    let row = Row {
-        call: Call {
-            out_takes: taken,
-            err_takes: taken,
-            ..row.call
-        },
-        ..*row
+    least: u64,
+}
+
+const SINKS: &[Sunk] = &[
+    Sunk {
+        row: RUNS,
+        failing: Failing::Output,
+        taken: 1,
+        least: REPLIES.len() as u64 + 1,
+    },
+    Sunk {
+        row: CHECKS,
+        failing: Failing::Output,
+        taken: 1,
+        least: VERDICT.len() as u64 + 1,
+    },
+    Sunk {
+        row: REFUSED,
+        failing: Failing::Errors,
+        taken: 1,
+        least: REFUSAL.len() as u64,
+    },
+    Sunk {
+        row: RUNS,
+        failing: Failing::Output,
+        taken: 4096,
+        least: 2,
+    },
+    Sunk {
+        row: CHECKS,
+        failing: Failing::Output,
+        taken: 4096,
+        least: 2,
+    },
+    Sunk {
+        row: REFUSED,
+        failing: Failing::Errors,
+        taken: 4096,
+        least: 1,
+    },
+];
+
+/// Whether each call on a sink that is reached ends the run with the status of a failed output, so many at least.
+fn fails_on_a_sink(alloc: Global, sunk: &Sunk) -> Result<bool, AllocError> {
+    let pieces = Pieces {
+        file: 4096,
+        out: sunk.taken,
+        err: sunk.taken,
     };
-    let statuses = statuses(alloc, &row, failing)?;
-    let failed = statuses
-        .iter()
-        .filter(|status| **status == Status::OutputFailed)
-        .count();
-    Ok(failed >= least && failed + 1 == statuses.len())
+    for number in 1..2000u64 {
+        let status = status_with(alloc, &sunk.row, pieces, sunk.failing, number)?;
+        if status == Some(sunk.row.status) {
+            return Ok(number > sunk.least);
+        }
+        if status != Some(Status::OutputFailed) {
+            return Ok(false);
+        }
+    }
+    Ok(false)
 }
 
 #[test]
 fn each_call_on_a_sink_failing(rt: HostRuntime) -> Result<(), AllocError> {
-    let alloc = rt.alloc();
-    let told = "model 1 M04\n".len();
-    for taken in [1, 4096] {
-        let bytewise = taken == 1;
-        let replies = if bytewise { REPLIES.len() } else { 1 };
-        assert!(rt; fails_on_a_sink(alloc, &run_row(), Failing::Output, taken, replies + 1)?);
-        let verdict = if bytewise { "valid\n".len() } else { 1 };
-        assert!(rt; fails_on_a_sink(alloc, &check_row(), Failing::Output, taken, verdict + 1)?);
-        let line = if bytewise { told } else { 1 };
-        assert!(rt; fails_on_a_sink(alloc, &refused_row(), Failing::Errors, taken, line)?);
+    for sunk in SINKS {
+        assert!(rt;
+            fails_on_a_sink(rt.alloc(), sunk)?,
+            "{} {}",
+            sunk.row.name,
+            sunk.taken
+        );
     }
     Ok(())
 }
