@@ -20,7 +20,7 @@ use crate::setting::Setting;
 use lv_base::{Lit, MoveId, Pair, PartId, Seq, ValId, VarId};
 use lv_blocks::Block;
 use lv_formula::Condition;
-use lv_meaning::candidates::moves_of;
+use lv_meaning::moves::moves_of;
 use lv_model::{Move, MoveKind};
 use lv_steps::Moment;
 use std::alloc::{AllocError, Global};

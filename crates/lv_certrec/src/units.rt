@@ -16,7 +16,7 @@ ghost use Rattle.lv_certlines.specs.Pairs.{HasChoice};
 
 use lv_base::{Lit, MoveId, Pair, PartId, ValId, VarId};
 use lv_meaning::Observation;
-use lv_meaning::candidates::moves_of;
+use lv_meaning::moves::moves_of;
 use lv_model::{Model, Move, MoveKind};
 use lv_steps::{Moment, StepSystem};
 use std::alloc::AllocError;

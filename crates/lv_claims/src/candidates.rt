@@ -14,7 +14,7 @@ ghost use Rattle.lv_claims.specs.Fitting.{HasFewChoices};
 
 use crate::counting::place_of;
 use lv_base::{Cost, Rank, Seq, ValId};
-use lv_meaning::candidates::moves_of;
+use lv_meaning::moves::moves_of;
 use lv_model::{Model, Move, Plant, TrackedState};
 use std::alloc::{AllocError, Global};
 

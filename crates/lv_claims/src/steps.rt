@@ -12,7 +12,7 @@ ghost use Rattle.lv_recovery.specs.Recovers as Recovers;
 ghost use Rattle.lv_validity.specs.Judging as Judging;
 
 use lv_base::{MoveId, PartId, ValId, VarId};
-use lv_meaning::candidates::moves_of;
+use lv_meaning::moves::moves_of;
 use lv_model::lookup::move_of_part;
 use lv_model::meaning::target_mode;
 use lv_model::{Model, MoveKind, Part};

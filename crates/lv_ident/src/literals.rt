@@ -11,7 +11,7 @@ ghost use Rattle.lv_ident.specs.Literals.{observed_literals, fact_literals, pair
 use lv_base::{Lit, MoveId, Pair, PartId};
 use lv_clauses::Marks;
 use lv_compile::value_bools::ValueBools;
-use lv_meaning::possible::before_the_step;
+use lv_meaning::facts::before_the_step;
 use lv_meaning::{Facts, Observation};
 use lv_model::Model;
 use lv_steps::{ChoiceBools, Moment, StepSystem};

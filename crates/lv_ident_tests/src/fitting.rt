@@ -6,7 +6,7 @@ ghost use Rattle.std.specs.List.{list_all};
 ghost use Rattle.lv_meaning.specs.Facts.{FactsFit};
 ghost use Rattle.lv_ident.specs.Literals.{FactsInRange};
 
-use lv_meaning::possible::before_the_step;
+use lv_meaning::facts::before_the_step;
 use lv_meaning::{Facts, Observation};
 use lv_model::Model;
 use std::alloc::{AllocError, Global};

@@ -15,7 +15,7 @@ ghost use Rattle.lv_labels.specs.Holding.{claim_at, fact_claims, claim_literals,
 
 use crate::fact_labels::FactLabels;
 use crate::labelling::Labelling;
-use lv_meaning::possible::before_the_step;
+use lv_meaning::facts::before_the_step;
 use lv_meaning::{Facts, Observation};
 use lv_model::{Model, State};
 use lv_reply::{Label, Moment};

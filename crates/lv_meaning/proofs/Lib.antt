@@ -1,6 +1,1 @@
-pub mod SearchLemmas
-pub mod CandidateLemmas
-pub mod FewChoices
-pub mod PrunedSearch
-pub mod Pruning
 pub mod Commanded

@@ -1,5 +1,5 @@
 -- The candidates in the order of their ranks, and the first that are possible.
-use Rattle.std.specs.Prelude.{ℕ, ◌+◌, ◌≤◌, Bool, nat_eq, List, [], ◌∷◌, ◌++◌, length, take, filter, slice_get, if◌then◌else◌, ◌≡◌, ◌<◌, ◌^◌}
+use Rattle.std.specs.Prelude.{ℕ, ◌+◌, ◌≤◌, Bool, nat_eq, List, [], ◌∷◌, ◌++◌, length, take, filter, slice_get, if◌then◌else◌, ◌≡◌}
 use Rattle.std.specs.List.{flat_map}
 use Rattle.std.specs.Option.{option_map_or}
 use Rattle.lv_base.specs.declared.ids.ValId.{ValId}
@@ -61,6 +61,3 @@ first_possible k plant facts tracked = take k (filter (is_possible_rank plant fa
 pub record IsTracked (parts : ℕ) (s : TrackedState) : Type 0 where
   pub modes : length s.state.modes ≡ parts
   pub cost : s.cost.0 ≤ TRACKED_COST
-
-pub record HasFewChoices (r : Rank) : Type 0 where
-  pub few : length r.choices < 2 ^ 32

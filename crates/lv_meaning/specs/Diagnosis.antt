@@ -8,7 +8,6 @@ use Rattle.lv_model.specs.declared.plant.Plant.{Plant}
 use Rattle.lv_walk.specs.Walk.{Walked, walk}
 use Rattle.lv_walk.specs.Reason.{reduced}
 use Rattle.lv_meaning.specs.declared.facts.Facts.{Facts}
-use Rattle.lv_meaning.specs.declared.walk.Diagnosis.{Diagnosis}
 use Rattle.lv_meaning.specs.Possible.{is_possible}
 use Rattle.lv_meaning.specs.Candidates.{is_possible_candidate}
 
@@ -20,7 +19,3 @@ reason_of plant facts c = reduced (is_possible plant facts) [] (pairs_of c.choic
 -- the walk of a diagnosis along these candidates
 abbrev pub diagnosis_walk : Plant → Facts → ℕ → ℕ → List Rank → Walked
 diagnosis_walk plant facts k budget ranks = walk (is_possible_candidate plant facts) (reason_of plant facts) k budget ranks
-
--- what a diagnosis came to, as the code tells it
-abbrev pub told : Diagnosis → Walked
-told d = record { outcome = d.outcome; listed = d.listed; kept = d.kept }

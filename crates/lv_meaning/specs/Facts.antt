@@ -1,5 +1,5 @@
 -- Facts, and what it is for assignments to meet them.
-use Rattle.std.specs.Prelude.{ℕ, ◌<◌, Bool, ◌&&◌, ◌||◌, not, nat_eq, List, [], ◌∷◌, ◌++◌, length, All, ◌≡◌}
+use Rattle.std.specs.Prelude.{ℕ, ◌<◌, Bool, ◌&&◌, nat_eq, List, [], ◌∷◌, ◌++◌, length, All, ◌≡◌}
 use Rattle.std.specs.List.{list_all}
 use Rattle.lv_base.specs.declared.ids.ValId.{ValId}
 use Rattle.lv_base.specs.declared.ids.VarId.{VarId}
@@ -30,10 +30,6 @@ now_facts plant facts = commanded (controls plant) facts.controls ++ facts.prese
 -- the first assignment has the control values and the present observations, the second the next observations
 abbrev pub meets_facts : Plant → Facts → List ValId → List ValId → Bool
 meets_facts plant facts a b = meets a (now_facts plant facts) && meets b facts.next
-
--- no observation gives the variable another value
-abbrev pub observes : List Observation → ℕ → ℕ → Bool
-observes os x v = list_all (λ (o : Observation). not (nat_eq o.var.0 x) || nat_eq o.val.0 v) os
 
 pub record IsInRange (count : ℕ) (o : Observation) : Type 0 where
   pub below : o.var.0 < count

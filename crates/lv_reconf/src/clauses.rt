@@ -15,7 +15,7 @@ ghost use Rattle.lv_steps.specs.Numbering.{IsOver};
 use super::compiled::Compiled;
 use lv_base::{Lit, MoveId, PartId, Seq};
 use lv_meaning::Observation;
-use lv_meaning::candidates::moves_of;
+use lv_meaning::moves::moves_of;
 use lv_model::{Move, MoveKind};
 use lv_sat::Solver;
 use std::alloc::AllocError;

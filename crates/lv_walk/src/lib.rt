@@ -9,14 +9,9 @@
 //! | `specs/Reason` | the reason of a candidate that doesn't fit, by leaving choices out |
 //! | `specs/Laws` | what these promise |
 //!
-//! | program | what it does |
-//! |---|---|
-//! | `reduce` | leaves out of a list of choices what isn't needed, for any test |
 #![tactic(auto)]
 
 pub mod laws;
 pub mod outcome;
-pub mod reduce;
 
 pub use outcome::Outcome;
-pub use reduce::Test;

@@ -9,7 +9,7 @@ ghost use Rattle.lv_zones.specs.Slots.{HasSlot};
 
 use lv_base::Cost;
 use lv_boxes::Grid;
-use lv_meaning::candidates::moves_of;
+use lv_meaning::moves::moves_of;
 use lv_model::{Model, Move, Plant};
 use std::alloc::{AllocError, Global};
 

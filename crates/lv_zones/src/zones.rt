@@ -9,7 +9,7 @@ ghost use Rattle.lv_zones.specs.Moves.{mask_from, mask_of, masks_of, state_zone,
 
 use lv_base::ValId;
 use lv_boxes::Zone;
-use lv_meaning::candidates::moves_of;
+use lv_meaning::moves::moves_of;
 use lv_model::{Model, Move, Plant, TrackedState};
 use std::alloc::{AllocError, Global};
 

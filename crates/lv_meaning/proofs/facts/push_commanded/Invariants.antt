@@ -1,6 +1,6 @@
 use Rattle.std.proofs.Common.{◌≡◌, ◌++◌, drop}
 use Rattle.lv_meaning.specs.Facts.{commanded}
-use Rattle.lv_meaning.proofs.possible.push_commanded.Given as goal
+use Rattle.lv_meaning.proofs.facts.push_commanded.Given as goal
 
 -- what was added and what is left of controls and values are all commands
 abbrev pub invariant-loop-i : goal.invariant-loop-i

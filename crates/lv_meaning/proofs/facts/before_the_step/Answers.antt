@@ -3,7 +3,7 @@ use Rattle.std.proofs.Common.{◌≡◌, arith}
 use Rattle.std.proofs.lemmas.Grind.{common_steps}
 use Rattle.lv_meaning.specs.Facts.{now_facts}
 use Rattle.lv_meaning.proofs.Commanded.{now_facts-in_range}
-use Rattle.lv_meaning.proofs.possible.before_the_step.Goals as goal
+use Rattle.lv_meaning.proofs.facts.before_the_step.Goals as goal
 
 pub returns-clause-in_range : goal.returns-clause-in_range
 returns-clause-in_range c =
