@@ -3,7 +3,7 @@
 
 use lv_base::Lit;
 use lv_model::Model;
-use lv_steps::{StepSystem, compile};
+use lv_system::{StepSystem, compile};
 use std::alloc::{AllocError, Global};
 use std::fmt::{self, Formatter, Write};
 

@@ -3,3 +3,5 @@ pub mod PartsLemmas
 pub mod CheapestLemmas
 pub mod LeastLemmas
 pub mod MemberLemmas
+pub mod Among
+pub mod RankedMemberLemmas

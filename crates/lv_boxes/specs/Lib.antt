@@ -3,3 +3,4 @@ pub mod Members
 pub mod Least
 pub mod Parts
 pub mod Laws
+pub mod RankedMembers

@@ -21,23 +21,23 @@ use Rattle.lv_model.proofs.Sizes.{length-sizes}
 use Rattle.lv_model.proofs.Reading.{length-plant_ranges}
 use Rattle.lv_meaning.specs.declared.facts.Observation.{Observation}
 use Rattle.lv_meaning.specs.Facts.{IsInRange}
-use Rattle.lv_recovery.specs.Ranges.{ObservationFits, GoalFits}
-use Rattle.lv_steps.specs.System.{SystemValue}
+use Rattle.lv_meaning.specs.Ranges.{ObservationFits, GoalFits}
+use Rattle.lv_system.specs.System.{SystemValue}
 use Rattle.lv_cert.specs.declared.line.Line.{Line}
 use Rattle.lv_cert.specs.declared.line.Evidence.{Evidence}
 use Rattle.lv_cert.specs.declared.line.Moment.{Moment}
 use Rattle.lv_cert.specs.declared.line.Moment.TheVariants.{Now, Next}
 use Rattle.lv_formula.specs.Tree.{Tree}
 use Rattle.lv_base.specs.Choices.{pairs_of, pairs_from}
-use Rattle.lv_validity.specs.Counting.{is_one_of, at_number, pairs_of_numbers}
-use Rattle.lv_validity.specs.Judging as Judging
-use Rattle.lv_validity.specs.Space.{open_zone, with_split}
-use Rattle.lv_validity.specs.Stated.{Stated, with_state}
-use Rattle.lv_validity.specs.Units.{units, choice_literal, nominal_units, goal_clauses}
+use Rattle.lv_cert_meaning.specs.Counting.{is_one_of, at_number, pairs_of_numbers}
+use Rattle.lv_cert_meaning.specs.Judging as Judging
+use Rattle.lv_cert_meaning.specs.Space.{open_zone, with_split}
+use Rattle.lv_cert_meaning.specs.Stated.{Stated, with_state}
+use Rattle.lv_cert_meaning.specs.Units.{units, choice_literal, nominal_units, goal_clauses}
 use Rattle.lv_compile.specs.FormulaClauses.{Clauses}
-use Rattle.lv_blocks.specs.Blocks.{BlockValue}
-use Rattle.lv_recovery.specs.Commands.{control_sizes, is_command_set}
-use Rattle.lv_claims.specs.Fitting.{IsStateOf, HasFewChoices, IsPairOf}
+use Rattle.lv_cert_blocks.specs.Blocks.{BlockValue}
+use Rattle.lv_meaning.specs.Commands.{control_sizes, is_command_set}
+use Rattle.lv_cert_numbers.specs.Fitting.{IsStateOf, HasFewChoices, IsPairOf}
 use Rattle.lv_certcheck.specs.declared.judged.Judged.{Judged}
 use Rattle.lv_certcheck.specs.Giving.{Fits, IsWhole, with_clauses}
 use Rattle.lv_certcheck.specs.Stating.{observed}

@@ -13,7 +13,7 @@ use Rattle.lv_model.specs.Prices.{price_of}
 use Rattle.lv_meaning.specs.declared.facts.Facts.{Facts}
 use Rattle.lv_meaning.specs.Facts.{meets, commanded, meets_facts}
 use Rattle.lv_meaning.specs.Possible.{move_number}
-use Rattle.lv_recovery.specs.Commands.{commands_cost}
+use Rattle.lv_meaning.specs.Commands.{commands_cost}
 
 commanded_none : (cs : List VarId) → commanded cs [] ≡ []
 commanded_none [] = refl

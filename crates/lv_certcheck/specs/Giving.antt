@@ -6,10 +6,10 @@ use Rattle.lv_base.specs.declared.limits.TheConstants.{TRACKED}
 use Rattle.lv_model.specs.declared.plant.Plant.{Plant}
 use Rattle.lv_model.specs.Lists.{variable_count}
 use Rattle.lv_meaning.specs.Facts.{IsInRange}
-use Rattle.lv_recovery.specs.Ranges.{GoalFits}
-use Rattle.lv_steps.specs.System.{SystemValue}
-use Rattle.lv_blocks.specs.Blocks.{BlockValue}
-use Rattle.lv_claims.specs.Fitting.{IsStateOf, HasFewChoices}
+use Rattle.lv_meaning.specs.Ranges.{GoalFits}
+use Rattle.lv_system.specs.System.{SystemValue}
+use Rattle.lv_cert_blocks.specs.Blocks.{BlockValue}
+use Rattle.lv_cert_numbers.specs.Fitting.{IsStateOf, HasFewChoices}
 use Rattle.lv_certcheck.specs.declared.judged.Judged.{Judged}
 
 -- the block with clauses more

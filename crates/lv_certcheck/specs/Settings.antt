@@ -1,9 +1,9 @@
 -- What a certificate is judged by.
 use Rattle.std.specs.Prelude.{◌≡◌}
 use Rattle.lv_model.specs.declared.plant.Plant.{Plant}
-use Rattle.lv_scope.specs.Lists.{lists_of}
-use Rattle.lv_steps.specs.System.{IsSystemOf}
-use Rattle.lv_claims.specs.Counts.{IsCountsOf}
+use Rattle.lv_model_names.specs.Lists.{lists_of}
+use Rattle.lv_system.specs.System.{IsSystemOf}
+use Rattle.lv_cert_numbers.specs.Counts.{IsCountsOf}
 use Rattle.lv_certcheck.specs.declared.setting.Setting.{Setting}
 
 abbrev pub plant_of : Setting → Plant

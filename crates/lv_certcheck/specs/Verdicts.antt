@@ -2,13 +2,13 @@
 use Rattle.std.specs.Prelude.{◌≡◌, ℕ, Bool, true, false, List, Option, Some, None, take, filter}
 use Rattle.lv_model.specs.declared.plant.Plant.{Plant}
 use Rattle.lv_meaning.specs.Candidates.{first_possible}
-use Rattle.lv_recovery.specs.Commands.{command_sets}
-use Rattle.lv_recovery.specs.Recovery.{rank_recovers}
+use Rattle.lv_meaning.specs.Commands.{command_sets}
+use Rattle.lv_meaning.specs.Recovery.{rank_recovers}
 use Rattle.lv_cert.specs.declared.line.Question.TheVariants.{Diagnosis, Recovery}
 use Rattle.lv_cert.specs.declared.line.Line.{Line}
 use Rattle.lv_cert.specs.Form.{IsCertificate, IsFaultAt}
-use Rattle.lv_validity.specs.Judging.{Judged as AllJudged, Judgement, comes_to, is_bad_at, question_of, judgement}
-use Rattle.lv_validity.specs.Laws.{aim_of}
+use Rattle.lv_cert_meaning.specs.Judging.{Judged as AllJudged, Judgement, comes_to, is_bad_at, question_of, judgement}
+use Rattle.lv_cert_meaning.specs.Laws.{aim_of}
 use Rattle.lv_certcheck.specs.declared.check.Verdict.{Verdict}
 use Rattle.lv_certcheck.specs.declared.check.Verdict.TheVariants.{Valid, Invalid}
 use Rattle.lv_certcheck.specs.declared.judged.Judged.{Judged}

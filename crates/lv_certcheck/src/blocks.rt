@@ -5,24 +5,24 @@ ghost use Rattle.std.specs.Prelude.{◌≡◌, ◌<◌, ◌≤◌, ◌∷◌, []
 ghost use Rattle.std.specs.List.{flat_map};
 ghost use Rattle.lv_model.specs.Lists.{sizes, move_counts};
 ghost use Rattle.lv_model.specs.Meaning.{is_no_fault};
-ghost use Rattle.lv_recovery.specs.Commands.{control_sizes};
-ghost use Rattle.lv_recovery.specs.Ranges.{GoalFits};
-ghost use Rattle.lv_validity.specs.Counting.{mode_counts};
-ghost use Rattle.lv_validity.specs.Units as Units;
-ghost use Rattle.lv_validity.specs.Units.{units, choice_literal, mode_literals, no_fault_of, no_fault_literals, control_literal, nominal_units};
-ghost use Rattle.lv_claims.specs.Fitting.{are_values, IsPairOf};
+ghost use Rattle.lv_meaning.specs.Commands.{control_sizes};
+ghost use Rattle.lv_meaning.specs.Ranges.{GoalFits};
+ghost use Rattle.lv_cert_meaning.specs.Counting.{mode_counts};
+ghost use Rattle.lv_cert_meaning.specs.Units as Units;
+ghost use Rattle.lv_cert_meaning.specs.Units.{units, choice_literal, mode_literals, no_fault_of, no_fault_literals, control_literal, nominal_units};
+ghost use Rattle.lv_cert_numbers.specs.Fitting.{are_values, IsPairOf};
 ghost use Rattle.lv_certcheck.specs.Settings.{IsSetting, plant_of};
 ghost use Rattle.lv_compile.specs.Booleans.{value_literal, booleans_now, choice_bool, literal};
-ghost use Rattle.lv_blocks.specs.Blocks.{with_clause};
+ghost use Rattle.lv_cert_blocks.specs.Blocks.{with_clause};
 ghost use Rattle.lv_certcheck.specs.Giving.{with_clauses};
 
 use crate::setting::Setting;
 use lv_base::{Lit, MoveId, Pair, PartId, Seq, ValId, VarId};
-use lv_blocks::Block;
+use lv_cert_blocks::Block;
 use lv_formula::Condition;
 use lv_meaning::moves::moves_of;
 use lv_model::{Move, MoveKind};
-use lv_steps::Moment;
+use lv_system::Moment;
 use std::alloc::{AllocError, Global};
 
 /// Gives each literal as a clause of its own.

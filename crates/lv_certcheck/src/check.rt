@@ -2,7 +2,7 @@
 #![tactic(auto)]
 
 ghost use Rattle.std.specs.Prelude.{◌≡◌, IfOk};
-ghost use Rattle.lv_validity.specs.Judging as Judging;
+ghost use Rattle.lv_cert_meaning.specs.Judging as Judging;
 ghost use Rattle.lv_certcheck.specs.Settings.{IsSetting, plant_of};
 ghost use Rattle.lv_certcheck.specs.Giving.{Fits};
 ghost use Rattle.lv_certcheck.specs.Verdicts.{judged_of, verdict, IsVerdictOn, ProvesItsAnswer};
@@ -12,15 +12,15 @@ use crate::judge::Judge;
 use crate::judged::Judged;
 use crate::setting::Setting;
 use crate::stated::Stated;
-use lv_blocks::Block;
+use lv_cert_blocks::Block;
 use lv_boxes::{Grid, Zone};
 use lv_cert::{Cert, CertFault, Line, Question, read_cert};
-use lv_claims::Counts;
+use lv_cert_numbers::Counts;
 use lv_model::Model;
-use lv_scope::Lists;
-use lv_space::Space;
-use lv_steps::{StepSystem, compile};
-use lv_zones::{command_grid, command_zone, move_grid};
+use lv_model_names::Lists;
+use lv_cert_numbers::Space;
+use lv_system::{StepSystem, compile};
+use lv_search_zones::{command_grid, command_zone, move_grid};
 use std::alloc::{AllocError, Global};
 
 /// What a certificate is worth.

@@ -6,19 +6,19 @@ ghost use Rattle.std.specs.Prelude.{◌≡◌, ◌-◌, ◌<◌, ◌≤◌, ◌&
 ghost use Rattle.std.specs.Option.{option_map_or};
 ghost use Rattle.std.specs.Cmp.Lexicographic.{pointwise};
 ghost use Rattle.lv_model.specs.Lists.{sizes, controls};
-ghost use Rattle.lv_recovery.specs.Commands as Commands;
-ghost use Rattle.lv_recovery.specs.Ranges.{ObservationFits};
-ghost use Rattle.lv_validity.specs.Judging as Judging;
-ghost use Rattle.lv_validity.specs.Space.{open_zone, with_split};
-ghost use Rattle.lv_validity.specs.Stated as Stated;
-ghost use Rattle.lv_validity.specs.Stated.{with_observation, observation_of, observed_literal, with_goal};
+ghost use Rattle.lv_meaning.specs.Commands as Commands;
+ghost use Rattle.lv_meaning.specs.Ranges.{ObservationFits};
+ghost use Rattle.lv_cert_meaning.specs.Judging as Judging;
+ghost use Rattle.lv_cert_meaning.specs.Space.{open_zone, with_split};
+ghost use Rattle.lv_cert_meaning.specs.Stated as Stated;
+ghost use Rattle.lv_cert_meaning.specs.Stated.{with_observation, observation_of, observed_literal, with_goal};
 ghost use Rattle.lv_compile.specs.Booleans.{booleans_now};
 ghost use Rattle.lv_meaning.specs.Facts.{commanded};
-ghost use Rattle.lv_validity.specs.Counting.{is_one_of, are_of, values_of, at_number};
-ghost use Rattle.lv_validity.specs.Units.{nominal_units};
-ghost use Rattle.lv_claims.specs.Fitting.{HasFewChoices, IsPairOf, are_values};
+ghost use Rattle.lv_cert_meaning.specs.Counting.{is_one_of, are_of, values_of, at_number};
+ghost use Rattle.lv_cert_meaning.specs.Units.{nominal_units};
+ghost use Rattle.lv_cert_numbers.specs.Fitting.{HasFewChoices, IsPairOf, are_values};
 ghost use Rattle.lv_model.specs.declared.state.TrackedState.{TrackedState};
-ghost use Rattle.lv_recovery.specs.Commands.{control_sizes};
+ghost use Rattle.lv_meaning.specs.Commands.{control_sizes};
 ghost use Rattle.lv_boxes.specs.Members.{ZoneValue};
 ghost use Rattle.lv_certcheck.specs.Settings.{IsSetting, plant_of};
 ghost use Rattle.lv_certcheck.specs.Giving.{Fits, with_clauses};
@@ -32,12 +32,12 @@ use lv_base::limits::TRACKED;
 use lv_base::{Cost, Lit, Pair, Rank, Seq, ValId};
 use lv_boxes::choices_as_conflict;
 use lv_cert::{Evidence, Head, Line, Literal, Moment, Question};
-use lv_claims::{
+use lv_cert_numbers::{
     candidate_of, conflict_of, goal_of, observation_of, places_of, state_of, values_of,
 };
 use lv_meaning::Observation;
-use lv_steps::Moment as Side;
-use lv_zones::zones_of;
+use lv_system::Moment as Side;
+use lv_search_zones::zones_of;
 use std::alloc::{AllocError, Global};
 
 /// A setting, and the room that judging takes.

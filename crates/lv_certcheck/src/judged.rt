@@ -3,13 +3,13 @@
 
 ghost use Rattle.std.specs.Prelude.{◌≡◌};
 ghost use Rattle.std.specs.Option.{option_copied};
-ghost use Rattle.lv_validity.specs.Judging as Judging;
+ghost use Rattle.lv_cert_meaning.specs.Judging as Judging;
 ghost use Rattle.lv_certcheck.specs.Verdicts.{judged_of};
 
 use crate::stated::Stated;
 use lv_base::{Conflict, Rank, Seq, ValId};
-use lv_blocks::Block;
-use lv_space::Space;
+use lv_cert_blocks::Block;
+use lv_cert_numbers::Space;
 use std::marker::Model;
 
 /// A step of a recovery that is to be shown: from the tracked state of this place, with these values of the controls, and
@@ -22,7 +22,7 @@ pub struct Aimed {
 }
 
 impl Model for Aimed {
-    ghost use Rattle.lv_validity.specs.Judging.{Aimed};
+    ghost use Rattle.lv_cert_meaning.specs.Judging.{Aimed};
 
     ghost Value = { Aimed };
 

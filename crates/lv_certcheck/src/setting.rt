@@ -2,14 +2,14 @@
 #![tactic(auto)]
 
 ghost use Rattle.std.specs.Prelude.{◌≡◌, IfOk};
-ghost use Rattle.lv_scope.specs.Lists.{lists_of};
-ghost use Rattle.lv_steps.specs.System.{IsSystemOf};
-ghost use Rattle.lv_claims.specs.Counts.{IsCountsOf};
+ghost use Rattle.lv_model_names.specs.Lists.{lists_of};
+ghost use Rattle.lv_system.specs.System.{IsSystemOf};
+ghost use Rattle.lv_cert_numbers.specs.Counts.{IsCountsOf};
 
-use lv_claims::Counts;
+use lv_cert_numbers::Counts;
 use lv_model::Model;
-use lv_scope::Lists;
-use lv_steps::StepSystem;
+use lv_model_names::Lists;
+use lv_system::StepSystem;
 
 /// A model with what is made of it once.
 #[derive(Clone, Copy)]

@@ -11,7 +11,7 @@ use Rattle.lv_model.specs.declared.plant.Domain.{Domain}
 use Rattle.lv_model.specs.Names.{domain_named}
 use Rattle.lv_model.specs.Counts.{has_count, guard_has_counts}
 use Rattle.lv_model.specs.WellFormed.{name_fits, move_fits}
-use Rattle.lv_phrase.specs.PhraseTree.{PhraseTree}
+use Rattle.lv_formula_text.specs.PhraseTree.{PhraseTree}
 use Rattle.lv_reader.specs.declared.code.ModelCode.{ModelCode}
 use Rattle.lv_reader.specs.declared.code.ModelCode.TheVariants.{UnknownName, LimitPassed, NotEnded}
 use Rattle.lv_reader.specs.declared.statement.Statement.{Statement}

@@ -19,11 +19,11 @@ use Rattle.lv_model.specs.declared.plant.ComponentType.{ComponentType}
 use Rattle.lv_model.specs.declared.plant.Part.{Part}
 use Rattle.lv_model.specs.declared.plant.Variable.{Variable}
 use Rattle.lv_model.specs.Ranges.{domain_size, variable_range, type_ranges, part_ranges}
-use Rattle.lv_phrase.specs.PhraseTree.{PhraseTree}
-use Rattle.lv_phrase.specs.Resolving.{resolved}
-use Rattle.lv_phrase.specs.Fitting.{ScopeFits}
-use Rattle.lv_phrase.specs.declared.resolver.NameFault.{NameFault}
-use Rattle.lv_phrase.proofs.FittingLemmas.{resolved_fits}
+use Rattle.lv_formula_text.specs.PhraseTree.{PhraseTree}
+use Rattle.lv_formula_text.specs.Resolving.{resolved}
+use Rattle.lv_formula_text.specs.Fitting.{ScopeFits}
+use Rattle.lv_formula_text.specs.declared.resolver.NameFault.{NameFault}
+use Rattle.lv_formula_text.proofs.FittingLemmas.{resolved_fits}
 use Rattle.lv_checker.specs.declared.draft.Draft.{Draft}
 use Rattle.lv_checker.specs.Places.{placed, value_place, mode_place, value_of_domain, value_of_sort}
 use Rattle.lv_checker.specs.Scopes.{are_one_sort, sort_in_type, value_by_sort, value_of_type, type_names, sort_in_system, system_names, with_code}

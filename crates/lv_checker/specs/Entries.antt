@@ -13,7 +13,7 @@ use Rattle.lv_model.specs.declared.plant.MoveKind.TheVariants.{Step, Fault}
 use Rattle.lv_model.specs.declared.plant.Part.{Part}
 use Rattle.lv_model.specs.declared.plant.Variable.{Variable}
 use Rattle.lv_model.specs.Lists.{is_control}
-use Rattle.lv_phrase.specs.PhraseTree.{PhraseTree}
+use Rattle.lv_formula_text.specs.PhraseTree.{PhraseTree}
 use Rattle.lv_reader.specs.declared.code.ModelCode.{ModelCode}
 use Rattle.lv_reader.specs.declared.code.ModelCode.TheVariants.{UnknownName, NoFit, Misplaced, NotEnded, LimitPassed}
 use Rattle.lv_reader.specs.declared.statement.Statement.{Statement}

@@ -15,10 +15,10 @@ use Rattle.lv_model.specs.declared.plant.Domain.{Domain}
 use Rattle.lv_model.specs.declared.plant.ComponentType.{ComponentType}
 use Rattle.lv_model.specs.declared.plant.Part.{Part}
 use Rattle.lv_model.specs.declared.plant.Variable.{Variable}
-use Rattle.lv_phrase.specs.Resolving.{Names, resolved}
-use Rattle.lv_phrase.specs.PhraseTree.{PhraseTree}
-use Rattle.lv_phrase.specs.declared.resolver.NameFault.{NameFault}
-use Rattle.lv_phrase.specs.declared.resolver.NameFault.TheVariants as name_fault
+use Rattle.lv_formula_text.specs.Resolving.{Names, resolved}
+use Rattle.lv_formula_text.specs.PhraseTree.{PhraseTree}
+use Rattle.lv_formula_text.specs.declared.resolver.NameFault.{NameFault}
+use Rattle.lv_formula_text.specs.declared.resolver.NameFault.TheVariants as name_fault
 use Rattle.lv_reader.specs.declared.code.ModelCode.{ModelCode}
 use Rattle.lv_reader.specs.declared.code.ModelCode.TheVariants.{UnknownName, NoFit}
 use Rattle.lv_checker.specs.declared.draft.Draft.{Draft}

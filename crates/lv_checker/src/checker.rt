@@ -17,7 +17,7 @@ use crate::draft::{CheckFault, Draft, Entry, TypeDraft};
 use crate::faults::{judged, share_of};
 use crate::types::{add_inside, begun};
 use lv_base::{Name, Seq};
-use lv_directory::{NamedPlant, NamedType};
+use lv_model_draft::{NamedPlant, NamedType};
 use lv_formula::{Condition, Range};
 use lv_model::counts::{law_count, type_count};
 use lv_model::ranges::push_part;

@@ -6,12 +6,12 @@ use Rattle.lv_base.specs.declared.search.Pair.{Pair}
 use Rattle.lv_base.specs.declared.search.Candidate.{Candidate}
 use Rattle.lv_base.specs.Choices.{picks}
 use Rattle.lv_boxes.specs.Members.{ZoneValue}
-use Rattle.lv_walk.specs.declared.outcome.Outcome.TheVariants.{Settled}
-use Rattle.lv_walk.specs.Walk.{walk}
-use Rattle.lv_search.specs.Members.{ranked_members}
-use Rattle.lv_closing.specs.Explained.{AreExplained, last_if_full}
-use Rattle.lv_closing.specs.Laws.{HasReasonsInside}
-use Rattle.lv_closing.proofs.WalkLemmas.{search_explains}
+use Rattle.lv_search_walk.specs.declared.outcome.Outcome.TheVariants.{Settled}
+use Rattle.lv_search_walk.specs.Walk.{walk}
+use Rattle.lv_boxes.specs.RankedMembers.{ranked_members}
+use Rattle.lv_cert_writing.specs.Explained.{AreExplained, last_if_full}
+use Rattle.lv_cert_writing.specs.SplitLaws.{HasReasonsInside}
+use Rattle.lv_cert_writing.proofs.SplitWalkLemmas.{search_explains}
 use Rattle.lv_closing_tests.specs.Small.{small_slots, small_zone, second_of_first, first_three}
 
 abbrev suits : Candidate → Bool

@@ -6,7 +6,7 @@ ghost use Rattle.lv_closing_tests.specs.Small.{small_slots, small_zone, ranked_a
 use lv_base::{Conflict, Cost, Pair, Rank, Seq};
 use lv_boxes::{Grid, Zone};
 use lv_cert::{Evidence, Question};
-use lv_closing::{Split, close, last_if_full};
+use lv_cert_writing::{Split, close, last_if_full};
 use std::alloc::{AllocError, Global};
 use std::test::Fail;
 

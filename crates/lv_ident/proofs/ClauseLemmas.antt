@@ -14,12 +14,12 @@ use Rattle.lv_model.specs.declared.plant.Plant.{Plant}
 use Rattle.lv_model.specs.Lists.{move_counts}
 use Rattle.lv_compile.specs.Booleans.{Booleans, booleans_now, booleans_next, first_choice, bool_count}
 use Rattle.lv_compile.proofs.BooleanLemmas.{is_there, among_all}
-use Rattle.lv_steps.specs.Choices.{Choices}
-use Rattle.lv_steps.proofs.LiteralLemmas.{choice_in_range}
+use Rattle.lv_system.specs.Choices.{Choices}
+use Rattle.lv_system.proofs.LiteralLemmas.{choice_in_range}
 use Rattle.lv_meaning.specs.declared.facts.Observation.{Observation}
 use Rattle.lv_meaning.specs.declared.facts.Facts.{Facts}
-use Rattle.lv_meaning.specs.Facts.{now_facts}
-use Rattle.lv_ident.specs.Literals.{observed_literal, observed_literals, fact_literals, HasValue, FactsInRange, pair_literal, pair_literals, HasMove, plant_choices, IsPositive}
+use Rattle.lv_meaning.specs.Facts.{now_facts, HasValue, FactsInRange}
+use Rattle.lv_ident.specs.Literals.{observed_literal, observed_literals, fact_literals, pair_literal, pair_literals, HasMove, plant_choices, IsPositive}
 
 -- the booleans of an earlier part come before those of a later one
 earlier_first : (counts : List ℕ) (k j n : ℕ) → k < j → n < get_or counts k 0 → sum (take k counts) + n < sum (take j counts)

@@ -16,19 +16,19 @@ use Rattle.lv_model.specs.Meaning.{is_step}
 use Rattle.lv_compile.specs.Booleans.{Booleans, booleans_now, booleans_next, bool_count}
 use Rattle.lv_compile.specs.Laws.{literal_is_true, Encode, EncodeMoves, IsEncodedStep}
 use Rattle.lv_compile.proofs.BooleanLemmas.{is_there}
-use Rattle.lv_steps.specs.Choices.{Choices}
-use Rattle.lv_steps.specs.System.{SystemValue, IsSystemOf}
-use Rattle.lv_steps.specs.Encoding.{truth_in, encoded}
-use Rattle.lv_steps.specs.Laws.{IsWholeStep, IsModelOf}
-use Rattle.lv_steps.proofs.LiteralLemmas.{value_true, choice_true}
-use Rattle.lv_steps.proofs.SystemLemmas.{step_has_a_model}
+use Rattle.lv_system.specs.Choices.{Choices}
+use Rattle.lv_system.specs.System.{SystemValue, IsSystemOf}
+use Rattle.lv_system.specs.Encoding.{truth_in, encoded}
+use Rattle.lv_system.specs.Laws.{IsWholeStep, IsModelOf}
+use Rattle.lv_system.proofs.LiteralLemmas.{value_true, choice_true}
+use Rattle.lv_system.proofs.SystemLemmas.{step_has_a_model}
 use Rattle.lv_meaning.specs.declared.facts.Observation.{Observation}
 use Rattle.lv_meaning.specs.declared.facts.Facts.{Facts}
-use Rattle.lv_meaning.specs.Facts.{meets, now_facts, meets_facts}
+use Rattle.lv_meaning.specs.Facts.{meets, now_facts, meets_facts, HasValue, FactsInRange}
 use Rattle.lv_meaning.specs.Possible.{value, move_number, extends, is_possible}
-use Rattle.lv_laws.specs.Possible.{are_below, Witness}
-use Rattle.lv_laws.proofs.Possibility.{witnessed, possible}
-use Rattle.lv_ident.specs.Literals.{observed_literals, fact_literals, HasValue, FactsInRange, pair_literals, HasMove, plant_choices}
+use Rattle.lv_meaning.specs.PossibleLaws.{are_below, Witness}
+use Rattle.lv_meaning.proofs.Possibility.{witnessed, possible}
+use Rattle.lv_ident.specs.Literals.{observed_literals, fact_literals, pair_literals, HasMove, plant_choices}
 
 module _ (truth : ℕ → Bool) where
   -- what was observed is true exactly where the assignment agrees

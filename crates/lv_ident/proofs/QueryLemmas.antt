@@ -11,13 +11,13 @@ use Rattle.lv_model.specs.declared.state.TrackedState.{TrackedState}
 use Rattle.lv_meaning.specs.declared.facts.Facts.{Facts}
 use Rattle.lv_meaning.specs.Candidates.{candidates, is_possible_candidate}
 use Rattle.lv_meaning.specs.Diagnosis.{reason_of}
-use Rattle.lv_search.specs.Members.{ranked_members}
+use Rattle.lv_boxes.specs.RankedMembers.{ranked_members}
 use Rattle.lv_search.specs.Standing.{Standing, IsUnderWay, AreSame}
 use Rattle.lv_search.specs.Search.{SearchValue}
-use Rattle.lv_zones.specs.Moves.{move_slots, zones_from, is_full_choice}
+use Rattle.lv_search_zones.specs.Moves.{move_slots, zones_from, is_full_choice}
 use Rattle.lv_ident.specs.Trial.{TrialValue}
 use Rattle.lv_ident.specs.Query.{QueryValue, IsQueryOf, IsTriedBy}
-use Rattle.lv_zones.proofs.ZoneLemmas.{zones_have_candidates, candidates_are_full}
+use Rattle.lv_search_zones.proofs.ZoneLemmas.{zones_have_candidates, candidates_are_full}
 
 -- what holds of the meanings of one trial holds of the same meanings of another
 pub of_same_meaning : (P : (Candidate → Bool) → (Candidate → Bool) → (Candidate → List Pair) → Type 0) (plant : Plant) (facts : Facts) (t : TrialValue) → IsTriedBy plant facts t

@@ -16,14 +16,15 @@ use Rattle.lv_model.specs.WellFormed.{is_well_formed}
 use Rattle.lv_compile.specs.Booleans.{Booleans, booleans_next, first_choice, bool_count}
 use Rattle.lv_compile.specs.Laws.{IsEncodedStep}
 use Rattle.lv_sat.specs.Answers.{IsModel}
-use Rattle.lv_steps.specs.Choices.{Choices}
-use Rattle.lv_steps.specs.System.{SystemValue, IsSystemOf, choices_of}
-use Rattle.lv_steps.specs.Encoding.{truth_in}
-use Rattle.lv_steps.proofs.SystemLemmas.{model_is_a_step}
+use Rattle.lv_system.specs.Choices.{Choices}
+use Rattle.lv_system.specs.System.{SystemValue, IsSystemOf, choices_of}
+use Rattle.lv_system.specs.Encoding.{truth_in}
+use Rattle.lv_system.proofs.SystemLemmas.{model_is_a_step}
 use Rattle.lv_meaning.specs.declared.facts.Facts.{Facts}
 use Rattle.lv_meaning.specs.Possible.{is_possible}
-use Rattle.lv_laws.proofs.Possibility.{part_possible}
-use Rattle.lv_ident.specs.Literals.{fact_literals, FactsInRange, pair_literal, pair_literals, HasMove, plant_choices, marked_pairs, IsPositive, IsOnce}
+use Rattle.lv_meaning.proofs.Possibility.{part_possible}
+use Rattle.lv_ident.specs.Literals.{fact_literals, pair_literal, pair_literals, HasMove, plant_choices, marked_pairs, IsPositive, IsOnce}
+use Rattle.lv_meaning.specs.Facts.{FactsInRange}
 use Rattle.lv_ident.specs.Refutation.{HasModel, HasNoModel, marked_literals, Refutes}
 use Rattle.lv_ident.specs.Trial.{IsTrialOf}
 use Rattle.lv_ident.specs.Reducing.{IsPartial}

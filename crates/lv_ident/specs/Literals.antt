@@ -9,7 +9,7 @@ use Rattle.lv_clauses.specs.Marks.{Marks, is_marked}
 use Rattle.lv_model.specs.declared.plant.Plant.{Plant}
 use Rattle.lv_model.specs.Lists.{sizes, move_counts}
 use Rattle.lv_compile.specs.Booleans.{Booleans, value_literal, booleans_now, booleans_next, first_choice}
-use Rattle.lv_steps.specs.Choices.{Choices, choice_literal}
+use Rattle.lv_system.specs.Choices.{Choices, choice_literal}
 use Rattle.lv_meaning.specs.declared.facts.Observation.{Observation}
 use Rattle.lv_meaning.specs.declared.facts.Facts.{Facts}
 use Rattle.lv_meaning.specs.Facts.{now_facts}
@@ -24,15 +24,6 @@ observed_literals b os = map (observed_literal b) os
 -- what was commanded and seen before the step, then what was seen after it
 abbrev pub fact_literals : Plant → Facts → List Lit
 fact_literals plant facts = observed_literals (booleans_now plant) (now_facts plant facts) ++ observed_literals (booleans_next plant) facts.next
-
--- the observed value is one that the variable has
-pub record HasValue (sizes : List ℕ) (o : Observation) : Type 0 where
-  pub below : o.val.0 < slice_index_or sizes o.var.0 0
-
--- each fact speaks of a value that its variable has
-pub record FactsInRange (plant : Plant) (facts : Facts) : Type 0 where
-  pub now : All (HasValue (sizes plant)) (now_facts plant facts)
-  pub next : All (HasValue (sizes plant)) facts.next
 
 -- the pair's part makes the pair's move
 abbrev pub pair_literal : Choices → Pair → Lit

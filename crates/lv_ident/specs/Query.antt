@@ -6,7 +6,7 @@ use Rattle.lv_meaning.specs.declared.facts.Facts.{Facts}
 use Rattle.lv_meaning.specs.Candidates.{candidates, is_possible_candidate}
 use Rattle.lv_meaning.specs.Diagnosis.{reason_of}
 use Rattle.lv_search.specs.Standing.{Standing, all_suit, IsUnderWay}
-use Rattle.lv_zones.specs.Moves.{is_full_choice}
+use Rattle.lv_search_zones.specs.Moves.{is_full_choice}
 use Rattle.lv_ident.specs.Trial.{TrialValue}
 
 -- the plant, the facts, and where the search stands

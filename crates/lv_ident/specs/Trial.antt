@@ -6,10 +6,11 @@ use Rattle.lv_model.specs.declared.plant.Plant.{Plant}
 use Rattle.lv_model.specs.WellFormed.{is_well_formed}
 use Rattle.lv_compile.specs.Booleans.{first_choice}
 use Rattle.lv_sat.specs.Answers.{IsModel}
-use Rattle.lv_steps.specs.Choices.{Choices}
-use Rattle.lv_steps.specs.System.{SystemValue, IsSystemOf}
+use Rattle.lv_system.specs.Choices.{Choices}
+use Rattle.lv_system.specs.System.{SystemValue, IsSystemOf}
 use Rattle.lv_meaning.specs.declared.facts.Facts.{Facts}
-use Rattle.lv_ident.specs.Literals.{fact_literals, plant_choices, IsOnce, FactsInRange}
+use Rattle.lv_ident.specs.Literals.{fact_literals, plant_choices, IsOnce}
+use Rattle.lv_meaning.specs.Facts.{FactsInRange}
 
 -- the plant, and the facts that candidates are tried under
 pub record TrialValue : Type 0 where

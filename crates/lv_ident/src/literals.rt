@@ -4,9 +4,9 @@
 ghost use Rattle.std.specs.Prelude.{◌≡◌, ◌++◌, [], ◌∷◌, true, All, IfOk, if◌then◌else◌};
 ghost use Rattle.lv_clauses.specs.Marks.{marked};
 ghost use Rattle.lv_clauses.specs.Noted.{is_open};
-ghost use Rattle.lv_steps.specs.System.{IsSystemOf};
-ghost use Rattle.lv_meaning.specs.Facts.{FactsFit};
-ghost use Rattle.lv_ident.specs.Literals.{observed_literals, fact_literals, pair_literals, HasValue, FactsInRange, HasMove, IsPositive, IsOnce};
+ghost use Rattle.lv_system.specs.System.{IsSystemOf};
+ghost use Rattle.lv_meaning.specs.Facts.{FactsFit, HasValue, FactsInRange};
+ghost use Rattle.lv_ident.specs.Literals.{observed_literals, fact_literals, pair_literals, HasMove, IsPositive, IsOnce};
 
 use lv_base::{Lit, MoveId, Pair, PartId};
 use lv_clauses::Marks;
@@ -14,7 +14,7 @@ use lv_compile::value_bools::ValueBools;
 use lv_meaning::facts::before_the_step;
 use lv_meaning::{Facts, Observation};
 use lv_model::Model;
-use lv_steps::{ChoiceBools, Moment, StepSystem};
+use lv_system::{ChoiceBools, Moment, StepSystem};
 use std::alloc::{AllocError, Global};
 
 /// Adds what the observations say of the variables that have these booleans.

@@ -4,14 +4,13 @@
 ghost use Rattle.std.specs.Prelude.{◌≡◌, ◌+◌, ◌<◌, ◌≤◌, ◌^◌, [], true, List, All, IfOk, length};
 ghost use Rattle.lv_base.specs.declared.limits.TheConstants.{TRACKED};
 ghost use Rattle.lv_model.specs.declared.state.TrackedState.{TrackedState};
-ghost use Rattle.lv_steps.specs.System.{IsSystemOf};
-ghost use Rattle.lv_meaning.specs.Facts.{FactsFit};
+ghost use Rattle.lv_system.specs.System.{IsSystemOf};
+ghost use Rattle.lv_meaning.specs.Facts.{FactsFit, FactsInRange};
 ghost use Rattle.lv_meaning.specs.Candidates.{candidates, IsTracked};
 ghost use Rattle.lv_meaning.specs.Diagnosis.{diagnosis_walk};
 ghost use Rattle.lv_search.specs.Standing.{trials_of, all_suit};
-ghost use Rattle.lv_ident.specs.Literals.{FactsInRange};
 ghost use Rattle.lv_ident.specs.Query.{IsQueryOf};
-ghost use Rattle.lv_zones.specs.Moves.{is_full_choice};
+ghost use Rattle.lv_search_zones.specs.Moves.{is_full_choice};
 
 use crate::trial::IdentTrial;
 use lv_base::{Conflict, Rank, Seq};
@@ -19,8 +18,8 @@ use lv_meaning::Facts;
 use lv_model::{Model, TrackedState};
 use lv_sat::Effort;
 use lv_search::{By, Outcome, Search, Split};
-use lv_steps::StepSystem;
-use lv_zones::{move_grid, zones_of};
+use lv_system::StepSystem;
+use lv_search_zones::{move_grid, zones_of};
 use std::alloc::{AllocError, Global};
 use std::marker;
 

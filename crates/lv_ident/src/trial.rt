@@ -7,15 +7,15 @@ ghost use Rattle.lv_base.specs.Choices.{pairs_of};
 ghost use Rattle.lv_clauses.specs.Marks.{is_marked};
 ghost use Rattle.lv_model.specs.Lists.{move_counts};
 ghost use Rattle.std.specs.List.{sum};
-ghost use Rattle.lv_steps.specs.System.{IsSystemOf};
-ghost use Rattle.lv_walk.specs.Reason.{reduced};
-ghost use Rattle.lv_meaning.specs.Facts.{FactsFit};
+ghost use Rattle.lv_system.specs.System.{IsSystemOf};
+ghost use Rattle.lv_search_walk.specs.Reason.{reduced};
+ghost use Rattle.lv_meaning.specs.Facts.{FactsFit, FactsInRange};
 ghost use Rattle.lv_meaning.specs.Possible.{is_possible};
 ghost use Rattle.lv_meaning.specs.Candidates.{is_possible_candidate};
 ghost use Rattle.lv_meaning.specs.Diagnosis.{reason_of};
-ghost use Rattle.lv_ident.specs.Literals.{FactsInRange, HasMove, marked_pairs, pair_literal, plant_choices};
+ghost use Rattle.lv_ident.specs.Literals.{HasMove, marked_pairs, pair_literal, plant_choices};
 ghost use Rattle.lv_ident.specs.Reducing.{IsPartial, IsReducing};
-ghost use Rattle.lv_zones.specs.Moves.{is_full_choice};
+ghost use Rattle.lv_search_zones.specs.Moves.{is_full_choice};
 
 use crate::literals::{each_once, fact_literals, push_pairs};
 use crate::refutation::{Solutions, refute};
@@ -26,7 +26,7 @@ use lv_meaning::Facts;
 use lv_model::Model;
 use lv_sat::{Effort, Solver};
 use lv_search::{Trial, Tried};
-use lv_steps::{ChoiceBools, Moment, StepSystem};
+use lv_system::{ChoiceBools, Moment, StepSystem};
 use std::alloc::{AllocError, Global};
 use std::marker;
 
@@ -244,8 +244,8 @@ impl<'a> IdentTrial<'a> {
 impl Trial for IdentTrial<'_> {
     ghost use Rattle.std.proofs.Common.{refl};
     ghost use Rattle.lv_base.specs.Choices.{picks};
-    ghost use Rattle.lv_walk.proofs.ReasonLemmas.{part_of_all};
-    ghost use Rattle.lv_laws.proofs.Reasons.{own_pairs, reason_apart};
+    ghost use Rattle.lv_search_walk.proofs.ReasonLemmas.{part_of_all};
+    ghost use Rattle.lv_meaning.proofs.Reasons.{own_pairs, reason_apart};
 
     ghost suits = { λ t c. is_full_choice t.plant c };
 

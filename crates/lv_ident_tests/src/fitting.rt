@@ -3,8 +3,7 @@
 
 ghost use Rattle.std.specs.Prelude.{◌≡◌, true, nat_lt, slice_index_or, IfOk};
 ghost use Rattle.std.specs.List.{list_all};
-ghost use Rattle.lv_meaning.specs.Facts.{FactsFit};
-ghost use Rattle.lv_ident.specs.Literals.{FactsInRange};
+ghost use Rattle.lv_meaning.specs.Facts.{FactsFit, FactsInRange};
 
 use lv_meaning::facts::before_the_step;
 use lv_meaning::{Facts, Observation};

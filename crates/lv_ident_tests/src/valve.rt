@@ -4,12 +4,11 @@
 //! A function owns one value and hands it on by reference, so little is let go of at its exits.
 ghost use Rattle.std.specs.Prelude.{◌≡◌, ◌<◌, true, All, IfOk, length};
 ghost use Rattle.lv_model.specs.Lists.{move_counts};
-ghost use Rattle.lv_meaning.specs.Facts.{FactsFit};
+ghost use Rattle.lv_meaning.specs.Facts.{FactsFit, FactsInRange};
 ghost use Rattle.lv_meaning.specs.Candidates.{IsTracked};
 ghost use Rattle.lv_search.specs.Standing.{trials_of, all_suit};
-ghost use Rattle.lv_steps.specs.System.{IsSystemOf};
-ghost use Rattle.lv_ident.specs.Literals.{FactsInRange};
-ghost use Rattle.lv_zones.specs.Moves.{is_full_choice};
+ghost use Rattle.lv_system.specs.System.{IsSystemOf};
+ghost use Rattle.lv_search_zones.specs.Moves.{is_full_choice};
 
 use crate::fitting::{are_in_range, fit};
 use lv_base::{Conflict, Cost, Pair, Rank, Seq, ValId, VarId};
@@ -17,8 +16,8 @@ use lv_checker::model_of;
 use lv_ident::{IdentTrial, Query, identify};
 use lv_meaning::{Facts, Observation};
 use lv_model::{Model, Part, State, TrackedState};
-use lv_steps::{StepSystem, compile};
-use lv_walk::Outcome;
+use lv_system::{StepSystem, compile};
+use lv_search_walk::Outcome;
 use std::alloc::{AllocError, Global};
 
 /// A valve that follows its command or is stuck, with its inflow present.

@@ -14,8 +14,8 @@ use Rattle.lv_model.proofs.Sizes.{length-sizes}
 use Rattle.lv_compile.specs.Booleans.{Booleans, bool_count}
 use Rattle.lv_compile.specs.FormulaClauses.{Clauses}
 use Rattle.lv_compile.specs.ModelClauses.{model_clauses}
-use Rattle.lv_steps.specs.System.{SystemValue, IsSystemOf}
-use Rattle.lv_steps.specs.Numbering.{clause_of}
+use Rattle.lv_system.specs.System.{SystemValue, IsSystemOf}
+use Rattle.lv_system.specs.Numbering.{clause_of}
 use Rattle.lv_labels.specs.declared.values.Values.{Values}
 use Rattle.lv_labels.specs.Literals.{values_of, mode_variables}
 use Rattle.lv_labels.specs.Claims.{IsClaiming, IsKept, AreWithin, IsPresent, count_at, mark_of}

@@ -6,7 +6,7 @@ ghost use Rattle.std.specs.Option.{option_copied};
 ghost use Rattle.lv_base.specs.declared.ids.Lit.{Lit};
 ghost use Rattle.lv_compile.specs.FormulaClauses.{size_of};
 ghost use Rattle.lv_model.specs.declared.plant.Plant.{Plant};
-ghost use Rattle.lv_steps.specs.System.{IsSystemOf};
+ghost use Rattle.lv_system.specs.System.{IsSystemOf};
 ghost use Rattle.lv_labels.specs.Values.{booleans_at, literal_at};
 ghost use Rattle.lv_labels.specs.Literals.{value_at, state_literals};
 ghost use Rattle.lv_labels.specs.Finding.{labelling};
@@ -23,7 +23,7 @@ use lv_base::{ValId, VarId};
 use lv_ltms::Ltms;
 use lv_model::{Model, State};
 use lv_reply::Moment;
-use lv_steps::StepSystem;
+use lv_system::StepSystem;
 use std::alloc::{AllocError, Global};
 use std::marker;
 
@@ -58,8 +58,8 @@ impl FactLabels {
             ltms: ltms_of(alloc, set)?,
             counts: no_claims(alloc, set.bools())?,
             values: Values {
-                before: system.bools_at(lv_steps::Moment::Now).copied(alloc)?,
-                after: system.bools_at(lv_steps::Moment::Next).copied(alloc)?,
+                before: system.bools_at(lv_system::Moment::Now).copied(alloc)?,
+                after: system.bools_at(lv_system::Moment::Next).copied(alloc)?,
             },
             modes: mode_variables(alloc, model.plant())?,
         })

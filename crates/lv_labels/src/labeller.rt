@@ -7,7 +7,7 @@ ghost use Rattle.std.specs.Option.{option_copied};
 ghost use Rattle.lv_base.specs.declared.ids.Lit.{Lit};
 ghost use Rattle.lv_model.specs.declared.plant.Plant.{Plant};
 ghost use Rattle.lv_meaning.specs.Facts.{FactsFit};
-ghost use Rattle.lv_steps.specs.System.{IsSystemOf};
+ghost use Rattle.lv_system.specs.System.{IsSystemOf};
 ghost use Rattle.lv_labels.specs.Literals.{fact_literals, state_literals};
 ghost use Rattle.lv_labels.specs.Finding.{labelling};
 ghost use Rattle.lv_labels.specs.Claims.{IsClaiming};
@@ -19,7 +19,7 @@ use lv_meaning::facts::before_the_step;
 use lv_meaning::{Facts, Observation};
 use lv_model::{Model, State};
 use lv_reply::{Label, Moment};
-use lv_steps::StepSystem;
+use lv_system::StepSystem;
 use std::alloc::{AllocError, Global};
 use std::{marker, mem};
 

@@ -5,7 +5,7 @@ use lv_checker::model_of;
 use lv_labels::{FactLabels, Labelling};
 use lv_model::{Model, State};
 use lv_reply::{Label, Moment};
-use lv_steps::compile;
+use lv_system::compile;
 use std::alloc::{AllocError, Global};
 
 /// A valve that follows its command or is stuck, with its inflow present.

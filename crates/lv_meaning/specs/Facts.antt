@@ -1,11 +1,11 @@
 -- Facts, and what it is for assignments to meet them.
-use Rattle.std.specs.Prelude.{ℕ, ◌<◌, Bool, ◌&&◌, nat_eq, List, [], ◌∷◌, ◌++◌, length, All, ◌≡◌}
+use Rattle.std.specs.Prelude.{ℕ, ◌<◌, Bool, ◌&&◌, nat_eq, List, [], ◌∷◌, ◌++◌, length, All, ◌≡◌, slice_index_or}
 use Rattle.std.specs.List.{list_all}
 use Rattle.lv_base.specs.declared.ids.ValId.{ValId}
 use Rattle.lv_base.specs.declared.ids.VarId.{VarId}
 use Rattle.lv_formula.specs.Tree.{number_of}
 use Rattle.lv_model.specs.declared.plant.Plant.{Plant}
-use Rattle.lv_model.specs.Lists.{controls, variable_count}
+use Rattle.lv_model.specs.Lists.{controls, sizes, variable_count}
 use Rattle.lv_meaning.specs.declared.facts.Observation.{Observation}
 use Rattle.lv_meaning.specs.declared.facts.Facts.{Facts}
 
@@ -39,3 +39,12 @@ pub record FactsFit (plant : Plant) (facts : Facts) : Type 0 where
   pub controls : length facts.controls ≡ length (controls plant)
   pub present : All (IsInRange (variable_count plant)) facts.present
   pub next : All (IsInRange (variable_count plant)) facts.next
+
+-- the observed value is one that the variable has
+pub record HasValue (sizes : List ℕ) (o : Observation) : Type 0 where
+  pub below : o.val.0 < slice_index_or sizes o.var.0 0
+
+-- each fact speaks of a value that its variable has
+pub record FactsInRange (plant : Plant) (facts : Facts) : Type 0 where
+  pub now : All (HasValue (sizes plant)) (now_facts plant facts)
+  pub next : All (HasValue (sizes plant)) facts.next

@@ -3,3 +3,13 @@ pub mod Facts
 pub mod Possible
 pub mod Candidates
 pub mod Diagnosis
+pub mod PossibleLaws
+pub mod CandidateLaws
+pub mod DiagnosisLaws
+pub mod WorkedValve
+pub mod Recovers
+pub mod Commands
+pub mod Recovery
+pub mod Ranges
+pub mod RecoveryLaws
+pub mod WorkedRecovery

@@ -12,8 +12,6 @@
 //! | its laws | `laws` |
 #![tactic(auto)]
 
-mod check;
-mod count_checks;
 pub mod counts;
 pub mod laws;
 pub mod lookup;

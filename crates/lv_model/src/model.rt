@@ -1,14 +1,12 @@
 //! The model: a plant that is well formed, which its type keeps.
 #![tactic(auto)]
 
-ghost use Rattle.std.specs.Prelude.{◌≡◌, IfOk, IfSome, IsTrue, All, is_some, length, ◌≤◌};
+ghost use Rattle.std.specs.Prelude.{◌≡◌, IsTrue, All, length, ◌≤◌};
 ghost use Rattle.lv_base.specs.declared.limits.TheConstants.{PARTS, VARIABLES};
 ghost use Rattle.lv_model.specs.WellFormed.{is_well_formed, Reads, PartReads, PartEnds, TypeIsSmall};
 ghost use Rattle.lv_model.specs.Lists.{variable_count};
 
-use crate::check::is_in_range;
 use crate::plant::Plant;
-use std::alloc::{AllocError, Global};
 use std::marker;
 
 /// A plant that is well formed, seen by clauses as the plant.
@@ -34,19 +32,7 @@ impl marker::Model for Model {
 }
 
 impl Model {
-    /// The model of a plant, `None` exactly where the plant isn't well formed.
-    pub fn new(alloc: Global, plant: Plant) -> Result<Option<Model>, AllocError>
-        ensures made { IfOk result (λ made. IfSome made (λ m. m ≡ plant)) }
-        ensures tested { IfOk result (λ made. is_some made ≡ is_well_formed plant) }
-    {
-        if is_in_range(alloc, &plant)? {
-            Ok(Some(Model { plant }))
-        } else {
-            Ok(None)
-        }
-    }
-
-    /// The model of a plant that is known to be well formed. Takes no time.
+    /// The model of a plant that is known to be well formed.
     pub fn of_well_formed(plant: Plant) -> Model
         requires { IsTrue (is_well_formed plant) }
         ensures { result ≡ plant }

@@ -2,7 +2,7 @@
 
 ghost use Rattle.std.specs.Prelude.{◌<◌};
 
-use lv_names::FirstPlaces;
+use lv_model_draft::FirstPlaces;
 use std::test::Fail;
 
 /// A number as three digits.

@@ -1,6 +1,6 @@
 //! Formulas read, printed, refused and resolved, each public call with ample memory.
 
-use lv_phrase::{PhraseFault, print_phrase, read_phrase};
+use lv_formula_text::{PhraseFault, print_phrase, read_phrase};
 use lv_text::TokenLine;
 use std::alloc::Global;
 

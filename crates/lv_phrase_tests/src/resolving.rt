@@ -2,7 +2,7 @@
 
 use lv_base::{ValId, VarId};
 use lv_formula::Formula;
-use lv_phrase::{Path, ResolveFault, Scope, read_phrase, resolve};
+use lv_formula_text::{Path, ResolveFault, Scope, read_phrase, resolve};
 use lv_text::TokenLine;
 use std::alloc::Global;
 

@@ -2,8 +2,8 @@
 use Rattle.std.proofs.Common.{◌≡◌, ℕ, zero, suc, ◌+◌, List, [], ◌∷◌, length, drop, true, Option, Some, None, refl, sym, ◌∙◌, ap, ap₂, arith, codes}
 use Rattle.lv_base.specs.declared.names.Class.{Class}
 use Rattle.lv_text.specs.Lexemes.{Lexeme, says}
-use Rattle.lv_phrase.specs.PhraseTree.{PhraseTree}
-use Rattle.lv_phrase.proofs.GrammarLemmas.{formula_one}
+use Rattle.lv_formula_text.specs.PhraseTree.{PhraseTree}
+use Rattle.lv_formula_text.proofs.GrammarLemmas.{formula_one}
 use Rattle.lv_reader.specs.declared.keyword.Keyword.TheVariants.{StepWord}
 use Rattle.lv_reader.specs.declared.statement.Statement.{Statement}
 use Rattle.lv_reader.specs.declared.statement.Statement.TheVariants.{ModelLine, DomainLine, TypeLine, VariableLine, ModeLine, LawLine, InLine, StepLine, FaultLine, EndLine, PartLine, PriceLine}

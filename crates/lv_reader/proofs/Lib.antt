@@ -2,3 +2,13 @@ pub mod WordLists
 pub mod FormLemmas
 pub mod TextLemmas
 pub mod ReadingLemmas
+pub mod Writing
+pub mod Numerals
+pub mod Places
+pub mod Keywords
+pub mod Reprinting
+pub mod Forms
+pub mod Statements
+pub mod Lines
+pub mod Texts
+pub mod Lengths

@@ -5,3 +5,6 @@ pub mod Statements
 pub mod Lines
 pub mod Texts
 pub mod Laws
+pub mod CanonicalTokens
+pub mod CanonicalTexts
+pub mod PrintLaws

@@ -2,7 +2,7 @@
 use Rattle.std.specs.Prelude.{◌≡◌, List, Bool, true, false, ◌&&◌, length, nat_le, is_some, Some, None, codes}
 use Rattle.lv_base.specs.declared.limits.TheConstants.{LEAST_FAULT_COST, FAULT_COST, PRICE}
 use Rattle.lv_text.specs.Lexemes.{Lexeme, word_at, says}
-use Rattle.lv_phrase.specs.Nesting.{is_too_deep}
+use Rattle.lv_formula_text.specs.Nesting.{is_too_deep}
 use Rattle.lv_reader.specs.declared.code.ModelCode.{ModelCode}
 use Rattle.lv_reader.specs.declared.code.ModelCode.TheVariants as code
 use Rattle.lv_reader.specs.declared.keyword.Keyword.{Keyword}

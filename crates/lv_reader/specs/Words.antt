@@ -5,8 +5,8 @@ use Rattle.lv_base.specs.Names.{is_named}
 use Rattle.lv_text.specs.declared.lexer.TokenKind.{TokenKind}
 use Rattle.lv_text.specs.declared.lexer.TokenKind.TheVariants.{Arrow, Equals, Dot}
 use Rattle.lv_text.specs.Lexemes.{Lexeme, word_of, kind_at, word_at, number_at, is_number, says}
-use Rattle.lv_phrase.specs.PhraseTree.{PhraseTree}
-use Rattle.lv_phrase.specs.Grammar.{IsFormula}
+use Rattle.lv_formula_text.specs.PhraseTree.{PhraseTree}
+use Rattle.lv_formula_text.specs.Grammar.{IsFormula}
 use Rattle.lv_reader.specs.declared.words.TheConstants.{OVER_EVERY_LIMIT}
 use Rattle.lv_reader.specs.declared.words.NameAndNames.{NameAndNames}
 use Rattle.lv_reader.specs.declared.words.TwoNames.{TwoNames}

@@ -2,7 +2,7 @@
 #![tactic(auto)]
 
 ghost use Rattle.std.specs.Prelude.{◌≡◌, IfOk, IfErr, Some, false};
-ghost use Rattle.lv_phrase.specs.Nesting.{is_too_deep};
+ghost use Rattle.lv_formula_text.specs.Nesting.{is_too_deep};
 ghost use Rattle.lv_reader.specs.declared.fault.FormFault.TheVariants.{Form};
 ghost use Rattle.lv_reader.specs.Keywords.{keyword_of};
 ghost use Rattle.lv_reader.specs.Statements.{HasForm, HasNoForm, IsStatement};
@@ -18,7 +18,7 @@ use crate::words::{
     priced_names, three_names, two_names,
 };
 use lv_base::Class;
-use lv_phrase::is_too_deep;
+use lv_formula_text::is_too_deep;
 use lv_text::TokenLine;
 use std::alloc::Global;
 

@@ -6,7 +6,7 @@ ghost use Rattle.lv_reader.specs.Statements.{number_fits};
 
 use lv_base::limits::{FAULT_COST, LEAST_FAULT_COST, PRICE};
 use lv_base::{Class, Name, Seq};
-use lv_phrase::Phrase;
+use lv_formula_text::Phrase;
 
 /// A statement: one line of a model's text.
 #[derive(Debug, Drop)]

@@ -3,14 +3,14 @@
 
 ghost use Rattle.std.specs.Prelude.{◌≡◌, IfOk, Some, None, false, drop};
 ghost use Rattle.lv_base.specs.Names.{is_named};
-ghost use Rattle.lv_phrase.specs.Nesting.{is_too_deep};
+ghost use Rattle.lv_formula_text.specs.Nesting.{is_too_deep};
 ghost use Rattle.lv_text.specs.Lexemes.{word_at, is_number};
 ghost use Rattle.lv_reader.specs.declared.fault.FormFault.TheVariants.{Form};
 ghost use Rattle.lv_reader.specs.Words.{is_arrow, is_equals, is_dot, has_kind_at, is_reserved, free_word_at, words_of, capped, numeral_at, only_name, name_and_names, two_names, three_names, both_ends, priced_names, EndsInFormula, EndsInNone, HasGuard, HasNoGuard};
 
 use crate::fault::FormFault;
 use lv_base::{Name, Seq};
-use lv_phrase::{Phrase, PhraseFault, read_phrase};
+use lv_formula_text::{Phrase, PhraseFault, read_phrase};
 use lv_text::{TokenKind, TokenLine};
 use std::alloc::Global;
 

@@ -25,13 +25,13 @@ use Rattle.lv_meaning.specs.Possible.{value, move_number}
 use Rattle.lv_compile.specs.Booleans.{booleans_now}
 use Rattle.lv_compile.specs.Laws.{Encode, IsEncodedStep}
 use Rattle.lv_compile.specs.Laws as compiled
-use Rattle.lv_laws.specs.Possible.{are_below}
-use Rattle.lv_steps.specs.Encoding.{truth_in, encoded}
-use Rattle.lv_steps.specs.Laws.{IsAssignment, IsFullChoice}
-use Rattle.lv_steps.proofs.EncodingLemmas.{length-encoded, encodes_now, encodes_next, encodes_moves}
-use Rattle.lv_recovery.specs.Recovers.{has_modes, has_controls, some_nominal_step}
-use Rattle.lv_recovery.specs.Laws.{NominalStep}
-use Rattle.lv_recovery.proofs.NominalSteps.{StepFound, step_found, found_step}
+use Rattle.lv_meaning.specs.PossibleLaws.{are_below}
+use Rattle.lv_system.specs.Encoding.{truth_in, encoded}
+use Rattle.lv_system.specs.Laws.{IsAssignment, IsFullChoice}
+use Rattle.lv_system.proofs.EncodingLemmas.{length-encoded, encodes_now, encodes_next, encodes_moves}
+use Rattle.lv_meaning.specs.Recovers.{has_modes, has_controls, some_nominal_step}
+use Rattle.lv_meaning.specs.RecoveryLaws.{NominalStep}
+use Rattle.lv_meaning.proofs.NominalSteps.{StepFound, step_found, found_step}
 use Rattle.lv_reconf.specs.Narrowing.{Encodes, Asks}
 use Rattle.lv_ident.specs.Refutation.{Refutes}
 use Rattle.lv_reconf.specs.Assuming.{Assumes, MarkedHold, marked_controls}

@@ -20,12 +20,12 @@ use Rattle.lv_model.specs.Lists.{sizes, controls}
 use Rattle.lv_compile.specs.Booleans.{booleans_now, value_literal, bool_count}
 use Rattle.lv_compile.specs.FormulaClauses.{size_of}
 use Rattle.lv_compile.proofs.BooleanLemmas.{is_there}
-use Rattle.lv_search.proofs.MemberLemmas.{one_test}
-use Rattle.lv_steps.specs.Encoding.{truth_in}
-use Rattle.lv_steps.proofs.LiteralLemmas.{value_true}
-use Rattle.lv_recovery.specs.Commands.{control_sizes}
-use Rattle.lv_recovery.specs.Ranges.{modes_fit}
-use Rattle.lv_recovery.specs.Recovers.{has_modes, has_control, has_controls}
+use Rattle.lv_boxes.proofs.RankedMemberLemmas.{one_test}
+use Rattle.lv_system.specs.Encoding.{truth_in}
+use Rattle.lv_system.proofs.LiteralLemmas.{value_true}
+use Rattle.lv_meaning.specs.Commands.{control_sizes}
+use Rattle.lv_meaning.specs.Ranges.{modes_fit}
+use Rattle.lv_meaning.specs.Recovers.{has_modes, has_control, has_controls}
 use Rattle.lv_reconf.specs.Assuming.{AreAssumed, HasMore, AssumesSoFar, Assumes, pair_fits}
 use Rattle.lv_reconf.proofs.NarrowingLemmas.{and_true, and_in_turn, value_has_bool}
 

@@ -22,15 +22,15 @@ use Rattle.lv_compile.specs.FormulaClauses.{formula_clauses, speaks_of}
 use Rattle.lv_compile.specs.Cleaning.{cleaned}
 use Rattle.lv_compile.specs.ModelClauses.{model_clauses}
 use Rattle.lv_compile.proofs.StepLemmas.{step_exact}
-use Rattle.lv_search.proofs.MemberLemmas.{one_test}
-use Rattle.lv_steps.specs.Encoding.{truth_in}
-use Rattle.lv_steps.specs.Numbering.{IsOver}
-use Rattle.lv_steps.specs.Goals.{goal_clauses}
-use Rattle.lv_steps.proofs.GoalLemmas.{goals_exact}
-use Rattle.lv_steps.specs.System.{SystemValue, IsSystemOf}
-use Rattle.lv_steps.proofs.NumberingLemmas.{numbered_hold, all_present_hold}
-use Rattle.lv_steps.proofs.SystemLemmas.{model_is_a_step}
-use Rattle.lv_recovery.specs.Recovers.{meets_goals}
+use Rattle.lv_boxes.proofs.RankedMemberLemmas.{one_test}
+use Rattle.lv_system.specs.Encoding.{truth_in}
+use Rattle.lv_system.specs.Numbering.{IsOver}
+use Rattle.lv_system.specs.Goals.{goal_clauses}
+use Rattle.lv_system.proofs.GoalLemmas.{goals_exact}
+use Rattle.lv_system.specs.System.{SystemValue, IsSystemOf}
+use Rattle.lv_system.proofs.NumberingLemmas.{numbered_hold, all_present_hold}
+use Rattle.lv_system.proofs.SystemLemmas.{model_is_a_step}
+use Rattle.lv_meaning.specs.Recovers.{meets_goals}
 use Rattle.lv_reconf.specs.Compiling.{SayGoal}
 use Rattle.lv_reconf.specs.Narrowing.{Encodes, Adds, Narrows, NarrowsSoFar, Asks}
 use Rattle.lv_reconf.proofs.NarrowingLemmas.{narrows_by, adds_narrow}

@@ -12,11 +12,11 @@ use Rattle.lv_base.specs.Choices.{pairs_from, pairs_of}
 use Rattle.lv_model.specs.declared.plant.Plant.{Plant}
 use Rattle.lv_model.specs.declared.state.TrackedState.{TrackedState}
 use Rattle.lv_model.specs.Lists.{sizes, controls}
-use Rattle.lv_walk.specs.Reason.{reduced}
-use Rattle.lv_recovery.specs.declared.aim.Aim.{Aim}
-use Rattle.lv_recovery.specs.Recovers.{reaches, can_miss}
-use Rattle.lv_recovery.specs.Commands.{control_sizes, is_command_set}
-use Rattle.lv_recovery.specs.Recovery.{reason_from, command_reason}
+use Rattle.lv_search_walk.specs.Reason.{reduced}
+use Rattle.lv_meaning.specs.declared.aim.Aim.{Aim}
+use Rattle.lv_meaning.specs.Recovers.{reaches, can_miss}
+use Rattle.lv_meaning.specs.Commands.{control_sizes, is_command_set}
+use Rattle.lv_meaning.specs.Recovery.{reason_from, command_reason}
 use Rattle.lv_reconf.specs.declared.judged.Judged.TheVariants.{Recovers, Misses, Stops}
 use Rattle.lv_reconf.specs.Assuming.{pairs_fit}
 use Rattle.lv_reconf.specs.Judging.{Judges}

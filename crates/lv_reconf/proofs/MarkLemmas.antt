@@ -13,9 +13,9 @@ use Rattle.lv_model.specs.declared.plant.Plant.{Plant}
 use Rattle.lv_model.specs.Lists.{controls}
 use Rattle.lv_compile.specs.Booleans.{booleans_now}
 use Rattle.lv_compile.specs.Laws.{Encode}
-use Rattle.lv_steps.specs.Encoding.{truth_in}
-use Rattle.lv_steps.proofs.LiteralLemmas.{value_true}
-use Rattle.lv_recovery.specs.Recovers.{has_modes, has_control, has_controls}
+use Rattle.lv_system.specs.Encoding.{truth_in}
+use Rattle.lv_system.proofs.LiteralLemmas.{value_true}
+use Rattle.lv_meaning.specs.Recovers.{has_modes, has_control, has_controls}
 use Rattle.lv_reconf.specs.Assuming.{AddsOne, AddsControls, MarkedHold, Assumes, control_literal, marked_controls, pair_fits, pairs_fit}
 use Rattle.lv_reconf.proofs.AssumingLemmas.{control_at, slot_there, value_there}
 

@@ -6,11 +6,11 @@ use Rattle.lv_formula.specs.Tree.{Tree, truth_of}
 use Rattle.lv_model.specs.declared.plant.Plant.{Plant}
 use Rattle.lv_model.specs.declared.state.TrackedState.{TrackedState}
 use Rattle.lv_meaning.specs.Possible.{value}
-use Rattle.lv_laws.proofs.Among.{Among, all_among}
-use Rattle.lv_search.proofs.MemberLemmas.{one_test}
-use Rattle.lv_recovery.specs.declared.aim.Aim.{Aim}
-use Rattle.lv_recovery.specs.Recovers.{meets_goals, can_miss}
-use Rattle.lv_recovery.proofs.NominalSteps.{StepFound, step_found, found_step, denied}
+use Rattle.lv_meaning.proofs.Among.{Among, all_among}
+use Rattle.lv_boxes.proofs.RankedMemberLemmas.{one_test}
+use Rattle.lv_meaning.specs.declared.aim.Aim.{Aim}
+use Rattle.lv_meaning.specs.Recovers.{meets_goals, can_miss}
+use Rattle.lv_meaning.proofs.NominalSteps.{StepFound, step_found, found_step, denied}
 use Rattle.lv_reconf.specs.Trying.{misses_goal, some_missed, some_can_miss}
 
 -- an item that passes

@@ -25,11 +25,11 @@ use Rattle.lv_compile.specs.FormulaClauses.{size_of}
 use Rattle.lv_compile.specs.Laws.{move_number}
 use Rattle.lv_meaning.specs.declared.facts.Observation.{Observation}
 use Rattle.lv_meaning.specs.Facts.{agrees, meets}
-use Rattle.lv_search.proofs.MemberLemmas.{one_test}
-use Rattle.lv_steps.specs.Choices.{choice_literal}
-use Rattle.lv_steps.specs.Encoding.{truth_in}
-use Rattle.lv_steps.proofs.NumberingLemmas.{all_present_hold}
-use Rattle.lv_steps.proofs.LiteralLemmas.{value_true, choice_false}
+use Rattle.lv_boxes.proofs.RankedMemberLemmas.{one_test}
+use Rattle.lv_system.specs.Choices.{choice_literal}
+use Rattle.lv_system.specs.Encoding.{truth_in}
+use Rattle.lv_system.proofs.NumberingLemmas.{all_present_hold}
+use Rattle.lv_system.proofs.LiteralLemmas.{value_true, choice_false}
 use Rattle.lv_reconf.specs.Narrowing.{Encodes, choices_of_plant, Fact, Adds, NarrowsSoFar, Narrows, no_fault_from}
 
 pub and_true : (b : Bool) → (b && true) ≡ b

@@ -8,17 +8,17 @@ use Rattle.lv_base.specs.declared.search.Candidate.{Candidate}
 use Rattle.lv_boxes.specs.Members.{ZoneValue}
 use Rattle.lv_model.specs.declared.plant.Plant.{Plant}
 use Rattle.lv_model.specs.WellFormed.{is_well_formed}
-use Rattle.lv_recovery.specs.declared.aim.Aim.{Aim}
-use Rattle.lv_recovery.specs.Commands.{command_sets}
-use Rattle.lv_recovery.specs.Recovery.{candidate_recovers, candidate_reason}
-use Rattle.lv_search.specs.Members.{ranked_members}
+use Rattle.lv_meaning.specs.declared.aim.Aim.{Aim}
+use Rattle.lv_meaning.specs.Commands.{command_sets}
+use Rattle.lv_meaning.specs.Recovery.{candidate_recovers, candidate_reason}
+use Rattle.lv_boxes.specs.RankedMembers.{ranked_members}
 use Rattle.lv_search.specs.Standing.{Standing, IsUnderWay}
 use Rattle.lv_search.specs.Search.{SearchValue}
-use Rattle.lv_zones.specs.Commands.{control_slots, command_zone}
+use Rattle.lv_search_zones.specs.Commands.{control_slots, command_zone}
 use Rattle.lv_reconf.specs.Judging.{candidate_commands}
 use Rattle.lv_reconf.specs.Query.{IsQuery}
 use Rattle.lv_reconf.specs.Trying.{Question, asking}
-use Rattle.lv_zones.proofs.CommandLemmas.{zone_has_sets, sets_suit}
+use Rattle.lv_search_zones.proofs.CommandLemmas.{zone_has_sets, sets_suit}
 
 abbrev start : List Rank → Standing
 start entries = record { k = 1; listed = []; kept = []; left = entries }

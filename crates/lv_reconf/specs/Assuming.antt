@@ -10,9 +10,9 @@ use Rattle.lv_model.specs.declared.plant.Plant.{Plant}
 use Rattle.lv_model.specs.Lists.{controls}
 use Rattle.lv_compile.specs.Booleans.{value_literal, booleans_now, bool_count}
 use Rattle.lv_compile.specs.Laws.{Encode}
-use Rattle.lv_steps.specs.Encoding.{truth_in}
-use Rattle.lv_recovery.specs.Commands.{control_sizes}
-use Rattle.lv_recovery.specs.Recovers.{has_modes, has_controls}
+use Rattle.lv_system.specs.Encoding.{truth_in}
+use Rattle.lv_meaning.specs.Commands.{control_sizes}
+use Rattle.lv_meaning.specs.Recovers.{has_modes, has_controls}
 
 -- they are of distinct booleans in range, and none is negative
 pub record AreAssumed (bools : ℕ) (lits : List Lit) : Type 0 where

@@ -8,10 +8,10 @@ use Rattle.lv_formula.specs.Tree.{Tree, truth_of}
 use Rattle.lv_model.specs.declared.plant.Plant.{Plant}
 use Rattle.lv_compile.specs.Booleans.{Booleans, booleans_now, booleans_next, bool_count}
 use Rattle.lv_compile.specs.Laws.{Encode}
-use Rattle.lv_steps.specs.Choices.{Choices}
-use Rattle.lv_steps.specs.Encoding.{truth_in}
-use Rattle.lv_steps.specs.Numbering.{IsOver}
-use Rattle.lv_steps.specs.System.{SystemValue, IsSystemOf}
+use Rattle.lv_system.specs.Choices.{Choices}
+use Rattle.lv_system.specs.Encoding.{truth_in}
+use Rattle.lv_system.specs.Numbering.{IsOver}
+use Rattle.lv_system.specs.System.{SystemValue, IsSystemOf}
 use Rattle.lv_reconf.specs.Narrowing.{choices_of_plant}
 
 -- the booleans are the plant's, which has a system

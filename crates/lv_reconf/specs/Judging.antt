@@ -3,11 +3,11 @@ use Rattle.std.specs.Prelude.{◌≡◌, ℕ, Bool, true, false, List, []}
 use Rattle.lv_base.specs.declared.search.Candidate.{Candidate}
 use Rattle.lv_base.specs.Choices.{pairs_of}
 use Rattle.lv_model.specs.declared.plant.Plant.{Plant}
-use Rattle.lv_walk.specs.Reason.{reduced}
-use Rattle.lv_recovery.specs.declared.aim.Aim.{Aim}
-use Rattle.lv_recovery.specs.Recovers.{recovers}
-use Rattle.lv_recovery.specs.Commands.{is_command_set}
-use Rattle.lv_recovery.specs.Recovery.{command_reason}
+use Rattle.lv_search_walk.specs.Reason.{reduced}
+use Rattle.lv_meaning.specs.declared.aim.Aim.{Aim}
+use Rattle.lv_meaning.specs.Recovers.{recovers}
+use Rattle.lv_meaning.specs.Commands.{is_command_set}
+use Rattle.lv_meaning.specs.Recovery.{command_reason}
 use Rattle.lv_reconf.specs.declared.judged.Judged.{Judged}
 use Rattle.lv_reconf.specs.declared.judged.Judged.TheVariants.{Recovers, Misses, Stops}
 use Rattle.lv_reconf.specs.Trying.{looking_at, reaches_at}

@@ -6,10 +6,10 @@ use Rattle.lv_base.specs.declared.search.Pair.{Pair}
 use Rattle.lv_model.specs.declared.plant.Plant.{Plant}
 use Rattle.lv_base.specs.declared.search.Candidate.{Candidate}
 use Rattle.lv_base.specs.Choices.{contains_all}
-use Rattle.lv_recovery.specs.declared.aim.Aim.{Aim}
-use Rattle.lv_recovery.specs.Commands.{is_command_set}
-use Rattle.lv_recovery.specs.Recovery.{candidate_recovers, candidate_reason}
-use Rattle.lv_recovery.proofs.CommandReasons.{reason_is_inside, reason_is_apart}
+use Rattle.lv_meaning.specs.declared.aim.Aim.{Aim}
+use Rattle.lv_meaning.specs.Commands.{is_command_set}
+use Rattle.lv_meaning.specs.Recovery.{candidate_recovers, candidate_reason}
+use Rattle.lv_meaning.proofs.CommandReasons.{reason_is_inside, reason_is_apart}
 use Rattle.lv_reconf.specs.Assuming.{pair_fits, pairs_fit}
 
 pub fewer_fit : (plant : Plant) (front : List Pair) (p : Pair) (back : List Pair) → pairs_fit plant (front ++ p ∷ back) ≡ true → pairs_fit plant (front ++ back) ≡ true

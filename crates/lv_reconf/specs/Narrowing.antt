@@ -14,8 +14,8 @@ use Rattle.lv_compile.specs.Booleans.{booleans_now, booleans_next, first_choice,
 use Rattle.lv_compile.specs.Laws.{Encode, EncodeMoves, IsEncodedStep}
 use Rattle.lv_meaning.specs.declared.facts.Observation.{Observation}
 use Rattle.lv_meaning.specs.Facts.{meets}
-use Rattle.lv_steps.specs.Choices.{Choices}
-use Rattle.lv_steps.specs.Encoding.{truth_in}
+use Rattle.lv_system.specs.Choices.{Choices}
+use Rattle.lv_system.specs.Encoding.{truth_in}
 
 -- the truth values encode these assignments before and after a step and this full choice
 pub record Encodes (plant : Plant) (values : List Bool) (a b : List ValId) (ms : List MoveId) : Type 0 where

@@ -1,9 +1,9 @@
 -- A query as contracts see it, and which walk it is on.
 use Rattle.std.specs.Prelude.{◌≡◌, true}
 use Rattle.lv_model.specs.declared.plant.Plant.{Plant}
-use Rattle.lv_recovery.specs.declared.aim.Aim.{Aim}
-use Rattle.lv_recovery.specs.Commands.{command_sets}
-use Rattle.lv_recovery.specs.Recovery.{candidate_recovers, candidate_reason}
+use Rattle.lv_meaning.specs.declared.aim.Aim.{Aim}
+use Rattle.lv_meaning.specs.Commands.{command_sets}
+use Rattle.lv_meaning.specs.Recovery.{candidate_recovers, candidate_reason}
 use Rattle.lv_search.specs.Standing.{Standing, all_suit, IsUnderWay}
 use Rattle.lv_reconf.specs.Judging.{candidate_commands}
 

@@ -10,9 +10,9 @@ use Rattle.lv_model.specs.declared.plant.Plant.{Plant}
 use Rattle.lv_model.specs.declared.state.TrackedState.{TrackedState}
 use Rattle.lv_model.specs.Lists.{controls}
 use Rattle.lv_meaning.specs.declared.facts.Observation.{Observation}
-use Rattle.lv_recovery.specs.declared.aim.Aim.{Aim}
-use Rattle.lv_recovery.specs.Recovers.{some_nominal_step, reaches, can_miss}
-use Rattle.lv_recovery.specs.Ranges.{AimFits}
+use Rattle.lv_meaning.specs.declared.aim.Aim.{Aim}
+use Rattle.lv_meaning.specs.Recovers.{some_nominal_step, reaches, can_miss}
+use Rattle.lv_meaning.specs.Ranges.{AimFits}
 use Rattle.lv_reconf.specs.Narrowing.{Asks}
 
 -- the plant, the aim, and the place of the tracked state that is looked at

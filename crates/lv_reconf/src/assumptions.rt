@@ -9,8 +9,8 @@ ghost use Rattle.lv_compile.specs.FormulaClauses.{size_of};
 ghost use Rattle.lv_formula.specs.Tree.{number_of};
 ghost use Rattle.lv_model.specs.Lists.{controls};
 ghost use Rattle.lv_model.specs.Ranges.{plant_ranges};
-ghost use Rattle.lv_recovery.specs.Ranges.{modes_fit};
-ghost use Rattle.lv_recovery.specs.Recovers.{has_modes, has_control, has_controls};
+ghost use Rattle.lv_meaning.specs.Ranges.{modes_fit};
+ghost use Rattle.lv_meaning.specs.Recovers.{has_modes, has_control, has_controls};
 ghost use Rattle.lv_reconf.specs.Assuming.{AddsControls, AddsOne, AreAssumed, Assumes, HasMore, MarkedHold, control_literal, pair_fits, pairs_fit};
 
 use super::compiled::Compiled;

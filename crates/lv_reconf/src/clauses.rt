@@ -8,9 +8,9 @@ ghost use Rattle.lv_compile.specs.Laws.{move_number};
 ghost use Rattle.lv_meaning.specs.Facts.{agrees, meets};
 ghost use Rattle.lv_model.specs.Lists.{move_counts};
 ghost use Rattle.lv_model.specs.Meaning.{is_nominal, is_no_fault};
-ghost use Rattle.lv_recovery.specs.Ranges.{ObservationFits};
+ghost use Rattle.lv_meaning.specs.Ranges.{ObservationFits};
 ghost use Rattle.lv_reconf.specs.Narrowing.{Adds, Narrows, no_fault_from};
-ghost use Rattle.lv_steps.specs.Numbering.{IsOver};
+ghost use Rattle.lv_system.specs.Numbering.{IsOver};
 
 use super::compiled::Compiled;
 use lv_base::{Lit, MoveId, PartId, Seq};

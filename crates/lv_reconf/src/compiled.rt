@@ -5,9 +5,9 @@ ghost use Rattle.std.specs.Prelude.{◌≡◌, ◌<◌, true, false, IfOk, slice
 ghost use Rattle.lv_compile.specs.Booleans.{value_literal, booleans_now};
 ghost use Rattle.lv_compile.specs.FormulaClauses.{size_of};
 ghost use Rattle.lv_model.specs.Lists.{move_counts};
-ghost use Rattle.lv_recovery.specs.Ranges.{GoalFits};
-ghost use Rattle.lv_steps.specs.Choices.{choice_literal};
-ghost use Rattle.lv_steps.specs.System.{IsSystemOf};
+ghost use Rattle.lv_meaning.specs.Ranges.{GoalFits};
+ghost use Rattle.lv_system.specs.Choices.{choice_literal};
+ghost use Rattle.lv_system.specs.System.{IsSystemOf};
 ghost use Rattle.lv_reconf.specs.Compiling.{SayGoal};
 ghost use Rattle.lv_reconf.specs.Narrowing.{choices_of_plant};
 
@@ -17,7 +17,7 @@ use lv_compile::formula::formula_clauses;
 use lv_compile::value_bools::ValueBools;
 use lv_formula::Condition;
 use lv_model::Model;
-use lv_steps::{ChoiceBools, Moment, StepSystem};
+use lv_system::{ChoiceBools, Moment, StepSystem};
 use std::alloc::{AllocError, Global};
 use std::marker;
 

@@ -7,9 +7,9 @@ ghost use Rattle.lv_clauses.specs.Literals.{same_truth};
 ghost use Rattle.lv_compile.specs.Booleans.{bool_count};
 ghost use Rattle.lv_formula.specs.Tree.{truth_of};
 ghost use Rattle.lv_meaning.specs.declared.facts.Observation.{Observation};
-ghost use Rattle.lv_recovery.specs.Ranges.{ObservationFits, GoalFits};
-ghost use Rattle.lv_recovery.specs.Recovers.{meets_goals};
-ghost use Rattle.lv_steps.specs.System.{IsSystemOf};
+ghost use Rattle.lv_meaning.specs.Ranges.{ObservationFits, GoalFits};
+ghost use Rattle.lv_meaning.specs.Recovers.{meets_goals};
+ghost use Rattle.lv_system.specs.System.{IsSystemOf};
 ghost use Rattle.lv_reconf.specs.Narrowing.{Narrows, Asks};
 
 use super::clauses::{add_all, exclude_faults, observe};
@@ -17,7 +17,7 @@ use super::compiled::Compiled;
 use lv_formula::Condition;
 use lv_meaning::Observation;
 use lv_sat::Solver;
-use lv_steps::StepSystem;
+use lv_system::StepSystem;
 use std::alloc::{AllocError, Global};
 
 /// Nominal steps that meet the observations, whatever they end with.

@@ -2,11 +2,11 @@
 #![tactic(auto)]
 
 ghost use Rattle.std.specs.Prelude.{◌≡◌, ◌+◌, ◌<◌, ◌≤◌, ◌^◌, [], true, IfOk};
-ghost use Rattle.lv_steps.specs.System.{IsSystemOf};
+ghost use Rattle.lv_system.specs.System.{IsSystemOf};
 ghost use Rattle.lv_search.specs.Standing.{trials_of, all_suit};
-ghost use Rattle.lv_recovery.specs.Commands.{command_sets};
-ghost use Rattle.lv_recovery.specs.Ranges.{AimFits};
-ghost use Rattle.lv_recovery.specs.Recovery.{recovery_walk};
+ghost use Rattle.lv_meaning.specs.Commands.{command_sets};
+ghost use Rattle.lv_meaning.specs.Ranges.{AimFits};
+ghost use Rattle.lv_meaning.specs.Recovery.{recovery_walk};
 ghost use Rattle.lv_reconf.specs.Judging.{candidate_commands};
 ghost use Rattle.lv_reconf.specs.Query.{IsQuery};
 
@@ -14,10 +14,10 @@ use super::setting::Setting;
 use super::trial::ReconfTrial;
 use lv_base::{Conflict, Rank};
 use lv_model::Model;
-use lv_recovery::Aim;
+use lv_meaning::Aim;
 use lv_search::{Outcome, Search};
-use lv_steps::StepSystem;
-use lv_zones::{command_grid, command_zone};
+use lv_system::StepSystem;
+use lv_search_zones::{command_grid, command_zone};
 use std::alloc::{AllocError, Global};
 use std::marker;
 

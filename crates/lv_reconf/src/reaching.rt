@@ -4,8 +4,8 @@
 ghost use Rattle.std.specs.Prelude.{◌≡◌, ◌+◌, ◌<◌, ◌≤◌, ◌++◌, [], Bool, true, length, drop, IfOk};
 ghost use Rattle.std.specs.List.{prefix_len};
 ghost use Rattle.lv_model.specs.declared.state.TrackedState.{TrackedState};
-ghost use Rattle.lv_recovery.specs.Recovers.{reaches};
-ghost use Rattle.lv_walk.specs.Reason.{reduced};
+ghost use Rattle.lv_meaning.specs.Recovers.{reaches};
+ghost use Rattle.lv_search_walk.specs.Reason.{reduced};
 ghost use Rattle.lv_model.specs.Lists.{controls};
 ghost use Rattle.lv_reconf.specs.Assuming.{pair_fits, pairs_fit};
 ghost use Rattle.lv_reconf.specs.Refuting.{IsReducing, RefutesAt, needs};
@@ -34,7 +34,7 @@ pub struct Reaching<'s, 'a> {
 impl<'s, 'a> Model for Reaching<'s, 'a> {
     ghost use Rattle.std.specs.Coded.{codes};
     ghost use Rattle.lv_formula.specs.contracts.Condition as condition;
-    ghost use Rattle.lv_recovery.specs.Recovers.{meets_goals};
+    ghost use Rattle.lv_meaning.specs.Recovers.{meets_goals};
     ghost use Rattle.lv_reconf.specs.Narrowing.{Asks};
     ghost use Rattle.lv_reconf.specs.Trying.{ReachingValue};
 

@@ -3,18 +3,18 @@
 
 ghost use Rattle.std.specs.Prelude.{◌≡◌, Bool, true, IfOk};
 ghost use Rattle.lv_model.specs.Lists.{controls};
-ghost use Rattle.lv_recovery.specs.Ranges.{AimFits};
+ghost use Rattle.lv_meaning.specs.Ranges.{AimFits};
 ghost use Rattle.lv_reconf.specs.Narrowing.{Asks};
 ghost use Rattle.lv_reconf.specs.Trying.{asking};
-ghost use Rattle.lv_steps.specs.System.{IsSystemOf};
+ghost use Rattle.lv_system.specs.System.{IsSystemOf};
 
 use super::compiled::Compiled;
 use super::goals::plain_solver;
 use lv_base::VarId;
 use lv_model::Model;
-use lv_recovery::Aim;
+use lv_meaning::Aim;
 use lv_sat::Solver;
-use lv_steps::StepSystem;
+use lv_system::StepSystem;
 use std::alloc::{AllocError, Global};
 use std::marker;
 

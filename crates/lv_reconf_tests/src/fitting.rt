@@ -5,13 +5,13 @@ ghost use Rattle.std.specs.Prelude.{◌≡◌, true};
 ghost use Rattle.std.specs.List.{list_all};
 ghost use Rattle.lv_formula.specs.Fits.{fits};
 ghost use Rattle.lv_model.specs.Ranges.{plant_ranges};
-ghost use Rattle.lv_recovery.specs.Ranges.{modes_fit, AimFits};
+ghost use Rattle.lv_meaning.specs.Ranges.{modes_fit, AimFits};
 
 use lv_base::ValId;
 use lv_formula::range::has_value;
 use lv_formula::{Condition, Range};
 use lv_model::{Part, Plant, TrackedState};
-use lv_recovery::Aim;
+use lv_meaning::Aim;
 
 /// Whether there is one mode for each part, and the part has it.
 pub fn have_modes(ranges: &[Range], parts: &[Part], modes: &[ValId]) -> bool

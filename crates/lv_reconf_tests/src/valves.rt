@@ -1,9 +1,9 @@
 //! Recoveries of valves that follow their commands or are stuck, with their inflows present. The variables of a valve are its
 //! mode, its command, its inflow and its outflow.
 ghost use Rattle.std.specs.Prelude.{◌≡◌, true, IfOk};
-ghost use Rattle.lv_recovery.specs.Ranges.{AimFits};
+ghost use Rattle.lv_meaning.specs.Ranges.{AimFits};
 ghost use Rattle.lv_search.specs.Standing.{trials_of, all_suit};
-ghost use Rattle.lv_steps.specs.System.{IsSystemOf};
+ghost use Rattle.lv_system.specs.System.{IsSystemOf};
 ghost use Rattle.lv_reconf.specs.Judging.{candidate_commands};
 
 use crate::fitting::is_of;
@@ -13,9 +13,9 @@ use lv_formula::{Condition, Formula};
 use lv_model::ranges::plant_ranges;
 use lv_model::{Model, State, TrackedState};
 use lv_reconf::{Query, recover};
-use lv_recovery::Aim;
-use lv_steps::{StepSystem, compile};
-use lv_walk::Outcome;
+use lv_meaning::Aim;
+use lv_system::{StepSystem, compile};
+use lv_search_walk::Outcome;
 use std::alloc::{AllocError, Global};
 
 /// One valve. What flows out of it is its fourth variable.

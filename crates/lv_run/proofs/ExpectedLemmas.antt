@@ -9,17 +9,17 @@ use Rattle.lv_session.specs.Session.{start}
 use Rattle.lv_serve.specs.Served.{fits, within_limit}
 use Rattle.lv_serve.proofs.TranscriptLemmas.{none_of_front}
 use Rattle.lv_gen.specs.Series.{model_text}
-use Rattle.lv_drive.specs.Drives.{drive_text}
-use Rattle.lv_words.specs.declared.commands.Kind.{Kind}
+use Rattle.lv_run_drive.specs.Drives.{drive_text}
+use Rattle.lv_run_words.specs.declared.commands.Kind.{Kind}
 use Rattle.lv_session.proofs.Writing.{no_front}
 use Rattle.lv_reader.specs.declared.code.ModelCode.{ModelCode}
 use Rattle.lv_checker.specs.Verdicts.{IsVerdict, accepted, refused}
 use Rattle.lv_certcheck.specs.Verdicts.{IsVerdictOn}
 use Rattle.lv_certcheck.specs.declared.check.Verdict.{Verdict}
 use Rattle.lv_certcheck.specs.declared.check.Verdict.TheVariants.{Valid as IsValid, Invalid as IsInvalid}
-use Rattle.lv_words.specs.Words.{Said, runs, checks, prints, generates, drives}
-use Rattle.lv_words.specs.declared.WordsFault.{WordsFault}
-use Rattle.lv_words.specs.declared.WordsFault.TheVariants.{Refused, Memory as NoRoom}
+use Rattle.lv_run_words.specs.Words.{Said, runs, checks, prints, generates, drives}
+use Rattle.lv_run_words.specs.declared.WordsFault.{WordsFault}
+use Rattle.lv_run_words.specs.declared.WordsFault.TheVariants.{Refused, Memory as NoRoom}
 use Rattle.lv_run.specs.Inputs.{model_told, made_text, IsPrinted, IsDriven}
 use Rattle.lv_run.specs.Faults.{EndsModel, EndsSession, EndsCheck, RefusesBy, status_of, ended_status, fault_of_sink, fault_of_words}
 use Rattle.lv_run.specs.Judged.{verdict_line, verdict_end, TellsJudgement, JudgesTold}

@@ -8,8 +8,8 @@ use Rattle.lv_cert.specs.declared.line.Line.{Line}
 use Rattle.lv_cert.specs.Form.{is_formed}
 use Rattle.lv_cert.specs.Texts.{text_of}
 use Rattle.lv_cert.specs.Words.{is_word}
-use Rattle.lv_validity.specs.Judging.{Judged}
-use Rattle.lv_validity.specs.Laws.{IsValid}
+use Rattle.lv_cert_meaning.specs.Judging.{Judged}
+use Rattle.lv_cert_meaning.specs.Laws.{IsValid}
 use Rattle.lv_certcheck.specs.Verdicts.{verdict_of, IsVerdictOn, of_lines}
 use Rattle.lv_certcheck.specs.declared.check.Verdict.TheVariants.{Valid}
 use Rattle.lv_session.specs.declared.query.Query.{Query}

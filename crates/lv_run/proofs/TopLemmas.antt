@@ -16,7 +16,7 @@ use Rattle.lv_serve.specs.Ends.{ended}
 use Rattle.lv_serve.specs.Served.{within_limit}
 use Rattle.lv_serve.proofs.TranscriptLemmas.{front_of_lines}
 use Rattle.lv_serve.proofs.PieceLemmas.{front_of_all, front_of_longer}
-use Rattle.lv_words.specs.Words.{Said, checks, command_of}
+use Rattle.lv_run_words.specs.Words.{Said, checks, command_of}
 use Rattle.lv_certcheck.specs.Verdicts.{IsVerdictOn}
 use Rattle.lv_certcheck.specs.declared.check.Verdict.{Verdict}
 use Rattle.lv_certcheck.specs.declared.check.Verdict.TheVariants.{Valid as IsValid, Invalid as IsInvalid}

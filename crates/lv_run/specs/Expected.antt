@@ -13,9 +13,9 @@ use Rattle.lv_session.specs.Transcript.{AddsTranscript, AddsFrontOfTranscript}
 use Rattle.lv_serve.specs.Ends.{ended}
 use Rattle.lv_serve.specs.Served.{fits, within_limit}
 use Rattle.lv_gen.specs.Series.{model_text}
-use Rattle.lv_drive.specs.Drives.{drive_text}
-use Rattle.lv_words.specs.Words.{Said, runs, checks, prints, generates, drives}
-use Rattle.lv_words.specs.declared.commands.Kind.{Kind}
+use Rattle.lv_run_drive.specs.Drives.{drive_text}
+use Rattle.lv_run_words.specs.Words.{Said, runs, checks, prints, generates, drives}
+use Rattle.lv_run_words.specs.declared.commands.Kind.{Kind}
 use Rattle.lv_run.specs.Inputs.{model_told, made_text, IsCanonical}
 use Rattle.lv_run.specs.Faults.{status_of}
 use Rattle.lv_run.specs.Judged.{verdict_line, verdict_end, verdict_status}

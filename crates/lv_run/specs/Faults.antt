@@ -5,8 +5,8 @@ use Rattle.lv_io.specs.declared.IoFault.TheVariants.{Failed, Memory}
 use Rattle.lv_reader.specs.Codes.{number_of}
 use Rattle.lv_reader.specs.declared.code.ModelCode.{ModelCode}
 use Rattle.lv_checker.specs.Verdicts.{IsVerdict, refused}
-use Rattle.lv_words.specs.declared.WordsFault.{WordsFault}
-use Rattle.lv_words.specs.declared.WordsFault.TheVariants.{Refused, Memory as NoRoom}
+use Rattle.lv_run_words.specs.declared.WordsFault.{WordsFault}
+use Rattle.lv_run_words.specs.declared.WordsFault.TheVariants.{Refused, Memory as NoRoom}
 use Rattle.lv_serve.specs.declared.fault.ServeFault.{ServeFault}
 use Rattle.lv_serve.specs.declared.fault.ServeFault.TheVariants.{Read as Unread, Write as Unwritten, TooLong, Memory as OutOfRoom}
 use Rattle.lv_run.specs.Statuses.{status_ended}

@@ -7,13 +7,13 @@ use Rattle.lv_model.specs.declared.plant.Plant.{Plant}
 use Rattle.lv_reader.specs.declared.statement.ModelText.{ModelText}
 use Rattle.lv_reader.specs.Texts.{ReadsAs}
 use Rattle.lv_checker.specs.Verdicts.{IsVerdict, accepted}
-use Rattle.lv_print.specs.Texts.{canonical_model}
-use Rattle.lv_drive.specs.Drives.{drive_text}
+use Rattle.lv_reader.specs.CanonicalTexts.{canonical_model}
+use Rattle.lv_run_drive.specs.Drives.{drive_text}
 use Rattle.lv_gen.specs.Series.{model_text}
 use Rattle.lv_gen.specs.Session.{session_text}
-use Rattle.lv_words.specs.Words.{Said, runs, checks, prints, generates, drives}
-use Rattle.lv_words.specs.declared.commands.Kind.{Kind}
-use Rattle.lv_words.specs.declared.commands.Kind.TheVariants.{Model, Session}
+use Rattle.lv_run_words.specs.Words.{Said, runs, checks, prints, generates, drives}
+use Rattle.lv_run_words.specs.declared.commands.Kind.{Kind}
+use Rattle.lv_run_words.specs.declared.commands.Kind.TheVariants.{Model, Session}
 
 -- the text of the model that a command speaks of, over files by their names: that of a file, or the one made for a number;
 -- a text that is made alone speaks of none

@@ -2,11 +2,10 @@
 #![tactic(auto)]
 
 ghost use Rattle.std.specs.Prelude.{◌≡◌, ◌≢◌, Some, List, Option, ℕ, true, IsTrue};
-ghost use Rattle.lv_io.specs.Outside.{Rose};
+ghost use Rattle.lv_io.specs.Outside.{Rose, Opened};
 ghost use Rattle.lv_io.specs.declared.Role.{Role};
 ghost use Rattle.lv_io.specs.declared.Role.TheVariants.{Model as OfModel, Second as OfSecond};
-ghost use Rattle.lv_io.specs.Outside.{Opened};
-ghost use Rattle.lv_words.specs.Words.{runs, checks, prints, generates, drives};
+ghost use Rattle.lv_run_words.specs.Words.{runs, checks, prints, generates, drives};
 ghost use Rattle.lv_run.specs.Faults.{ended_status};
 ghost use Rattle.lv_run.specs.Inputs.{opens_of};
 ghost use Rattle.lv_run.specs.Expected.{Expected, Expects, Meets, Follows, TellsVerdict, is_silent};
@@ -19,7 +18,7 @@ use crate::session::serve_session;
 use crate::status::{Ended, Status};
 use crate::writing::write_text;
 use lv_io::{Shelf, Sink};
-use lv_words::Kind;
+use lv_run_words::Kind;
 use std::alloc::Global;
 
 /// Reads a model, then serves a session over it.

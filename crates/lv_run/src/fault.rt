@@ -10,7 +10,7 @@ use itoa::Buffer;
 use lv_io::IoFault;
 use lv_reader::ModelCode;
 use lv_serve::ServeFault;
-use lv_words::WordsFault;
+use lv_run_words::WordsFault;
 use std::alloc::{AllocError, Global};
 
 /// The line that tells which words are taken.

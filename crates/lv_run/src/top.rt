@@ -5,7 +5,7 @@ ghost use Rattle.std.specs.Io.KnownBytes.{append_known};
 ghost use Rattle.lv_io.specs.Outside.{Rose};
 ghost use Rattle.lv_io.specs.declared.Role.{Role};
 ghost use Rattle.lv_io.specs.declared.Role.TheVariants.{Model as OfModel, Second as OfSecond};
-ghost use Rattle.lv_words.specs.Words.{command_of};
+ghost use Rattle.lv_run_words.specs.Words.{command_of};
 ghost use Rattle.lv_run.specs.Faults.{ended_status};
 ghost use Rattle.lv_run.specs.Inputs.{opens_of};
 ghost use Rattle.lv_run.specs.Expected.{Expected, Expects, status_expected, Meets, Follows, TellsVerdict, is_silent, keeps_shelf};
@@ -24,7 +24,7 @@ use crate::fault::RunFault;
 use crate::status::{Ended, Status};
 use crate::telling::report;
 use lv_io::{Shelf, Sink};
-use lv_words::{Command, read_words};
+use lv_run_words::{Command, read_words};
 use std::alloc::Global;
 
 /// A whole call of the program: `words` are those of the process, its own name first. What is written

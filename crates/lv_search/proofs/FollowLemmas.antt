@@ -8,9 +8,9 @@ use Rattle.lv_base.specs.declared.rank.Rank.{Rank}
 use Rattle.lv_base.specs.declared.search.Pair.{Pair}
 use Rattle.lv_base.specs.declared.search.Candidate.{Candidate}
 use Rattle.lv_base.specs.Choices.{contains_all}
-use Rattle.lv_walk.specs.declared.outcome.Outcome.{Outcome}
-use Rattle.lv_walk.specs.Walk.{candidate_of}
-use Rattle.lv_walk.proofs.TurnLemmas.{walk_thinned, walk_listed, walk_refused}
+use Rattle.lv_search_walk.specs.declared.outcome.Outcome.{Outcome}
+use Rattle.lv_search_walk.specs.Walk.{candidate_of}
+use Rattle.lv_search_walk.proofs.TurnLemmas.{walk_thinned, walk_listed, walk_refused}
 use Rattle.lv_search.specs.Frontier.{Thins}
 use Rattle.lv_search.specs.Standing.{Standing, trials_of, walk_on, conflict_at, all_suit, Follows, AreSame}
 use Rattle.lv_search.specs.Turn.{PassesOver, IsTrial, GoesOnTo, EndsAt}

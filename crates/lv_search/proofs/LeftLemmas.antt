@@ -13,26 +13,24 @@ use Rattle.lv_base.specs.declared.ids.Cost.{Cost}
 use Rattle.lv_base.specs.declared.rank.Rank.{Rank}
 use Rattle.lv_base.specs.declared.search.Pair.{Pair}
 use Rattle.lv_base.specs.declared.search.Candidate.{Candidate}
-use Rattle.lv_base.specs.Rank.{rank_key, ranks_before}
+use Rattle.lv_base.specs.Rank.{rank_key, ranks_before, rank_cmp}
 use Rattle.lv_base.specs.Choices.{picks, contains_all}
-use Rattle.lv_base.proofs.OrderLemmas.{transitive}
+use Rattle.lv_base.proofs.OrderLemmas.{transitive, before_by_cmp, greater_is_after}
 use Rattle.lv_boxes.specs.Members.{ZoneValue, are_left, is_member, choices_cost, rank_in}
 use Rattle.lv_boxes.specs.Parts.{masks_with, masks_without, parts_of, are_slots_of}
 use Rattle.lv_boxes.specs.Laws.{pairs_of, LosesOne}
 use Rattle.lv_boxes.proofs.PartsLemmas.{is_member-with, is_member-without, parts_are_split}
 use Rattle.lv_boxes.proofs.MemberLemmas.{length-are_left, loses_one}
-use Rattle.lv_walk.specs.Ranked.{rises, is_rank, is_among}
-use Rattle.lv_base.specs.Rank.{rank_cmp}
-use Rattle.lv_walk.specs.Walk.{candidate_of}
-use Rattle.lv_walk.proofs.RankedLemmas.{neither_is_same, not_before_itself, not_both_before, same_rank, is_itself, before_each, not_among_later, one_list}
-use Rattle.lv_base.proofs.OrderLemmas.{before_by_cmp, greater_is_after}
+use Rattle.lv_search_walk.specs.Ranked.{rises, is_rank, is_among}
+use Rattle.lv_search_walk.specs.Walk.{candidate_of}
+use Rattle.lv_search_walk.proofs.RankedLemmas.{neither_is_same, not_before_itself, not_both_before, same_rank, is_itself, before_each, not_among_later, one_list}
 use Rattle.lv_search.specs.declared.zones.Open.{Open}
 use Rattle.lv_search.specs.Frontier.{FirstContains, Thins}
-use Rattle.lv_search.specs.Members.{ranked_members, ranks_in, times_in, sources_differ}
+use Rattle.lv_boxes.specs.RankedMembers.{ranked_members, ranks_in, times_in, sources_differ}
 use Rattle.lv_search.specs.Zones.{zones_of, IsKeptByLeast, AreKept, HasMore, HasRoomFor}
 use Rattle.lv_search.proofs.NextLemmas.{first_and_rest}
-use Rattle.lv_search.proofs.MemberLemmas.{among_ranked_members, ranked_members_rise, rank_of_member, some_by_first}
-use Rattle.lv_search.proofs.TimesLemmas.{times_one, has_least_rank}
+use Rattle.lv_boxes.proofs.RankedMemberLemmas.{among_ranked_members, ranked_members_rise, rank_of_member, some_by_first, has_least_rank}
+use Rattle.lv_search.proofs.TimesLemmas.{times_one}
 
 -- of a rising list what none ranks before is the first
 first_of_rising : (rs : List Rank) (m : Rank) → is_among m rs ≡ true → rises rs ≡ true → ((r : Rank) → is_among r rs ≡ true → ranks_before r m ≡ false) → slice_get rs 0 ≡ Some m

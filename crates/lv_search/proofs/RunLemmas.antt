@@ -3,12 +3,12 @@ use Rattle.std.proofs.Common.{◌≡◌, ℕ, ◌-◌, ◌≤◌, Bool, true, Li
 use Rattle.lv_base.specs.declared.rank.Rank.{Rank}
 use Rattle.lv_base.specs.declared.search.Pair.{Pair}
 use Rattle.lv_base.specs.declared.search.Candidate.{Candidate}
-use Rattle.lv_walk.specs.declared.outcome.Outcome.{Outcome}
-use Rattle.lv_walk.specs.declared.outcome.Outcome.TheVariants.{Settled}
-use Rattle.lv_walk.specs.Walk.{Walked, candidate_of, walk}
-use Rattle.lv_walk.specs.Laws.{IsSound}
-use Rattle.lv_walk.proofs.WalkLemmas.{is_exact}
-use Rattle.lv_search.specs.Standing.{Standing, trials_of, suit_all, IsUnderWay}
+use Rattle.lv_search_walk.specs.declared.outcome.Outcome.{Outcome}
+use Rattle.lv_search_walk.specs.declared.outcome.Outcome.TheVariants.{Settled}
+use Rattle.lv_search_walk.specs.Walk.{Walked, candidate_of, walk, suit_all}
+use Rattle.lv_search_walk.specs.Laws.{IsSound}
+use Rattle.lv_search_walk.proofs.WalkLemmas.{is_exact}
+use Rattle.lv_search.specs.Standing.{Standing, trials_of, IsUnderWay}
 use Rattle.lv_search.specs.Turn.{EndsAt}
 
 pub lists_first : (suits fits : Candidate → Bool) (reason : Candidate → List Pair) → IsSound suits fits reason → (here old new : Standing) (entries : List Rank) (budget : ℕ) (outcome : Outcome)

@@ -5,17 +5,15 @@ use Rattle.std.specs.BTreeMap.{insert_entry}
 use Rattle.std.specs.Ordering.{match_ordering}
 use Rattle.std.specs.declared.cmp.Ordering.{Ordering}
 use Rattle.std.specs.declared.cmp.Ordering.TheVariants.{Less, Equal, Greater}
-use Rattle.std.proofs.lemmas.Bool.{and_from, and_left, and_right, eq-eqb}
 use Rattle.lv_base.specs.declared.ids.Cost.{Cost}
 use Rattle.lv_base.specs.declared.rank.Rank.{Rank}
-use Rattle.lv_boxes.specs.Members.{ZoneValue, are_left, is_member, choices_cost}
+use Rattle.lv_boxes.specs.Members.{ZoneValue}
 use Rattle.lv_boxes.specs.Least.{lacks_choice}
-use Rattle.lv_boxes.proofs.LeastLemmas.{lacks_choice-none}
+use Rattle.lv_boxes.proofs.RankedMemberLemmas.{lacking_has_none, has_least_rank}
 use Rattle.lv_base.specs.Rank.{rank_cmp}
-use Rattle.lv_walk.specs.Walk.{candidate_of}
-use Rattle.lv_walk.proofs.RankedLemmas.{equal_by_cmp}
+use Rattle.lv_search_walk.proofs.RankedLemmas.{equal_by_cmp}
 use Rattle.lv_search.specs.declared.zones.Open.{Open}
-use Rattle.lv_search.specs.Members.{ranks_in, times_in, IsLeastRank}
+use Rattle.lv_boxes.specs.RankedMembers.{ranks_in, times_in, IsLeastRank}
 use Rattle.lv_search.specs.Zones.{zones_of, IsKeptByLeast, AreKept, HasMore, HasRoomFor}
 
 module _ (slots : List (List Cost)) where
@@ -28,20 +26,6 @@ module _ (slots : List (List Cost)) where
   pub times_one : (r : Rank) (zone : ZoneValue) (zones : List ZoneValue) → ranks_in slots r zone ≡ true → times_in slots r (zone ∷ zones) ≡ 1 + times_in slots r zones
   times_one r zone zones e = ap (λ b. cond b 1 0 + times_in slots r zones) e
 
-  -- a zone in which some slot has no choice left has no members
-  pub lacking_has_none : (zone : ZoneValue) (r : Rank) → lacks_choice slots zone.masks ≡ true → ranks_in slots r zone ≡ false
-  lacking_has_none zone r lacks =
-      and_left (is_member slots zone (candidate_of r)) (nat_eq r.cost.0 (zone.base.0 + choices_cost slots r.choices))
-      (and_right (nat_eq r.source zone.source) (are_left slots zone.masks r.choices) (lacks_choice-none slots zone.masks r.choices lacks))
-
-  -- a zone has its least member
-  pub has_least_rank : (zone : ZoneValue) (r : Rank) → IsLeastRank slots zone r → ranks_in slots r zone ≡ true
-  has_least_rank zone r l =
-      ap (λ (q : Rank). ranks_in slots q zone) l.is
-      ∙ and_from (is_member slots zone (record { source = zone.source; choices = r.choices })) (nat_eq (zone.base.0 + choices_cost slots r.choices) (zone.base.0 + choices_cost slots r.choices))
-      l.least.member
-      (eq-eqb (zone.base.0 + choices_cost slots r.choices) (zone.base.0 + choices_cost slots r.choices) refl)
-
   times_inserted : (entries : List (Rank × Open)) (k : Rank) (v : Open) → AllByRecursion (IsKeptByLeast slots) entries → times_in slots k (zones_of entries) ≡ 0
       → (r : Rank) → times_in slots r (zones_of (insert_entry rank_cmp entries k v)) ≡ times_in slots r (zones_of entries) + times_in slots r (v.zone ∷ [])
   times_inserted [] k v least none r = let same : times_in slots r (v.zone ∷ []) ≡ 0 + times_in slots r (v.zone ∷ []) = omega arith in same
@@ -53,7 +37,7 @@ module _ (slots : List (List Cost)) where
       by Less is rest = omega arith
       by Equal is rest =
           let same : k ≡ e.0 = equal_by_cmp k e.0 is in
-          let here : ranks_in slots k e.1.zone ≡ true = ap (λ (q : Rank). ranks_in slots q e.1.zone) same ∙ has_least_rank e.1.zone e.0 least.0 in
+          let here : ranks_in slots k e.1.zone ≡ true = ap (λ (q : Rank). ranks_in slots q e.1.zone) same ∙ has_least_rank slots e.1.zone e.0 least.0 in
           let some : times_in slots k (zones_of (e ∷ es)) ≡ 1 + times_in slots k (zones_of es) = times_one k e.1.zone (zones_of es) here in
           absurd (omega (arith, some, none))
       by Greater is rest = omega (arith, rest)
@@ -73,7 +57,7 @@ module _ (slots : List (List Cost)) where
   pub opened : (zone : ZoneValue) (k : Rank) (number : ℕ) (old new : List (Rank × Open)) → HasRoomFor slots (zone ∷ []) old → IsLeastRank slots zone k
       → new ≡ insert_entry rank_cmp old k (record { number = number; zone = zone }) → HasMore slots (zone ∷ []) old new
   opened zone k number old new room least is =
-      let here : times_in slots k (zone ∷ []) ≡ 1 + times_in slots k [] = times_one k zone [] (has_least_rank zone k least) in
+      let here : times_in slots k (zone ∷ []) ≡ 1 + times_in slots k [] = times_one k zone [] (has_least_rank slots zone k least) in
       let few = room.apart k in
       let none : times_in slots k (zones_of old) ≡ 0 = omega (arith, here, few) in
       let times : (r : Rank) → times_in slots r (zones_of new) ≡ times_in slots r (zones_of old) + times_in slots r (zone ∷ []) =
@@ -92,7 +76,7 @@ module _ (slots : List (List Cost)) where
   not_opened zone old room lacks =
       record {
         kept = room.kept;
-        times = λ r. let none : times_in slots r (zone ∷ []) ≡ times_in slots r [] = times_none r zone [] (lacking_has_none zone r lacks) in omega (arith, none);
+        times = λ r. let none : times_in slots r (zone ∷ []) ≡ times_in slots r [] = times_none r zone [] (lacking_has_none slots zone r lacks) in omega (arith, none);
       }
 
   times_append : (r : Rank) (xs ys : List ZoneValue) → times_in slots r (xs ++ ys) ≡ times_in slots r xs + times_in slots r ys

@@ -4,7 +4,7 @@ use Rattle.std.specs.List.{list_all}
 use Rattle.lv_base.specs.declared.rank.Rank.{Rank}
 use Rattle.lv_base.specs.declared.search.Pair.{Pair}
 use Rattle.lv_base.specs.declared.search.Candidate.{Candidate}
-use Rattle.lv_walk.specs.Walk.{Walked, candidate_of, walk_from}
+use Rattle.lv_search_walk.specs.Walk.{Walked, candidate_of, walk_from, suit_all}
 
 -- what a search holds: how many it is to list, what is listed and kept, and the candidates left in the order of their ranks
 pub record Standing : Type 0 where
@@ -16,10 +16,6 @@ pub record Standing : Type 0 where
 -- each trial added one to what is listed or kept
 abbrev pub trials_of : Standing → ℕ
 trials_of s = length s.listed + length s.kept
-
--- all of these suit
-abbrev pub suit_all : (Candidate → Bool) → List Rank → Bool
-suit_all suits entries = list_all (λ r. suits (candidate_of r)) entries
 
 -- all that is left suits
 abbrev pub all_suit : (Candidate → Bool) → Standing → Bool

@@ -5,7 +5,7 @@ use Rattle.lv_base.specs.declared.ids.Cost.{Cost}
 use Rattle.lv_base.specs.declared.rank.Rank.{Rank}
 use Rattle.lv_boxes.specs.Members.{ZoneValue}
 use Rattle.lv_search.specs.declared.zones.Open.{Open}
-use Rattle.lv_search.specs.Members.{times_in, IsLeastRank, AreApart}
+use Rattle.lv_boxes.specs.RankedMembers.{times_in, IsLeastRank, AreApart}
 
 -- the open zones
 abbrev pub zones_of : List (Rank × Open) → List ZoneValue

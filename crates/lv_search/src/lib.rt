@@ -19,7 +19,7 @@ pub mod trial;
 pub mod turn;
 mod zones;
 
-pub use lv_walk::Outcome;
+pub use lv_search_walk::Outcome;
 pub use search::Search;
 pub use trial::{Trial, Tried};
 pub use turn::{By, Split};

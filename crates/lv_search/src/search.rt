@@ -3,10 +3,10 @@
 
 ghost use Rattle.std.specs.Prelude.{◌≡◌, ◌+◌, ◌<◌, ◌≤◌, ◌^◌, [], true, List, take, filter, IfOk};
 ghost use Rattle.lv_base.specs.declared.rank.Rank.{Rank};
-ghost use Rattle.lv_walk.specs.declared.outcome.Outcome.TheVariants.{Settled};
-ghost use Rattle.lv_walk.specs.Walk.{candidate_of, walk};
-ghost use Rattle.lv_search.specs.Members.{ranked_members, sources_differ};
-ghost use Rattle.lv_search.specs.Standing.{trials_of, all_suit, AreSame, IsUnderWay, suit_all};
+ghost use Rattle.lv_search_walk.specs.declared.outcome.Outcome.TheVariants.{Settled};
+ghost use Rattle.lv_search_walk.specs.Walk.{candidate_of, walk, suit_all};
+ghost use Rattle.lv_boxes.specs.RankedMembers.{ranked_members, sources_differ};
+ghost use Rattle.lv_search.specs.Standing.{trials_of, all_suit, AreSame, IsUnderWay};
 
 use super::trial::Trial;
 use super::turn::{Held, Split, take_turns};
@@ -14,7 +14,7 @@ use super::zones::Zones;
 use lv_base::{Conflict, Rank, Seq};
 use lv_boxes::{Grid, Zone};
 use lv_conflicts::Store;
-use lv_walk::Outcome;
+use lv_search_walk::Outcome;
 use std::alloc::{AllocError, Global};
 use std::marker::Model;
 

@@ -4,7 +4,7 @@
 
 ghost use Rattle.std.specs.Prelude.{◌≡◌, ◌≢◌, ◌==◌, ◌+◌, ◌-◌, ◌<◌, ◌≤◌, ◌^◌, ◌++◌, ◌∷◌, [], List, true, false, length, slice_get, drop, IfOk, OnOk, IsTrue, Some};
 ghost use Rattle.lv_base.specs.declared.rank.Rank.{Rank};
-ghost use Rattle.lv_walk.specs.Walk.{candidate_of};
+ghost use Rattle.lv_search_walk.specs.Walk.{candidate_of};
 ghost use Rattle.lv_search.specs.Frontier.{Thins};
 ghost use Rattle.lv_search.specs.Standing.{Standing, trials_of, all_suit, walk_on, AreSame, Follows, conflict_at};
 ghost use Rattle.lv_search.specs.Turn.{standing, PassesOver, NextTells, EndsAt, TurnTells};
@@ -13,7 +13,7 @@ use super::frontier::Frontier;
 use super::trial::{Trial, Tried};
 use lv_base::{Candidate, Rank, Seq};
 use lv_conflicts::Store;
-use lv_walk::Outcome;
+use lv_search_walk::Outcome;
 use std::alloc::{AllocError, Global};
 
 /// By what a zone was split: the kept conflict of this number, or the listed candidate of this number, counted from 0.

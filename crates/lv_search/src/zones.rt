@@ -7,7 +7,7 @@ ghost use Rattle.std.specs.Prelude.{◌≡◌, ◌≤◌, true, IfOk, IfSome, On
 ghost use Rattle.lv_boxes.specs.Parts.{parts_of};
 ghost use Rattle.lv_boxes.specs.Laws.{pairs_of};
 ghost use Rattle.lv_boxes.specs.Least.{lacks_choice};
-ghost use Rattle.lv_search.specs.Members.{IsLeastRank, ranked_members, sources_differ};
+ghost use Rattle.lv_boxes.specs.RankedMembers.{IsLeastRank, ranked_members, sources_differ};
 ghost use Rattle.lv_search.specs.Zones.{AreKept, HasMore, HasRoomFor};
 
 use super::frontier::Frontier;
@@ -36,7 +36,7 @@ pub(crate) struct Zones {
 impl Model for Zones {
     ghost use Rattle.std.specs.Prelude.{List};
     ghost use Rattle.lv_base.specs.declared.rank.Rank.{Rank};
-    ghost use Rattle.lv_search.specs.Members.{ranked_members};
+    ghost use Rattle.lv_boxes.specs.RankedMembers.{ranked_members};
     ghost use Rattle.lv_search.specs.Zones.{zones_of, AreKept};
 
     ghost Value = { List Rank };

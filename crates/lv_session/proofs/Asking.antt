@@ -12,13 +12,12 @@ use Rattle.lv_formula.specs.Fits.{has_value}
 use Rattle.lv_model.specs.Lists.{sizes, controls, variable_count}
 use Rattle.lv_model.specs.Ranges.{plant_ranges}
 use Rattle.lv_model.proofs.Reading.{length-plant_ranges}
-use Rattle.lv_ident.specs.Literals.{HasValue, FactsInRange}
-use Rattle.lv_scope.proofs.ScopeLemmas.{below_size}
+use Rattle.lv_meaning.specs.Facts.{HasValue, FactsInRange, commanded, IsInRange, FactsFit}
+use Rattle.lv_model_names.proofs.ScopeLemmas.{below_size}
 use Rattle.lv_model.specs.WellFormed.{is_well_formed}
-use Rattle.lv_walk.specs.declared.outcome.Outcome.{Outcome}
-use Rattle.lv_walk.specs.declared.outcome.Outcome.TheVariants.{Settled, Unsettled}
-use Rattle.lv_walk.specs.Walk.{Walked}
-use Rattle.lv_meaning.specs.Facts.{commanded, IsInRange, FactsFit}
+use Rattle.lv_search_walk.specs.declared.outcome.Outcome.{Outcome}
+use Rattle.lv_search_walk.specs.declared.outcome.Outcome.TheVariants.{Settled, Unsettled}
+use Rattle.lv_search_walk.specs.Walk.{Walked}
 use Rattle.lv_meaning.specs.declared.facts.Facts.{Facts}
 use Rattle.lv_meaning.specs.Candidates.{IsTracked, candidates}
 use Rattle.lv_meaning.specs.Diagnosis.{diagnosis_walk}
@@ -27,15 +26,15 @@ use Rattle.lv_ident.specs.Query.{QueryValue, IsQueryOf}
 use Rattle.lv_tracker.specs.Tracked.{IsCheap, HasModes}
 use Rattle.lv_reply.specs.declared.reply.Refusal.TheVariants.{NoQuery, NotUnsettled}
 use Rattle.lv_reply.specs.declared.reply.Reply.TheVariants.{Refused, Conflicts}
-use Rattle.lv_request.specs.declared.request.Sighting.{Sighting}
-use Rattle.lv_request.specs.Requests.{IsSightingIn}
+use Rattle.lv_session_request.specs.declared.request.Sighting.{Sighting}
+use Rattle.lv_session_request.specs.Requests.{IsSightingIn}
 use Rattle.lv_session.specs.declared.query.Query.{Query}
 use Rattle.lv_session.specs.declared.query.Query.TheVariants.{Diagnosis}
 use Rattle.lv_session.specs.declared.running.Diagnosed.{Diagnosed}
 use Rattle.lv_session.specs.declared.running.Running.{Running}
 use Rattle.lv_session.specs.declared.running.Running.TheVariants as kept
 use Rattle.lv_session.specs.Current.{come_to, IsDiagnosisAt, IsKeptOf}
-use Rattle.lv_held.specs.Held.{observation_of}
+use Rattle.lv_session_request.specs.Held.{observation_of}
 use Rattle.lv_session.specs.Session.{SessionState, facts_of, unchanged, walked, trials, diagnosed, more, more_by, conflicts, commit, commit_by, taken_over}
 use Rattle.lv_session.specs.States.{StateCosts, RankCosts, IsStateOf, IsListOf}
 use Rattle.lv_session.proofs.Listed.{list_of, all_trials}

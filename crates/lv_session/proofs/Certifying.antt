@@ -12,26 +12,26 @@ use Rattle.lv_text.proofs.ReadBack.{lexemes_have}
 use Rattle.lv_formula.specs.Tree.{Tree}
 use Rattle.lv_model.specs.declared.plant.Plant.{Plant}
 use Rattle.lv_model.specs.declared.state.TrackedState.{TrackedState}
-use Rattle.lv_phrase.specs.Canonical.{tokens_of, canonical_text}
-use Rattle.lv_phrase.specs.Resolving.{resolved}
-use Rattle.lv_grammar.specs.Descent.{phrase_of}
-use Rattle.lv_scope.specs.Names.{plant_names}
-use Rattle.lv_walk.specs.declared.outcome.Outcome.{Outcome}
-use Rattle.lv_walk.specs.declared.outcome.Outcome.TheVariants.{Settled, Unsettled}
-use Rattle.lv_walk.specs.Walk.{Walked}
-use Rattle.lv_recovery.specs.Ranges.{StateFits}
+use Rattle.lv_formula_text.specs.Canonical.{tokens_of, canonical_text}
+use Rattle.lv_formula_text.specs.Resolving.{resolved}
+use Rattle.lv_formula_text.specs.Descent.{phrase_of}
+use Rattle.lv_model_names.specs.Names.{plant_names}
+use Rattle.lv_search_walk.specs.declared.outcome.Outcome.{Outcome}
+use Rattle.lv_search_walk.specs.declared.outcome.Outcome.TheVariants.{Settled, Unsettled}
+use Rattle.lv_search_walk.specs.Walk.{Walked}
+use Rattle.lv_meaning.specs.Ranges.{StateFits}
 use Rattle.lv_tracker.specs.Tracked.{IsWithinCost}
 use Rattle.lv_cert.specs.declared.line.Line.{Line}
 use Rattle.lv_cert.specs.Words.{is_word}
 use Rattle.lv_cert.specs.Texts.{text_of}
-use Rattle.lv_validity.specs.Stated.{simple_goal, goal_as, goal_in, goal_of}
-use Rattle.lv_certify.specs.Certifying.{CertifiesDiagnosis, CertifiesRecovery, StateStands, IsSeen, AreStates, AreFacts, IsSettledDiagnosis, IsAsked, IsSettledRecovery, AreTexts, AreFormed}
-use Rattle.lv_held.specs.Held.{observation_of}
-use Rattle.lv_request.specs.declared.goals.Goal.{Goal}
-use Rattle.lv_request.specs.declared.request.Sighting.{Sighting}
-use Rattle.lv_request.specs.Goals.{IsGoalIn}
-use Rattle.lv_request.specs.Requests.{IsSightingIn}
-use Rattle.lv_request.proofs.WordLaws.{formula_is_one}
+use Rattle.lv_cert_meaning.specs.Stated.{simple_goal, goal_as, goal_in, goal_of}
+use Rattle.lv_cert_meaning.specs.Certifying.{CertifiesDiagnosis, CertifiesRecovery, StateStands, IsSeen, AreStates, AreFacts, IsSettledDiagnosis, IsAsked, IsSettledRecovery, AreTexts, AreFormed}
+use Rattle.lv_session_request.specs.Held.{observation_of}
+use Rattle.lv_session_request.specs.declared.goals.Goal.{Goal}
+use Rattle.lv_session_request.specs.declared.request.Sighting.{Sighting}
+use Rattle.lv_session_request.specs.Goals.{IsGoalIn}
+use Rattle.lv_session_request.specs.Requests.{IsSightingIn}
+use Rattle.lv_session_request.proofs.WordLaws.{formula_is_one}
 use Rattle.lv_session.specs.declared.running.Diagnosed.{Diagnosed}
 use Rattle.lv_session.specs.declared.running.Recovering.{Recovering}
 use Rattle.lv_session.specs.Session.{SessionState, facts_of, aim_of, formula_of, text_of_goal, walked, recovery, is_settled_by}

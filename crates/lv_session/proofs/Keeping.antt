@@ -14,14 +14,13 @@ use Rattle.lv_model.specs.declared.plant.Part.{Part}
 use Rattle.lv_model.specs.Lists.{sizes, controls, variable_count, IsVariable}
 use Rattle.lv_model.proofs.Controls.{controls-in_range}
 use Rattle.lv_model.proofs.Reading.{All-at}
-use Rattle.lv_meaning.specs.Facts.{commanded}
-use Rattle.lv_ident.specs.Literals.{HasValue}
-use Rattle.lv_scope.proofs.ScopeLemmas.{below_size}
-use Rattle.lv_scope.proofs.PositiveLemmas.{variable_has_value}
+use Rattle.lv_meaning.specs.Facts.{commanded, HasValue}
+use Rattle.lv_model_names.proofs.ScopeLemmas.{below_size}
+use Rattle.lv_model_names.proofs.PositiveLemmas.{variable_has_value}
 use Rattle.lv_model.specs.Ranges.{plant_ranges}
 use Rattle.lv_model.specs.WellFormed.{is_well_formed}
-use Rattle.lv_walk.specs.declared.outcome.Outcome.{Outcome}
-use Rattle.lv_walk.specs.declared.outcome.Outcome.TheVariants.{Settled, Unsettled}
+use Rattle.lv_search_walk.specs.declared.outcome.Outcome.{Outcome}
+use Rattle.lv_search_walk.specs.declared.outcome.Outcome.TheVariants.{Settled, Unsettled}
 use Rattle.lv_tracker.specs.Targets.{target_state}
 use Rattle.lv_tracker.specs.Tracked.{start_state, advanced, HasModes}
 use Rattle.lv_tracker.proofs.ListLemmas.{first_all, targets_have_modes}
@@ -29,17 +28,17 @@ use Rattle.lv_reply.specs.declared.reply.Refusal.TheVariants.{NameHeld, NameNotH
 use Rattle.lv_reply.specs.declared.reply.Reply.{Reply}
 use Rattle.lv_reply.specs.declared.reply.Reply.TheVariants.{Refused, Committed, Certificate as Certified}
 use Rattle.lv_model.specs.declared.state.TrackedState.{TrackedState}
-use Rattle.lv_recovery.specs.Ranges.{StateFits}
-use Rattle.lv_request.specs.declared.goals.Goal.{Goal}
-use Rattle.lv_request.specs.declared.request.Sighting.{Sighting}
-use Rattle.lv_request.specs.declared.request.Request.{Request}
-use Rattle.lv_request.specs.declared.request.Request.TheVariants.{Nothing, Track, SetBudget, SetControl, Release, Observe, Retract, SetGoal, DropGoal, Diagnose, Recover, More, Commit, Conflicts, Certificate, Labels, LabelsFrom, States, Reset, Quit}
-use Rattle.lv_request.specs.Forms.{IsUpTo}
-use Rattle.lv_request.specs.Goals.{IsGoalIn}
-use Rattle.lv_request.specs.Requests.{IsSightingIn, IsRequestOf}
+use Rattle.lv_meaning.specs.Ranges.{StateFits}
+use Rattle.lv_session_request.specs.declared.goals.Goal.{Goal}
+use Rattle.lv_session_request.specs.declared.request.Sighting.{Sighting}
+use Rattle.lv_session_request.specs.declared.request.Request.{Request}
+use Rattle.lv_session_request.specs.declared.request.Request.TheVariants.{Nothing, Track, SetBudget, SetControl, Release, Observe, Retract, SetGoal, DropGoal, Diagnose, Recover, More, Commit, Conflicts, Certificate, Labels, LabelsFrom, States, Reset, Quit}
+use Rattle.lv_session_request.specs.Forms.{IsUpTo}
+use Rattle.lv_session_request.specs.Goals.{IsGoalIn}
+use Rattle.lv_session_request.specs.Requests.{IsSightingIn, IsRequestOf}
 use Rattle.lv_session.specs.declared.query.Query.{Query}
 use Rattle.lv_session.specs.declared.query.Query.TheVariants.{Absent, Diagnosis, Recovery}
-use Rattle.lv_held.specs.Held.{lacks_name}
+use Rattle.lv_session_request.specs.Held.{lacks_name}
 use Rattle.lv_session.specs.Session.{SessionState, Stepped, start, rest, unchanged, cleared, walked, recovery, is_held, observe, retract, is_goal, lacks_goal_name, set_goal, drop_goal, recovered, recover, more, more_by, more_recovery_by, is_settled, certificate, labelled, labelled_from, commit, commit_by, conflicts, taken_over, advanced_to, carried_out}
 use Rattle.lv_session.specs.States.{StateCosts, RankCosts, IsStateOf, IsListOf}
 use Rattle.lv_session.proofs.Fitting.{start_fits, all_fit}

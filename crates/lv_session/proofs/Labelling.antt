@@ -16,12 +16,11 @@ use Rattle.lv_model.specs.WellFormed.{is_well_formed}
 use Rattle.lv_model.specs.Ranges.{plant_ranges}
 use Rattle.lv_formula.specs.Fits.{has_value}
 use Rattle.lv_meaning.specs.declared.facts.Observation.{Observation}
-use Rattle.lv_meaning.specs.Facts.{commanded, now_facts}
-use Rattle.lv_ident.specs.Literals.{HasValue}
+use Rattle.lv_meaning.specs.Facts.{commanded, now_facts, HasValue}
 use Rattle.lv_compile.specs.Booleans.{booleans_now}
 use Rattle.lv_compile.specs.FormulaClauses.{size_of}
-use Rattle.lv_zones.proofs.ControlLemmas.{few_controls}
-use Rattle.lv_recovery.specs.Ranges.{modes_fit, StateFits}
+use Rattle.lv_search_zones.proofs.ControlLemmas.{few_controls}
+use Rattle.lv_meaning.specs.Ranges.{modes_fit, StateFits}
 use Rattle.lv_reply.specs.declared.reply.Refusal.TheVariants.{OutOfLimits}
 use Rattle.lv_reply.specs.declared.reply.Reply.TheVariants.{Refused}
 use Rattle.lv_reply.specs.declared.labels.Moment.{Moment}
@@ -29,8 +28,8 @@ use Rattle.lv_reply.specs.declared.labels.Moment.TheVariants.{Now, Next}
 use Rattle.lv_labels.specs.Literals.{values_of}
 use Rattle.lv_labels.specs.Modes.{are_values}
 use Rattle.lv_labels.specs.Holding.{claim_at, IsClaimIn, AreFactsIn, HasOwnModes}
-use Rattle.lv_scope.proofs.ScopeLemmas.{below_size}
-use Rattle.lv_held.specs.Held.{observation_of}
+use Rattle.lv_model_names.proofs.ScopeLemmas.{below_size}
+use Rattle.lv_session_request.specs.Held.{observation_of}
 use Rattle.lv_session.specs.Session.{SessionState, Stepped, unchanged, facts_of, labelled, labelled_from}
 use Rattle.lv_session.specs.States.{IsStateOf}
 use Rattle.lv_session.proofs.Asking.{facts_fit, facts_in_range}

@@ -5,29 +5,29 @@ use Rattle.std.specs.declared.boxed.Box.{Box}
 use Rattle.std.proofs.lemmas.List.Elements.{All-cons, All-head, All-tail, All-nil}
 use Rattle.lv_base.specs.declared.limits.TheConstants.{TRACKED}
 use Rattle.lv_model.specs.declared.plant.Plant.{Plant}
-use Rattle.lv_walk.specs.declared.outcome.Outcome.{Outcome}
-use Rattle.lv_walk.specs.declared.outcome.Outcome.TheVariants.{Settled, Unsettled}
-use Rattle.lv_walk.specs.Walk.{Walked}
-use Rattle.lv_walk.proofs.WalkLemmas.{at_most, used_up_unsettled}
+use Rattle.lv_search_walk.specs.declared.outcome.Outcome.{Outcome}
+use Rattle.lv_search_walk.specs.declared.outcome.Outcome.TheVariants.{Settled, Unsettled}
+use Rattle.lv_search_walk.specs.Walk.{Walked}
+use Rattle.lv_search_walk.proofs.WalkLemmas.{at_most, used_up_unsettled}
 use Rattle.lv_search.specs.Standing.{trials_of}
-use Rattle.lv_recovery.specs.declared.aim.Aim.{Aim}
-use Rattle.lv_recovery.specs.Commands.{command_sets}
-use Rattle.lv_recovery.specs.Ranges.{ObservationFits, GoalFits, AimFits}
-use Rattle.lv_recovery.specs.Recovery.{candidate_recovers, candidate_reason, recovery_walk}
+use Rattle.lv_meaning.specs.declared.aim.Aim.{Aim}
+use Rattle.lv_meaning.specs.Commands.{command_sets}
+use Rattle.lv_meaning.specs.Ranges.{ObservationFits, GoalFits, AimFits}
+use Rattle.lv_meaning.specs.Recovery.{candidate_recovers, candidate_reason, recovery_walk}
 use Rattle.lv_reconf.specs.Query.{QueryValue, IsQuery}
 use Rattle.lv_reply.specs.declared.reply.Refusal.TheVariants.{NotUnsettled}
 use Rattle.lv_reply.specs.declared.reply.Reply.TheVariants.{Refused, CommandConflicts}
-use Rattle.lv_request.specs.declared.goals.Goal.{Goal}
-use Rattle.lv_request.specs.declared.request.Sighting.{Sighting}
-use Rattle.lv_request.specs.Goals.{IsGoalIn}
-use Rattle.lv_request.specs.Requests.{IsSightingIn}
+use Rattle.lv_session_request.specs.declared.goals.Goal.{Goal}
+use Rattle.lv_session_request.specs.declared.request.Sighting.{Sighting}
+use Rattle.lv_session_request.specs.Goals.{IsGoalIn}
+use Rattle.lv_session_request.specs.Requests.{IsSightingIn}
 use Rattle.lv_session.specs.declared.query.Query.{Query}
 use Rattle.lv_session.specs.declared.query.Query.TheVariants.{Recovery}
 use Rattle.lv_session.specs.declared.running.Recovering.{Recovering}
 use Rattle.lv_session.specs.declared.running.Running.{Running}
 use Rattle.lv_session.specs.declared.running.Running.TheVariants as kept
 use Rattle.lv_session.specs.Current.{recovery_come_to, IsRecoveryAt, IsKeptOf}
-use Rattle.lv_held.specs.Held.{observation_of}
+use Rattle.lv_session_request.specs.Held.{observation_of}
 use Rattle.lv_session.specs.Session.{SessionState, formula_of, aim_of, unchanged, recovery, trials, recovered, more, more_recovery_by, conflicts}
 use Rattle.lv_session.specs.States.{IsStateOf}
 

@@ -7,9 +7,9 @@ use Rattle.lv_base.specs.declared.rank.Rank.{Rank}
 use Rattle.lv_model.specs.declared.plant.Plant.{Plant}
 use Rattle.lv_model.specs.declared.state.State.{State}
 use Rattle.lv_model.specs.declared.state.TrackedState.{TrackedState}
-use Rattle.lv_walk.specs.declared.outcome.Outcome.{Outcome}
-use Rattle.lv_walk.specs.declared.outcome.Outcome.TheVariants.{Settled, Unsettled}
-use Rattle.lv_walk.specs.Walk.{Walked}
+use Rattle.lv_search_walk.specs.declared.outcome.Outcome.{Outcome}
+use Rattle.lv_search_walk.specs.declared.outcome.Outcome.TheVariants.{Settled, Unsettled}
+use Rattle.lv_search_walk.specs.Walk.{Walked}
 use Rattle.lv_tracker.specs.Tracked.{advanced}
 use Rattle.lv_reply.specs.declared.reply.Refusal.{Refusal}
 use Rattle.lv_reply.specs.declared.reply.Refusal.TheVariants.{NameHeld, NameNotHeld, OutOfLimits, NoQuery, NothingListed, NoGoal, TooManyHeld, TooManyCommits}
@@ -19,14 +19,14 @@ use Rattle.lv_labels.specs.declared.labelling.Labelling.{Labelling}
 use Rattle.lv_labels.specs.declared.labelling.Labelling.TheVariants as labelling
 use Rattle.lv_labels.specs.Literals.{fact_literals, state_literals}
 use Rattle.lv_labels.specs.Finding.{labelling}
-use Rattle.lv_request.specs.declared.goals.Goal.{Goal}
-use Rattle.lv_request.specs.declared.request.Sighting.{Sighting}
-use Rattle.lv_request.specs.declared.request.Request.{Request}
-use Rattle.lv_request.specs.declared.request.Request.TheVariants.{Nothing, Track, SetBudget, SetControl, Release, Observe, Retract, SetGoal, DropGoal, Diagnose, Recover, More, Commit, Conflicts, Certificate, Labels, LabelsFrom, States, Reset, Quit}
-use Rattle.lv_request.specs.Requests.{request_of}
+use Rattle.lv_session_request.specs.declared.goals.Goal.{Goal}
+use Rattle.lv_session_request.specs.declared.request.Sighting.{Sighting}
+use Rattle.lv_session_request.specs.declared.request.Request.{Request}
+use Rattle.lv_session_request.specs.declared.request.Request.TheVariants.{Nothing, Track, SetBudget, SetControl, Release, Observe, Retract, SetGoal, DropGoal, Diagnose, Recover, More, Commit, Conflicts, Certificate, Labels, LabelsFrom, States, Reset, Quit}
+use Rattle.lv_session_request.specs.Requests.{request_of}
 use Rattle.lv_session.specs.declared.query.Query.{Query}
 use Rattle.lv_session.specs.declared.query.Query.TheVariants.{Absent, Diagnosis, Recovery}
-use Rattle.lv_held.specs.Held.{lacks_name}
+use Rattle.lv_session_request.specs.Held.{lacks_name}
 use Rattle.lv_session.specs.Session.{SessionState, Stepped, unchanged, cleared, walked, recovery, is_held, has_no_room, observe, retract, is_goal, has_no_goal_room, lacks_goal_name, set_goal, drop_goal, reply_by, diagnosis_reply, diagnosed, found, recovery_reply_by, recovery_reply, recovered, recover, more, more_by, more_recovery_by, is_settled, certificate, facts_of, labels_reply, labelled, labelled_from, commit, commit_by, conflicts, taken_over, advanced_to, carried_out, answered, stepped}
 use Rattle.lv_session.specs.Certificates.{IsDue}
 use Rattle.lv_session.specs.Laws.{is_refused, is_certificate, clears}

@@ -1,13 +1,13 @@
 -- The current query, and what is kept of it from line to line.
 use Rattle.std.specs.Prelude.{◌≡◌, ◌≤◌, ℕ, Bool, false, length, Option, IfSome}
 use Rattle.lv_model.specs.declared.plant.Plant.{Plant}
-use Rattle.lv_walk.specs.Walk.{Walked}
-use Rattle.lv_scope.specs.Lists.{lists_of}
-use Rattle.lv_steps.specs.System.{IsSystemOf}
+use Rattle.lv_search_walk.specs.Walk.{Walked}
+use Rattle.lv_model_names.specs.Lists.{lists_of}
+use Rattle.lv_system.specs.System.{IsSystemOf}
 use Rattle.lv_ident.specs.Query.{IsQueryOf}
-use Rattle.lv_request.specs.declared.request.Request.{Request}
+use Rattle.lv_session_request.specs.declared.request.Request.{Request}
 use Rattle.lv_reconf.specs.Query.{IsQuery as IsRecoveryQuery}
-use Rattle.lv_request.specs.declared.request.Request.TheVariants.{Diagnose, Recover, More}
+use Rattle.lv_session_request.specs.declared.request.Request.TheVariants.{Diagnose, Recover, More}
 use Rattle.lv_session.specs.declared.query.Query.{Query}
 use Rattle.lv_session.specs.declared.query.Query.TheVariants.{Absent, Diagnosis, Recovery}
 use Rattle.lv_session.specs.declared.running.Diagnosed.{Diagnosed}

@@ -4,12 +4,12 @@ use Rattle.std.specs.List.{list_any}
 use Rattle.lv_io.specs.Whole.{AddsFront}
 use Rattle.lv_text.specs.Lines.{lines_of}
 use Rattle.lv_model.specs.declared.plant.Plant.{Plant}
-use Rattle.lv_walk.specs.declared.outcome.Outcome.TheVariants.{Unsettled}
+use Rattle.lv_search_walk.specs.declared.outcome.Outcome.TheVariants.{Unsettled}
 use Rattle.lv_reply.specs.declared.reply.Reply.{Reply}
 use Rattle.lv_reply.specs.declared.reply.Reply.TheVariants.{Nothing, Refused, Certificate}
 use Rattle.lv_reply.specs.Texts.{reply_text}
-use Rattle.lv_request.specs.declared.request.Request.{Request}
-use Rattle.lv_request.specs.declared.request.Request.TheVariants.{Track, SetControl, Release, Observe, Retract, SetGoal, DropGoal, More, Commit, Reset}
+use Rattle.lv_session_request.specs.declared.request.Request.{Request}
+use Rattle.lv_session_request.specs.declared.request.Request.TheVariants.{Track, SetControl, Release, Observe, Retract, SetGoal, DropGoal, More, Commit, Reset}
 use Rattle.lv_session.specs.declared.query.Query.TheVariants.{Absent, Diagnosis, Recovery}
 use Rattle.lv_session.specs.Session.{SessionState, start, walked, recovery, diagnosis_reply, recovery_reply, is_settled, carried_out, stepped}
 use Rattle.lv_session.specs.Transcript.{IsTranscript, AddsFrontOfTranscript}

@@ -5,14 +5,13 @@ use Rattle.lv_base.specs.declared.rank.Rank.{Rank}
 use Rattle.lv_model.specs.declared.plant.Plant.{Plant}
 use Rattle.lv_model.specs.declared.state.TrackedState.{TrackedState}
 use Rattle.lv_model.specs.Lists.{sizes, controls}
-use Rattle.lv_meaning.specs.Facts.{commanded}
-use Rattle.lv_ident.specs.Literals.{HasValue}
+use Rattle.lv_meaning.specs.Facts.{commanded, HasValue}
 use Rattle.lv_tracker.specs.Targets.{HasMoves}
 use Rattle.lv_tracker.specs.Tracked.{HasModes}
-use Rattle.lv_recovery.specs.Ranges.{StateFits}
-use Rattle.lv_request.specs.Forms.{IsUpTo}
-use Rattle.lv_request.specs.Goals.{IsGoalIn}
-use Rattle.lv_request.specs.Requests.{IsSightingIn}
+use Rattle.lv_meaning.specs.Ranges.{StateFits}
+use Rattle.lv_session_request.specs.Forms.{IsUpTo}
+use Rattle.lv_session_request.specs.Goals.{IsGoalIn}
+use Rattle.lv_session_request.specs.Requests.{IsSightingIn}
 use Rattle.lv_session.specs.Session.{SessionState}
 
 -- what the faults of all parts cost at most in so many steps

@@ -4,8 +4,8 @@
 #![tactic(auto)]
 
 ghost use Rattle.std.specs.Prelude.{◌≡◌, ◌≤◌, ℕ, IfOk, length, true};
-ghost use Rattle.lv_steps.specs.System.{IsSystemOf};
-ghost use Rattle.lv_certify.specs.Certifying.{CertifiesDiagnosis, CertifiesRecovery, IsSettledDiagnosis, IsSettledRecovery, AreFormed};
+ghost use Rattle.lv_system.specs.System.{IsSystemOf};
+ghost use Rattle.lv_cert_meaning.specs.Certifying.{CertifiesDiagnosis, CertifiesRecovery, IsSettledDiagnosis, IsSettledRecovery, AreFormed};
 ghost use Rattle.lv_session.specs.Session.{facts_of, aim_of, is_settled_by, is_settled, certificate};
 ghost use Rattle.lv_session.specs.States.{IsStateOf};
 ghost use Rattle.lv_session.specs.Current.{IsDiagnosisAt, IsRecoveryAt, IsCurrent};
@@ -16,12 +16,12 @@ use crate::query::Query;
 use crate::running::{Diagnosed, Recovering, Running};
 use crate::state::State;
 use lv_cert::{Cert, write_cert};
-use lv_certdiag::{Settled as SettledDiagnosis, certify_diagnosis};
-use lv_certrec::{Settled as SettledRecovery, certify_recovery};
+use lv_cert_diagnosis::{Settled as SettledDiagnosis, certify_diagnosis};
+use lv_cert_recovery::{Settled as SettledRecovery, certify_recovery};
 use lv_model::Model;
 use lv_reply::{Refusal, Reply};
-use lv_steps::StepSystem;
-use lv_walk::Outcome;
+use lv_system::StepSystem;
+use lv_search_walk::Outcome;
 use std::alloc::{AllocError, Global};
 
 /// Whether a query with this outcome is settled.

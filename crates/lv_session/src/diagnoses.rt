@@ -6,10 +6,10 @@
 
 ghost use Rattle.std.specs.Prelude.{◌≡◌, ◌≤◌, ◌+◌, ◌<◌, ◌^◌, IfOk, OnOk, OnErr, length};
 ghost use Rattle.lv_base.specs.declared.limits.TheConstants.{TRACKED, BUDGET};
-ghost use Rattle.lv_steps.specs.System.{IsSystemOf};
+ghost use Rattle.lv_system.specs.System.{IsSystemOf};
 ghost use Rattle.lv_session.specs.declared.query.Query.TheVariants.{Diagnosis as IsDiagnosis};
 ghost use Rattle.lv_session.specs.declared.running.Running.TheVariants.{Diagnosis as KeptDiagnosis};
-ghost use Rattle.lv_walk.specs.declared.outcome.Outcome.TheVariants.{Unsettled};
+ghost use Rattle.lv_search_walk.specs.declared.outcome.Outcome.TheVariants.{Unsettled};
 ghost use Rattle.lv_session.specs.Session.{facts_of, trials, walked, diagnosis_reply, diagnosed, more, taken_over};
 ghost use Rattle.lv_session.specs.States.{IsStateOf, IsListOf};
 ghost use Rattle.lv_session.specs.Current.{come_to, IsDiagnosisAt, IsKeptOf, IsCurrent};
@@ -19,14 +19,14 @@ use crate::running::{Diagnosed, Running};
 use crate::state::{State, resting_values};
 use lv_base::limits::COMMITS;
 use lv_base::{Rank, Seq};
-use lv_held::{Held, facts};
+use lv_session_request::{Held, facts};
 use lv_ident::identify;
 use lv_meaning::Facts;
 use lv_model::Model;
 use lv_reply::{Refusal, Reply};
-use lv_steps::StepSystem;
+use lv_system::StepSystem;
 use lv_tracker::Tracked;
-use lv_walk::Outcome;
+use lv_search_walk::Outcome;
 use std::alloc::{AllocError, Global};
 use std::mem;
 

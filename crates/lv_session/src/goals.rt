@@ -10,8 +10,8 @@ use lv_base::limits::{GOALS, NAME_BYTES};
 use lv_base::{Seq, has_name};
 use lv_formula::Condition;
 use lv_reply::{Refusal, Reply};
-use lv_request::Goal;
-use lv_request::copying::copied;
+use lv_session_request::Goal;
+use lv_session_request::copying::copied;
 use std::alloc::{AllocError, Global};
 
 /// Whether one of the goals has this name.

@@ -3,7 +3,7 @@
 
 ghost use Rattle.std.specs.Prelude.{◌≡◌, ◌-◌, ◌++◌, None, IfOk, slice_get};
 ghost use Rattle.std.specs.Option.{option_copied};
-ghost use Rattle.lv_steps.specs.System.{IsSystemOf};
+ghost use Rattle.lv_system.specs.System.{IsSystemOf};
 ghost use Rattle.lv_labels.specs.Literals.{fact_literals, state_literals};
 ghost use Rattle.lv_labels.specs.Finding.{labelling};
 ghost use Rattle.lv_labels.specs.Holding.{HasOwnModes};
@@ -15,7 +15,7 @@ use crate::state::State;
 use lv_labels::{Labeller, Labelling};
 use lv_model::{Model, State as Modes, TrackedState};
 use lv_reply::{Refusal, Reply};
-use lv_steps::StepSystem;
+use lv_system::StepSystem;
 use std::alloc::{AllocError, Global};
 
 /// What propagation finds, as a reply.

@@ -7,7 +7,7 @@ ghost use Rattle.lv_session.specs.Session.{is_held, has_no_room, observe, retrac
 use crate::state::State;
 use lv_base::limits::{NAME_BYTES, OBSERVATIONS};
 use lv_reply::{Refusal, Reply};
-use lv_request::Sighting;
+use lv_session_request::Sighting;
 use std::alloc::AllocError;
 
 impl State {

@@ -16,7 +16,7 @@ use crate::state::State;
 use lv_base::{Conflict, Pair, Seq};
 use lv_model::Model;
 use lv_reply::{Refusal, Reply};
-use lv_walk::Outcome;
+use lv_search_walk::Outcome;
 use std::alloc::{AllocError, Global};
 
 /// Copies of conflicts.

@@ -6,10 +6,10 @@
 
 ghost use Rattle.std.specs.Prelude.{◌≡◌, ◌≤◌, ◌+◌, ◌<◌, ◌^◌, IfOk, OnOk, OnErr, length};
 ghost use Rattle.lv_base.specs.declared.limits.TheConstants.{TRACKED, BUDGET};
-ghost use Rattle.lv_steps.specs.System.{IsSystemOf};
+ghost use Rattle.lv_system.specs.System.{IsSystemOf};
 ghost use Rattle.lv_session.specs.declared.query.Query.TheVariants.{Recovery as IsRecovery};
 ghost use Rattle.lv_session.specs.declared.running.Running.TheVariants.{Recovery as KeptRecovery};
-ghost use Rattle.lv_walk.specs.declared.outcome.Outcome.TheVariants.{Unsettled};
+ghost use Rattle.lv_search_walk.specs.declared.outcome.Outcome.TheVariants.{Unsettled};
 ghost use Rattle.lv_session.specs.Session.{aim_of, trials, recovery, found, recovery_reply, recovered, recover, more};
 ghost use Rattle.lv_session.specs.States.{IsStateOf};
 ghost use Rattle.lv_session.specs.Current.{recovery_come_to, IsRecoveryAt, IsKeptOf, IsCurrent};
@@ -21,11 +21,11 @@ use crate::state::State;
 use lv_base::{Rank, Seq};
 use lv_model::Model;
 use lv_reconf::recover;
-use lv_recovery::Aim;
+use lv_meaning::Aim;
 use lv_reply::{Refusal, Reply};
-use lv_steps::StepSystem;
+use lv_system::StepSystem;
 use lv_tracker::copies_of;
-use lv_walk::Outcome;
+use lv_search_walk::Outcome;
 use std::alloc::{AllocError, Global};
 
 /// How many trials a recovery made.

@@ -3,7 +3,7 @@
 
 use lv_ident::{Query, QueryEffort};
 use lv_reconf::Query as RecoveryQuery;
-use lv_walk::Outcome;
+use lv_search_walk::Outcome;
 
 /// A diagnosis that has run: its search, and what its last run came to.
 #[derive(Drop)]

@@ -2,10 +2,10 @@
 #![tactic(auto)]
 
 ghost use Rattle.std.specs.Prelude.{◌≡◌, IfOk, OnOk, OnErr};
-ghost use Rattle.lv_request.specs.Requests.{IsRequestOf};
+ghost use Rattle.lv_session_request.specs.Requests.{IsRequestOf};
 ghost use Rattle.lv_session.specs.Session.{start, resting, cleared, track, set_budget, set_control, release, commanded, reset, quit, carried_out};
 ghost use Rattle.lv_reply.specs.declared.reply.Reply.TheVariants.{States};
-ghost use Rattle.lv_steps.specs.System.{IsSystemOf};
+ghost use Rattle.lv_system.specs.System.{IsSystemOf};
 ghost use Rattle.lv_session.specs.States.{IsStateOf};
 ghost use Rattle.lv_session.specs.Current.{IsCurrent, IsCaredFor, IsLabellerOf};
 
@@ -13,12 +13,12 @@ use crate::query::Query;
 use crate::running::Running;
 use lv_base::limits::{LISTED, TRIALS};
 use lv_base::{Seq, ValId};
-use lv_held::Held;
+use lv_session_request::Held;
 use lv_labels::Labeller;
 use lv_model::Model;
 use lv_reply::Reply;
-use lv_request::{Command, Goal, Request};
-use lv_steps::StepSystem;
+use lv_session_request::{Command, Goal, Request};
+use lv_system::StepSystem;
 use lv_tracker::{Tracked, copies_of};
 use std::alloc::{AllocError, Global};
 use std::marker;

@@ -2,8 +2,8 @@
 #![tactic(auto)]
 
 ghost use Rattle.std.specs.Prelude.{◌≡◌, IfOk, None, OnOk, OnErr};
-ghost use Rattle.lv_scope.specs.Lists.{lists_of};
-ghost use Rattle.lv_steps.specs.System.{IsSystemOf};
+ghost use Rattle.lv_model_names.specs.Lists.{lists_of};
+ghost use Rattle.lv_system.specs.System.{IsSystemOf};
 ghost use Rattle.lv_session.specs.Session.{stepped};
 ghost use Rattle.lv_session.specs.States.{IsStateOf};
 ghost use Rattle.lv_session.specs.Current.{IsCurrent, IsLabellerOf};
@@ -13,9 +13,9 @@ use crate::state::State;
 use lv_labels::Labeller;
 use lv_model::Model;
 use lv_reply::Reply;
-use lv_request::{Unread, request_of};
-use lv_scope::Lists;
-use lv_steps::{StepSystem, compile};
+use lv_session_request::{Unread, request_of};
+use lv_model_names::Lists;
+use lv_system::{StepSystem, compile};
 use lv_text::Token;
 use std::alloc::{AllocError, Global};
 

@@ -4,7 +4,7 @@
 use lv_base::{BoolId, Lit, MoveId, PartId, ValId, VarId};
 use lv_checker::model_of;
 use lv_model::Model;
-use lv_steps::{Moment, StepPair, StepSystem, compile};
+use lv_system::{Moment, StepPair, StepSystem, compile};
 use std::alloc::{AllocError, Global};
 
 /// A valve that follows its command or is stuck, with its inflow present.

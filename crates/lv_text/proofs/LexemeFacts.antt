@@ -6,9 +6,8 @@ use Rattle.lv_text.specs.declared.lexer.TextFault.{TextFault}
 use Rattle.lv_text.specs.declared.lexer.TextFault.TheVariants.{LongLine, BadByte, Memory}
 use Rattle.lv_text.specs.Kinds.{IsTokenOf}
 use Rattle.lv_text.specs.Tokens.{Lexed, lexed, bad_byte, long_line, Tells, all_tokens}
-use Rattle.lv_text.specs.Lexemes.{reads, reading_by, lexemes_of, Explains}
+use Rattle.lv_text.specs.Lexemes.{reads, reading_by, lexemes_of, Explains, Lexeme}
 use Rattle.std.proofs.lemmas.List.Elements.{All-head, All-tail}
-use Rattle.lv_text.specs.Lexemes.{Lexeme}
 use Rattle.lv_text.proofs.SliceLaws.{text_stays}
 use Rattle.lv_text.specs.Laws.{CommentKeepsReading}
 use Rattle.lv_text.proofs.TokenLaws.{comment_law, short}

@@ -1,7 +1,7 @@
 //! Which words are accepted: what no clause says is that they are with ample memory.
 #![tactic(auto)]
 
-use lv_words::{Command, Kind, WordsFault, read_words};
+use lv_run_words::{Command, Kind, WordsFault, read_words};
 use std::alloc::{AllocError, Global};
 
 fn read(alloc: Global, words: &[&str]) -> Result<Result<Command, WordsFault>, AllocError> {

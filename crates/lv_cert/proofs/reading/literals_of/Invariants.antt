@@ -1,7 +1,6 @@
 use Rattle.std.proofs.Common.{◌≡◌, ◌++◌, map, drop}
 use Rattle.std.specs.List.{list_all}
-use Rattle.lv_cert.specs.Numbers.{literal_value}
-use Rattle.lv_cert.specs.Numbers.{is_literal}
+use Rattle.lv_cert.specs.Numbers.{literal_value, is_literal}
 use Rattle.lv_cert.proofs.reading.literals_of.Given as goal
 
 -- what was read, with what is left, is all, and all is well spelled where what is left is

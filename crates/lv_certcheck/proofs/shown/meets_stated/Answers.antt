@@ -6,7 +6,7 @@ use Rattle.lv_formula.proofs.FitLemmas.{fits_reads}
 use Rattle.lv_model.specs.Ranges.{plant_ranges}
 use Rattle.lv_model.specs.WellFormed.{Reads}
 use Rattle.lv_model.proofs.Reading.{length-plant_ranges}
-use Rattle.lv_recovery.specs.Ranges.{GoalFits}
+use Rattle.lv_meaning.specs.Ranges.{GoalFits}
 use Rattle.lv_certcheck.specs.declared.judged.Judged.{Judged}
 use Rattle.lv_certcheck.specs.Settings.{plant_of}
 use Rattle.lv_certcheck.proofs.shown.meets_stated.Goals as goal

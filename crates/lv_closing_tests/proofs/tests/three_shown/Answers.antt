@@ -1,7 +1,7 @@
 -- a settled walk explains each candidate
 use Rattle.std.proofs.Common.{◌∙◌, ap, sym}
 use Rattle.std.specs.Option.{option_copied}
-use Rattle.lv_closing.specs.Explained.{last_if_full}
+use Rattle.lv_cert_writing.specs.Explained.{last_if_full}
 use Rattle.lv_closing_tests.proofs.SmallLemmas.{explained_as_made}
 use Rattle.lv_closing_tests.proofs.tests.three_shown.Goals as goal
 

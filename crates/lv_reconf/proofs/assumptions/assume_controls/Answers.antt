@@ -3,7 +3,7 @@ use Rattle.std.proofs.Common.{◌+◌, drop, get_or, ap}
 use Rattle.std.proofs.lemmas.List.{drop_more, drop_all}
 use Rattle.std.proofs.lemmas.List.Sums.{AllPass-from_list_all}
 use Rattle.lv_model.specs.Lists.{controls}
-use Rattle.lv_recovery.specs.Recovers.{has_controls}
+use Rattle.lv_meaning.specs.Recovers.{has_controls}
 use Rattle.lv_reconf.specs.Assuming.{pair_fits}
 use Rattle.lv_reconf.proofs.AssumingLemmas.{slot_there, control_more, assumes_end}
 use Rattle.lv_reconf.proofs.MarkLemmas.{adds_control}

@@ -1,7 +1,7 @@
 -- what is assumed so far and the pairs left say what all say; what is added is of the pairs
 use Rattle.std.proofs.Common.{drop}
 use Rattle.lv_model.specs.Lists.{controls}
-use Rattle.lv_recovery.specs.Recovers.{has_controls}
+use Rattle.lv_meaning.specs.Recovers.{has_controls}
 use Rattle.lv_reconf.specs.Assuming.{AssumesSoFar, AddsControls}
 use Rattle.lv_reconf.proofs.assumptions.assume_controls.Given as goal
 

@@ -1,6 +1,6 @@
 -- what is assumed so far and the modes left say what all say
 use Rattle.std.proofs.Common.{drop}
-use Rattle.lv_recovery.specs.Recovers.{has_modes}
+use Rattle.lv_meaning.specs.Recovers.{has_modes}
 use Rattle.lv_reconf.specs.Assuming.{AssumesSoFar}
 use Rattle.lv_reconf.proofs.assumptions.assume_modes.Given as goal
 

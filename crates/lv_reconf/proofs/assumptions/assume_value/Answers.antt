@@ -4,7 +4,7 @@ use Rattle.std.specs.Result.{IfOk}
 use Rattle.std.proofs.lemmas.Result.{IfOk-weaker}
 use Rattle.lv_base.specs.declared.ids.Lit.{Lit}
 use Rattle.lv_compile.specs.Booleans.{bool_count}
-use Rattle.lv_steps.proofs.LiteralLemmas.{now_in_range}
+use Rattle.lv_system.proofs.LiteralLemmas.{now_in_range}
 use Rattle.lv_reconf.proofs.AssumingLemmas.{value_assumed}
 use Rattle.lv_reconf.specs.Assuming.{AddsOne}
 use Rattle.lv_reconf.proofs.assumptions.assume_value.Goals as goal

@@ -2,7 +2,7 @@
 use Rattle.std.proofs.Common.{List, subst}
 use Rattle.lv_base.specs.declared.ids.Lit.{Lit}
 use Rattle.lv_model.specs.Ranges.{plant_ranges}
-use Rattle.lv_recovery.specs.Recovers.{has_modes}
+use Rattle.lv_meaning.specs.Recovers.{has_modes}
 use Rattle.lv_reconf.specs.Assuming.{Assumes}
 use Rattle.lv_reconf.proofs.AssumingLemmas.{modes_long}
 use Rattle.lv_reconf.proofs.MarkLemmas.{all_marked_hold}

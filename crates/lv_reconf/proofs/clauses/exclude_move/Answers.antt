@@ -2,7 +2,7 @@
 use Rattle.std.proofs.Common.{[], ◌∷◌, false, not, nat_eq}
 use Rattle.std.proofs.lemmas.Result.{IfOk-weaker}
 use Rattle.lv_compile.specs.Laws.{move_number}
-use Rattle.lv_steps.proofs.LiteralLemmas.{choice_in_range}
+use Rattle.lv_system.proofs.LiteralLemmas.{choice_in_range}
 use Rattle.lv_reconf.proofs.NarrowingLemmas.{excluded_says, adds_narrow}
 use Rattle.lv_reconf.proofs.clauses.exclude_move.Goals as goal
 

@@ -2,7 +2,7 @@
 use Rattle.std.proofs.Common.{[], ◌∷◌, true}
 use Rattle.std.proofs.lemmas.Result.{IfOk-weaker}
 use Rattle.lv_meaning.specs.Facts.{agrees}
-use Rattle.lv_steps.proofs.LiteralLemmas.{now_in_range}
+use Rattle.lv_system.proofs.LiteralLemmas.{now_in_range}
 use Rattle.lv_reconf.proofs.NarrowingLemmas.{value_has_bool, observed_says, adds_narrow}
 use Rattle.lv_reconf.proofs.clauses.observe_one.Goals as goal
 

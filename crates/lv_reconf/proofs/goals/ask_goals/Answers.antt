@@ -2,7 +2,7 @@
 use Rattle.std.proofs.Common.{◌+◌, ◌∷◌, List, drop, sym, ap, ◌∙◌}
 use Rattle.std.proofs.lemmas.List.{drop_more, drop_all}
 use Rattle.lv_formula.specs.Tree.{Tree}
-use Rattle.lv_recovery.specs.Recovers.{meets_goals}
+use Rattle.lv_meaning.specs.Recovers.{meets_goals}
 use Rattle.lv_reconf.proofs.NarrowingLemmas.{narrows_end}
 use Rattle.lv_reconf.proofs.GoalLemmas.{goal_more}
 use Rattle.lv_reconf.proofs.goals.ask_goals.Goals as goal

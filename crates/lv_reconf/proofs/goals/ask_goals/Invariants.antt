@@ -1,6 +1,6 @@
 -- what is added so far and the goals left say what all say
 use Rattle.std.proofs.Common.{drop}
-use Rattle.lv_recovery.specs.Recovers.{meets_goals}
+use Rattle.lv_meaning.specs.Recovers.{meets_goals}
 use Rattle.lv_reconf.specs.Narrowing.{NarrowsSoFar}
 use Rattle.lv_reconf.proofs.goals.ask_goals.Given as goal
 

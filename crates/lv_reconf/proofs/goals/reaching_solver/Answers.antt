@@ -1,6 +1,6 @@
 -- the same clauses, and the goals
 use Rattle.std.proofs.Common.{◌∙◌}
-use Rattle.lv_recovery.specs.Recovers.{meets_goals}
+use Rattle.lv_meaning.specs.Recovers.{meets_goals}
 use Rattle.lv_reconf.proofs.GoalLemmas.{asks_more}
 use Rattle.lv_reconf.proofs.goals.reaching_solver.Goals as goal
 

@@ -3,7 +3,7 @@ use Rattle.std.proofs.Common.{Bool, sym, ◌∙◌, subst}
 use Rattle.std.specs.List.{prefix_len}
 use Rattle.lv_clauses.specs.ClauseMap.{ClauseMap}
 use Rattle.lv_model.specs.declared.state.TrackedState.{TrackedState}
-use Rattle.lv_recovery.specs.Recovers.{some_nominal_step}
+use Rattle.lv_meaning.specs.Recovers.{some_nominal_step}
 use Rattle.lv_reconf.specs.Narrowing.{Asks}
 use Rattle.lv_reconf.proofs.StateLemmas.{count_stops, count_goes, count_ends}
 use Rattle.lv_reconf.proofs.states.count_stepping.Goals as goal

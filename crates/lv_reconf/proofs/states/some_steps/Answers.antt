@@ -3,7 +3,7 @@ use Rattle.std.proofs.Common.{Bool, sym, ◌∙◌, subst}
 use Rattle.std.specs.List.{list_any}
 use Rattle.lv_clauses.specs.ClauseMap.{ClauseMap}
 use Rattle.lv_model.specs.declared.state.TrackedState.{TrackedState}
-use Rattle.lv_recovery.specs.Recovers.{some_nominal_step}
+use Rattle.lv_meaning.specs.Recovers.{some_nominal_step}
 use Rattle.lv_reconf.specs.Narrowing.{Asks}
 use Rattle.lv_reconf.proofs.StateLemmas.{any_goes, any_ends}
 use Rattle.lv_reconf.proofs.states.some_steps.Goals as goal

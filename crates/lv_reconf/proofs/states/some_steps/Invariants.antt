@@ -4,7 +4,7 @@ use Rattle.std.specs.List.{list_any}
 use Rattle.lv_base.specs.declared.ids.ValId.{ValId}
 use Rattle.lv_model.specs.declared.state.TrackedState.{TrackedState}
 use Rattle.lv_meaning.specs.declared.facts.Observation.{Observation}
-use Rattle.lv_recovery.specs.Recovers.{some_nominal_step}
+use Rattle.lv_meaning.specs.Recovers.{some_nominal_step}
 use Rattle.lv_reconf.specs.Narrowing.{Asks}
 use Rattle.lv_reconf.proofs.states.some_steps.Given as goal
 

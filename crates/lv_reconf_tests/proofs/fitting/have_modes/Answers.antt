@@ -5,7 +5,7 @@ use Rattle.std.proofs.lemmas.Bool.{le-leb}
 use Rattle.lv_base.specs.declared.ids.ValId.{ValId}
 use Rattle.lv_formula.specs.declared.range.Range.{Range}
 use Rattle.lv_model.specs.declared.plant.Part.{Part}
-use Rattle.lv_recovery.specs.Ranges.{modes_fit}
+use Rattle.lv_meaning.specs.Ranges.{modes_fit}
 use Rattle.lv_reconf_tests.proofs.fitting.have_modes.Goals as goal
 
 rested : (ranges : List Range) (ps : List Part) → modes_fit ranges (drop (length ps) ps) [] ≡ true

@@ -1,6 +1,6 @@
 -- what is left decides
 use Rattle.std.proofs.Common.{◌≡◌, drop}
-use Rattle.lv_recovery.specs.Ranges.{modes_fit}
+use Rattle.lv_meaning.specs.Ranges.{modes_fit}
 use Rattle.lv_reconf_tests.proofs.fitting.have_modes.Given as goal
 
 abbrev pub invariant-loop-i : goal.invariant-loop-i

@@ -2,7 +2,7 @@
 use Rattle.std.proofs.Common.{ℕ, subst, ◌∙◌}
 use Rattle.lv_io.specs.Outside.{Rose}
 use Rattle.lv_io.specs.declared.Role.TheVariants.{Second}
-use Rattle.lv_words.specs.Words.{checks}
+use Rattle.lv_run_words.specs.Words.{checks}
 use Rattle.std.specs.Prelude.{Some}
 use Rattle.lv_run.proofs.OpenLemmas.{opened_at_model, opened_at_second}
 use Rattle.lv_run.proofs.SecondLemmas.{check_ends}

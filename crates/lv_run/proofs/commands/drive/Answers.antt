@@ -1,5 +1,5 @@
 -- A session that is driven, at each exit: what was expected, and the opens.
-use Rattle.lv_words.specs.Words.{drives}
+use Rattle.lv_run_words.specs.Words.{drives}
 use Rattle.lv_run.specs.declared.status.Status.TheVariants.{Done}
 use Rattle.lv_run.proofs.OpenLemmas.{sink_end, opens_nothing}
 use Rattle.lv_run.proofs.ExpectedLemmas.{ended_at_model, follows_at_model, driven_whole, driven_partly, is_driven}

@@ -1,5 +1,5 @@
 -- A model that is printed, at each exit: what was expected, and what is known of the model.
-use Rattle.lv_words.specs.Words.{prints}
+use Rattle.lv_run_words.specs.Words.{prints}
 use Rattle.lv_run.proofs.OpenLemmas.{sink_end}
 use Rattle.lv_run.proofs.ExpectedLemmas.{ended_at_model, follows_at_model, is_printed, shown_whole, shown_partly}
 use Rattle.lv_run.proofs.commands.print.Goals as goal

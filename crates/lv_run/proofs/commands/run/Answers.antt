@@ -2,7 +2,7 @@
 use Rattle.std.proofs.Common.{ℕ, subst, ◌∙◌}
 use Rattle.lv_io.specs.Outside.{Rose}
 use Rattle.lv_io.specs.declared.Role.TheVariants.{Second}
-use Rattle.lv_words.specs.Words.{runs}
+use Rattle.lv_run_words.specs.Words.{runs}
 use Rattle.lv_run.proofs.OpenLemmas.{opened_at_model, opened_at_second}
 use Rattle.lv_run.proofs.SecondLemmas.{session_ends}
 use Rattle.lv_run.proofs.ExpectedLemmas.{ended_at_model, follows_at_model, served_meets, served_follows, served_verdict, served_silent, second_no_model}

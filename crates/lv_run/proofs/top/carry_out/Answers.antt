@@ -1,7 +1,7 @@
 -- What was expected of words that say no command, or that were not read; and what is known of a text that is made.
 use Rattle.std.proofs.Common.{◌≡◌, rules, subst, sym, map, Some, Option, Global}
 use Rattle.std.specs.Prelude.{string_bytes}
-use Rattle.lv_words.specs.Words.{Said, generates, drives, command_of}
+use Rattle.lv_run_words.specs.Words.{Said, generates, drives, command_of}
 use Rattle.lv_run.specs.Expected.{Follows, TellsVerdict}
 use Rattle.lv_run.specs.Faults.{ended_status}
 use Rattle.lv_run.proofs.ExpectedLemmas.{ended_at_words}

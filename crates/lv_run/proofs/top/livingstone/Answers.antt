@@ -1,7 +1,7 @@
 -- What the whole call promises, from what carrying out and telling do.
 use Rattle.std.proofs.Common.{sym, ◌∙◌, map, subst, Global}
 use Rattle.std.specs.Prelude.{string_bytes}
-use Rattle.lv_words.specs.Words.{command_of}
+use Rattle.lv_run_words.specs.Words.{command_of}
 use Rattle.lv_run.specs.Inputs.{opens_of}
 use Rattle.lv_run.specs.Expected.{Meets, serves, judges, shows}
 use Rattle.lv_run.specs.Faults.{ended_status}

@@ -1,7 +1,7 @@
 -- each zone that is opened is one less to be opened
 use Rattle.std.proofs.Common.{sym, ◌∙◌, ap, ◌+◌, subst}
 use Rattle.std.specs.Vec.Iter.{into_iter_items}
-use Rattle.lv_search.specs.Members.{times_in}
+use Rattle.lv_boxes.specs.RankedMembers.{times_in}
 use Rattle.lv_search.specs.Zones.{zones_of, HasRoomFor}
 use Rattle.lv_search.proofs.TimesLemmas.{room_first, room_rest, times_rest, all_opened}
 use Rattle.lv_search.proofs.zones.open_all.Goals as goal

@@ -2,7 +2,7 @@
 use Rattle.std.proofs.Common.{◌≡◌, ◌+◌}
 use Rattle.std.specs.Vec.Iter.{into_iter_items}
 use Rattle.lv_base.specs.declared.rank.Rank.{Rank}
-use Rattle.lv_search.specs.Members.{times_in}
+use Rattle.lv_boxes.specs.RankedMembers.{times_in}
 use Rattle.lv_search.specs.Zones.{zones_of, HasRoomFor}
 use Rattle.lv_search.proofs.zones.open_all.Given as goal
 

@@ -1,6 +1,6 @@
 use Rattle.std.proofs.Common.{◌≡◌, ◌+◌, ◌*◌, ◌≤◌, drop}
 use Rattle.lv_model.specs.Lists.{controls}
-use Rattle.lv_recovery.specs.Commands.{commands_cost}
+use Rattle.lv_meaning.specs.Commands.{commands_cost}
 use Rattle.lv_certcheck.specs.Settings.{plant_of}
 use Rattle.lv_certcheck.proofs.judge.Judge.command_cost.Given as goal
 

@@ -1,11 +1,9 @@
-use Rattle.std.proofs.Common.{[], false, length, slice_index_or}
-use Rattle.lv_validity.specs.Units.{nominal_units}
-use Rattle.lv_recovery.specs.Commands.{control_sizes}
+use Rattle.std.proofs.Common.{[], false, length, slice_index_or, sym, refl, ap, ◌∙◌, arith}
+use Rattle.lv_cert_meaning.specs.Units.{nominal_units, goal_clauses}
+use Rattle.lv_meaning.specs.Commands.{control_sizes}
 use Rattle.lv_certcheck.specs.Settings.{plant_of}
 use Rattle.lv_certcheck.proofs.JudgeLemmas.{pairs_of_values, below_counts, goal_there, goal_at, proof_opened, fits_opened, at_place}
-use Rattle.std.proofs.Common.{sym, refl, ap, ◌∙◌, arith}
 use Rattle.lv_base.specs.Choices.{pairs_of}
-use Rattle.lv_validity.specs.Units.{goal_clauses}
 use Rattle.lv_certcheck.specs.declared.judged.Judged.{Judged}
 use Rattle.lv_certcheck.proofs.judge.Judge.proof.Goals as goal
 

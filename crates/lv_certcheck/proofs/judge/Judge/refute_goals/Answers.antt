@@ -1,12 +1,10 @@
-use Rattle.std.proofs.Common.{[], true, length, slice_index_or}
-use Rattle.lv_validity.specs.Units.{nominal_units}
-use Rattle.lv_recovery.specs.Commands.{control_sizes}
+use Rattle.std.proofs.Common.{[], true, length, slice_index_or, sym, refl, ap, arith}
+use Rattle.lv_cert_meaning.specs.Units.{nominal_units, goal_clauses}
+use Rattle.lv_meaning.specs.Commands.{control_sizes}
 use Rattle.lv_certcheck.specs.Settings.{plant_of}
 use Rattle.lv_certcheck.specs.Verdicts.{judged_of}
 use Rattle.lv_certcheck.proofs.JudgeLemmas.{pairs_behind, no_values, goals_opened, fits_opened, fits_excluded, goals_fit, at_place}
-use Rattle.std.proofs.Common.{sym, refl, ap, arith}
 use Rattle.std.specs.List.{flat_map}
-use Rattle.lv_validity.specs.Units.{goal_clauses}
 use Rattle.lv_certcheck.specs.declared.judged.Judged.{Judged}
 use Rattle.lv_certcheck.proofs.judge.Judge.refute_goals.Goals as goal
 

@@ -3,11 +3,11 @@ use Rattle.std.proofs.Common.{◌≡◌, ◌+◌, true, Bool, List, subst, sym}
 use Rattle.std.specs.Result.{IfOk}
 use Rattle.lv_base.specs.declared.rank.Rank.{Rank}
 use Rattle.lv_base.specs.declared.search.Candidate.{Candidate}
-use Rattle.lv_walk.specs.Walk.{walk}
+use Rattle.lv_search_walk.specs.Walk.{walk}
 use Rattle.lv_meaning.specs.Candidates.{candidates, is_possible_candidate}
 use Rattle.lv_meaning.specs.Diagnosis.{reason_of, diagnosis_walk}
 use Rattle.lv_search.specs.Standing.{trials_of, all_suit, IsUnderWay}
-use Rattle.lv_zones.specs.Moves.{is_full_choice}
+use Rattle.lv_search_zones.specs.Moves.{is_full_choice}
 use Rattle.lv_ident.specs.Query.{QueryValue, IsQueryOf}
 use Rattle.lv_ident.proofs.QueryLemmas.{of_same_meaning, tried_on, of_both}
 use Rattle.lv_ident.proofs.query.Query.run.Goals as goal

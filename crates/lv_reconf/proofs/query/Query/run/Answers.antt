@@ -1,9 +1,9 @@
 -- what the search says of its trial it says of the plant and the aim
 use Rattle.std.proofs.Common.{◌≡◌, ◌+◌, ℕ, true, subst, sym, ◌∙◌}
 use Rattle.std.specs.Result.{IfOk}
-use Rattle.lv_walk.specs.Walk.{walk}
-use Rattle.lv_recovery.specs.Commands.{command_sets}
-use Rattle.lv_recovery.specs.Recovery.{candidate_recovers, candidate_reason, recovery_walk}
+use Rattle.lv_search_walk.specs.Walk.{walk}
+use Rattle.lv_meaning.specs.Commands.{command_sets}
+use Rattle.lv_meaning.specs.Recovery.{candidate_recovers, candidate_reason, recovery_walk}
 use Rattle.lv_search.specs.Standing.{trials_of, all_suit, IsUnderWay}
 use Rattle.lv_reconf.specs.Judging.{candidate_commands}
 use Rattle.lv_reconf.specs.Query.{QueryValue, IsQuery}

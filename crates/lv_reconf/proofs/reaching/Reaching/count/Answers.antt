@@ -5,8 +5,8 @@ use Rattle.std.specs.Result.{IfOk}
 use Rattle.std.proofs.lemmas.Result.{IfOk-weaker}
 use Rattle.lv_model.specs.declared.plant.Plant.{Plant}
 use Rattle.lv_model.specs.declared.state.TrackedState.{TrackedState}
-use Rattle.lv_recovery.specs.declared.aim.Aim.{Aim}
-use Rattle.lv_recovery.specs.Recovers.{some_nominal_step, meets_goals, reaches}
+use Rattle.lv_meaning.specs.declared.aim.Aim.{Aim}
+use Rattle.lv_meaning.specs.Recovers.{some_nominal_step, meets_goals, reaches}
 use Rattle.lv_reconf.specs.Narrowing.{Asks}
 use Rattle.lv_reconf.specs.Trying.{Question, ReachingValue}
 use Rattle.lv_reconf.proofs.reaching.Reaching.count.Goals as goal

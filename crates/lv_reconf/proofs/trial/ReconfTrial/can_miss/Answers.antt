@@ -3,7 +3,7 @@ use Rattle.std.proofs.Common.{◌≡◌, true, ap, sym, ◌∙◌, subst}
 use Rattle.std.specs.Result.{IfOk}
 use Rattle.std.proofs.lemmas.Result.{IfOk-weaker}
 use Rattle.lv_model.specs.declared.plant.Plant.{Plant}
-use Rattle.lv_recovery.specs.declared.aim.Aim.{Aim}
+use Rattle.lv_meaning.specs.declared.aim.Aim.{Aim}
 use Rattle.lv_reconf.specs.Narrowing.{Asks}
 use Rattle.lv_reconf.specs.Trying.{Question, some_can_miss}
 use Rattle.lv_reconf.proofs.MissLemmas.{missed_all}

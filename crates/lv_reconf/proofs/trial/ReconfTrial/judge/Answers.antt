@@ -1,6 +1,6 @@
 -- what is counted and asked tells what the definitions say
 use Rattle.std.proofs.Common.{◌≡◌, ◌≤◌, length, sym, subst, ap, ◌∙◌, arith}
-use Rattle.lv_recovery.specs.declared.aim.Aim.{Aim}
+use Rattle.lv_meaning.specs.declared.aim.Aim.{Aim}
 use Rattle.lv_reconf.specs.declared.judged.Judged.TheVariants.{Recovers, Misses, Stops}
 use Rattle.lv_reconf.specs.Judging.{Judges}
 use Rattle.lv_reconf.specs.Trying.{ReachingValue, Question, some_can_miss}

@@ -6,7 +6,7 @@ use Rattle.lv_base.specs.Choices.{pairs_of}
 use Rattle.lv_model.specs.Lists.{controls}
 use Rattle.lv_reconf.specs.Assuming.{pairs_fit}
 use Rattle.lv_reconf.specs.Trying.{Question}
-use Rattle.lv_zones.proofs.ControlLemmas.{few_controls}
+use Rattle.lv_search_zones.proofs.ControlLemmas.{few_controls}
 use Rattle.lv_reconf.proofs.JudgeLemmas.{values_fit, few_values}
 use Rattle.lv_reconf.proofs.trial.ReconfTrial.values_of.Goals as goal
 

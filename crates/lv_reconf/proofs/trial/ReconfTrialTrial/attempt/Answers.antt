@@ -2,7 +2,7 @@
 use Rattle.std.proofs.Common.{[], ap, ◌∙◌}
 use Rattle.lv_base.specs.Choices.{slots_rise}
 use Rattle.lv_boxes.proofs.MemberLemmas.{pairs_rise}
-use Rattle.lv_walk.proofs.ReasonLemmas.{still_rising}
+use Rattle.lv_search_walk.proofs.ReasonLemmas.{still_rising}
 use Rattle.lv_reconf.specs.Trying.{looking_at, reaches_at}
 use Rattle.lv_reconf.proofs.trial.ReconfTrialTrial.attempt.Goals as goal
 

@@ -4,9 +4,9 @@ use Rattle.lv_base.specs.declared.limits.TheConstants.{TRACKED}
 use Rattle.lv_formula.specs.Tree.{Tree}
 use Rattle.lv_model.specs.declared.state.TrackedState.{TrackedState}
 use Rattle.lv_tracker.specs.Tracked.{IsWithinCost}
-use Rattle.lv_recovery.specs.declared.aim.Aim.{Aim}
-use Rattle.lv_certify.specs.Certifying.{IsAsked, AreTexts}
-use Rattle.lv_request.specs.declared.goals.Goal.{Goal}
+use Rattle.lv_meaning.specs.declared.aim.Aim.{Aim}
+use Rattle.lv_cert_meaning.specs.Certifying.{IsAsked, AreTexts}
+use Rattle.lv_session_request.specs.declared.goals.Goal.{Goal}
 use Rattle.lv_session.specs.Session.{SessionState, text_of_goal, formula_of}
 use Rattle.lv_session.proofs.Certifying.{are_states, is_asked, are_texts}
 use Rattle.lv_session.proofs.state.State.recovery_certificate.Goals as goal

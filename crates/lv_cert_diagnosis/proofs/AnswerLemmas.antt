@@ -1,0 +1,152 @@
+-- What is known of a settled diagnosis: its listed candidates can be shown, its kept conflicts refuted, and each candidate explained.
+use Rattle.std.proofs.Common.{◌≡◌, ℕ, ◌-◌, ◌≤◌, Bool, true, false, not, ◌&&◌, nat_lt, List, [], ◌∷◌, ◌++◌, take, filter, slice_index_or, Some, None, refl, sym, subst, ◌∙◌, ap, arith, All, Contains}
+use Rattle.std.specs.List.{list_all}
+use Rattle.std.proofs.lemmas.Bool.{and_parts, and_from, lt-ltb, ltb-true, not-true}
+use Rattle.std.proofs.lemmas.List.Elements.{All-contains_itself, All-head, All-tail, All-cons, All-nil}
+use Rattle.std.proofs.lemmas.List.Folds.{list_all-append}
+use Rattle.lv_base.specs.declared.rank.Rank.{Rank}
+use Rattle.lv_base.specs.declared.search.Pair.{Pair}
+use Rattle.lv_base.specs.declared.search.Candidate.{Candidate}
+use Rattle.lv_base.specs.Rank.{ranks_before}
+use Rattle.lv_base.specs.Choices.{pairs_of, picks}
+use Rattle.lv_model.specs.declared.plant.Plant.{Plant}
+use Rattle.lv_model.specs.declared.state.TrackedState.{TrackedState}
+use Rattle.lv_model.specs.Lists.{move_counts}
+use Rattle.lv_search_walk.specs.declared.outcome.Outcome.TheVariants.{Settled}
+use Rattle.lv_search_walk.specs.Ranked.{rises, is_among}
+use Rattle.lv_search_walk.specs.Walk.{Walked, candidate_of, walk_from}
+use Rattle.lv_search_walk.proofs.WalkLemmas.{turn, is_exact}
+use Rattle.lv_search_walk.proofs.ReasonLemmas.{still_impossible, part_of_all}
+use Rattle.lv_meaning.specs.declared.facts.Facts.{Facts}
+use Rattle.lv_meaning.specs.Possible.{is_possible}
+use Rattle.lv_meaning.specs.Candidates.{candidates, is_possible_candidate, is_possible_rank, first_possible}
+use Rattle.lv_meaning.specs.Diagnosis.{reason_of, diagnosis_walk}
+use Rattle.lv_meaning.specs.CandidateLaws.{IsCandidate, IsAnswer}
+use Rattle.lv_meaning.proofs.Reasons.{is_sound, own_pairs}
+use Rattle.lv_meaning.proofs.Answering.{answer_law}
+use Rattle.lv_meaning.proofs.Rising.{candidates_rise_law}
+use Rattle.lv_boxes.proofs.RankedMemberLemmas.{among_ranked_members_any}
+use Rattle.lv_search_zones.specs.Moves.{move_slots, zones_from, is_full_choice}
+use Rattle.lv_search_zones.proofs.ZoneLemmas.{zones_have_candidates, candidates_are_full}
+use Rattle.lv_ident.specs.Literals.{HasMove}
+use Rattle.lv_ident.proofs.ReasonLemmas.{full_is_partial}
+use Rattle.lv_cert_writing.specs.Explained.{AreExplained, is_explained, last_if_full}
+use Rattle.lv_cert_writing.specs.SplitLaws.{HasReasonsInside, explains}
+use Rattle.lv_cert_writing.proofs.SplitWalkLemmas.{walk_explains}
+use Rattle.lv_cert_laws.proofs.Shown.{candidate_is_full}
+use Rattle.lv_cert_meaning.specs.Certifying.{IsSettledDiagnosis}
+use Rattle.lv_cert_diagnosis.specs.Showing.{CanBeShown, CanBeRefuted}
+use Rattle.lv_cert_diagnosis.proofs.ListingLemmas.{rise_after}
+
+-- what holds of each item of the list holds of all
+all_of : {X : Type 0} (P : X → Type 0) (xs : List X) → ((x : X) → Contains xs x → P x) → All P xs
+all_of P xs each = λ n d inside. each _ (All-contains_itself xs n d inside)
+
+-- the slot has the choice, as a test
+abbrev has_move : List ℕ → Pair → Bool
+has_move counts p = nat_lt p.choice (slice_index_or counts p.slot 0)
+
+moves_tested : (counts : List ℕ) (ps : List Pair) → All (HasMove counts) ps → list_all (has_move counts) ps ≡ true
+moves_tested counts [] have = refl
+moves_tested counts (p ∷ ps) have =
+    and_from (has_move counts p) (list_all (has_move counts) ps) (lt-ltb p.choice (slice_index_or counts p.slot 0) (All-head (HasMove counts) p ps have).below) (moves_tested counts ps (All-tail (HasMove counts) p ps have))
+
+moves_there : (counts : List ℕ) (ps : List Pair) → list_all (has_move counts) ps ≡ true → All (HasMove counts) ps
+moves_there counts [] h = All-nil (HasMove counts)
+moves_there counts (p ∷ ps) h =
+    let two = and_parts (has_move counts p) (list_all (has_move counts) ps) h in
+    All-cons (HasMove counts) p ps (record { below = ltb-true p.choice (slice_index_or counts p.slot 0) two.0 }) (moves_there counts ps two.1)
+
+-- what the reasons of candidates that suit pass each kept conflict passes
+module _ (suits fits : Candidate → Bool) (reason : Candidate → List Pair) (p : List Pair → Bool) (passes : (c : Candidate) → suits c ≡ true → fits c ≡ false → p (reason c) ≡ true) where
+  kept_pass : (k budget : ℕ) (left listed : List Rank) (kept : List (List Pair)) → list_all (λ (r : Rank). suits (candidate_of r)) left ≡ true → list_all p kept ≡ true
+      → list_all p (walk_from fits reason k budget listed kept left).kept ≡ true
+  kept_pass k budget [] listed kept suit all = all
+  kept_pass k budget (r ∷ rs) listed kept suit all =
+      let two = and_parts (suits (candidate_of r)) (list_all (λ (q : Rank). suits (candidate_of q)) rs) suit in
+      turn fits reason k budget (λ w. list_all p w.kept ≡ true) r rs listed kept
+      (λ _. all)
+      (λ _. kept_pass k budget rs listed kept two.1 all)
+      (λ _. all)
+      (λ _ _ _. kept_pass k budget rs (listed ++ (r ∷ [])) kept two.1 all)
+      (λ _ _ unfit. kept_pass k budget rs listed (kept ++ (reason (candidate_of r) ∷ [])) two.1
+      (list_all-append p kept (reason (candidate_of r) ∷ []) ∙ and_from (list_all p kept) (p (reason (candidate_of r)) && true) all (and_from (p (reason (candidate_of r))) true (passes (candidate_of r) two.0 unfit) refl)))
+
+all_suit : (ranks : List Rank) → list_all (λ (r : Rank). true) ranks ≡ true
+all_suit [] = refl
+all_suit (r ∷ rs) = all_suit rs
+
+-- a list that rises does so one after the other
+pub rising_after : (listed : List Rank) → rises listed ≡ true → rise_after None listed ≡ true
+rising_after [] h = refl
+rising_after (r ∷ rs) h = let two = and_parts (list_all (ranks_before r) rs) (rises rs) h in later r rs two.0 two.1
+  where
+    later : (q : Rank) (qs : List Rank) → list_all (ranks_before q) qs ≡ true → rises qs ≡ true → rise_after (Some q) qs ≡ true
+    later q [] before up = refl
+    later q (x ∷ xs) before up =
+        let here = and_parts (ranks_before q x) (list_all (ranks_before q) xs) before in
+        let more = and_parts (list_all (ranks_before x) xs) (rises xs) up in
+        and_from (ranks_before q x) (rise_after (Some x) xs) here.0 (later x xs more.0 more.1)
+
+module _ (plant : Plant) (tracked : List TrackedState) (facts : Facts) (k : ℕ) (listed : List Rank) (kept : List (List Pair)) (s : IsSettledDiagnosis plant tracked facts k listed kept) where
+  abbrev walk_is : Walked
+  walk_is = diagnosis_walk plant facts k s.budget (candidates plant tracked)
+
+  settled : walk_is.outcome ≡ Settled
+  settled = ap (λ (w : Walked). w.outcome) s.settled
+
+  first : listed ≡ first_possible k plant facts tracked
+  first =
+      let all : k - 0 ≡ k = omega arith in
+      sym (ap (λ (w : Walked). w.listed) s.settled)
+      ∙ is_exact (is_possible_candidate plant facts) (reason_of plant facts) k s.budget (λ (c : Candidate). true) (is_sound plant facts) (candidates plant tracked) [] [] (all_suit (candidates plant tracked)) (omega arith) (λ t f g. refl) settled
+      ∙ ap (λ n. take n (filter (is_possible_rank plant facts) (candidates plant tracked))) all
+
+  pub answer : IsAnswer k plant facts tracked listed
+  answer = subst (IsAnswer k plant facts tracked) (sym first) (answer_law k plant facts tracked)
+
+  pub listed_can_be_shown : All (CanBeShown plant facts) listed
+  listed_can_be_shown = all_of (CanBeShown plant facts) listed (λ r there. record { full = candidate_is_full plant tracked r (answer.candidates r there); possible = answer.possible r there })
+
+  pub listed_are_candidates : All (IsCandidate plant tracked) listed
+  listed_are_candidates = all_of (IsCandidate plant tracked) listed answer.candidates
+
+  -- what is asked of a conflict, as a test
+  abbrev is_refutable : List Pair → Bool
+  is_refutable ps = list_all (has_move (move_counts plant)) ps && not (is_possible plant facts ps)
+
+  reason_passes : (c : Candidate) → is_full_choice plant c ≡ true → is_possible_candidate plant facts c ≡ false → is_refutable (reason_of plant facts c) ≡ true
+  reason_passes c full unfit =
+      and_from (list_all (has_move (move_counts plant)) (reason_of plant facts c)) (not (is_possible plant facts (reason_of plant facts c)))
+      (part_of_all (is_possible plant facts) (has_move (move_counts plant)) [] (pairs_of c.choices) refl (moves_tested (move_counts plant) (pairs_of c.choices) (full_is_partial plant c.choices full).moves))
+      (ap not (still_impossible (is_possible plant facts) [] (pairs_of c.choices) unfit))
+
+  kept_tested : list_all is_refutable kept ≡ true
+  kept_tested =
+      ap (λ (w : Walked). list_all is_refutable w.kept) (sym s.settled)
+      ∙ kept_pass (is_full_choice plant) (is_possible_candidate plant facts) (reason_of plant facts) is_refutable reason_passes k s.budget (candidates plant tracked) [] [] (candidates_are_full plant tracked) refl
+
+  all_refutable : (cs : List (List Pair)) → list_all is_refutable cs ≡ true → All (CanBeRefuted plant facts) cs
+  all_refutable [] h = All-nil (CanBeRefuted plant facts)
+  all_refutable (c ∷ cs) h =
+      let two = and_parts (is_refutable c) (list_all is_refutable cs) h in
+      let one = and_parts (list_all (has_move (move_counts plant)) c) (not (is_possible plant facts c)) two.0 in
+      All-cons (CanBeRefuted plant facts) c cs (record { moves = moves_there (move_counts plant) c one.0; impossible = not-true (is_possible plant facts c) one.1 }) (all_refutable cs two.1)
+
+  pub kept_can_be_refuted : All (CanBeRefuted plant facts) kept
+  kept_can_be_refuted = all_refutable kept kept_tested
+
+  inside : HasReasonsInside (is_full_choice plant) (is_possible_candidate plant facts) (reason_of plant facts)
+  inside = record { inside = λ c full unfit. part_of_all (is_possible plant facts) (picks c.choices) [] (pairs_of c.choices) refl (own_pairs [] c.choices) }
+
+  explained : 1 ≤ k → (r : Rank) → is_among r (candidates plant tracked) ≡ true → is_explained (last_if_full k listed) listed kept r ≡ true
+  explained some r there =
+      sym (ap (λ (w : Walked). explains k w r) s.settled)
+      ∙ walk_explains (is_full_choice plant) (is_possible_candidate plant facts) (reason_of plant facts) inside k s.budget some (candidates plant tracked) (candidates_rise_law plant tracked) (candidates_are_full plant tracked) settled r there
+
+  pub all_explained : 1 ≤ k → AreExplained (move_slots plant) (zones_from plant 0 tracked) (last_if_full k listed) listed kept
+  all_explained some = record {
+    each = λ r there.
+        explained some r
+        (ap (is_among r) (sym (zones_have_candidates plant tracked)) ∙ among_ranked_members_any (move_slots plant) (zones_from plant 0 tracked) r ∙ there);
+  }

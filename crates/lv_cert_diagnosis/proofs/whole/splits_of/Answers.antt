@@ -1,0 +1,17 @@
+-- the zones are those of the states, and each candidate is explained
+use Rattle.std.specs.Option.{option_copied}
+use Rattle.lv_search_zones.specs.Moves.{move_slots, zones_from}
+use Rattle.lv_cert_writing.specs.Explained.{last_if_full}
+use Rattle.lv_cert_diagnosis.proofs.AnswerLemmas.{all_explained}
+use Rattle.lv_cert_diagnosis.proofs.AskedLemmas.{are_tracked, explained_same}
+use Rattle.lv_cert_diagnosis.proofs.whole.splits_of.Goals as goal
+
+pub zones_of-requires-clause-states : goal.zones_of-requires-clause-states
+zones_of-requires-clause-states c = are_tracked c.args.model.now c.args.tracked.now c.requires.states
+
+pub close-requires-clause-explained : goal.close-requires-clause-explained
+close-requires-clause-explained c =
+    let plant = c.args.model.now in
+    explained_same c.in_ok-grid.grid (move_slots plant) c.in_ok-grid.ensures c.in_ok-zones.zones.items (zones_from plant 0 c.args.tracked.now) c.in_ok-zones.ensures
+    (option_copied c.last_if_full-last.result) (last_if_full c.args.k c.args.answer.now.listed.now) c.last_if_full-last.ensures c.args.answer.now.listed.now c.args.answer.now.kept.now
+    (all_explained plant c.args.tracked.now c.args.facts.now c.args.k c.args.answer.now.listed.now c.args.answer.now.kept.now c.requires.settled c.requires.some)

@@ -1,0 +1,112 @@
+//! All lines of a certificate together.
+#![tactic(auto)]
+
+ghost use Rattle.std.specs.Prelude.{◌≡◌, ◌≤◌, IfOk};
+ghost use Rattle.lv_base.specs.declared.limits.TheConstants.{TRACKED};
+ghost use Rattle.lv_cert.specs.declared.line.Question.TheVariants.{Diagnosis};
+ghost use Rattle.lv_system.specs.System.{IsSystemOf};
+ghost use Rattle.lv_search_zones.specs.Moves.{move_slots, zones_from};
+ghost use Rattle.lv_cert_writing.specs.Explained.{last_if_full as last_of_all};
+ghost use Rattle.lv_cert_meaning.specs.Certifying.{CertifiesDiagnosis, AreStates, AreFacts, IsSettledDiagnosis, AreFormed};
+ghost use Rattle.lv_cert_diagnosis.specs.Showing.{HoldsAnswer, HoldsSplits};
+
+use crate::asking::Asking;
+use crate::heading::head_of;
+use crate::listing::push_listed;
+use crate::refuting::push_blocks;
+use lv_base::{Conflict, Rank, Seq};
+use lv_cert::{Cert, Line, Question};
+use lv_cert_writing::stating::push_splits;
+use lv_cert_writing::{Split, close, last_if_full};
+use lv_meaning::Facts;
+use lv_model::{Model, TrackedState};
+use lv_system::StepSystem;
+use lv_search_zones::{move_grid, zones_of};
+use std::alloc::{AllocError, Global};
+
+/// What a settled search came to: what it lists, and the conflicts that it kept.
+pub struct Settled<'a> {
+    pub listed: &'a [Rank],
+    pub kept: &'a [Conflict],
+}
+
+/// Adds what shows the answer: the lines of the listed candidates, and the blocks of the kept conflicts.
+fn push_answer(
+    alloc: Global,
+    lines: &mut Vec<Line>,
+    model: &Model,
+    system: &StepSystem,
+    tracked: &[TrackedState],
+    facts: &Facts,
+    k: u32,
+    answer: &Settled<'_>,
+) -> Result<(), AllocError>
+    requires system { IsSystemOf model.now system.now }
+    requires facts { AreFacts model.now facts.now }
+    requires settled { IsSettledDiagnosis model.now tracked.now facts.now k answer.now.listed.now answer.now.kept.now }
+    ensures { IfOk result (λ _. HoldsAnswer model.now facts.now answer.now.listed.now answer.now.kept.now lines.old.items lines.new.items) }
+{
+    let asking = Asking::new(alloc, model, system, facts)?;
+    push_listed(alloc, lines, &asking, answer.listed)?;
+    push_blocks(alloc, lines, &asking, answer.kept)?;
+    Ok(())
+}
+
+/// The splits after which each zone left is empty or ranks behind what is listed.
+fn splits_of(
+    alloc: Global,
+    model: &Model,
+    tracked: &[TrackedState],
+    facts: &Facts,
+    k: u32,
+    answer: &Settled<'_>,
+) -> Result<Vec<Split>, AllocError>
+    requires states { AreStates model.now tracked.now }
+    requires some { 1 ≤ k }
+    requires settled { IsSettledDiagnosis model.now tracked.now facts.now k answer.now.listed.now answer.now.kept.now }
+    ensures { IfOk result (λ made. HoldsSplits Diagnosis (move_slots model.now) (zones_from model.now 0 tracked.now) (last_of_all k answer.now.listed.now) answer.now.listed.now answer.now.kept.now made.items) }
+{
+    let grid = move_grid(alloc, model)?;
+    let zones = zones_of(alloc, model, tracked)?;
+    let last = last_if_full(answer.listed, k as usize);
+    close(
+        alloc,
+        Question::Diagnosis,
+        grid,
+        zones,
+        answer.kept,
+        answer.listed,
+        last,
+    )
+}
+
+/// A certificate of a settled diagnosis: it states the tracked states, the facts and the limit, and shows, line by line,
+/// that what is listed are the first candidates that are possible.
+pub fn certify_diagnosis(
+    alloc: Global,
+    model: &Model,
+    system: &StepSystem,
+    tracked: &[TrackedState],
+    facts: &Facts,
+    k: u32,
+    answer: &Settled<'_>,
+) -> Result<Cert, AllocError>
+    requires system { IsSystemOf model.now system.now }
+    requires states { AreStates model.now tracked.now }
+    requires facts { AreFacts model.now facts.now }
+    requires some { 1 ≤ k }
+    requires few { k ≤ TRACKED }
+    requires settled { IsSettledDiagnosis model.now tracked.now facts.now k answer.now.listed.now answer.now.kept.now }
+    ensures certifies { IfOk result (λ cert. CertifiesDiagnosis model.now tracked.now facts.now k answer.now.listed.now cert.lines) }
+    ensures formed { IfOk result (λ cert. AreFormed model.now cert.lines) }
+{
+    let _plant = model.plant();
+    let mut lines = head_of(alloc, model, tracked, facts, k)?;
+    push_answer(alloc, &mut lines, model, system, tracked, facts, k, answer)?;
+    let made = splits_of(alloc, model, tracked, facts, k, answer)?;
+    push_splits(&mut lines, made.as_slice())?;
+    lines.push(Line::End)?;
+    Ok(Cert {
+        lines: Seq::from_vec(lines),
+    })
+}

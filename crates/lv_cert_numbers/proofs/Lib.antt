@@ -1,0 +1,6 @@
+pub mod NumberLemmas
+pub mod CountLemmas
+pub mod PairLemmas
+pub mod PartLemmas
+pub mod GoalLemmas
+pub mod LeastLemmas

@@ -1,0 +1,9 @@
+use Rattle.std.proofs.Common.{◌≡◌, drop}
+use Rattle.std.specs.List.{list_all}
+use Rattle.std.specs.Option.{option_copied}
+use Rattle.lv_cert_meaning.specs.Space.{is_passed, all_passed}
+use Rattle.lv_cert_numbers.proofs.space.Space.all_passed.Given as goal
+
+-- the zones that are left are passed exactly where all are
+abbrev pub invariant-loop-zone : goal.invariant-loop-zone
+invariant-loop-zone l = list_all (is_passed l.self.slots (option_copied l.last)) (drop l.zone-index l.zone-items) ≡ all_passed l.self (option_copied l.last)

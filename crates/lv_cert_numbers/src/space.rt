@@ -1,0 +1,182 @@
+//! Zones by their numbers, which count from 1. A split closes its zone and opens zones with the next numbers, so that what a
+//! certificate splits can be followed line by line.
+#![tactic(auto)]
+
+ghost use Rattle.std.specs.Prelude.{◌≡◌, ◌≤◌, ◌-◌, ◌++◌, ◌∷◌, [], map, Some, None, IfOk, IfSome, OnOk, length, slice_set};
+ghost use Rattle.lv_boxes.specs.Members.{ZoneValue};
+ghost use Rattle.std.specs.Option.{option_copied, option_and_then};
+ghost use Rattle.lv_cert_meaning.specs.Counting.{at_number};
+ghost use Rattle.lv_cert_meaning.specs.Space as Spaces;
+
+use lv_base::{Conflict, Rank, Seq};
+use lv_boxes::{Grid, Zone, split};
+use std::alloc::{AllocError, Global};
+use std::marker::Model;
+
+/// What the choices of each slot cost, and the zones so far, nothing where one was split.
+#[derive(Drop)]
+pub struct Space {
+    grid: Grid,
+    zones: Vec<Option<Zone>>,
+}
+
+impl Model for Space {
+    ghost use Rattle.lv_cert_meaning.specs.Space.{Space};
+
+    ghost Value = { Space };
+
+    ghost view = { λ s. record { slots = s.grid; zones = s.zones.items } };
+}
+
+/// The zones, each open.
+fn opened(alloc: Global, zones: Vec<Zone>) -> Result<Vec<Option<Zone>>, AllocError>
+    ensures { IfOk result (λ out. out.items ≡ map Some zones.items) }
+{
+    zones.into_iter().map(Some).collect(alloc)
+}
+
+impl Space {
+    /// Of these zones, each open.
+    pub fn new(alloc: Global, grid: Grid, zones: Vec<Zone>) -> Result<Space, AllocError>
+        ensures { IfOk result (λ s. s ≡ record { slots = grid; zones = map Some zones.items }) }
+    {
+        Ok(Space {
+            grid,
+            zones: opened(alloc, zones)?,
+        })
+    }
+
+    /// Begins anew with these zones, each open.
+    pub fn restart(&mut self, alloc: Global, zones: Vec<Zone>) -> Result<(), AllocError>
+        ensures { OnOk result (self.new ≡ record self.old { zones = map Some zones.items }) }
+    {
+        self.zones = opened(alloc, zones)?;
+        Ok(())
+    }
+
+    /// What stands at this number, if something does.
+    fn slot(&self, n: u128) -> Option<&Option<Zone>>
+        ensures { option_copied result ≡ at_number self.now.zones n }
+    {
+        if 0 < n && n <= self.zones.len() as u128 {
+            self.zones.get(n as usize - 1)
+        } else {
+            None
+        }
+    }
+
+    /// The zone of this number, if it is open. Takes no memory.
+    pub fn open_zone(&self, n: u128) -> Option<&Zone>
+        ensures { option_copied result ≡ Spaces.open_zone self.now n }
+    {
+        match self.slot(n) {
+            Some(zone) => zone.as_ref(),
+            None => None,
+        }
+    }
+
+    /// How many zones there are, those that were split too.
+    pub fn len(&self) -> usize
+        ensures { result ≡ length self.now.zones }
+    {
+        self.zones.len()
+    }
+
+    /// The rank of the least member of the zone of this number, if that is open and has members. It has a choice for each
+    /// slot, which are 4,096 at most.
+    pub fn least_of(&self, alloc: Global, n: u128) -> Result<Option<Rank>, AllocError>
+        ensures rank { IfOk result (λ r. r ≡ option_and_then (Spaces.least_rank self.now.slots) (Spaces.open_zone self.now n)) }
+        ensures few { IfOk result (λ r. IfSome r (λ rank. length rank.choices ≤ 4096)) }
+    {
+        let mut room = vec![in alloc; 0; self.grid.len()]?;
+        match self.open_zone(n) {
+            Some(zone) => self.least_rank(alloc, zone, room.as_mut_slice()),
+            None => Ok(None),
+        }
+    }
+
+    /// Splits the zone of this number, which is open, by these choices.
+    pub fn split(&mut self, alloc: Global, n: u128, conflict: &Conflict) -> Result<(), AllocError>
+        ensures { (zone : ZoneValue) → Spaces.open_zone self.old n ≡ Some zone → OnOk result (self.new ≡ Spaces.with_split self.old n zone conflict.now) }
+    {
+        let parts = match self.open_zone(n) {
+            Some(zone) => split(alloc, zone, conflict)?,
+            None => Vec::new(alloc),
+        };
+        self.close(n);
+        self.open_all(parts)
+    }
+
+    /// Closes the zone of this number, which is open.
+    fn close(&mut self, n: u128)
+        ensures { (zone : ZoneValue) → Spaces.open_zone self.old n ≡ Some zone → self.new ≡ record self.old { zones = slice_set self.old.zones (n - 1) None } }
+    {
+        if 0 < n && n <= self.zones.len() as u128 {
+            self.zones[n as usize - 1] = None;
+        }
+    }
+
+    /// Opens one more zone, with the next number.
+    fn open(&mut self, zone: Zone) -> Result<(), AllocError>
+        ensures { OnOk result (self.new ≡ record self.old { zones = self.old.zones ++ Some zone ∷ [] }) }
+    {
+        self.zones.push(Some(zone))?;
+        Ok(())
+    }
+
+    fn open_all(&mut self, zones: Vec<Zone>) -> Result<(), AllocError>
+        ensures { OnOk result (self.new ≡ record self.old { zones = self.old.zones ++ map Some zones.items }) }
+    {
+        for zone in zones {
+            self.open(zone)?;
+        }
+        Ok(())
+    }
+
+    /// The rank of the zone's least member, if it has members. The room has one place for each slot.
+    fn least_rank(
+        &self,
+        alloc: Global,
+        zone: &Zone,
+        room: &mut [u32],
+    ) -> Result<Option<Rank>, AllocError>
+        requires { length room.old ≡ length self.now.slots }
+        ensures rank { IfOk result (λ r. r ≡ Spaces.least_rank self.now.slots zone.now) }
+        ensures places { IfOk result (λ r. IfSome r (λ rank. length rank.choices ≡ length room.old)) }
+    {
+        match self.grid.write_best(zone, room) {
+            Some(cost) => Ok(Some(Rank {
+                cost,
+                source: zone.source(),
+                choices: Seq::from_slice(alloc, room)?,
+            })),
+            None => Ok(None),
+        }
+    }
+
+    /// Whether the zone is empty, or its least member ranks behind the last one that counts.
+    fn is_passed(&self, alloc: Global, zone: &Zone, last: Option<&Rank>) -> Result<bool, AllocError>
+        ensures { IfOk result (λ passed. passed ≡ Spaces.is_passed self.now.slots (option_copied last.entry) (Some zone.now)) }
+    {
+        let mut room = vec![in alloc; 0; self.grid.len()]?;
+        match (self.least_rank(alloc, zone, room.as_mut_slice())?, last) {
+            (None, _) => Ok(true),
+            (Some(_), None) => Ok(false),
+            (Some(least), Some(last)) => Ok(last.before(&least)),
+        }
+    }
+
+    /// Whether each zone was split, or is empty, or its least member ranks behind the last one that counts.
+    pub fn all_passed(&self, alloc: Global, last: Option<&Rank>) -> Result<bool, AllocError>
+        ensures { IfOk result (λ passed. passed ≡ Spaces.all_passed self.now (option_copied last.entry)) }
+    {
+        for zone in &self.zones {
+            if let Some(zone) = zone
+                && !self.is_passed(alloc, zone, last)?
+            {
+                return Ok(false);
+            }
+        }
+        Ok(true)
+    }
+}

@@ -1,0 +1,7 @@
+use Rattle.std.proofs.Common.{◌≡◌, ◌++◌, drop, map}
+use Rattle.lv_compile.specs.Booleans.{booleans_now}
+use Rattle.lv_cert_meaning.specs.Stated.{observed_literal}
+use Rattle.lv_cert_recovery.proofs.units.push_seen.Given as goal
+
+abbrev pub invariant-loop-o : goal.invariant-loop-o
+invariant-loop-o l = l.lits.items ++ map (observed_literal (booleans_now l.model)) (drop l.o-index l.present) ≡ l.initial.lits.items ++ map (observed_literal (booleans_now l.model)) l.present

@@ -1,0 +1,115 @@
+//! All lines of a certificate together.
+#![tactic(auto)]
+
+ghost use Rattle.std.specs.Prelude.{◌≡◌, [], IfOk};
+ghost use Rattle.lv_system.specs.System.{IsSystemOf};
+ghost use Rattle.lv_cert_meaning.specs.Certifying.{CertifiesRecovery, IsAsked, AreTexts, IsSettledRecovery, AreFormed};
+ghost use Rattle.lv_cert_writing.specs.Lines.{split_lines};
+ghost use Rattle.lv_cert_recovery.specs.Closing.{AreClosing};
+ghost use Rattle.lv_cert_recovery.specs.Leading.{asked, excluding, standing, LeadsOn};
+
+use crate::asking::Asking;
+use crate::excluding::push_blocks;
+use crate::heading::head_of;
+use crate::showing::push_recovery;
+use lv_base::{Conflict, Rank, Seq, pairs_of};
+use lv_cert::{Cert, Line, Question};
+use lv_cert_writing::stating::push_splits;
+use lv_cert_writing::{Split, close, last_if_full};
+use lv_model::Model;
+use lv_meaning::Aim;
+use lv_system::StepSystem;
+use lv_search_zones::{command_grid, command_zone};
+use std::alloc::{AllocError, Global};
+
+/// What a settled search came to: what it lists, and the conflicts that it kept.
+pub struct Settled<'a> {
+    pub listed: &'a [Rank],
+    pub kept: &'a [Conflict],
+}
+
+/// Adds the lines of the recovery, if one is listed.
+fn push_listed(
+    asking: &Asking,
+    lines: &mut Vec<Line>,
+    answer: &Settled<'_>,
+) -> Result<(), AllocError>
+    requires { IsSettledRecovery asking.now.plant asking.now.aim answer.now.listed.now answer.now.kept.now }
+    ensures { IfOk result (λ _. LeadsOn asking.now.plant asking.now.aim (standing asked [] []) (standing excluding answer.now.listed.now []) lines.old.items lines.new.items) }
+{
+    let _aim = asking.aim();
+    match answer.listed.first() {
+        Some(rank) => {
+            let pairs = pairs_of(asking.alloc(), rank.choices.as_slice())?;
+            push_recovery(asking, pairs.as_slice(), lines)
+        }
+        None => Ok(()),
+    }
+}
+
+/// Adds what shows the answer: the lines of the recovery, and the blocks of the kept conflicts.
+fn push_answer(
+    asking: &Asking,
+    lines: &mut Vec<Line>,
+    answer: &Settled<'_>,
+) -> Result<(), AllocError>
+    requires { IsSettledRecovery asking.now.plant asking.now.aim answer.now.listed.now answer.now.kept.now }
+    ensures { IfOk result (λ _. LeadsOn asking.now.plant asking.now.aim (standing asked [] []) (standing excluding answer.now.listed.now answer.now.kept.now) lines.old.items lines.new.items) }
+{
+    push_listed(asking, lines, answer)?;
+    push_blocks(asking, answer.kept, lines)
+}
+
+/// The splits that leave no command set open.
+fn splits_of(
+    alloc: Global,
+    model: &Model,
+    aim: &Aim,
+    answer: &Settled<'_>,
+) -> Result<Vec<Split>, AllocError>
+    requires { IsSettledRecovery model.now aim.now answer.now.listed.now answer.now.kept.now }
+    ensures { IfOk result (λ made. AreClosing model.now answer.now.listed.now answer.now.kept.now (split_lines made.items)) }
+{
+    let _plant = model.plant();
+    let grid = command_grid(alloc, model)?;
+    let mut zones = Vec::new(alloc);
+    zones.push(command_zone(alloc, model)?)?;
+    close(
+        alloc,
+        Question::Recovery,
+        grid,
+        zones,
+        answer.kept,
+        answer.listed,
+        last_if_full(answer.listed, 1),
+    )
+}
+
+/// A certificate of a settled recovery: it states the tracked states, what is seen and the goals, which have these texts,
+/// and shows, line by line, that what is given is the first command set that recovers, or that none does.
+pub fn certify_recovery(
+    alloc: Global,
+    model: &Model,
+    system: &StepSystem,
+    aim: &Aim,
+    texts: &[Seq<u8>],
+    answer: &Settled<'_>,
+) -> Result<Cert, AllocError>
+    requires system { IsSystemOf model.now system.now }
+    requires asked { IsAsked model.now aim.now }
+    requires texts { AreTexts model.now texts.now aim.now.goals }
+    requires settled { IsSettledRecovery model.now aim.now answer.now.listed.now answer.now.kept.now }
+    ensures certifies { IfOk result (λ cert. CertifiesRecovery model.now aim.now answer.now.listed.now cert.lines) }
+    ensures formed { IfOk result (λ cert. AreFormed model.now cert.lines) }
+{
+    let _plant = model.plant();
+    let mut lines = head_of(alloc, model, aim, texts)?;
+    let asking = Asking::new(alloc, model, system, aim)?;
+    push_answer(&asking, &mut lines, answer)?;
+    let made = splits_of(alloc, model, aim, answer)?;
+    push_splits(&mut lines, made.as_slice())?;
+    lines.push(Line::End)?;
+    Ok(Cert {
+        lines: Seq::from_vec(lines),
+    })
+}

@@ -1,0 +1,24 @@
+-- Numbers of clauses in a block, kept in lists by the places at which the clauses stand elsewhere; where a list has 0 or
+-- nothing, no number is kept.
+use Rattle.std.specs.Prelude.{◌≡◌, ◌≢◌, ℕ, true, List, Some, slice_index}
+use Rattle.std.specs.List.{list_any}
+use Rattle.lv_base.specs.declared.ids.Lit.{Lit}
+use Rattle.lv_base.specs.declared.ids.ClauseId.{ClauseId}
+use Rattle.lv_clauses.specs.ClauseMap.{Slots, clause_at}
+use Rattle.lv_system.specs.Numbering.{has_number}
+use Rattle.lv_system.specs.System.{SystemValue}
+use Rattle.lv_cert_blocks.specs.Following.{numbered}
+use Rattle.lv_cert_blocks.specs.Blocks.{clauses_of}
+
+-- each clause of the set has, by the number kept at its place, its like among the numbered ones
+pub record HaveNumbers (slots : Slots) (clauses : List (List Lit)) (numbers : List ℕ) : Type 0 where
+  pub each : (id : ℕ) (c : List Lit) → clause_at slots id ≡ Some c → numbered clauses (slice_index numbers id) ≡ Some c
+
+-- so have, among the clauses of the system, those at these of its places
+pub record AreSystemNumbers (s : SystemValue) (ids : List ClauseId) (numbers : List ℕ) : Type 0 where
+  pub each : (id : ℕ) (c : List Lit) → list_any (has_number id) ids ≡ true → clause_at s.set.slots id ≡ Some c → numbered (clauses_of s) (slice_index numbers id) ≡ Some c
+
+-- the new list keeps this number at the place, and at the others what the old one did
+pub record Keeps (old new : List ℕ) (place number : ℕ) : Type 0 where
+  pub kept : slice_index new place ≡ number
+  pub others : (other : ℕ) → other ≢ place → slice_index new other ≡ slice_index old other

@@ -1,0 +1,14 @@
+pub mod Lines
+pub mod Ending
+pub mod Splitting
+pub mod Pairs
+pub mod Asking
+pub mod BlockNumbers
+pub mod StatedClauses
+pub mod Needed
+pub mod BlockLines
+pub mod Refuting
+pub mod Explained
+pub mod Closing
+pub mod SplitLaws
+pub mod SplitLines

@@ -1,0 +1,166 @@
+//! Splits of zones, as lines of a certificate, that go on until each zone is passed: the zones are gone through by their
+//! numbers, and each that has a member which counts is split by what explains its least member. The parts come behind.
+#![tactic(auto)]
+
+ghost use Rattle.std.specs.Prelude.{◌≡◌, ◌≤◌, ◌^◌, true, length, position, option_map, Some, All, IfOk, IfSome, OnOk};
+ghost use Rattle.std.specs.Option.{option_copied};
+ghost use Rattle.lv_base.specs.Choices.{contains_all};
+ghost use Rattle.lv_boxes.specs.Members.{ZoneValue};
+ghost use Rattle.lv_search_walk.specs.Ranked.{is_rank};
+ghost use Rattle.lv_cert_meaning.specs.Space as Spaces;
+ghost use Rattle.lv_cert_writing.specs.Explained.{AreExplained};
+ghost use Rattle.lv_cert_writing.specs.Explained as Explanations;
+ghost use Rattle.lv_cert_writing.specs.Closing.{Cut, can_be_listed, cut_of, cut_at, with_cut, after_cut, Closes, EvidenceIsSmall, SplitIsSmall};
+ghost use Rattle.lv_cert_writing.specs.Closing as Closings;
+
+use lv_base::{Conflict, Rank, contains};
+use lv_boxes::{Grid, Zone, choices_as_conflict};
+use lv_cert::{Evidence, Question};
+use lv_cert_numbers::Space;
+use std::alloc::{AllocError, Global};
+
+/// A split: the zone of this number, counted from 1, by this evidence.
+#[derive(Clone, Copy, Debug, PartialEq, Eq)]
+pub struct Split {
+    pub zone: u128,
+    pub by: Evidence,
+}
+
+/// Splits of these zones, with what their choices cost, until each that is open is empty or its least member ranks behind
+/// `last`. A zone is split by the first excluded conflict in its least member, or else by all choices of the listed
+/// candidate that this is; so each member must contain an excluded conflict, be listed, or rank behind `last`. Conflicts,
+/// listed candidates and zones are numbered from 1, and the zones that a split makes come behind the others. A recovery
+/// lists one command set at most.
+pub fn close(
+    alloc: Global,
+    question: Question,
+    grid: Grid,
+    zones: Vec<Zone>,
+    excluded: &[Conflict],
+    listed: &[Rank],
+    last: Option<&Rank>,
+) -> Result<Vec<Split>, AllocError>
+    requires explained { AreExplained grid zones.items (option_copied last) listed.now excluded.now }
+    requires few { can_be_listed question (length listed.now) ≡ true }
+    ensures closes { IfOk result (λ made. Closes question grid zones.items (option_copied last.entry) listed.now excluded.now made.items) }
+    ensures small { IfOk result (λ made. All SplitIsSmall made.items) }
+{
+    let mut space = Space::new(alloc, grid, zones)?;
+    let mut made = Vec::new(alloc);
+    let mut at = 0;
+    while at < space.len() {
+        let zone = at as u128 + 1;
+        if let Some(by) = close_zone(alloc, question, &mut space, zone, excluded, listed, last)? {
+            made.push(Split { zone, by })?;
+        }
+        at += 1;
+    }
+    Ok(made)
+}
+
+/// The last of the listed, where as many are listed as are wanted: what ranks behind it need not be listed.
+pub fn last_if_full(listed: &[Rank], k: usize) -> Option<&Rank>
+    ensures { option_copied result ≡ Explanations.last_if_full k listed.now }
+{
+    if listed.len() == k {
+        listed.last()
+    } else {
+        None
+    }
+}
+
+/// Splits the zone of this number, if its least member doesn't rank behind the last, by what explains that member.
+fn close_zone(
+    alloc: Global,
+    question: Question,
+    space: &mut Space,
+    n: u128,
+    excluded: &[Conflict],
+    listed: &[Rank],
+    last: Option<&Rank>,
+) -> Result<Option<Evidence>, AllocError>
+    ensures by { IfOk result (λ by. by ≡ option_map (λ (cut : Cut). cut.by) (cut_at question (option_copied last.entry) listed.now excluded.now space.old n)) }
+    ensures small { IfOk result (λ by. IfSome by EvidenceIsSmall) }
+    ensures space { OnOk result (space.new ≡ after_cut space.old n (cut_at question (option_copied last.entry) listed.now excluded.now space.old n)) }
+{
+    match space.least_of(alloc, n)? {
+        Some(least) if !is_behind(last, &least) => {
+            split_zone(alloc, question, space, n, excluded, listed, &least)
+        }
+        _ => Ok(None),
+    }
+}
+
+/// Whether the rank is behind the last one, where this is asked for.
+fn is_behind(last: Option<&Rank>, r: &Rank) -> bool
+    ensures { result ≡ Spaces.is_behind (option_copied last.entry) r.now }
+{
+    match last {
+        Some(last) => last.before(r),
+        None => false,
+    }
+}
+
+/// Splits the zone of this number, whose least member has this rank, by the first excluded conflict in that, or else by
+/// all choices of the listed one that it is.
+fn split_zone(
+    alloc: Global,
+    question: Question,
+    space: &mut Space,
+    n: u128,
+    excluded: &[Conflict],
+    listed: &[Rank],
+    least: &Rank,
+) -> Result<Option<Evidence>, AllocError>
+    requires { length least.now.choices ≤ 4096 }
+    ensures by { IfOk result (λ by. by ≡ option_map (λ (cut : Cut). cut.by) (cut_of question listed.now excluded.now least.now)) }
+    ensures small { IfOk result (λ by. IfSome by EvidenceIsSmall) }
+    ensures space { (zone : ZoneValue) → Spaces.open_zone space.old n ≡ Some zone → OnOk result (space.new ≡ with_cut space.old n zone (cut_of question listed.now excluded.now least.now)) }
+{
+    if let Some(place) = first_inside(excluded, least.choices.as_slice()) {
+        space.split(alloc, n, &excluded[place])?;
+        return Ok(Some(Evidence::Conflict(place as u128 + 1)));
+    }
+    match place_of(listed, least) {
+        Some(place) => {
+            let own = choices_as_conflict(alloc, least.choices.as_slice())?;
+            space.split(alloc, n, &own)?;
+            Ok(Some(listed_evidence(question, place as u128 + 1)))
+        }
+        None => Ok(None),
+    }
+}
+
+/// The place of the first conflict that the choices contain.
+fn first_inside(conflicts: &[Conflict], choices: &[u32]) -> Option<usize>
+    ensures { result ≡ position (contains_all choices.now) conflicts.now }
+{
+    conflicts
+        .iter()
+        .position(|conflict| contains(choices, conflict.pairs()))
+}
+
+/// The place of the first of the ranks that is this one.
+fn place_of(ranks: &[Rank], rank: &Rank) -> Option<usize>
+    ensures { result ≡ position (is_rank rank.now) ranks.now }
+{
+    ranks.iter().position(|other| is_same(rank, other))
+}
+
+fn is_same(rank: &Rank, other: &Rank) -> bool
+    ensures { result ≡ is_rank rank.now other.now }
+{
+    rank == other
+}
+
+/// A listed candidate as evidence, by its number.
+fn listed_evidence(question: Question, n: u128) -> Evidence
+    requires { n ≤ 2 ^ 64 }
+    ensures is { result ≡ Closings.listed_evidence question n }
+    ensures small { EvidenceIsSmall result }
+{
+    match question {
+        Question::Diagnosis => Evidence::Listed(n),
+        Question::Recovery => Evidence::Recovery,
+    }
+}

@@ -1,7 +1,0 @@
--- the conflicts so far are refuted
-use Rattle.std.proofs.Common.{take}
-use Rattle.lv_certdiag.specs.Showing.{AddsBlocks}
-use Rattle.lv_certdiag.proofs.refuting.push_blocks.Given as goal
-
-abbrev pub invariant-loop-conflict : goal.invariant-loop-conflict
-invariant-loop-conflict l = AddsBlocks l.asking.plant l.asking.facts (take l.conflict-index l.kept) l.initial.lines.items l.lines.items

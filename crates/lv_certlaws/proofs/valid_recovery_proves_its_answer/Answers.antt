@@ -1,6 +1,0 @@
--- the lines show what they give
-use Rattle.lv_certlaws.proofs.RecoveryWhole.{recovery_answers}
-use Rattle.lv_certlaws.proofs.valid_recovery_proves_its_answer.Goals as goal
-
-pub returns : goal.returns
-returns c = recovery_answers

@@ -1,6 +1,0 @@
-use Rattle.std.proofs.Common.{◌≡◌, ◌++◌, drop}
-use Rattle.lv_validity.specs.Units.{units}
-use Rattle.lv_certlines.proofs.asking.push_units.Given as goal
-
-abbrev pub invariant-loop-lit : goal.invariant-loop-lit
-invariant-loop-lit l = l.out.items ++ units (drop l.lit-index l.lits) ≡ l.initial.out.items ++ units l.lits

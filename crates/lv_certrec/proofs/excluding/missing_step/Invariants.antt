@@ -1,6 +1,0 @@
-use Rattle.std.proofs.Common.{drop}
-use Rattle.lv_certrec.specs.Telling.{MissesLeft}
-use Rattle.lv_certrec.proofs.excluding.missing_step.Given as goal
-
-abbrev pub invariant-loop-goal : goal.invariant-loop-goal
-invariant-loop-goal l = MissesLeft l.asking.plant l.asking.aim l.state l.pairs (drop l.goal-index l.goal-items) l.goal-items

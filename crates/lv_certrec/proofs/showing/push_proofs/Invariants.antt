@@ -1,8 +1,0 @@
-use Rattle.std.proofs.Common.{[]}
-use Rattle.lv_certrec.specs.Keeping.{answer_of}
-use Rattle.lv_certrec.specs.Leading.{proved, standing, LeadsOn}
-use Rattle.lv_certrec.proofs.showing.push_proofs.Given as goal
-
-abbrev pub invariant-loop-at : goal.invariant-loop-at
-invariant-loop-at l =
-    LeadsOn l.asking.plant l.asking.aim (standing (proved l.place 0) (answer_of l.asking.plant l.pairs) []) (standing (proved l.place l.at) (answer_of l.asking.plant l.pairs) []) l.initial.lines.items l.lines.items

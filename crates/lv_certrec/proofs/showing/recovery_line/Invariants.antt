@@ -1,7 +1,0 @@
-use Rattle.std.proofs.Common.{◌≡◌, ◌++◌, drop}
-use Rattle.lv_certlines.specs.Lines.{numbers_of}
-use Rattle.lv_certrec.specs.Keeping.{choices_of}
-use Rattle.lv_certrec.proofs.showing.recovery_line.Given as goal
-
-abbrev pub invariant-loop-pair : goal.invariant-loop-pair
-invariant-loop-pair l = l.numbers ++ numbers_of (choices_of (drop l.pair-index l.pairs)) ≡ l.initial.numbers ++ numbers_of (choices_of l.pairs)

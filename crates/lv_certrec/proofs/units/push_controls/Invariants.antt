@@ -1,6 +1,0 @@
-use Rattle.std.proofs.Common.{◌≡◌, ◌++◌, drop, map}
-use Rattle.lv_validity.specs.Units.{control_literal}
-use Rattle.lv_certrec.proofs.units.push_controls.Given as goal
-
-abbrev pub invariant-loop-pair : goal.invariant-loop-pair
-invariant-loop-pair l = l.lits.items ++ map (control_literal l.model) (drop l.pair-index l.pairs) ≡ l.initial.lits.items ++ map (control_literal l.model) l.pairs

@@ -1,6 +1,0 @@
-use Rattle.std.proofs.Common.{◌≡◌, ◌++◌, drop}
-use Rattle.lv_validity.specs.Units.{no_fault_literals}
-use Rattle.lv_certrec.proofs.units.push_no_faults.Given as goal
-
-abbrev pub invariant-loop-k : goal.invariant-loop-k
-invariant-loop-k l = l.lits.items ++ no_fault_literals l.model l.k (drop l.k l.model.parts) ≡ l.initial.lits.items ++ no_fault_literals l.model 0 l.model.parts

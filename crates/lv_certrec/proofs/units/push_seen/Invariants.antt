@@ -1,7 +1,0 @@
-use Rattle.std.proofs.Common.{◌≡◌, ◌++◌, drop, map}
-use Rattle.lv_compile.specs.Booleans.{booleans_now}
-use Rattle.lv_validity.specs.Stated.{observed_literal}
-use Rattle.lv_certrec.proofs.units.push_seen.Given as goal
-
-abbrev pub invariant-loop-o : goal.invariant-loop-o
-invariant-loop-o l = l.lits.items ++ map (observed_literal (booleans_now l.model)) (drop l.o-index l.present) ≡ l.initial.lits.items ++ map (observed_literal (booleans_now l.model)) l.present

@@ -1,4 +1,0 @@
-pub mod Explained
-pub mod Closing
-pub mod Laws
-pub mod Lines

@@ -1,4 +1,0 @@
-pub mod Steps
-pub mod Sound
-pub mod Shorter
-pub mod Complete

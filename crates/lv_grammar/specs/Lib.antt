@@ -1,3 +1,0 @@
-pub mod Descent
-pub mod Laws
-pub mod Example

@@ -1,4 +1,0 @@
-pub mod Possible
-pub mod Candidates
-pub mod Diagnosis
-pub mod Example

@@ -1,0 +1,28 @@
+-- What the reasons and the walk of a diagnosis promise.
+use Rattle.std.specs.Prelude.{◌≡◌, ◌≤◌, ℕ, true, false, List, [], length, take, filter}
+use Rattle.lv_base.specs.declared.rank.Rank.{Rank}
+use Rattle.lv_base.specs.declared.search.Candidate.{Candidate}
+use Rattle.lv_base.specs.Choices.{contains_all}
+use Rattle.lv_model.specs.declared.plant.Plant.{Plant}
+use Rattle.lv_search_walk.specs.declared.outcome.Outcome.TheVariants.{Settled}
+use Rattle.lv_search_walk.specs.Laws.{each_is_needed}
+use Rattle.lv_meaning.specs.declared.facts.Facts.{Facts}
+use Rattle.lv_meaning.specs.Possible.{is_possible}
+use Rattle.lv_meaning.specs.Candidates.{is_possible_candidate, is_possible_rank}
+use Rattle.lv_meaning.specs.Diagnosis.{reason_of, diagnosis_walk}
+
+-- the reason of an impossible candidate is not possible, is a part of it and of no possible candidate, and none of its choices can be
+-- left out: without it the others are possible
+pub record ReasonIsMinimal : Type 0 where
+  pub impossible : (plant : Plant) (facts : Facts) (c : Candidate) → is_possible_candidate plant facts c ≡ false → is_possible plant facts (reason_of plant facts c) ≡ false
+  pub part : (plant : Plant) (facts : Facts) (c : Candidate) → contains_all c.choices (reason_of plant facts c) ≡ true
+  pub apart : (plant : Plant) (facts : Facts) (c d : Candidate) → is_possible_candidate plant facts c ≡ false → is_possible_candidate plant facts d ≡ true
+      → contains_all d.choices (reason_of plant facts c) ≡ false
+  pub needed : (plant : Plant) (facts : Facts) (c : Candidate) → each_is_needed (is_possible plant facts) [] (reason_of plant facts c) ≡ true
+
+-- a settled walk of a diagnosis lists the first k candidates that are possible, or all if fewer are; with a trial for each candidate
+-- it is settled
+pub record DiagnosisWalkIsExact : Type 0 where
+  pub exact : (plant : Plant) (facts : Facts) (k budget : ℕ) (ranks : List Rank)
+      → (diagnosis_walk plant facts k budget ranks).outcome ≡ Settled → (diagnosis_walk plant facts k budget ranks).listed ≡ take k (filter (is_possible_rank plant facts) ranks)
+  pub ample : (plant : Plant) (facts : Facts) (k budget : ℕ) (ranks : List Rank) → length ranks ≤ budget → (diagnosis_walk plant facts k budget ranks).outcome ≡ Settled

@@ -1,0 +1,4 @@
+pub mod NameLemmas
+pub mod PriceLemmas
+pub mod KeyLemmas
+pub mod PlaceLemmas

@@ -1,6 +1,0 @@
--- by the derivation of the printed tokens
-use Rattle.lv_phrase.proofs.Standing.{canonical_back}
-use Rattle.lv_phrase.proofs.laws.canonical_reads_back.Goals as goal
-
-pub returns : goal.returns
-returns c = canonical_back

@@ -1,6 +1,0 @@
--- by the law of the grammar
-use Rattle.lv_phrase.proofs.GrammarLemmas.{formula_one}
-use Rattle.lv_phrase.proofs.laws.formula_is_one.Goals as goal
-
-pub returns : goal.returns
-returns c = formula_one

@@ -1,9 +1,0 @@
--- by the tokens of the line
-use Rattle.lv_print.proofs.Lines.{line_printed}
-use Rattle.lv_print.proofs.laws.line_stays.Goals as goal
-
-pub returns-clause-statement : goal.returns-clause-statement
-returns-clause-statement c = λ line s says. (line_printed line s says).0.says
-
-pub returns-clause-length : goal.returns-clause-length
-returns-clause-length c = λ line s says. (line_printed line s says).1

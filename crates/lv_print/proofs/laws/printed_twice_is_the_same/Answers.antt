@@ -1,6 +1,0 @@
--- by what the printed text reads as
-use Rattle.lv_print.proofs.Texts.{printed_twice}
-use Rattle.lv_print.proofs.laws.printed_twice_is_the_same.Goals as goal
-
-pub returns : goal.returns
-returns c = printed_twice

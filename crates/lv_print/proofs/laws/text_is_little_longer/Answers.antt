@@ -1,6 +1,0 @@
--- line by line
-use Rattle.lv_print.proofs.Lengths.{little_longer}
-use Rattle.lv_print.proofs.laws.text_is_little_longer.Goals as goal
-
-pub returns : goal.returns
-returns c = little_longer

@@ -1,0 +1,191 @@
+-- Each statement is printed as tokens of that statement.
+use Rattle.std.proofs.Common.{◌≡◌, ℕ, ◌+◌, ◌<◌, true, ◌&&◌, nat_le, List, [], ◌∷◌, ◌++◌, drop, All, Option, Some, None, refl, ap, subst, ◌∙◌, arith, decimal, codes}
+use Rattle.std.proofs.lemmas.Bool.{and_parts, and_from}
+use Rattle.std.proofs.lemmas.Bool.Decides.{nat_tests}
+use Rattle.std.proofs.lemmas.List.{drop_all}
+use Rattle.std.proofs.lemmas.List.Folds.{list_all-append}
+use Rattle.std.proofs.lemmas.List.Elements.{All-cons, All-head, All-tail, All-append}
+use Rattle.std.specs.List.{list_all}
+use Rattle.lv_base.specs.declared.limits.TheConstants.{LEAST_FAULT_COST, FAULT_COST, PRICE}
+use Rattle.lv_text.specs.declared.lexer.TokenKind.{TokenKind}
+use Rattle.lv_text.specs.declared.lexer.TokenKind.TheVariants.{Number, Arrow, Equals, Dot}
+use Rattle.lv_text.specs.Lexemes.{Lexeme}
+use Rattle.lv_text.specs.Laws.{IsLexeme}
+use Rattle.lv_text.specs.Numbers.{number_in_range}
+use Rattle.lv_formula_text.specs.PhraseTree.{PhraseTree}
+use Rattle.lv_formula_text.specs.Spacing.{symbol, word}
+use Rattle.lv_formula_text.specs.Canonical.{tokens_of}
+use Rattle.lv_formula_text.specs.Laws.{is_flat}
+use Rattle.lv_formula_text.proofs.Omissions.{all_front, all_back}
+use Rattle.lv_formula_text.proofs.Standing.{canonical_back}
+use Rattle.lv_reader.specs.declared.words.TheConstants.{OVER_EVERY_LIMIT}
+use Rattle.lv_reader.specs.declared.keyword.Keyword.TheVariants.{ModelWord, DomainWord, TypeWord, ClassWord, ModeWord, LawWord, InWord, StepWord, FaultWord, EndWord, PartWord, PriceWord}
+use Rattle.lv_reader.specs.declared.statement.Statement.{Statement}
+use Rattle.lv_reader.specs.declared.statement.Statement.TheVariants.{ModelLine, DomainLine, TypeLine, VariableLine, ModeLine, LawLine, InLine, StepLine, FaultLine, EndLine, PartLine, PriceLine}
+use Rattle.lv_reader.specs.Keywords.{keyword_of}
+use Rattle.lv_reader.specs.Words.{capped, HasGuard}
+use Rattle.lv_reader.specs.Statements.{IsStatement}
+use Rattle.lv_reader.specs.CanonicalTokens.{number, class_word, named_tokens, move_tokens}
+use Rattle.lv_reader.proofs.Numerals.{number_no_longer, number_told, number_is_lexeme}
+use Rattle.lv_reader.proofs.Places.{word_next, says_next, IsNumeralAt, numeral_next}
+use Rattle.lv_reader.proofs.Keywords.{keyword_first}
+use Rattle.lv_reader.proofs.Reprinting.{Reprints, same_tokens, alike_itself, alike_behind, Derives, IsCut, cut_tokens}
+use Rattle.lv_reader.proofs.Forms.{ahead, one_name, names_then, two_words, three_words, move_words, price_words}
+
+-- the first word of canonical tokens
+law_word : (us : List Lexeme) → keyword_of (word (codes "law") ∷ us) ≡ Some LawWord
+unfolding keyword_of
+law_word us = refl
+
+in_word : (us : List Lexeme) → keyword_of (word (codes "in") ∷ us) ≡ Some InWord
+unfolding keyword_of
+in_word us = refl
+
+step_word : (us : List Lexeme) → keyword_of (word (codes "step") ∷ us) ≡ Some StepWord
+unfolding keyword_of
+step_word us = refl
+
+fault_word : (us : List Lexeme) → keyword_of (word (codes "fault") ∷ us) ≡ Some FaultWord
+unfolding keyword_of
+fault_word us = refl
+
+price_word : (us : List Lexeme) → keyword_of (word (codes "price") ∷ us) ≡ Some PriceWord
+unfolding keyword_of
+price_word us = refl
+
+-- where the front stays as it is
+kept : (ts front tail : List Lexeme) (f : Option PhraseTree) → ts ≡ front ++ tail → Derives tail f → list_all is_flat front ≡ true → All IsLexeme ts → IsCut ts front front tail f
+kept ts front tail f is d flat h = record {
+  whole = is;
+  derives = d;
+  alike = alike_itself front;
+  flat = flat;
+  plain = flat;
+  lexemes = all_front IsLexeme front tail (subst (All IsLexeme) is h);
+}
+
+-- the token of a text of digits
+abbrev digits : List ℕ → Lexeme
+digits text = record { kind = Number; text = text }
+
+flat_around : (front : List Lexeme) (text : List ℕ) (back : List Lexeme) → list_all is_flat front ≡ true → list_all is_flat back ≡ true → list_all is_flat (front ++ digits text ∷ back) ≡ true
+flat_around front text back a b = list_all-append is_flat front (digits text ∷ back) ∙ and_from _ _ a b
+
+-- where a number in it is printed
+counted : (ts front back tail : List Lexeme) (f : Option PhraseTree) (text : List ℕ) (n : ℕ) → ts ≡ (front ++ digits text ∷ back) ++ tail → Derives tail f
+    → list_all is_flat front ≡ true → list_all is_flat back ≡ true → All IsLexeme ts → capped (number_in_range text) ≡ n → n < OVER_EVERY_LIMIT
+    → IsCut ts (front ++ digits text ∷ back) (front ++ number n ∷ back) tail f
+counted ts front back tail f text n is d flat plain h value small =
+    let all : All IsLexeme (front ++ digits text ∷ back) = all_front IsLexeme (front ++ digits text ∷ back) tail (subst (All IsLexeme) is h) in
+    let others : All IsLexeme (digits text ∷ back) = all_back IsLexeme front (digits text ∷ back) all in
+    let one : IsLexeme (digits text) = All-head IsLexeme (digits text) back others in
+    record {
+      whole = is;
+      derives = d;
+      alike = alike_behind front (digits text ∷ back) (number n ∷ back) (refl, number_no_longer text n one.kind value small, alike_itself back);
+      flat = flat_around front text back flat plain;
+      plain = flat_around front (decimal n) back flat plain;
+      lexemes = All-append IsLexeme front (number n ∷ back) (all_front IsLexeme front (digits text ∷ back) all)
+          (All-cons IsLexeme (number n) back (number_is_lexeme n small) (All-tail IsLexeme (digits text) back others));
+    }
+
+digits_next : (ts : List Lexeme) (i n : ℕ) → (there : IsNumeralAt ts i n) → drop i ts ≡ digits there.token.text ∷ drop (i + 1) ts
+digits_next ts i n there = there.there ∙ ap (λ (k : TokenKind). record { kind = k; text = there.token.text } ∷ drop (i + 1) ts) there.kind
+
+fault_small : (cost : ℕ) → (nat_le LEAST_FAULT_COST cost && nat_le cost FAULT_COST) ≡ true → cost < OVER_EVERY_LIMIT
+fault_small cost e = let le = (and_parts (nat_le LEAST_FAULT_COST cost) (nat_le cost FAULT_COST) e).1 in grind (arith, nat_tests, le)
+
+price_small : (cost : ℕ) → nat_le cost PRICE ≡ true → cost < OVER_EVERY_LIMIT
+price_small cost e = grind (arith, nat_tests)
+
+reprinted_law : (ts : List Lexeme) (f : PhraseTree) → All IsLexeme ts → IsStatement ts (LawLine f) → Reprints ts (LawLine f)
+reprinted_law ts f h is =
+    let back = word (codes "law") ∷ [] in
+    cut_tokens ts back back (drop 1 ts) (Some f) (LawLine f)
+    (kept ts back (drop 1 ts) (Some f) (keyword_first ts LawWord is.form.word) is.form.shape refl h) refl h is.shallow
+    (record { word = law_word (tokens_of f); shape = canonical_back (drop 1 ts) f is.form.shape })
+
+reprinted_in : (ts : List Lexeme) (mode : List ℕ) (f : PhraseTree) → All IsLexeme ts → IsStatement ts (InLine mode f) → Reprints ts (InLine mode f)
+reprinted_in ts mode f h is =
+    let back = named_tokens (codes "in") mode in
+    let whole = keyword_first ts InWord is.form.word ∙ ahead (word (codes "in")) (word_next ts 1 mode is.form.shape.0) in
+    cut_tokens ts back back (drop 2 ts) (Some f) (InLine mode f)
+    (kept ts back (drop 2 ts) (Some f) whole is.form.shape.1 refl h) refl h is.shallow
+    (record { word = in_word (word mode ∷ tokens_of f); shape = (refl, canonical_back (drop 2 ts) f is.form.shape.1) })
+
+reprinted_step : (ts : List Lexeme) (source target : List ℕ) (f : PhraseTree) → All IsLexeme ts → IsStatement ts (StepLine source target f) → Reprints ts (StepLine source target f)
+reprinted_step ts source target f h is =
+    let back = move_tokens (codes "step") source target ++ word (codes "when") ∷ [] in
+    let guard : HasGuard ts 4 (Some f) = is.form.shape.1 in
+    let whole = keyword_first ts StepWord is.form.word
+    ∙ ahead (word (codes "step")) (move_words ts source target h is.form.shape.0
+    ∙ ap (λ rest. word source ∷ symbol Arrow ∷ word target ∷ rest) (says_next (codes "when") ts 4 guard.0)) in
+    cut_tokens ts back back (drop 5 ts) (Some f) (StepLine source target f)
+    (kept ts back (drop 5 ts) (Some f) whole guard.1 refl h) refl h is.shallow
+    (record { word = step_word _; shape = (refl, (refl, canonical_back (drop 5 ts) f guard.1)) })
+
+-- a fault up to its cost
+fault_front : (ts : List Lexeme) (source target : List ℕ) (cost : ℕ) (f : Option PhraseTree) → All IsLexeme ts → IsStatement ts (FaultLine source target cost f) → (there : IsNumeralAt ts 5 cost)
+    → ts ≡ word (codes "fault") ∷ word source ∷ symbol Arrow ∷ word target ∷ word (codes "cost") ∷ digits there.token.text ∷ drop 6 ts
+fault_front ts source target cost f h is there =
+    keyword_first ts FaultWord is.form.word
+    ∙ ahead (word (codes "fault")) (move_words ts source target h is.form.shape.0
+    ∙ ap (λ rest. word source ∷ symbol Arrow ∷ word target ∷ rest) (says_next (codes "cost") ts 4 is.form.shape.1 ∙ ahead (word (codes "cost")) (digits_next ts 5 cost there)))
+
+reprinted_fault : (ts : List Lexeme) (source target : List ℕ) (cost : ℕ) (f : Option PhraseTree) → All IsLexeme ts → IsStatement ts (FaultLine source target cost f)
+    → Reprints ts (FaultLine source target cost f)
+reprinted_fault ts source target cost None h is =
+    let small = fault_small cost is.number in
+    let there = numeral_next ts 5 cost is.form.shape.2 in
+    let front = move_tokens (codes "fault") source target ++ word (codes "cost") ∷ [] in
+    let text = there.token.text in
+    let end : drop 6 ts ≡ [] = let long = is.form.shape.3 in drop_all 6 ts (omega arith) in
+    cut_tokens ts (front ++ digits text ∷ []) (front ++ number cost ∷ []) (drop 6 ts) None (FaultLine source target cost None)
+    (counted ts front [] (drop 6 ts) None text cost (fault_front ts source target cost None h is there) end refl refl h there.value small) refl h is.shallow
+    (record { word = fault_word _; shape = (refl, refl, ap Some (number_told cost small), refl) })
+reprinted_fault ts source target cost (Some f) h is =
+    let small = fault_small cost is.number in
+    let there = numeral_next ts 5 cost is.form.shape.2 in
+    let guard : HasGuard ts 6 (Some f) = is.form.shape.3 in
+    let front = move_tokens (codes "fault") source target ++ word (codes "cost") ∷ [] in
+    let text = there.token.text in
+    let whole = fault_front ts source target cost (Some f) h is there
+    ∙ ap (λ rest. (front ++ digits text ∷ []) ++ rest) (says_next (codes "when") ts 6 guard.0) in
+    cut_tokens ts (front ++ digits text ∷ word (codes "when") ∷ []) (front ++ number cost ∷ word (codes "when") ∷ []) (drop 7 ts) (Some f) (FaultLine source target cost (Some f))
+    (counted ts front (word (codes "when") ∷ []) (drop 7 ts) (Some f) text cost whole guard.1 refl refl h there.value small) refl h is.shallow
+    (record { word = fault_word _; shape = (refl, refl, ap Some (number_told cost small), (refl, canonical_back (drop 7 ts) f guard.1)) })
+
+reprinted_price : (ts : List Lexeme) (part control value : List ℕ) (cost : ℕ) → All IsLexeme ts → IsStatement ts (PriceLine part control value cost) → Reprints ts (PriceLine part control value cost)
+reprinted_price ts part control value cost h is =
+    let small = price_small cost is.number in
+    let there = numeral_next ts 6 cost is.form.shape.1 in
+    let words = price_words ts part control value h is.form.shape.0 in
+    let front = named_tokens (codes "price") part ++ (symbol Dot ∷ word control ∷ symbol Equals ∷ word value ∷ []) in
+    let text = there.token.text in
+    let whole = keyword_first ts PriceWord is.form.word
+    ∙ ahead (word (codes "price")) (words.0 ∙ ap (λ rest. word part ∷ symbol Dot ∷ word control ∷ symbol Equals ∷ word value ∷ rest) (digits_next ts 6 cost there)) in
+    cut_tokens ts (front ++ digits text ∷ []) (front ++ number cost ∷ []) (drop 7 ts) None (PriceLine part control value cost)
+    (counted ts front [] (drop 7 ts) None text cost whole words.1 refl refl h there.value small) refl h is.shallow
+    (record { word = price_word _; shape = (refl, ap Some (number_told cost small)) })
+
+pub reprinted : (ts : List Lexeme) (s : Statement) → All IsLexeme ts → IsStatement ts s → Reprints ts s
+reprinted ts (ModelLine name) h is =
+    same_tokens ts (ModelLine name) h is.shallow is.form (keyword_first ts ModelWord is.form.word ∙ ahead (word (codes "model")) (one_name ts name is.form.shape))
+reprinted ts (DomainLine name values) h is =
+    same_tokens ts (DomainLine name values) h is.shallow is.form (keyword_first ts DomainWord is.form.word ∙ ahead (word (codes "domain")) (names_then ts name values is.form.shape))
+reprinted ts (TypeLine name) h is =
+    same_tokens ts (TypeLine name) h is.shallow is.form (keyword_first ts TypeWord is.form.word ∙ ahead (word (codes "type")) (one_name ts name is.form.shape))
+reprinted ts (VariableLine class name domain) h is =
+    same_tokens ts (VariableLine class name domain) h is.shallow is.form (keyword_first ts (ClassWord class) is.form.word ∙ ahead (word (class_word class)) (two_words ts name domain is.form.shape))
+reprinted ts (ModeLine name) h is =
+    same_tokens ts (ModeLine name) h is.shallow is.form (keyword_first ts ModeWord is.form.word ∙ ahead (word (codes "mode")) (one_name ts name is.form.shape))
+reprinted ts (LawLine f) h is = reprinted_law ts f h is
+reprinted ts (InLine mode f) h is = reprinted_in ts mode f h is
+reprinted ts (StepLine source target f) h is = reprinted_step ts source target f h is
+reprinted ts (FaultLine source target cost f) h is = reprinted_fault ts source target cost f h is
+reprinted ts EndLine h is =
+    let long = is.form.shape in
+    same_tokens ts EndLine h is.shallow is.form (keyword_first ts EndWord is.form.word ∙ ahead (word (codes "end")) (drop_all 1 ts (omega arith)))
+reprinted ts (PartLine name kind start) h is =
+    same_tokens ts (PartLine name kind start) h is.shallow is.form (keyword_first ts PartWord is.form.word ∙ ahead (word (codes "part")) (three_words ts name kind start is.form.shape))
+reprinted ts (PriceLine part control value cost) h is = reprinted_price ts part control value cost h is

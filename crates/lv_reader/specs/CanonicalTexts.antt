@@ -1,0 +1,51 @@
+-- The canonical text of a model: its name first, one statement a line, and no line without a statement.
+use Rattle.std.specs.Prelude.{ℕ, ◌+◌, List, [], ◌∷◌, ◌++◌, Bool, true, false, map, length, if◌then◌else◌, codes}
+use Rattle.std.specs.List.{flat_map}
+use Rattle.lv_reader.specs.declared.statement.Statement.{Statement}
+use Rattle.lv_reader.specs.declared.statement.Statement.TheVariants.{ModelLine}
+use Rattle.lv_reader.specs.declared.statement.NumberedStatement.{NumberedStatement}
+use Rattle.lv_reader.specs.declared.statement.ModelText.{ModelText}
+use Rattle.lv_reader.specs.CanonicalTokens.{statement_text}
+
+-- the statement gives the model's name
+abbrev pub names_model : Statement → Bool
+names_model (ModelLine name) = true
+names_model s = false
+
+-- the statement that gives the name which a model has without it
+abbrev pub default_name : Statement
+default_name = ModelLine (codes "model")
+
+-- the first statement gives the model's name
+abbrev pub begins_with_name : List Statement → Bool
+begins_with_name [] = false
+begins_with_name (s ∷ ss) = names_model s
+
+-- what stands before statements that don't begin with a name
+abbrev pub name_before : List Statement → List Statement
+name_before ss = if begins_with_name ss then [] else default_name ∷ []
+
+-- the statements of a text, without the numbers of their lines
+abbrev pub statements_of : List NumberedStatement → List Statement
+statements_of ss = map (λ (n : NumberedStatement). n.statement) ss
+
+-- the statements of a text, of which the first gives the model's name
+abbrev pub named_statements : List NumberedStatement → List Statement
+named_statements ss = name_before (statements_of ss) ++ statements_of ss
+
+-- a statement's line with its end
+abbrev pub ended_line : Statement → List ℕ
+ended_line s = statement_text s ++ 10 ∷ []
+
+-- the canonical text
+abbrev pub canonical_model : ModelText → List ℕ
+canonical_model text = flat_map ended_line (named_statements text.statements)
+
+-- statements on lines that follow one another, behind so many lines
+abbrev pub numbered_from : ℕ → List Statement → List NumberedStatement
+numbered_from before [] = []
+numbered_from before (s ∷ ss) = record { line = before + 1; statement = s } ∷ numbered_from (before + 1) ss
+
+-- what the canonical text reads as: the same statements, one a line, the model's name before them
+abbrev pub canonical_reading : ModelText → ModelText
+canonical_reading text = record { statements = numbered_from 0 (named_statements text.statements); lines = length (named_statements text.statements) }

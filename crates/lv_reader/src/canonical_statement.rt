@@ -1,0 +1,138 @@
+//! The canonical tokens of a statement, written behind what a line has so far.
+#![tactic(auto, using(crate::proofs::Writing::written_more))]
+
+ghost use Rattle.std.specs.Prelude.{◌≡◌, OnOk, [], ◌∷◌, map, Some};
+ghost use Rattle.lv_formula_text.specs.Spacing.{written, word};
+ghost use Rattle.lv_reader.specs.CanonicalTokens.{number, class_word, named_tokens, move_tokens, guard_tokens, cost_tokens, price_tokens, statement_tokens};
+
+use itoa::Buffer;
+use lv_base::{Class, Name};
+use lv_formula_text::{LineWriter, Phrase, write_phrase};
+use crate::Statement;
+use lv_text::TokenKind;
+use std::alloc::AllocError;
+
+/// Writes a statement.
+pub fn write_statement(writer: &mut LineWriter, statement: &Statement) -> Result<(), AllocError>
+    ensures { OnOk result (writer.new ≡ written (statement_tokens statement.now) writer.old) }
+{
+    match statement {
+        Statement::ModelLine(name) => write_named(writer, b"model", name),
+        Statement::DomainLine(name, values) => {
+            write_named(writer, b"domain", name)?;
+            write_names(writer, values.as_slice())
+        }
+        Statement::TypeLine(name) => write_named(writer, b"type", name),
+        Statement::VariableLine(class, name, domain) => {
+            write_named(writer, class_word(*class), name)?;
+            writer.word(domain.as_slice())
+        }
+        Statement::ModeLine(name) => write_named(writer, b"mode", name),
+        Statement::LawLine(formula) => {
+            writer.word(b"law")?;
+            write_phrase(writer, formula)
+        }
+        Statement::InLine(mode, formula) => {
+            write_named(writer, b"in", mode)?;
+            write_phrase(writer, formula)
+        }
+        Statement::StepLine(source, target, guard) => {
+            write_move(writer, b"step", source, target)?;
+            write_guard(writer, guard)
+        }
+        Statement::FaultLine(source, target, cost, guard) => {
+            write_move(writer, b"fault", source, target)?;
+            write_cost(writer, *cost, guard)
+        }
+        Statement::EndLine => writer.word(b"end"),
+        Statement::PartLine(name, kind, start) => {
+            write_named(writer, b"part", name)?;
+            writer.word(kind.as_slice())?;
+            writer.word(start.as_slice())
+        }
+        Statement::PriceLine(part, control, value, cost) => {
+            write_named(writer, b"price", part)?;
+            write_price(writer, control, value, *cost)
+        }
+    }
+}
+
+fn write_named(writer: &mut LineWriter, keyword: &[u8], name: &Name) -> Result<(), AllocError>
+    ensures { OnOk result (writer.new ≡ written (named_tokens keyword.now name.now) writer.old) }
+{
+    writer.word(keyword)?;
+    writer.word(name.as_slice())
+}
+
+fn write_names(writer: &mut LineWriter, names: &[Name]) -> Result<(), AllocError>
+    ensures { OnOk result (writer.new ≡ written (map word names.now) writer.old) }
+{
+    'names: for name in names {
+        writer.word(name.as_slice())?;
+    }
+    Ok(())
+}
+
+fn write_move(
+    writer: &mut LineWriter,
+    keyword: &[u8],
+    source: &Name,
+    target: &Name,
+) -> Result<(), AllocError>
+    ensures { OnOk result (writer.new ≡ written (move_tokens keyword.now source.now target.now) writer.old) }
+{
+    write_named(writer, keyword, source)?;
+    writer.symbol(TokenKind::Arrow)?;
+    writer.word(target.as_slice())
+}
+
+fn write_number(writer: &mut LineWriter, n: u64) -> Result<(), AllocError>
+    ensures { OnOk result (writer.new ≡ written (number n ∷ []) writer.old) }
+{
+    let mut digits = Buffer::new();
+    writer.token(TokenKind::Number, digits.format(n).as_bytes())
+}
+
+fn write_guard(writer: &mut LineWriter, guard: &Phrase) -> Result<(), AllocError>
+    ensures { OnOk result (writer.new ≡ written (guard_tokens (Some guard.now)) writer.old) }
+{
+    writer.word(b"when")?;
+    write_phrase(writer, guard)
+}
+
+fn write_cost(writer: &mut LineWriter, cost: u64, guard: &Option<Phrase>) -> Result<(), AllocError>
+    ensures { OnOk result (writer.new ≡ written (cost_tokens cost guard.now) writer.old) }
+{
+    writer.word(b"cost")?;
+    write_number(writer, cost)?;
+    match guard {
+        Some(guard) => write_guard(writer, guard),
+        None => Ok(()),
+    }
+}
+
+fn write_price(
+    writer: &mut LineWriter,
+    control: &Name,
+    value: &Name,
+    cost: u64,
+) -> Result<(), AllocError>
+    ensures { OnOk result (writer.new ≡ written (price_tokens control.now value.now cost) writer.old) }
+{
+    writer.symbol(TokenKind::Dot)?;
+    writer.word(control.as_slice())?;
+    writer.symbol(TokenKind::Equals)?;
+    writer.word(value.as_slice())?;
+    write_number(writer, cost)
+}
+
+/// The word by which a variable of that class is declared.
+fn class_word(class: Class) -> &'static [u8]
+    ensures { result.now ≡ class_word class }
+{
+    match class {
+        Class::Control => b"control",
+        Class::Dependent => b"variable",
+        Class::Observable => b"observable",
+    }
+}

@@ -1,0 +1,66 @@
+//! The canonical text of a model, line by line.
+#![tactic(auto)]
+
+ghost use Rattle.std.specs.Prelude.{◌≡◌, ◌++◌, IfOk, OnOk};
+ghost use Rattle.std.specs.List.{flat_map};
+ghost use Rattle.lv_reader.specs.CanonicalTexts.{statements_of, begins_with_name, name_before, ended_line, canonical_model};
+
+use crate::canonical_statement::write_statement;
+use lv_formula_text::LineWriter;
+use crate::{ModelText, NumberedStatement, Statement};
+use std::alloc::{AllocError, Global};
+
+/// The canonical text of a model.
+pub fn print_model(alloc: Global, text: &ModelText) -> Result<Vec<u8>, AllocError>
+    ensures { IfOk result (λ bytes. bytes.items ≡ canonical_model text.now) }
+{
+    let statements = text.statements.as_slice();
+    let mut bytes = Vec::new(alloc);
+    push_name(&mut bytes, statements)?;
+    push_lines(alloc, &mut bytes, statements)?;
+    Ok(bytes)
+}
+
+/// Adds the line that gives the model's name, where the statements don't begin with it.
+fn push_name(bytes: &mut Vec<u8>, statements: &[NumberedStatement]) -> Result<(), AllocError>
+    ensures { OnOk result (bytes.new.items ≡ bytes.old.items ++ flat_map ended_line (name_before (statements_of statements.now))) }
+{
+    if !begins_with_name(statements) {
+        bytes.extend_from_slice(b"model model\n")?;
+    }
+    Ok(())
+}
+
+fn begins_with_name(statements: &[NumberedStatement]) -> bool
+    ensures { result ≡ begins_with_name (statements_of statements.now) }
+{
+    match statements.first() {
+        Some(first) => matches!(&first.statement, Statement::ModelLine(_)),
+        None => false,
+    }
+}
+
+/// Adds a line for each statement.
+fn push_lines(
+    alloc: Global,
+    bytes: &mut Vec<u8>,
+    statements: &[NumberedStatement],
+) -> Result<(), AllocError>
+    ensures { OnOk result (bytes.new.items ≡ bytes.old.items ++ flat_map ended_line (statements_of statements.now)) }
+{
+    'lines: for numbered in statements {
+        push_line(alloc, bytes, &numbered.statement)?;
+    }
+    Ok(())
+}
+
+/// Adds the line of a statement.
+fn push_line(alloc: Global, bytes: &mut Vec<u8>, statement: &Statement) -> Result<(), AllocError>
+    ensures { OnOk result (bytes.new.items ≡ bytes.old.items ++ ended_line statement.now) }
+{
+    let mut writer = LineWriter::new(alloc);
+    write_statement(&mut writer, statement)?;
+    bytes.extend_from_slice(writer.into_bytes().as_slice())?;
+    bytes.extend_from_slice(b"\n")?;
+    Ok(())
+}

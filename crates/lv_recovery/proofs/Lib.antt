@@ -1,4 +1,0 @@
-pub mod NominalSteps
-pub mod CommandSets
-pub mod CommandReasons
-pub mod RecoveryWalks

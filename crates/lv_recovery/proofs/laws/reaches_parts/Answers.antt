@@ -1,6 +1,0 @@
--- a step with all of the values is one with some of them
-use Rattle.lv_recovery.proofs.NominalSteps.{part_reaches, reaches_without}
-use Rattle.lv_recovery.proofs.laws.reaches_parts.Goals as goal
-
-pub returns : goal.returns
-returns c = record { among = part_reaches; one_left_out = reaches_without }

@@ -1,6 +1,0 @@
-pub mod Recovers
-pub mod Commands
-pub mod Recovery
-pub mod Ranges
-pub mod Laws
-pub mod Example

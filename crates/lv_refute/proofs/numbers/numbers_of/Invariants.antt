@@ -1,7 +1,0 @@
--- the clauses so far have their numbers
-use Rattle.std.proofs.Common.{take}
-use Rattle.lv_refute.specs.Numbers.{AreSystemNumbers}
-use Rattle.lv_refute.proofs.numbers.numbers_of.Given as goal
-
-abbrev pub invariant-loop-n : goal.invariant-loop-n
-invariant-loop-n l = AreSystemNumbers l.system (take l.n l.system.ids) l.numbers.items

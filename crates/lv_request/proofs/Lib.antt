@@ -1,3 +1,0 @@
-pub mod RequestLaws
-pub mod GoalLaws
-pub mod WordLaws

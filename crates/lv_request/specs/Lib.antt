@@ -1,5 +1,0 @@
-pub mod Chain
-pub mod Names
-pub mod Forms
-pub mod Goals
-pub mod Requests

@@ -1,0 +1,156 @@
+//! The commands, each over its values.
+#![tactic(auto)]
+
+ghost use Rattle.std.specs.Prelude.{◌≡◌, ◌≢◌, Some, None, map, IfOk};
+ghost use Rattle.lv_run_words.specs.Words.{runs, checks, prints, said_of, said_of_two, said_of_one, made_of, driven_of};
+ghost use Rattle.lv_run_words.specs.Words as Words;
+ghost use Rattle.lv_run_words.specs.Commands.{said_by};
+
+use crate::WordsFault;
+use crate::numbers::number_of;
+use crate::values::{one_value, two_values};
+use std::alloc::Global;
+
+/// What the program is asked to do.
+#[derive(Drop, Debug)]
+pub enum Command {
+    /// A session over a model.
+    Run {
+        /// The name of the model's file.
+        model: String,
+        /// The name of the session's file.
+        session: String,
+    },
+    /// A certificate checked over a model.
+    Check {
+        /// The name of the model's file.
+        model: String,
+        /// The name of the certificate's file.
+        cert: String,
+    },
+    /// A model written in its canonical form.
+    Print {
+        /// The name of the model's file.
+        model: String,
+    },
+    /// The text that a number stands for.
+    Generate {
+        kind: Kind,
+        number: u32,
+    },
+    /// The session that a number stands for run over the model of the number, and a summary of it.
+    Drive {
+        number: u32,
+    },
+}
+
+/// Which of the texts that a number stands for.
+#[derive(Clone, Copy, Debug, PartialEq, Eq)]
+pub enum Kind {
+    Model,
+    Session,
+}
+
+/// The command of this name over words that are its values.
+pub fn command_of_names(alloc: Global, command: &str, names: &[&str]) -> Result<Command, WordsFault>
+    ensures ok { IfOk result (λ given. said_of command.now (map (λ name. name.now) names.now) ≡ Some (said_by given)) }
+    ensures refused { result ≡ Err WordsFault.Refused → said_of command.now (map (λ name. name.now) names.now) ≡ None }
+{
+    match names {
+        [first, second] => command_of_two(alloc, command, first, second),
+        [first] => command_of_one(alloc, command, first),
+        _ => Err(WordsFault::Refused),
+    }
+}
+
+/// The command of this name over two values.
+fn command_of_two(
+    alloc: Global,
+    command: &str,
+    first: &str,
+    second: &str,
+) -> Result<Command, WordsFault>
+    ensures ok { IfOk result (λ given. said_of_two command.now first.now second.now ≡ Some (said_by given)) }
+    ensures refused { result ≡ Err WordsFault.Refused → said_of_two command.now first.now second.now ≡ None }
+{
+    match command {
+        "run" => run_command(alloc, first, second),
+        "check" => check_command(alloc, first, second),
+        "generate" => generate_command(alloc, first, second),
+        _ => Err(WordsFault::Refused),
+    }
+}
+
+/// The command of this name over one value.
+fn command_of_one(alloc: Global, command: &str, first: &str) -> Result<Command, WordsFault>
+    ensures ok { IfOk result (λ given. said_of_one command.now first.now ≡ Some (said_by given)) }
+    ensures refused { result ≡ Err WordsFault.Refused → said_of_one command.now first.now ≡ None }
+{
+    match command {
+        "print" => print_command(alloc, first),
+        "drive" => drive_command(alloc, first),
+        _ => Err(WordsFault::Refused),
+    }
+}
+
+/// The command `run` over two files.
+fn run_command(alloc: Global, model: &str, session: &str) -> Result<Command, WordsFault>
+    ensures ok { IfOk result (λ given. said_by given ≡ runs model.now session.now) }
+    ensures refused { result ≢ Err WordsFault.Refused }
+{
+    let (model, session) = two_values(alloc, model, session)?;
+    Ok(Command::Run { model, session })
+}
+
+/// The command `check` over two files.
+fn check_command(alloc: Global, model: &str, cert: &str) -> Result<Command, WordsFault>
+    ensures ok { IfOk result (λ given. said_by given ≡ checks model.now cert.now) }
+    ensures refused { result ≢ Err WordsFault.Refused }
+{
+    let (model, cert) = two_values(alloc, model, cert)?;
+    Ok(Command::Check { model, cert })
+}
+
+/// The command `print` over a file.
+fn print_command(alloc: Global, model: &str) -> Result<Command, WordsFault>
+    ensures ok { IfOk result (λ given. said_by given ≡ prints model.now) }
+    ensures refused { result ≢ Err WordsFault.Refused }
+{
+    let model = one_value(alloc, model)?;
+    Ok(Command::Print { model })
+}
+
+/// The command `generate` over a kind of text and a number.
+fn generate_command(alloc: Global, kind: &str, number: &str) -> Result<Command, WordsFault>
+    ensures ok { IfOk result (λ given. made_of kind.now number.now ≡ Some (said_by given)) }
+    ensures refused { result ≡ Err WordsFault.Refused → made_of kind.now number.now ≡ None }
+{
+    let (kind, number) = two_values(alloc, kind, number)?;
+    match (kind_of(kind.as_str()), number_of(number.as_bytes())) {
+        (Some(kind), Some(number)) => Ok(Command::Generate { kind, number }),
+        _ => Err(WordsFault::Refused),
+    }
+}
+
+/// The command `drive` over a number.
+fn drive_command(alloc: Global, number: &str) -> Result<Command, WordsFault>
+    ensures ok { IfOk result (λ given. driven_of number.now ≡ Some (said_by given)) }
+    ensures refused { result ≡ Err WordsFault.Refused → driven_of number.now ≡ None }
+{
+    let number = one_value(alloc, number)?;
+    match number_of(number.as_bytes()) {
+        Some(number) => Ok(Command::Drive { number }),
+        None => Err(WordsFault::Refused),
+    }
+}
+
+/// The kind of text that a word names.
+fn kind_of(word: &str) -> Option<Kind>
+    ensures { result ≡ Words.kind_of word.now }
+{
+    match word {
+        "model" => Some(Kind::Model),
+        "session" => Some(Kind::Session),
+        _ => None,
+    }
+}

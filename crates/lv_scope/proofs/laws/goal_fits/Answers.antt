@@ -1,8 +1,0 @@
-use Rattle.lv_model.specs.Ranges.{plant_ranges}
-use Rattle.lv_phrase.proofs.FittingLemmas.{resolved_fits}
-use Rattle.lv_scope.specs.Names.{plant_names}
-use Rattle.lv_scope.proofs.ScopeLemmas.{scope_fits}
-use Rattle.lv_scope.proofs.laws.goal_fits.Goals as goal
-
-pub returns : goal.returns
-returns c = λ plant phrase f is. resolved_fits (plant_names plant) (plant_ranges plant) (scope_fits plant) phrase f is

@@ -1,5 +1,0 @@
-use Rattle.lv_scope.proofs.ScopeLemmas.{value_fits}
-use Rattle.lv_scope.proofs.laws.named_value_fits.Goals as goal
-
-pub returns : goal.returns
-returns c = value_fits

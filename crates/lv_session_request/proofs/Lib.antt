@@ -1,0 +1,4 @@
+pub mod RequestLaws
+pub mod GoalLaws
+pub mod WordLaws
+pub mod HeldLemmas

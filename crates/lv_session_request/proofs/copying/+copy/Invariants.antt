@@ -1,0 +1,13 @@
+-- each call is for a smaller formula; what was copied, with what is left, is all
+use Rattle.std.proofs.Common.{◌≡◌, ◌+◌, ◌*◌, ◌++◌, map, drop}
+use Rattle.lv_formula.specs.Tree.{tree_of}
+use Rattle.lv_session_request.proofs.copying.+copy.Given as goal
+
+abbrev pub decreases-copy_of : goal.decreases-copy_of
+decreases-copy_of l = 2 * goal.size-copy_of l
+
+abbrev pub decreases-copies_of : goal.decreases-copies_of
+decreases-copies_of l = 2 * goal.size-copies_of l + 1
+
+abbrev pub invariant-copies_of-formulas : goal.invariant-copies_of-formulas
+invariant-copies_of-formulas l = map tree_of l.copies.items ++ map tree_of (drop l.formula-index l.formulas) ≡ map tree_of l.formulas

@@ -1,0 +1,6 @@
+pub mod Chain
+pub mod Names
+pub mod Forms
+pub mod Goals
+pub mod Requests
+pub mod Held

@@ -1,0 +1,337 @@
+//! What a line of a session asks for.
+//!
+//! A line is read by the form of its word alone, and the names and numbers in it are looked at afterwards, from left to
+//! right: the first that is wrong is told. What depends on the state of the session is not judged here.
+#![tactic(auto)]
+
+ghost use Rattle.std.specs.Prelude.{◌≡◌, ◌≢◌, false, None, IfOk, IfErr, Ok};
+ghost use Rattle.lv_text.specs.Lexemes.{line_reading, word_at};
+ghost use Rattle.lv_model.specs.declared.plant.Plant.{Plant};
+ghost use Rattle.lv_model_names.specs.declared.lists.Lists.{Lists as ListsOf};
+ghost use Rattle.lv_model_names.specs.Lists.{lists_of};
+ghost use Rattle.lv_formula_text.specs.Nesting.{is_too_deep};
+ghost use Rattle.lv_session_request.specs.Goals.{AreRead};
+ghost use Rattle.lv_session_request.specs.Requests.{alone, track_of, budget_of, more_of, command_to, command_of, release_of, seen_as, sighting_of, retracted_of, labels_of, request_by, asked, asked_by, request_of, Explains, IsSightingIn, IsCommandIn, IsRequestOf};
+
+use crate::forms::{has_command_signs, has_observe_signs, has_release_signs, name_at, number_to};
+use crate::goals::{Goal, goal_of};
+use crate::names::{control_of, observable_of, value_in};
+use crate::unread::Unread;
+use crate::words::{Word, first_word};
+use lv_base::limits::{BUDGET, TRACKED};
+use lv_base::{Name, Seq, ValId, VarId};
+use lv_model::{Model, Plant as PlantLists};
+use lv_formula_text::is_too_deep;
+use lv_reply::Refusal;
+use lv_model_names::Lists;
+use lv_text::lexer::Token;
+use lv_text::{TextFault, TokenLine};
+use std::alloc::Global;
+
+/// A control, by its place among the controls in written order, and the value that it is commanded to.
+#[derive(Clone, Copy, Debug, PartialEq, Eq)]
+pub struct Command {
+    pub place: usize,
+    pub value: ValId,
+}
+
+/// An observation by its name: the variable, and the value that it was seen to have.
+#[derive(Debug, Drop)]
+pub struct Sighting {
+    pub name: Name,
+    pub var: VarId,
+    pub val: ValId,
+}
+
+/// What a line asks for.
+#[derive(Debug, Drop)]
+pub enum Request {
+    /// It has no tokens.
+    Nothing,
+    /// That diagnoses list so many candidates.
+    Track(u32),
+    /// That queries have so many trials.
+    SetBudget(u64),
+    SetControl(Command),
+    /// That the control of this place rests.
+    Release(usize),
+    Observe(Sighting),
+    /// That the observation of this name is taken out.
+    Retract(Name),
+    SetGoal(Goal),
+    /// That the goal of this name is taken out.
+    DropGoal(Name),
+    Diagnose,
+    Recover,
+    /// That the current query goes on with so many more trials.
+    More(u64),
+    Commit,
+    Conflicts,
+    /// A certificate of the current query.
+    Certificate,
+    /// What propagation finds under the facts.
+    Labels,
+    /// The same from the tracked state of this number, counted from 1.
+    LabelsFrom(u32),
+    States,
+    Reset,
+    Quit,
+}
+
+/// The request of a word that stands alone.
+fn alone(request: Request, line: &TokenLine<'_>) -> Result<Request, Refusal>
+    ensures { result ≡ alone request line.now }
+{
+    if line.len() == 1 {
+        Ok(request)
+    } else {
+        Err(Refusal::Form)
+    }
+}
+
+/// `track K`
+fn track_of(line: &TokenLine<'_>) -> Result<Request, Refusal>
+    ensures request { result ≡ track_of line.now }
+    ensures within { (plant : Plant) → IfOk result (IsRequestOf plant) }
+{
+    Ok(Request::Track(number_to(TRACKED as u64, line)? as u32))
+}
+
+/// `budget B`
+fn budget_of(line: &TokenLine<'_>) -> Result<Request, Refusal>
+    ensures { result ≡ budget_of line.now }
+{
+    Ok(Request::SetBudget(number_to(BUDGET, line)?))
+}
+
+/// `more B`
+fn more_of(line: &TokenLine<'_>) -> Result<Request, Refusal>
+    ensures request { result ≡ more_of line.now }
+    ensures within { (plant : Plant) → IfOk result (IsRequestOf plant) }
+{
+    Ok(Request::More(number_to(BUDGET, line)?))
+}
+
+/// The command of a control, by its names, to a value of its domain.
+#[tactic(auto, using(crate::proofs::RequestLaws::command_fits))]
+fn command_to(
+    plant: &PlantLists,
+    lists: &Lists,
+    part: &[u8],
+    name: &[u8],
+    value: &[u8],
+) -> Result<Command, Refusal>
+    requires { lists.now ≡ lists_of plant.now }
+    ensures command { result ≡ command_to plant.now lists.now part.now name.now value.now }
+    ensures within { IfOk result (IsCommandIn plant.now) }
+{
+    let control = control_of(plant, lists, part, name)?;
+    let value = value_in(plant, lists, control.var, value)?;
+    Ok(Command {
+        place: control.place,
+        value,
+    })
+}
+
+/// `command P.C = V`
+#[tactic(auto, unfolding(crate::specs::Requests::command_of))]
+fn command_of(plant: &PlantLists, lists: &Lists, line: &TokenLine<'_>) -> Result<Command, Refusal>
+    requires { lists.now ≡ lists_of plant.now }
+    ensures command { result ≡ command_of plant.now lists.now line.now }
+    ensures within { IfOk result (IsCommandIn plant.now) }
+{
+    if !has_command_signs(line) {
+        return Err(Refusal::Form);
+    }
+    let part = line.word(1).ok_or(Refusal::Form)?;
+    let name = line.word(3).ok_or(Refusal::Form)?;
+    let value = line.word(5).ok_or(Refusal::Form)?;
+    command_to(plant, lists, part, name, value)
+}
+
+/// `release P.C`: the control's place.
+#[tactic(auto, unfolding(crate::specs::Requests::release_of))]
+fn release_of(plant: &PlantLists, lists: &Lists, line: &TokenLine<'_>) -> Result<usize, Refusal>
+    ensures { result ≡ release_of plant.now lists.now line.now }
+{
+    if !has_release_signs(line) {
+        return Err(Refusal::Form);
+    }
+    let part = line.word(1).ok_or(Refusal::Form)?;
+    let name = line.word(3).ok_or(Refusal::Form)?;
+    Ok(control_of(plant, lists, part, name)?.place)
+}
+
+/// An observable, by its names, seen to have a value of its domain, under a name.
+#[tactic(auto, using(crate::proofs::RequestLaws::sighting_fits))]
+fn seen_as(
+    alloc: Global,
+    plant: &PlantLists,
+    lists: &Lists,
+    name: &[u8],
+    part: &[u8],
+    variable: &[u8],
+    value: &[u8],
+) -> Result<Sighting, Unread>
+    requires { lists.now ≡ lists_of plant.now }
+    ensures ok { IfOk result (λ s. seen_as plant.now lists.now name.now part.now variable.now value.now ≡ Ok s) }
+    ensures fault { IfErr result (λ fault. Explains fault (seen_as plant.now lists.now name.now part.now variable.now value.now)) }
+    ensures within { IfOk result (IsSightingIn plant.now) }
+{
+    let var = observable_of(plant, lists, part, variable)?;
+    let val = value_in(plant, lists, var, value)?;
+    Ok(Sighting {
+        name: Seq::from_slice(alloc, name)?,
+        var,
+        val,
+    })
+}
+
+/// `observe NAME P.O = V`
+#[tactic(auto, unfolding(crate::specs::Requests::sighting_of))]
+fn sighting_of(
+    alloc: Global,
+    plant: &PlantLists,
+    lists: &Lists,
+    line: &TokenLine<'_>,
+) -> Result<Sighting, Unread>
+    requires { lists.now ≡ lists_of plant.now }
+    ensures ok { IfOk result (λ s. sighting_of plant.now lists.now line.now ≡ Ok s) }
+    ensures fault { IfErr result (λ fault. Explains fault (sighting_of plant.now lists.now line.now)) }
+    ensures within { IfOk result (IsSightingIn plant.now) }
+{
+    if !has_observe_signs(line) {
+        return Err(Unread::Refused(Refusal::Form));
+    }
+    let name = name_at(line, 1).ok_or(Refusal::Form)?;
+    let part = line.word(2).ok_or(Refusal::Form)?;
+    let variable = line.word(4).ok_or(Refusal::Form)?;
+    let value = line.word(6).ok_or(Refusal::Form)?;
+    seen_as(alloc, plant, lists, name, part, variable, value)
+}
+
+/// `retract NAME`, and `drop NAME`.
+#[tactic(auto, unfolding(crate::specs::Requests::retracted_of))]
+fn retracted_of(alloc: Global, line: &TokenLine<'_>) -> Result<Name, Unread>
+    ensures ok { IfOk result (λ name. retracted_of line.now ≡ Ok name) }
+    ensures fault { IfErr result (λ fault. Explains fault (retracted_of line.now)) }
+{
+    if line.len() != 2 {
+        return Err(Unread::Refused(Refusal::Form));
+    }
+    let name = name_at(line, 1).ok_or(Refusal::Form)?;
+    Ok(Seq::from_slice(alloc, name)?)
+}
+
+/// `labels`, or `labels I`.
+fn labels_of(line: &TokenLine<'_>) -> Result<Request, Refusal>
+    ensures request { result ≡ labels_of line.now }
+    ensures within { (plant : Plant) → IfOk result (IsRequestOf plant) }
+{
+    if line.len() == 1 {
+        return Ok(Request::Labels);
+    }
+    Ok(Request::LabelsFrom(number_to(TRACKED as u64, line)? as u32))
+}
+
+/// What a line that begins with this word asks for.
+fn request_by(
+    alloc: Global,
+    plant: &PlantLists,
+    lists: &Lists,
+    word: Word,
+    line: &TokenLine<'_>,
+) -> Result<Request, Unread>
+    requires lists { lists.now ≡ lists_of plant.now }
+    requires shallow { is_too_deep line.now ≡ false }
+    requires read { AreRead line.now }
+    requires word { word_at line.now 0 ≢ None }
+    ensures ok { IfOk result (λ request. request_by plant.now lists.now word line.now ≡ Ok request) }
+    ensures fault { IfErr result (λ fault. Explains fault (request_by plant.now lists.now word line.now)) }
+    ensures within { IfOk result (IsRequestOf plant.now) }
+{
+    match word {
+        Word::Track => Ok(track_of(line)?),
+        Word::Budget => Ok(budget_of(line)?),
+        Word::Command => Ok(Request::SetControl(command_of(plant, lists, line)?)),
+        Word::Release => Ok(Request::Release(release_of(plant, lists, line)?)),
+        Word::Observe => Ok(Request::Observe(sighting_of(alloc, plant, lists, line)?)),
+        Word::Retract => Ok(Request::Retract(retracted_of(alloc, line)?)),
+        Word::Goal => Ok(Request::SetGoal(goal_of(alloc, plant, lists, line)?)),
+        Word::Drop => Ok(Request::DropGoal(retracted_of(alloc, line)?)),
+        Word::Diagnose => Ok(alone(Request::Diagnose, line)?),
+        Word::Recover => Ok(alone(Request::Recover, line)?),
+        Word::More => Ok(more_of(line)?),
+        Word::Commit => Ok(alone(Request::Commit, line)?),
+        Word::Conflicts => Ok(alone(Request::Conflicts, line)?),
+        Word::Certificate => Ok(alone(Request::Certificate, line)?),
+        Word::Labels => Ok(labels_of(line)?),
+        Word::States => Ok(alone(Request::States, line)?),
+        Word::Reset => Ok(alone(Request::Reset, line)?),
+        Word::Quit => Ok(alone(Request::Quit, line)?),
+    }
+}
+
+/// What the tokens of a line ask for.
+fn asked(
+    alloc: Global,
+    plant: &PlantLists,
+    lists: &Lists,
+    line: &TokenLine<'_>,
+) -> Result<Request, Unread>
+    requires lists { lists.now ≡ lists_of plant.now }
+    requires read { AreRead line.now }
+    ensures ok { IfOk result (λ request. asked plant.now lists.now line.now ≡ Ok request) }
+    ensures fault { IfErr result (λ fault. Explains fault (asked plant.now lists.now line.now)) }
+    ensures within { IfOk result (IsRequestOf plant.now) }
+{
+    if line.is_empty() {
+        return Ok(Request::Nothing);
+    }
+    let Some(word) = first_word(line) else {
+        return Err(Unread::Refused(Refusal::UnknownWord));
+    };
+    if is_too_deep(line) {
+        return Err(Unread::Refused(Refusal::TooComplex));
+    }
+    request_by(alloc, plant, lists, word, line)
+}
+
+/// The tokens of a line, in the room that is given.
+fn tokens_in<'a>(
+    alloc: Global,
+    room: &mut Vec<Token>,
+    line: &'a [u8],
+) -> Result<TokenLine<'a>, Unread>
+    ensures ok { (plant : Plant) (lists : ListsOf) → IfOk result (λ found. asked_by plant lists (line_reading line.now) ≡ asked plant lists found) }
+    ensures fault { (plant : Plant) (lists : ListsOf) → IfErr result (λ fault. Explains fault (asked_by plant lists (line_reading line.now))) }
+    ensures read { IfOk result (λ found. AreRead found) }
+{
+    match TokenLine::read_into(alloc, room, line) {
+        Ok(found) => Ok(found),
+        Err(TextFault::LongLine) => Err(Unread::Refused(Refusal::LineTooLong)),
+        Err(TextFault::BadByte(_)) => Err(Unread::Refused(Refusal::ByteNotAllowed)),
+        Err(TextFault::Memory) => Err(Unread::Memory),
+    }
+}
+
+/// What a line, which is given without its end, asks for, where these are the lists kept with the model. The tokens are
+/// read into the room that is given, which can be used again.
+#[tactic(auto, unfolding(crate::specs::Requests::request_of))]
+pub fn request_of(
+    alloc: Global,
+    model: &Model,
+    lists: &Lists,
+    room: &mut Vec<Token>,
+    line: &[u8],
+) -> Result<Request, Unread>
+    requires { lists.now ≡ lists_of model.now }
+    ensures ok { IfOk result (λ request. request_of model.now line.now ≡ Ok request) }
+    ensures fault { IfErr result (λ fault. Explains fault (request_of model.now line.now)) }
+    ensures within { IfOk result (IsRequestOf model.now) }
+{
+    let found = tokens_in(alloc, room, line)?;
+    let request = asked(alloc, model.plant(), lists, &found);
+    *room = found.into_room();
+    request
+}

@@ -1,7 +1,0 @@
--- the number that is encoded, if there is one, is none of those that were looked at
-use Rattle.lv_steps.specs.Encoding.{truth_in}
-use Rattle.lv_steps.proofs.DecodingLemmas.{IsPast}
-use Rattle.lv_steps.proofs.decoding.number_of.Given as goal
-
-abbrev pub invariant-loop-number : goal.invariant-loop-number
-invariant-loop-number l = IsPast (truth_in l.values) l.bools l.thing l.number

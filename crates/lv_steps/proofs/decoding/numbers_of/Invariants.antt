@@ -1,7 +1,0 @@
--- the numbers of the things so far
-use Rattle.lv_steps.specs.Encoding.{truth_in}
-use Rattle.lv_steps.proofs.DecodingLemmas.{AreNumbersTo}
-use Rattle.lv_steps.proofs.decoding.numbers_of.Given as goal
-
-abbrev pub invariant-loop-thing : goal.invariant-loop-thing
-invariant-loop-thing l = AreNumbersTo (truth_in l.values) l.bools l.thing l.out.items
