@@ -1,14 +1,12 @@
-//! Tests of the ground: lists and ranks, formulas, zones, kept conflicts.
+//! Tests of the ground: lists and ranks; files and sinks in memory and of the system.
 //!
 //! They call each public function once with ample memory, which no clause promises; what they want follows from the
 //! definitions by hand.
 #![tactic(auto)]
 
 #[cfg(test)]
-mod conflicts;
+mod host_files;
 #[cfg(test)]
-mod formulas;
+mod memory_files;
 #[cfg(test)]
 mod ranks;
-#[cfg(test)]
-mod zones;

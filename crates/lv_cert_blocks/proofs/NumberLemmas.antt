@@ -3,8 +3,8 @@ use Rattle.std.proofs.Common.{◌≡◌, List, [], ◌∷◌, ◌++◌, map, Opt
 use Rattle.std.proofs.lemmas.List.{append_assoc}
 use Rattle.std.proofs.lemmas.Simd.{map-map}
 use Rattle.lv_base.specs.declared.ids.Lit.{Lit}
-use Rattle.lv_model.specs.declared.plant.Plant.{Plant}
-use Rattle.lv_compile.specs.ModelClauses.{model_clauses}
+use Rattle.lv_system.specs.lv_model.declared.plant.Plant.{Plant}
+use Rattle.lv_system.specs.lv_compile.ModelClauses.{model_clauses}
 use Rattle.lv_system.specs.Numbering.{clause_of}
 use Rattle.lv_system.specs.System.{SystemValue, IsSystemOf}
 use Rattle.lv_cert_blocks.specs.Blocks.{BlockValue, clauses_of, block_clauses, with_clause}

@@ -5,12 +5,12 @@ use Rattle.lv_base.specs.declared.ids.Lit.{Lit}
 use Rattle.lv_cert.specs.declared.line.Literal.{Literal}
 use Rattle.lv_clauses.specs.Literals.{clause_holds}
 use Rattle.lv_clauses.specs.ClauseMap.{ClauseMap}
-use Rattle.lv_reflog.specs.declared.log.Hint.{Hint}
-use Rattle.lv_reflog.specs.declared.log.Hint.TheVariants.{Given}
-use Rattle.lv_reflog.specs.declared.log.Step.{Step}
-use Rattle.lv_reflog.specs.Following.{follows_by_hints}
-use Rattle.lv_model.specs.declared.plant.Plant.{Plant}
-use Rattle.lv_compile.specs.ModelClauses.{model_clauses}
+use Rattle.lv_refcheck.specs.lv_reflog.declared.log.Hint.{Hint}
+use Rattle.lv_refcheck.specs.lv_reflog.declared.log.Hint.TheVariants.{Given}
+use Rattle.lv_refcheck.specs.lv_reflog.declared.log.Step.{Step}
+use Rattle.lv_refcheck.specs.lv_reflog.Following.{follows_by_hints}
+use Rattle.lv_system.specs.lv_model.declared.plant.Plant.{Plant}
+use Rattle.lv_system.specs.lv_compile.ModelClauses.{model_clauses}
 use Rattle.lv_system.specs.System.{SystemValue, IsSystemOf}
 use Rattle.lv_cert_blocks.specs.Following.{names_boolean, literal_of, follows}
 use Rattle.lv_cert_blocks.specs.Blocks.{clauses_of}

@@ -6,7 +6,7 @@ ghost use Rattle.std.specs.Prelude.{◌≡◌, ◌<◌, ◌≤◌, ◌-◌, ◌+
 ghost use Rattle.std.specs.List.{list_all};
 ghost use Rattle.lv_clauses.specs.Literals.{is_clause};
 ghost use Rattle.lv_clauses.specs.Marks.{nothing, look_at};
-ghost use Rattle.lv_reflog.specs.Following.{denied};
+ghost use Rattle.lv_refcheck.specs.lv_reflog.Following.{denied};
 ghost use Rattle.lv_cert_blocks.specs.Blocks.{clauses_of};
 ghost use Rattle.lv_cert_blocks.specs.Following as Following;
 ghost use Rattle.lv_cert_blocks.specs.Following.{numbered, follows};

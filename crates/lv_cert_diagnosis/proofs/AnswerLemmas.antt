@@ -12,11 +12,11 @@ use Rattle.lv_base.specs.Choices.{pairs_of, picks}
 use Rattle.lv_model.specs.declared.plant.Plant.{Plant}
 use Rattle.lv_model.specs.declared.state.TrackedState.{TrackedState}
 use Rattle.lv_model.specs.Lists.{move_counts}
-use Rattle.lv_search_walk.specs.declared.outcome.Outcome.TheVariants.{Settled}
-use Rattle.lv_search_walk.specs.Ranked.{rises, is_among}
-use Rattle.lv_search_walk.specs.Walk.{Walked, candidate_of, walk_from}
-use Rattle.lv_search_walk.proofs.WalkLemmas.{turn, is_exact}
-use Rattle.lv_search_walk.proofs.ReasonLemmas.{still_impossible, part_of_all}
+use Rattle.lv_meaning.specs.lv_search_walk.declared.outcome.Outcome.TheVariants.{Settled}
+use Rattle.lv_meaning.specs.lv_search_walk.Ranked.{rises, is_among}
+use Rattle.lv_meaning.specs.lv_search_walk.Walk.{Walked, candidate_of, walk_from}
+use Rattle.lv_meaning.proofs.lv_search_walk.WalkLemmas.{turn, is_exact}
+use Rattle.lv_meaning.proofs.lv_search_walk.ReasonLemmas.{still_impossible, part_of_all}
 use Rattle.lv_meaning.specs.declared.facts.Facts.{Facts}
 use Rattle.lv_meaning.specs.Possible.{is_possible}
 use Rattle.lv_meaning.specs.Candidates.{candidates, is_possible_candidate, is_possible_rank, first_possible}
@@ -25,7 +25,7 @@ use Rattle.lv_meaning.specs.CandidateLaws.{IsCandidate, IsAnswer}
 use Rattle.lv_meaning.proofs.Reasons.{is_sound, own_pairs}
 use Rattle.lv_meaning.proofs.Answering.{answer_law}
 use Rattle.lv_meaning.proofs.Rising.{candidates_rise_law}
-use Rattle.lv_boxes.proofs.RankedMemberLemmas.{among_ranked_members_any}
+use Rattle.lv_search_zones.proofs.lv_boxes.RankedMemberLemmas.{among_ranked_members_any}
 use Rattle.lv_search_zones.specs.Moves.{move_slots, zones_from, is_full_choice}
 use Rattle.lv_search_zones.proofs.ZoneLemmas.{zones_have_candidates, candidates_are_full}
 use Rattle.lv_ident.specs.Literals.{HasMove}
@@ -34,7 +34,7 @@ use Rattle.lv_cert_writing.specs.Explained.{AreExplained, is_explained, last_if_
 use Rattle.lv_cert_writing.specs.SplitLaws.{HasReasonsInside, explains}
 use Rattle.lv_cert_writing.proofs.SplitWalkLemmas.{walk_explains}
 use Rattle.lv_cert_laws.proofs.Shown.{candidate_is_full}
-use Rattle.lv_cert_meaning.specs.Certifying.{IsSettledDiagnosis}
+use Rattle.lv_cert_laws.specs.lv_cert_meaning.Certifying.{IsSettledDiagnosis}
 use Rattle.lv_cert_diagnosis.specs.Showing.{CanBeShown, CanBeRefuted}
 use Rattle.lv_cert_diagnosis.proofs.ListingLemmas.{rise_after}
 

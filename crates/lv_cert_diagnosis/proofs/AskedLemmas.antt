@@ -12,8 +12,8 @@ use Rattle.lv_model.specs.Lists.{sizes, controls, variable_count, part_moves}
 use Rattle.lv_model.specs.Ranges.{plant_ranges}
 use Rattle.lv_model.specs.WellFormed.{is_well_formed}
 use Rattle.lv_model.specs.declared.plant.Part.{Part}
-use Rattle.lv_formula.specs.declared.range.Range.{Range}
-use Rattle.lv_formula.specs.Fits.{has_value}
+use Rattle.lv_model.specs.lv_formula.declared.range.Range.{Range}
+use Rattle.lv_model.specs.lv_formula.Fits.{has_value}
 use Rattle.lv_base.specs.declared.ids.ValId.{ValId}
 use Rattle.std.proofs.lemmas.Bool.{and_parts}
 use Rattle.lv_meaning.specs.declared.facts.Facts.{Facts}
@@ -22,13 +22,13 @@ use Rattle.lv_meaning.specs.Candidates.{IsTracked}
 use Rattle.lv_meaning.specs.Ranges.{modes_fit}
 use Rattle.lv_meaning.specs.CandidateLaws.{IsCandidate}
 use Rattle.lv_system.specs.System.{SystemValue, IsSystemOf}
-use Rattle.lv_boxes.specs.Members.{ZoneValue}
+use Rattle.lv_search_zones.specs.lv_boxes.Members.{ZoneValue}
 use Rattle.lv_search_zones.specs.Moves.{move_slots, zones_from}
 use Rattle.lv_cert.specs.declared.line.Question.TheVariants.{Diagnosis}
 use Rattle.lv_cert.specs.declared.line.Line.{Line}
 use Rattle.lv_cert.specs.declared.line.Line.TheVariants as line
-use Rattle.lv_cert_meaning.specs.Judging.{last_of}
-use Rattle.lv_cert_meaning.specs.Space.{all_passed}
+use Rattle.lv_cert_laws.specs.lv_cert_meaning.Judging.{last_of}
+use Rattle.lv_cert_laws.specs.lv_cert_meaning.Space.{all_passed}
 use Rattle.lv_base.specs.declared.ids.Cost.{Cost}
 use Rattle.lv_cert_writing.specs.Explained.{AreExplained, last_if_full}
 use Rattle.lv_cert_writing.specs.declared.closing.Split.{Split}
@@ -36,7 +36,7 @@ use Rattle.lv_cert.specs.declared.line.Moment.TheVariants.{Now, Next}
 use Rattle.lv_cert.specs.declared.line.Head.TheVariants as head
 use Rattle.lv_cert_writing.specs.Lines.{state_lines, fact_lines, values_line, split_lines}
 use Rattle.lv_cert_writing.proofs.ClosedLemmas.{are_splits}
-use Rattle.lv_cert_meaning.specs.Certifying.{AreStates, AreFacts, IsSettledDiagnosis, CertifiesDiagnosis, AreFormed}
+use Rattle.lv_cert_laws.specs.lv_cert_meaning.Certifying.{AreStates, AreFacts, IsSettledDiagnosis, CertifiesDiagnosis, AreFormed}
 use Rattle.lv_cert_diagnosis.specs.Showing.{Shown, head_lines, listed_lines, block_lines, IsShown, StepIsShown, HoldsAnswer, HoldsSplits}
 use Rattle.lv_cert_diagnosis.proofs.HeadingLemmas.{IsAskedOf}
 use Rattle.lv_cert_diagnosis.proofs.AnswerLemmas.{answer, listed_are_candidates, rising_after}

@@ -13,7 +13,7 @@ use Rattle.lv_model.proofs.Sizes.{few-sizes}
 use Rattle.lv_meaning.specs.declared.facts.Observation.{Observation}
 use Rattle.lv_meaning.specs.declared.facts.Facts.{Facts}
 use Rattle.lv_meaning.specs.Facts.{commanded}
-use Rattle.lv_compile.specs.Booleans.{booleans_now, booleans_next}
+use Rattle.lv_search_zones.specs.lv_compile.Booleans.{booleans_now, booleans_next}
 use Rattle.lv_search_zones.specs.Moves.{move_slots, zones_from}
 use Rattle.lv_meaning.specs.Commands.{control_sizes}
 use Rattle.lv_cert.specs.declared.line.Question.TheVariants.{Diagnosis}
@@ -23,9 +23,9 @@ use Rattle.lv_cert.specs.declared.line.Line.{Line}
 use Rattle.lv_cert.specs.declared.line.Line.TheVariants as line
 use Rattle.lv_cert.specs.declared.order.Place.TheVariants as place
 use Rattle.lv_cert.specs.Form.{is_within_limit}
-use Rattle.lv_cert_meaning.specs.Counting.{is_one_of, are_of, values_of}
-use Rattle.lv_cert_meaning.specs.Stated.{Stated, observed_literal, with_controls}
-use Rattle.lv_cert_meaning.specs.Judging.{Judged, unjudged}
+use Rattle.lv_cert_laws.specs.lv_cert_meaning.Counting.{is_one_of, are_of, values_of}
+use Rattle.lv_cert_laws.specs.lv_cert_meaning.Stated.{Stated, observed_literal, with_controls}
+use Rattle.lv_cert_laws.specs.lv_cert_meaning.Judging.{Judged, unjudged}
 use Rattle.lv_cert_writing.specs.Lines.{value_numbers, state_lines, fact_lines, values_line}
 use Rattle.lv_cert_writing.specs.Ending.{Ends}
 use Rattle.lv_cert_writing.proofs.Ending.{line_first}

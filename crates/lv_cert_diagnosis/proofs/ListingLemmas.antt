@@ -26,9 +26,9 @@ use Rattle.lv_cert.specs.declared.order.Place.{Place}
 use Rattle.lv_cert.specs.declared.order.Place.TheVariants as place
 use Rattle.lv_cert.specs.Order.{after_listing, place_after}
 use Rattle.lv_cert.specs.Form.{is_formed, is_within_limit}
-use Rattle.lv_cert_meaning.specs.Counting.{are_of, values_of, places_of, at_number}
-use Rattle.lv_cert_meaning.specs.Stated.{rank_from, candidate_of_numbers}
-use Rattle.lv_cert_meaning.specs.Judging.{Judged, last_of, with_listed, is_step_of, shows_listed}
+use Rattle.lv_cert_laws.specs.lv_cert_meaning.Counting.{are_of, values_of, places_of, at_number}
+use Rattle.lv_cert_laws.specs.lv_cert_meaning.Stated.{rank_from, candidate_of_numbers}
+use Rattle.lv_cert_laws.specs.lv_cert_meaning.Judging.{Judged, last_of, with_listed, is_step_of, shows_listed}
 use Rattle.lv_cert_laws.proofs.Sound.{last_added}
 use Rattle.lv_cert_laws.proofs.Shown.{candidate_is_full}
 use Rattle.lv_cert_writing.specs.Lines.{numbers_of, value_numbers, values_line}

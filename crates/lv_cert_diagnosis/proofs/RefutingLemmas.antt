@@ -11,9 +11,9 @@ use Rattle.lv_model.specs.Lists.{move_counts}
 use Rattle.lv_model.specs.WellFormed.{is_well_formed}
 use Rattle.lv_model.proofs.Sizes.{few-move_counts}
 use Rattle.lv_meaning.specs.declared.facts.Facts.{Facts}
-use Rattle.lv_compile.specs.Booleans.{bool_count}
-use Rattle.lv_compile.specs.ModelClauses.{model_clauses}
-use Rattle.lv_cert_blocks.specs.Deriving.{clause_of_line, derives, ends_empty as lines_end_empty}
+use Rattle.lv_search_zones.specs.lv_compile.Booleans.{bool_count}
+use Rattle.lv_search_zones.specs.lv_compile.ModelClauses.{model_clauses}
+use Rattle.lv_cert_laws.specs.lv_cert_blocks.Deriving.{clause_of_line, derives, ends_empty as lines_end_empty}
 use Rattle.lv_cert.specs.declared.line.Question.TheVariants.{Diagnosis}
 use Rattle.lv_cert.specs.declared.line.Head.TheVariants as head
 use Rattle.lv_cert.specs.declared.line.Line.{Line}
@@ -21,8 +21,8 @@ use Rattle.lv_cert.specs.declared.line.Line.TheVariants as line
 use Rattle.lv_cert.specs.declared.order.Place.{Place}
 use Rattle.lv_cert.specs.declared.order.Place.TheVariants as place
 use Rattle.lv_cert.specs.Order.{after_blocks, place_after}
-use Rattle.lv_cert_meaning.specs.Units.{units, choice_literal}
-use Rattle.lv_cert_meaning.specs.Judging.{Judged, with_conflict, clauses_of_choices}
+use Rattle.lv_cert_laws.specs.lv_cert_meaning.Units.{units, choice_literal}
+use Rattle.lv_cert_laws.specs.lv_cert_meaning.Judging.{Judged, with_conflict, clauses_of_choices}
 use Rattle.lv_cert_writing.specs.Lines.{pair_numbers, clause_lines}
 use Rattle.lv_cert_writing.specs.Ending.{Ends, BeginApart}
 use Rattle.lv_cert_writing.proofs.Ending.{line_first}

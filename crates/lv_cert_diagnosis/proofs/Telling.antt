@@ -12,7 +12,7 @@ use Rattle.lv_base.specs.declared.ids.MoveId.{MoveId}
 use Rattle.lv_base.specs.declared.rank.Rank.{Rank}
 use Rattle.lv_base.specs.declared.search.Pair.{Pair}
 use Rattle.lv_base.specs.Choices.{pairs_from, pairs_of}
-use Rattle.lv_clauses.specs.Literals.{lit_holds, in_range}
+use Rattle.lv_system.specs.lv_clauses.Literals.{lit_holds, in_range}
 use Rattle.lv_model.specs.declared.plant.Plant.{Plant}
 use Rattle.lv_model.specs.Lists.{sizes, move_counts, controls}
 use Rattle.lv_model.specs.WellFormed.{is_well_formed}
@@ -20,9 +20,9 @@ use Rattle.lv_model.specs.Meaning.{is_step}
 use Rattle.lv_meaning.specs.declared.facts.Facts.{Facts}
 use Rattle.lv_meaning.specs.Facts.{meets, commanded, now_facts, meets_facts, FactsInRange}
 use Rattle.lv_meaning.specs.Possible.{move_number, gives, extends, is_possible}
-use Rattle.lv_compile.specs.Booleans.{booleans_now, booleans_next, first_choice, bool_count}
-use Rattle.lv_compile.specs.ModelClauses.{model_clauses}
-use Rattle.lv_compile.specs.Laws.{literal_is_true, Encode}
+use Rattle.lv_search_zones.specs.lv_compile.Booleans.{booleans_now, booleans_next, first_choice, bool_count}
+use Rattle.lv_search_zones.specs.lv_compile.ModelClauses.{model_clauses}
+use Rattle.lv_search_zones.specs.lv_compile.Laws.{literal_is_true, Encode}
 use Rattle.lv_system.specs.Numbering.{IsOver}
 use Rattle.lv_meaning.specs.PossibleLaws.{are_below}
 use Rattle.lv_system.specs.Choices.{Choices}
@@ -31,10 +31,10 @@ use Rattle.lv_system.specs.Encoding.{truth_in}
 use Rattle.lv_system.specs.Laws.{IsWholeStep, IsModelOf}
 use Rattle.lv_system.specs.Decoding.{IsDecoded}
 use Rattle.lv_system.proofs.SystemLemmas.{model_is_a_step, choices_fit, kept_of}
-use Rattle.lv_cert_blocks.specs.Blocks.{clauses_of}
-use Rattle.lv_cert_blocks.specs.Deriving.{Derived, refutes}
-use Rattle.lv_cert_blocks.proofs.DerivingLemmas.{refuted_fail}
-use Rattle.lv_cert_blocks.proofs.NumberLemmas.{clauses_are}
+use Rattle.lv_cert_laws.specs.lv_cert_blocks.Blocks.{clauses_of}
+use Rattle.lv_cert_laws.specs.lv_cert_blocks.Deriving.{Derived, refutes}
+use Rattle.lv_cert_laws.proofs.lv_cert_blocks.DerivingLemmas.{refuted_fail}
+use Rattle.lv_cert_laws.proofs.lv_cert_blocks.NumberLemmas.{clauses_are}
 use Rattle.lv_ident.specs.Literals.{observed_literals, fact_literals, pair_literals, HasMove, plant_choices, IsPositive}
 use Rattle.lv_ident.proofs.MeaningLemmas.{facts_hold, pairs_hold, step_makes_possible}
 use Rattle.lv_ident.proofs.ClauseLemmas.{facts_positive}
@@ -45,9 +45,9 @@ use Rattle.lv_cert_writing.specs.declared.refuter.Refuted.{Refuted}
 use Rattle.lv_cert_writing.specs.declared.refuter.Refuted.TheVariants.{Values, Lines}
 use Rattle.lv_cert_writing.specs.BlockLines.{derived_of}
 use Rattle.lv_cert_writing.specs.Refuting.{MakeTrue, Tells}
-use Rattle.lv_cert_meaning.specs.Counting.{is_one_of, are_of}
-use Rattle.lv_cert_meaning.specs.Stated.{Stated, observed_literal}
-use Rattle.lv_cert_meaning.specs.Units.{units, choice_literal}
+use Rattle.lv_cert_laws.specs.lv_cert_meaning.Counting.{is_one_of, are_of}
+use Rattle.lv_cert_laws.specs.lv_cert_meaning.Stated.{Stated, observed_literal}
+use Rattle.lv_cert_laws.specs.lv_cert_meaning.Units.{units, choice_literal}
 use Rattle.lv_cert_laws.proofs.Saying.{Says}
 use Rattle.lv_cert_laws.proofs.Blocks.{units_hold, refuted_choices}
 use Rattle.lv_cert_writing.specs.Asking.{are_values, are_lines}

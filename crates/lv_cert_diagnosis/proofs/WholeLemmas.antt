@@ -8,21 +8,21 @@ use Rattle.lv_model.specs.declared.plant.Plant.{Plant}
 use Rattle.lv_model.specs.declared.state.TrackedState.{TrackedState}
 use Rattle.lv_model.specs.Lists.{move_counts}
 use Rattle.lv_meaning.specs.declared.facts.Facts.{Facts}
-use Rattle.lv_compile.specs.Booleans.{bool_count}
-use Rattle.lv_compile.specs.ModelClauses.{model_clauses}
+use Rattle.lv_search_zones.specs.lv_compile.Booleans.{bool_count}
+use Rattle.lv_search_zones.specs.lv_compile.ModelClauses.{model_clauses}
 use Rattle.lv_search_zones.specs.Moves.{move_slots, zones_from}
 use Rattle.lv_cert.specs.declared.line.Question.TheVariants.{Diagnosis}
 use Rattle.lv_cert.specs.declared.line.Line.{Line}
 use Rattle.lv_cert.specs.declared.line.Line.TheVariants as line
 use Rattle.lv_cert.specs.declared.order.Place.{Place}
 use Rattle.lv_cert.specs.declared.order.Place.TheVariants as place
-use Rattle.lv_cert_meaning.specs.Stated.{Stated}
-use Rattle.lv_cert_meaning.specs.Space.{Space, all_passed}
-use Rattle.lv_cert_meaning.specs.Judging.{Judged, unjudged, full_to}
+use Rattle.lv_cert_laws.specs.lv_cert_meaning.Stated.{Stated}
+use Rattle.lv_cert_laws.specs.lv_cert_meaning.Space.{Space, all_passed}
+use Rattle.lv_cert_laws.specs.lv_cert_meaning.Judging.{Judged, unjudged, full_to}
 use Rattle.lv_cert_writing.specs.Ending.{Ends, BeginApart}
 use Rattle.lv_cert_writing.specs.Splitting.{AreSplits, none, one_more}
 use Rattle.lv_cert_writing.proofs.Splits.{TakesSplits, splits_end}
-use Rattle.lv_cert_meaning.specs.Certifying.{CertifiesDiagnosis, AreFormed}
+use Rattle.lv_cert_laws.specs.lv_cert_meaning.Certifying.{CertifiesDiagnosis, AreFormed}
 use Rattle.lv_cert_diagnosis.specs.Showing.{Shown, Block, head_lines, listed_lines, block_lines, IsShown, IsRefuted}
 use Rattle.lv_cert_diagnosis.proofs.HeadingLemmas.{IsAskedOf, headed, head_first}
 use Rattle.lv_cert_diagnosis.proofs.ListingLemmas.{with_shown, place_with, rise_after, listed_first}

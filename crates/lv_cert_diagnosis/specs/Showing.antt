@@ -17,16 +17,16 @@ use Rattle.lv_meaning.specs.Candidates.{is_possible_rank}
 use Rattle.lv_meaning.specs.PossibleLaws.{are_below}
 use Rattle.lv_meaning.specs.CandidateLaws.{IsCandidate}
 use Rattle.lv_ident.specs.Literals.{HasMove}
-use Rattle.lv_compile.specs.Booleans.{booleans_now, booleans_next, bool_count}
-use Rattle.lv_compile.specs.FormulaClauses.{Clauses}
-use Rattle.lv_compile.specs.ModelClauses.{model_clauses}
+use Rattle.lv_search_zones.specs.lv_compile.Booleans.{booleans_now, booleans_next, bool_count}
+use Rattle.lv_search_zones.specs.lv_compile.FormulaClauses.{Clauses}
+use Rattle.lv_search_zones.specs.lv_compile.ModelClauses.{model_clauses}
 use Rattle.lv_system.specs.System.{SystemValue}
-use Rattle.lv_cert_blocks.specs.Deriving.{Derived, refutes}
+use Rattle.lv_cert_laws.specs.lv_cert_blocks.Deriving.{Derived, refutes}
 use Rattle.lv_cert_writing.specs.declared.refuter.Refuted.{Refuted}
 use Rattle.lv_cert_writing.specs.declared.refuter.Refuted.TheVariants.{Values, Lines}
 use Rattle.lv_cert_writing.specs.BlockLines.{derived_of}
 use Rattle.lv_cert_writing.specs.Refuting.{MakeTrue}
-use Rattle.lv_boxes.specs.Members.{ZoneValue}
+use Rattle.lv_search_zones.specs.lv_boxes.Members.{ZoneValue}
 use Rattle.lv_cert_writing.specs.declared.closing.Split.{Split}
 use Rattle.lv_cert_writing.specs.Closing.{Closes, SplitIsSmall}
 use Rattle.lv_cert.specs.declared.line.Question.{Question}
@@ -35,10 +35,10 @@ use Rattle.lv_cert.specs.declared.line.Moment.TheVariants.{Now, Next}
 use Rattle.lv_cert.specs.declared.line.Head.TheVariants as head
 use Rattle.lv_cert.specs.declared.line.Line.{Line}
 use Rattle.lv_cert.specs.declared.line.Line.TheVariants as line
-use Rattle.lv_cert_meaning.specs.Counting.{are_of}
-use Rattle.lv_cert_meaning.specs.Stated.{observed_literal}
-use Rattle.lv_cert_meaning.specs.Units.{units, choice_literal}
-use Rattle.lv_cert_meaning.specs.Judging.{is_step_of}
+use Rattle.lv_cert_laws.specs.lv_cert_meaning.Counting.{are_of}
+use Rattle.lv_cert_laws.specs.lv_cert_meaning.Stated.{observed_literal}
+use Rattle.lv_cert_laws.specs.lv_cert_meaning.Units.{units, choice_literal}
+use Rattle.lv_cert_laws.specs.lv_cert_meaning.Judging.{is_step_of}
 use Rattle.lv_cert_writing.specs.Lines.{numbers_of, value_numbers, state_lines, fact_lines, values_line, pair_numbers, clause_lines}
 use Rattle.lv_cert_writing.specs.Pairs.{HasChoice}
 

@@ -8,10 +8,10 @@ ghost use Rattle.lv_meaning.specs.Facts.{FactsFit, FactsInRange};
 ghost use Rattle.lv_meaning.specs.Possible.{is_possible};
 ghost use Rattle.lv_meaning.specs.Candidates.{is_possible_rank};
 ghost use Rattle.lv_meaning.specs.PossibleLaws.{are_below};
-ghost use Rattle.lv_compile.specs.Booleans.{bool_count};
-ghost use Rattle.lv_compile.specs.ModelClauses.{model_clauses};
+ghost use Rattle.lv_search_zones.specs.lv_compile.Booleans.{bool_count};
+ghost use Rattle.lv_search_zones.specs.lv_compile.ModelClauses.{model_clauses};
 ghost use Rattle.lv_system.specs.System.{IsSystemOf};
-ghost use Rattle.lv_cert_blocks.specs.Deriving.{refutes};
+ghost use Rattle.lv_cert_laws.specs.lv_cert_blocks.Deriving.{refutes};
 ghost use Rattle.lv_ident.specs.Literals.{HasMove, fact_literals};
 ghost use Rattle.lv_cert_writing.specs.BlockLines.{derived_of};
 ghost use Rattle.lv_cert_diagnosis.specs.Showing.{own_clauses, ShowsStep, TellsOf};
@@ -41,7 +41,7 @@ impl<'a> marker::Model for Asking<'a> {
     ghost use Rattle.lv_cert_diagnosis.specs.Showing.{Asked};
     ghost use Rattle.lv_cert_diagnosis.specs.Keeping.{IsAsking};
     ghost use Rattle.std.specs.Coded.{codes};
-    ghost use Rattle.lv_formula.specs.contracts.Condition as condition;
+    ghost use Rattle.lv_model.specs.lv_formula.contracts.Condition as condition;
 
     ghost Value = { Asked };
 

@@ -7,7 +7,7 @@ ghost use Rattle.lv_cert.specs.declared.line.Question.TheVariants.{Diagnosis};
 ghost use Rattle.lv_system.specs.System.{IsSystemOf};
 ghost use Rattle.lv_search_zones.specs.Moves.{move_slots, zones_from};
 ghost use Rattle.lv_cert_writing.specs.Explained.{last_if_full as last_of_all};
-ghost use Rattle.lv_cert_meaning.specs.Certifying.{CertifiesDiagnosis, AreStates, AreFacts, IsSettledDiagnosis, AreFormed};
+ghost use Rattle.lv_cert_laws.specs.lv_cert_meaning.Certifying.{CertifiesDiagnosis, AreStates, AreFacts, IsSettledDiagnosis, AreFormed};
 ghost use Rattle.lv_cert_diagnosis.specs.Showing.{HoldsAnswer, HoldsSplits};
 
 use crate::asking::Asking;

@@ -3,16 +3,16 @@ use Rattle.std.proofs.Common.{◌≡◌, ℕ, ◌+◌, true, false, ◌&&◌, Li
 use Rattle.std.specs.Option.{option_map_or}
 use Rattle.std.proofs.lemmas.Bool.{and_parts}
 use Rattle.std.proofs.lemmas.Option.{cond_some}
-use Rattle.lv_model.specs.declared.plant.Plant.{Plant}
-use Rattle.lv_model.specs.Lists.{sizes}
-use Rattle.lv_cert.specs.declared.line.Question.{Question}
-use Rattle.lv_cert.specs.declared.line.Head.TheVariants as head
-use Rattle.lv_cert.specs.declared.line.Line.{Line}
-use Rattle.lv_cert.specs.declared.line.Line.TheVariants as line
-use Rattle.lv_cert.specs.declared.order.Witness.{Witness}
-use Rattle.lv_cert.specs.declared.order.Place.{Place}
-use Rattle.lv_cert.specs.declared.order.Place.TheVariants as place
-use Rattle.lv_cert.specs.Order.{place_after, place_behind}
+use Rattle.lv_cert_meaning.specs.lv_model.declared.plant.Plant.{Plant}
+use Rattle.lv_cert_meaning.specs.lv_model.Lists.{sizes}
+use Rattle.lv_cert_meaning.specs.lv_cert.declared.line.Question.{Question}
+use Rattle.lv_cert_meaning.specs.lv_cert.declared.line.Head.TheVariants as head
+use Rattle.lv_cert_meaning.specs.lv_cert.declared.line.Line.{Line}
+use Rattle.lv_cert_meaning.specs.lv_cert.declared.line.Line.TheVariants as line
+use Rattle.lv_cert_meaning.specs.lv_cert.declared.order.Witness.{Witness}
+use Rattle.lv_cert_meaning.specs.lv_cert.declared.order.Place.{Place}
+use Rattle.lv_cert_meaning.specs.lv_cert.declared.order.Place.TheVariants as place
+use Rattle.lv_cert_meaning.specs.lv_cert.Order.{place_after, place_behind}
 use Rattle.lv_cert_meaning.specs.Counting.{are_of, values_of}
 use Rattle.lv_cert_meaning.specs.Judging.{Judged, shows, judge_now, judge_next, judge_lines, comes_to}
 use Rattle.lv_cert_laws.proofs.Options.{anded}

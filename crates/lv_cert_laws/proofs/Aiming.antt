@@ -4,21 +4,21 @@ use Rattle.std.specs.Prelude.{map}
 use Rattle.std.specs.Option.{option_map_or}
 use Rattle.std.specs.List.{list_all, list_any, range_with_len}
 use Rattle.std.proofs.lemmas.Bool.{and_parts, and_from, or_cases, lt-ltb}
-use Rattle.lv_base.specs.declared.ids.ValId.{ValId}
-use Rattle.lv_base.specs.Choices.{pairs_of}
-use Rattle.lv_clauses.specs.Literals.{same_truth}
-use Rattle.lv_model.specs.declared.plant.Plant.{Plant}
-use Rattle.lv_model.specs.declared.plant.ComponentType.{ComponentType}
-use Rattle.lv_model.specs.declared.plant.Part.{Part}
-use Rattle.lv_model.specs.declared.state.TrackedState.{TrackedState}
-use Rattle.lv_model.specs.Lists.{sizes, part_moves, controls}
-use Rattle.lv_model.specs.Meaning.{is_feasible, part_steps, part_is_nominal, parts_step, parts_are_nominal}
-use Rattle.lv_meaning.specs.Facts.{meets}
-use Rattle.lv_meaning.specs.Possible.{value, move_number}
-use Rattle.lv_meaning.specs.PossibleLaws.{are_below}
-use Rattle.lv_meaning.specs.Recovers.{has_modes, has_controls, meets_goals}
-use Rattle.lv_meaning.specs.RecoveryLaws.{NominalStep}
-use Rattle.lv_cert.specs.declared.line.Question.TheVariants.{Recovery}
+use Rattle.lv_cert_meaning.specs.lv_base.declared.ids.ValId.{ValId}
+use Rattle.lv_cert_meaning.specs.lv_base.Choices.{pairs_of}
+use Rattle.lv_cert_meaning.specs.lv_clauses.Literals.{same_truth}
+use Rattle.lv_cert_meaning.specs.lv_model.declared.plant.Plant.{Plant}
+use Rattle.lv_cert_meaning.specs.lv_model.declared.plant.ComponentType.{ComponentType}
+use Rattle.lv_cert_meaning.specs.lv_model.declared.plant.Part.{Part}
+use Rattle.lv_cert_meaning.specs.lv_model.declared.state.TrackedState.{TrackedState}
+use Rattle.lv_cert_meaning.specs.lv_model.Lists.{sizes, part_moves, controls}
+use Rattle.lv_cert_meaning.specs.lv_model.Meaning.{is_feasible, part_steps, part_is_nominal, parts_step, parts_are_nominal}
+use Rattle.lv_cert_meaning.specs.lv_meaning.Facts.{meets}
+use Rattle.lv_cert_meaning.specs.lv_meaning.Possible.{value, move_number}
+use Rattle.lv_cert_meaning.specs.lv_meaning.PossibleLaws.{are_below}
+use Rattle.lv_cert_meaning.specs.lv_meaning.Recovers.{has_modes, has_controls, meets_goals}
+use Rattle.lv_cert_meaning.specs.lv_meaning.RecoveryLaws.{NominalStep}
+use Rattle.lv_cert_meaning.specs.lv_cert.declared.line.Question.TheVariants.{Recovery}
 use Rattle.lv_cert_meaning.specs.Counting.{are_of, places_of, values_of}
 use Rattle.lv_cert_meaning.specs.Judging.{Aimed, Judged, steps_nominally, is_nominal_pair, is_aimed_step, is_as_aimed}
 use Rattle.lv_cert_laws.proofs.Options.{tested}

@@ -6,41 +6,41 @@ use Rattle.std.specs.List.{list_all, flat_map}
 use Rattle.std.specs.Cmp.Lexicographic.{pointwise}
 use Rattle.std.proofs.lemmas.Bool.{and_parts, and_from, false_from_ne_true}
 use Rattle.std.proofs.lemmas.List.Folds.{list_all-append}
-use Rattle.lv_base.specs.declared.ids.ValId.{ValId}
-use Rattle.lv_base.specs.declared.ids.VarId.{VarId}
-use Rattle.lv_base.specs.declared.search.Pair.{Pair}
-use Rattle.lv_text.specs.Lexemes.{Reading, reads, has_bad_byte, is_too_long, line_reading}
-use Rattle.lv_clauses.specs.Literals.{same_truth, lit_holds, clause_holds}
-use Rattle.lv_formula.specs.Tree.{Tree, truth_of}
-use Rattle.lv_formula.specs.Fits.{fits}
-use Rattle.lv_model.specs.declared.plant.Plant.{Plant}
-use Rattle.lv_model.specs.declared.state.State.{State}
-use Rattle.lv_model.specs.Counts.{has_count, law_sizes}
-use Rattle.lv_model.specs.Lists.{controls}
-use Rattle.lv_model.specs.Ranges.{plant_ranges}
-use Rattle.lv_model.specs.WellFormed.{is_well_formed}
-use Rattle.lv_formula_text.specs.PhraseTree.{PhraseTree}
-use Rattle.lv_formula_text.specs.Nesting.{is_too_deep}
-use Rattle.lv_formula_text.specs.Canonical.{canonical_text}
-use Rattle.lv_formula_text.specs.Resolving.{resolved}
-use Rattle.lv_formula_text.specs.declared.resolver.NameFault.{NameFault}
-use Rattle.lv_formula_text.proofs.FittingLemmas.{resolved_fits}
-use Rattle.lv_formula_text.specs.Descent.{phrase_of}
-use Rattle.lv_model_names.specs.Names.{plant_names}
-use Rattle.lv_model_names.proofs.ScopeLemmas.{scope_fits}
-use Rattle.lv_meaning.specs.Facts.{meets, commanded}
-use Rattle.lv_meaning.specs.Possible.{value, move_number}
-use Rattle.lv_meaning.proofs.Among.{Among}
-use Rattle.lv_compile.specs.Booleans.{booleans_next, bool_count}
-use Rattle.lv_compile.specs.FormulaClauses.{Clauses, formula_clauses}
-use Rattle.lv_compile.specs.ModelClauses.{model_clauses}
-use Rattle.lv_compile.proofs.CleaningLemmas.{cleaned_true}
-use Rattle.lv_compile.proofs.FormulaLemmas.{exact}
-use Rattle.lv_compile.proofs.RangeLemmas.{have_system}
-use Rattle.lv_system.specs.Encoding.{truth_in}
-use Rattle.lv_meaning.specs.Recovers.{meets_goals, reaches}
-use Rattle.lv_meaning.specs.RecoveryLaws.{NominalStep}
-use Rattle.lv_meaning.proofs.NominalSteps.{StepFound, step_found}
+use Rattle.lv_cert_meaning.specs.lv_base.declared.ids.ValId.{ValId}
+use Rattle.lv_cert_meaning.specs.lv_base.declared.ids.VarId.{VarId}
+use Rattle.lv_cert_meaning.specs.lv_base.declared.search.Pair.{Pair}
+use Rattle.lv_cert_meaning.specs.lv_text.Lexemes.{Reading, reads, has_bad_byte, is_too_long, line_reading}
+use Rattle.lv_cert_meaning.specs.lv_clauses.Literals.{same_truth, lit_holds, clause_holds}
+use Rattle.lv_cert_meaning.specs.lv_formula.Tree.{Tree, truth_of}
+use Rattle.lv_cert_meaning.specs.lv_formula.Fits.{fits}
+use Rattle.lv_cert_meaning.specs.lv_model.declared.plant.Plant.{Plant}
+use Rattle.lv_cert_meaning.specs.lv_model.declared.state.State.{State}
+use Rattle.lv_cert_meaning.specs.lv_model.Counts.{has_count, law_sizes}
+use Rattle.lv_cert_meaning.specs.lv_model.Lists.{controls}
+use Rattle.lv_cert_meaning.specs.lv_model.Ranges.{plant_ranges}
+use Rattle.lv_cert_meaning.specs.lv_model.WellFormed.{is_well_formed}
+use Rattle.lv_cert_meaning.specs.lv_formula_text.PhraseTree.{PhraseTree}
+use Rattle.lv_cert_meaning.specs.lv_formula_text.Nesting.{is_too_deep}
+use Rattle.lv_cert_meaning.specs.lv_formula_text.Canonical.{canonical_text}
+use Rattle.lv_cert_meaning.specs.lv_formula_text.Resolving.{resolved}
+use Rattle.lv_cert_meaning.specs.lv_formula_text.declared.resolver.NameFault.{NameFault}
+use Rattle.lv_cert_meaning.proofs.lv_formula_text.FittingLemmas.{resolved_fits}
+use Rattle.lv_cert_meaning.specs.lv_formula_text.Descent.{phrase_of}
+use Rattle.lv_cert_meaning.specs.lv_model_names.Names.{plant_names}
+use Rattle.lv_cert_meaning.proofs.lv_model_names.ScopeLemmas.{scope_fits}
+use Rattle.lv_cert_meaning.specs.lv_meaning.Facts.{meets, commanded}
+use Rattle.lv_cert_meaning.specs.lv_meaning.Possible.{value, move_number}
+use Rattle.lv_cert_meaning.proofs.lv_meaning.Among.{Among}
+use Rattle.lv_cert_meaning.specs.lv_compile.Booleans.{booleans_next, bool_count}
+use Rattle.lv_cert_meaning.specs.lv_compile.FormulaClauses.{Clauses, formula_clauses}
+use Rattle.lv_cert_meaning.specs.lv_compile.ModelClauses.{model_clauses}
+use Rattle.lv_cert_meaning.proofs.lv_compile.CleaningLemmas.{cleaned_true}
+use Rattle.lv_cert_meaning.proofs.lv_compile.FormulaLemmas.{exact}
+use Rattle.lv_cert_meaning.proofs.lv_compile.RangeLemmas.{have_system}
+use Rattle.lv_cert_meaning.specs.lv_system.Encoding.{truth_in}
+use Rattle.lv_cert_meaning.specs.lv_meaning.Recovers.{meets_goals, reaches}
+use Rattle.lv_cert_meaning.specs.lv_meaning.RecoveryLaws.{NominalStep}
+use Rattle.lv_cert_meaning.proofs.lv_meaning.NominalSteps.{StepFound, step_found}
 use Rattle.lv_cert_meaning.specs.Stated.{Stated, simple_goal, goal_as, goal_in, goal_of}
 use Rattle.lv_cert_meaning.specs.Units.{mode_literals, no_fault_literals, control_literal, goal_clauses, nominal_units}
 use Rattle.lv_cert_meaning.specs.Laws.{aim_of}

@@ -4,27 +4,27 @@ use Rattle.std.specs.Prelude.{map}
 use Rattle.std.specs.List.{list_all}
 use Rattle.std.proofs.lemmas.Bool.{and_parts, and_from, ltb-true, eqb-true, false_from_ne_true}
 use Rattle.std.proofs.lemmas.List.Folds.{list_all-append}
-use Rattle.lv_base.specs.declared.ids.Lit.{Lit}
-use Rattle.lv_base.specs.declared.ids.MoveId.{MoveId}
-use Rattle.lv_base.specs.declared.search.Pair.{Pair}
-use Rattle.lv_model.specs.declared.plant.Plant.{Plant}
-use Rattle.lv_model.specs.Lists.{sizes, move_counts, controls}
-use Rattle.lv_model.specs.WellFormed.{is_well_formed}
-use Rattle.lv_model.specs.Meaning.{is_step}
-use Rattle.lv_meaning.specs.Facts.{meets, commanded, meets_facts}
-use Rattle.lv_meaning.specs.Possible.{value, move_number, gives, extends, is_possible}
-use Rattle.lv_meaning.specs.PossibleLaws.{are_below, Witness}
-use Rattle.lv_meaning.proofs.Possibility.{witnessed}
-use Rattle.lv_clauses.specs.Literals.{lit_holds, clause_holds}
-use Rattle.lv_compile.specs.Booleans.{booleans_now, booleans_next, first_choice, bool_count}
-use Rattle.lv_compile.specs.ModelClauses.{model_clauses}
-use Rattle.lv_compile.specs.Laws.{literal_is_true, Encode, EncodeMoves}
-use Rattle.lv_compile.proofs.FormulaLemmas.{as_true}
-use Rattle.lv_compile.proofs.StepLemmas.{step_exact}
-use Rattle.lv_system.specs.Encoding.{truth_in, encoded}
-use Rattle.lv_system.specs.Laws.{IsAssignment, IsFullChoice}
-use Rattle.lv_system.proofs.EncodingLemmas.{length-encoded, encodes_now, encodes_next, encodes_moves}
-use Rattle.lv_system.proofs.RangeLemmas.{assignment_from, full_choice_from}
+use Rattle.lv_cert_meaning.specs.lv_base.declared.ids.Lit.{Lit}
+use Rattle.lv_cert_meaning.specs.lv_base.declared.ids.MoveId.{MoveId}
+use Rattle.lv_cert_meaning.specs.lv_base.declared.search.Pair.{Pair}
+use Rattle.lv_cert_meaning.specs.lv_model.declared.plant.Plant.{Plant}
+use Rattle.lv_cert_meaning.specs.lv_model.Lists.{sizes, move_counts, controls}
+use Rattle.lv_cert_meaning.specs.lv_model.WellFormed.{is_well_formed}
+use Rattle.lv_cert_meaning.specs.lv_model.Meaning.{is_step}
+use Rattle.lv_cert_meaning.specs.lv_meaning.Facts.{meets, commanded, meets_facts}
+use Rattle.lv_cert_meaning.specs.lv_meaning.Possible.{value, move_number, gives, extends, is_possible}
+use Rattle.lv_cert_meaning.specs.lv_meaning.PossibleLaws.{are_below, Witness}
+use Rattle.lv_cert_meaning.proofs.lv_meaning.Possibility.{witnessed}
+use Rattle.lv_cert_meaning.specs.lv_clauses.Literals.{lit_holds, clause_holds}
+use Rattle.lv_cert_meaning.specs.lv_compile.Booleans.{booleans_now, booleans_next, first_choice, bool_count}
+use Rattle.lv_cert_meaning.specs.lv_compile.ModelClauses.{model_clauses}
+use Rattle.lv_cert_meaning.specs.lv_compile.Laws.{literal_is_true, Encode, EncodeMoves}
+use Rattle.lv_cert_meaning.proofs.lv_compile.FormulaLemmas.{as_true}
+use Rattle.lv_cert_meaning.proofs.lv_compile.StepLemmas.{step_exact}
+use Rattle.lv_cert_meaning.specs.lv_system.Encoding.{truth_in, encoded}
+use Rattle.lv_cert_meaning.specs.lv_system.Laws.{IsAssignment, IsFullChoice}
+use Rattle.lv_cert_meaning.proofs.lv_system.EncodingLemmas.{length-encoded, encodes_now, encodes_next, encodes_moves}
+use Rattle.lv_cert_meaning.proofs.lv_system.RangeLemmas.{assignment_from, full_choice_from}
 use Rattle.lv_cert_meaning.specs.Stated.{Stated}
 use Rattle.lv_cert_meaning.specs.Units.{units, choice_literal}
 use Rattle.lv_cert_laws.proofs.Saying.{Says}

@@ -4,23 +4,23 @@ use Rattle.std.specs.List.{list_all}
 use Rattle.std.proofs.lemmas.Bool.{and_parts}
 use Rattle.std.proofs.lemmas.Option.{cond_some}
 use Rattle.std.proofs.lemmas.List.{length-map}
-use Rattle.lv_base.specs.declared.rank.Rank.{Rank}
-use Rattle.lv_base.specs.declared.search.Pair.{Pair}
-use Rattle.lv_base.specs.Choices.{contains_all, pairs_of}
-use Rattle.lv_model.specs.declared.plant.Plant.{Plant}
-use Rattle.lv_model.specs.declared.state.TrackedState.{TrackedState}
-use Rattle.lv_model.specs.Lists.{move_counts}
-use Rattle.lv_meaning.specs.Possible.{move_number, gives, is_possible}
-use Rattle.lv_meaning.specs.Candidates.{candidates, is_possible_rank}
-use Rattle.lv_meaning.specs.CandidateLaws.{are_moves, moves_cost, IsCandidate}
-use Rattle.lv_meaning.proofs.Among.{Among, among}
-use Rattle.lv_meaning.proofs.Listing.{same_rank, is_listed}
-use Rattle.lv_meaning.proofs.Possibility.{possible_less}
-use Rattle.lv_meaning.proofs.Reasons.{at_pairs, apart_by}
-use Rattle.lv_boxes.specs.RankedMembers.{ranked_members}
-use Rattle.lv_system.proofs.RangeLemmas.{full_choice_from}
-use Rattle.lv_search_zones.specs.Moves.{move_slots, zones_from}
-use Rattle.lv_search_zones.proofs.ZoneLemmas.{zones_have_candidates}
+use Rattle.lv_cert_meaning.specs.lv_base.declared.rank.Rank.{Rank}
+use Rattle.lv_cert_meaning.specs.lv_base.declared.search.Pair.{Pair}
+use Rattle.lv_cert_meaning.specs.lv_base.Choices.{contains_all, pairs_of}
+use Rattle.lv_cert_meaning.specs.lv_model.declared.plant.Plant.{Plant}
+use Rattle.lv_cert_meaning.specs.lv_model.declared.state.TrackedState.{TrackedState}
+use Rattle.lv_cert_meaning.specs.lv_model.Lists.{move_counts}
+use Rattle.lv_cert_meaning.specs.lv_meaning.Possible.{move_number, gives, is_possible}
+use Rattle.lv_cert_meaning.specs.lv_meaning.Candidates.{candidates, is_possible_rank}
+use Rattle.lv_cert_meaning.specs.lv_meaning.CandidateLaws.{are_moves, moves_cost, IsCandidate}
+use Rattle.lv_cert_meaning.proofs.lv_meaning.Among.{Among, among}
+use Rattle.lv_cert_meaning.proofs.lv_meaning.Listing.{same_rank, is_listed}
+use Rattle.lv_cert_meaning.proofs.lv_meaning.Possibility.{possible_less}
+use Rattle.lv_cert_meaning.proofs.lv_meaning.Reasons.{at_pairs, apart_by}
+use Rattle.lv_cert_meaning.specs.lv_boxes.RankedMembers.{ranked_members}
+use Rattle.lv_cert_meaning.proofs.lv_system.RangeLemmas.{full_choice_from}
+use Rattle.lv_cert_meaning.specs.lv_search_zones.Moves.{move_slots, zones_from}
+use Rattle.lv_cert_meaning.proofs.lv_search_zones.ZoneLemmas.{zones_have_candidates}
 use Rattle.lv_cert_meaning.specs.Counting.{places_of, at_number}
 use Rattle.lv_cert_meaning.specs.Stated.{Stated, rank_from, candidate_of_numbers}
 use Rattle.lv_cert_laws.proofs.Options.{anded, numbered_at}

@@ -4,27 +4,27 @@ use Rattle.std.specs.Prelude.{map}
 use Rattle.std.specs.Option.{option_map_or}
 use Rattle.std.proofs.lemmas.Option.{cond_some}
 use Rattle.std.proofs.lemmas.List.{length-append}
-use Rattle.lv_base.specs.declared.rank.Rank.{Rank}
-use Rattle.lv_base.specs.declared.search.Pair.{Pair}
-use Rattle.lv_model.specs.declared.plant.Plant.{Plant}
-use Rattle.lv_model.specs.Lists.{move_counts}
-use Rattle.lv_model.specs.WellFormed.{is_well_formed}
-use Rattle.lv_meaning.specs.Possible.{is_possible}
-use Rattle.lv_meaning.specs.Candidates.{is_possible_rank, first_possible}
-use Rattle.lv_meaning.specs.CandidateLaws.{IsCandidate, IsAnswer}
-use Rattle.lv_meaning.proofs.Among.{among, contained}
-use Rattle.lv_meaning.proofs.OneAnswer.{one_answer}
-use Rattle.lv_search_zones.specs.Moves.{move_slots}
-use Rattle.lv_cert.specs.declared.line.Question.TheVariants.{Diagnosis}
-use Rattle.lv_cert.specs.declared.line.Literal.{Literal}
-use Rattle.lv_cert.specs.declared.line.Evidence.{Evidence}
-use Rattle.lv_cert.specs.declared.line.Line.{Line}
-use Rattle.lv_cert.specs.declared.order.Witness.{Witness}
-use Rattle.lv_cert.specs.declared.order.Place.TheVariants as place
-use Rattle.lv_cert.specs.Order.{place_behind}
-use Rattle.lv_cert_blocks.specs.Following.{literal_of, follows}
-use Rattle.lv_compile.specs.Booleans.{bool_count}
-use Rattle.lv_compile.specs.ModelClauses.{model_clauses}
+use Rattle.lv_cert_meaning.specs.lv_base.declared.rank.Rank.{Rank}
+use Rattle.lv_cert_meaning.specs.lv_base.declared.search.Pair.{Pair}
+use Rattle.lv_cert_meaning.specs.lv_model.declared.plant.Plant.{Plant}
+use Rattle.lv_cert_meaning.specs.lv_model.Lists.{move_counts}
+use Rattle.lv_cert_meaning.specs.lv_model.WellFormed.{is_well_formed}
+use Rattle.lv_cert_meaning.specs.lv_meaning.Possible.{is_possible}
+use Rattle.lv_cert_meaning.specs.lv_meaning.Candidates.{is_possible_rank, first_possible}
+use Rattle.lv_cert_meaning.specs.lv_meaning.CandidateLaws.{IsCandidate, IsAnswer}
+use Rattle.lv_cert_meaning.proofs.lv_meaning.Among.{among, contained}
+use Rattle.lv_cert_meaning.proofs.lv_meaning.OneAnswer.{one_answer}
+use Rattle.lv_cert_meaning.specs.lv_search_zones.Moves.{move_slots}
+use Rattle.lv_cert_meaning.specs.lv_cert.declared.line.Question.TheVariants.{Diagnosis}
+use Rattle.lv_cert_meaning.specs.lv_cert.declared.line.Literal.{Literal}
+use Rattle.lv_cert_meaning.specs.lv_cert.declared.line.Evidence.{Evidence}
+use Rattle.lv_cert_meaning.specs.lv_cert.declared.line.Line.{Line}
+use Rattle.lv_cert_meaning.specs.lv_cert.declared.order.Witness.{Witness}
+use Rattle.lv_cert_meaning.specs.lv_cert.declared.order.Place.TheVariants as place
+use Rattle.lv_cert_meaning.specs.lv_cert.Order.{place_behind}
+use Rattle.lv_cert_meaning.specs.lv_cert_blocks.Following.{literal_of, follows}
+use Rattle.lv_cert_meaning.specs.lv_compile.Booleans.{bool_count}
+use Rattle.lv_cert_meaning.specs.lv_compile.ModelClauses.{model_clauses}
 use Rattle.lv_cert_meaning.specs.Counting.{pairs_of_numbers, values_of, are_of}
 use Rattle.lv_cert_meaning.specs.Stated.{Stated, candidate_of_numbers}
 use Rattle.lv_cert_meaning.specs.Space.{all_passed}

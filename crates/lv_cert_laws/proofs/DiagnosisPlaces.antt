@@ -3,20 +3,20 @@ use Rattle.std.proofs.Common.{◌≡◌, ℕ, ◌+◌, ◌<◌, true, nat_lt, Li
 use Rattle.std.specs.Prelude.{map}
 use Rattle.std.proofs.lemmas.Bool.{ltb-true}
 use Rattle.std.proofs.lemmas.Option.{cond_some}
-use Rattle.lv_model.specs.declared.plant.Plant.{Plant}
-use Rattle.lv_model.specs.WellFormed.{is_well_formed}
-use Rattle.lv_meaning.proofs.Among.{Among}
-use Rattle.lv_search_walk.specs.Ranked.{rises}
-use Rattle.lv_search_zones.specs.Moves.{move_slots, zones_from}
-use Rattle.lv_cert.specs.declared.line.Question.TheVariants.{Diagnosis}
-use Rattle.lv_cert.specs.declared.line.Head.TheVariants as head
-use Rattle.lv_cert.specs.declared.line.Line.{Line}
-use Rattle.lv_cert.specs.declared.line.Line.TheVariants as line
-use Rattle.lv_cert.specs.declared.order.Listing.{Listing}
-use Rattle.lv_cert.specs.declared.order.Witness.TheVariants as witness
-use Rattle.lv_cert.specs.declared.order.Place.{Place}
-use Rattle.lv_cert.specs.declared.order.Place.TheVariants as place
-use Rattle.lv_cert.specs.Order.{has_pairs, splits, after_splits, after_blocks, after_first_clause, after_clauses, after_listing, after_now, after_next, place_behind}
+use Rattle.lv_cert_meaning.specs.lv_model.declared.plant.Plant.{Plant}
+use Rattle.lv_cert_meaning.specs.lv_model.WellFormed.{is_well_formed}
+use Rattle.lv_cert_meaning.proofs.lv_meaning.Among.{Among}
+use Rattle.lv_cert_meaning.specs.lv_search_walk.Ranked.{rises}
+use Rattle.lv_cert_meaning.specs.lv_search_zones.Moves.{move_slots, zones_from}
+use Rattle.lv_cert_meaning.specs.lv_cert.declared.line.Question.TheVariants.{Diagnosis}
+use Rattle.lv_cert_meaning.specs.lv_cert.declared.line.Head.TheVariants as head
+use Rattle.lv_cert_meaning.specs.lv_cert.declared.line.Line.{Line}
+use Rattle.lv_cert_meaning.specs.lv_cert.declared.line.Line.TheVariants as line
+use Rattle.lv_cert_meaning.specs.lv_cert.declared.order.Listing.{Listing}
+use Rattle.lv_cert_meaning.specs.lv_cert.declared.order.Witness.TheVariants as witness
+use Rattle.lv_cert_meaning.specs.lv_cert.declared.order.Place.{Place}
+use Rattle.lv_cert_meaning.specs.lv_cert.declared.order.Place.TheVariants as place
+use Rattle.lv_cert_meaning.specs.lv_cert.Order.{has_pairs, splits, after_splits, after_blocks, after_first_clause, after_clauses, after_listing, after_now, after_next, place_behind}
 use Rattle.lv_cert_meaning.specs.Stated.{Stated}
 use Rattle.lv_cert_meaning.specs.Space.{Space}
 use Rattle.lv_cert_meaning.specs.Judging.{Judged, judge_line, judge_lines, comes_to}

@@ -7,23 +7,23 @@ use Rattle.std.proofs.lemmas.Bool.{and_parts, and_from, or_cases, or_left, or_ri
 use Rattle.std.proofs.lemmas.Bool.Decides.{nat_tests}
 use Rattle.std.proofs.lemmas.List.{set_past}
 use Rattle.std.proofs.lemmas.List.Folds.{list_any-append}
-use Rattle.lv_base.specs.declared.ids.Cost.{Cost}
-use Rattle.lv_base.specs.declared.rank.Rank.{Rank}
-use Rattle.lv_base.specs.declared.search.Pair.{Pair}
-use Rattle.lv_base.specs.Choices.{picks, contains_all, pairs_from, pairs_of}
-use Rattle.lv_base.specs.Rank.{rank_key, ranks_before}
-use Rattle.lv_base.proofs.OrderLemmas.{transitive}
-use Rattle.lv_boxes.specs.Members.{ZoneValue, is_member, choices_cost, rank_in}
-use Rattle.lv_boxes.specs.Least.{cheapest_choices, lacks_choice}
-use Rattle.lv_boxes.specs.Parts.{masks_with, masks_without, parts_of}
-use Rattle.lv_boxes.proofs.PartsLemmas.{is_member-with, is_member-without}
-use Rattle.lv_boxes.proofs.LeastLemmas.{sum_none, written_is_least}
-use Rattle.lv_search_walk.specs.Walk.{candidate_of}
-use Rattle.lv_search_walk.specs.Ranked.{is_rank, is_among}
-use Rattle.lv_search_walk.proofs.RankedLemmas.{is_itself, neither_is_same}
-use Rattle.lv_meaning.proofs.Among.{Among}
-use Rattle.lv_boxes.specs.RankedMembers.{ranked_members, ranks_in}
-use Rattle.lv_boxes.proofs.RankedMemberLemmas.{lacking_has_none, rank_of_member, among_ranked_members_any}
+use Rattle.lv_cert_meaning.specs.lv_base.declared.ids.Cost.{Cost}
+use Rattle.lv_cert_meaning.specs.lv_base.declared.rank.Rank.{Rank}
+use Rattle.lv_cert_meaning.specs.lv_base.declared.search.Pair.{Pair}
+use Rattle.lv_cert_meaning.specs.lv_base.Choices.{picks, contains_all, pairs_from, pairs_of}
+use Rattle.lv_cert_meaning.specs.lv_base.Rank.{rank_key, ranks_before}
+use Rattle.lv_cert_meaning.proofs.lv_base.OrderLemmas.{transitive}
+use Rattle.lv_cert_meaning.specs.lv_boxes.Members.{ZoneValue, is_member, choices_cost, rank_in}
+use Rattle.lv_cert_meaning.specs.lv_boxes.Least.{cheapest_choices, lacks_choice}
+use Rattle.lv_cert_meaning.specs.lv_boxes.Parts.{masks_with, masks_without, parts_of}
+use Rattle.lv_cert_meaning.proofs.lv_boxes.PartsLemmas.{is_member-with, is_member-without}
+use Rattle.lv_cert_meaning.proofs.lv_boxes.LeastLemmas.{sum_none, written_is_least}
+use Rattle.lv_cert_meaning.specs.lv_search_walk.Walk.{candidate_of}
+use Rattle.lv_cert_meaning.specs.lv_search_walk.Ranked.{is_rank, is_among}
+use Rattle.lv_cert_meaning.proofs.lv_search_walk.RankedLemmas.{is_itself, neither_is_same}
+use Rattle.lv_cert_meaning.proofs.lv_meaning.Among.{Among}
+use Rattle.lv_cert_meaning.specs.lv_boxes.RankedMembers.{ranked_members, ranks_in}
+use Rattle.lv_cert_meaning.proofs.lv_boxes.RankedMemberLemmas.{lacking_has_none, rank_of_member, among_ranked_members_any}
 use Rattle.lv_cert_meaning.specs.Space.{Space, same_zone, open_zone, with_split, is_behind, is_passed, all_passed}
 
 -- behind one more choice the choices stand one slot later

@@ -8,26 +8,26 @@ use Rattle.std.proofs.lemmas.Option.{get_or_from_slice_get, slice_get_within}
 use Rattle.std.proofs.lemmas.List.{length-map, get_or-map}
 use Rattle.std.proofs.lemmas.List.Elements.{All-tail}
 use Rattle.std.proofs.lemmas.List.Folds.{list_all-append}
-use Rattle.lv_base.specs.declared.ids.MoveId.{MoveId}
-use Rattle.lv_base.specs.declared.ids.ValId.{ValId}
-use Rattle.lv_base.specs.declared.ids.VarId.{VarId}
-use Rattle.lv_base.specs.declared.search.Pair.{Pair}
-use Rattle.lv_formula.specs.Tree.{number_of}
-use Rattle.lv_model.specs.declared.plant.Plant.{Plant}
-use Rattle.lv_model.specs.declared.plant.ComponentType.{ComponentType}
-use Rattle.lv_model.specs.declared.plant.Move.{Move}
-use Rattle.lv_model.specs.declared.plant.Part.{Part}
-use Rattle.lv_model.specs.Lists.{sizes, variable_count, part_moves, move_counts, controls, IsVariable}
-use Rattle.lv_model.specs.Meaning.{is_no_fault, part_is_nominal, parts_are_nominal, is_nominal}
-use Rattle.lv_model.specs.WellFormed.{is_well_formed, PartReads}
-use Rattle.lv_model.proofs.Controls.{controls-in_range}
-use Rattle.lv_model.proofs.Reading.{All-at, parts-of_well_formed}
-use Rattle.lv_model.proofs.Sizes.{length-sizes}
-use Rattle.lv_meaning.specs.Candidates.{type_moves}
-use Rattle.lv_compile.specs.Booleans.{value_literal, booleans_now, first_choice, choice_bool, literal}
-use Rattle.lv_compile.specs.Laws.{literal_is_true, Encode, EncodeMoves}
-use Rattle.lv_compile.proofs.FormulaLemmas.{as_true, as_false}
-use Rattle.lv_meaning.specs.Recovers.{has_modes, has_control, has_controls}
+use Rattle.lv_cert_meaning.specs.lv_base.declared.ids.MoveId.{MoveId}
+use Rattle.lv_cert_meaning.specs.lv_base.declared.ids.ValId.{ValId}
+use Rattle.lv_cert_meaning.specs.lv_base.declared.ids.VarId.{VarId}
+use Rattle.lv_cert_meaning.specs.lv_base.declared.search.Pair.{Pair}
+use Rattle.lv_cert_meaning.specs.lv_formula.Tree.{number_of}
+use Rattle.lv_cert_meaning.specs.lv_model.declared.plant.Plant.{Plant}
+use Rattle.lv_cert_meaning.specs.lv_model.declared.plant.ComponentType.{ComponentType}
+use Rattle.lv_cert_meaning.specs.lv_model.declared.plant.Move.{Move}
+use Rattle.lv_cert_meaning.specs.lv_model.declared.plant.Part.{Part}
+use Rattle.lv_cert_meaning.specs.lv_model.Lists.{sizes, variable_count, part_moves, move_counts, controls, IsVariable}
+use Rattle.lv_cert_meaning.specs.lv_model.Meaning.{is_no_fault, part_is_nominal, parts_are_nominal, is_nominal}
+use Rattle.lv_cert_meaning.specs.lv_model.WellFormed.{is_well_formed, PartReads}
+use Rattle.lv_cert_meaning.proofs.lv_model.Controls.{controls-in_range}
+use Rattle.lv_cert_meaning.proofs.lv_model.Reading.{All-at, parts-of_well_formed}
+use Rattle.lv_cert_meaning.proofs.lv_model.Sizes.{length-sizes}
+use Rattle.lv_cert_meaning.specs.lv_meaning.Candidates.{type_moves}
+use Rattle.lv_cert_meaning.specs.lv_compile.Booleans.{value_literal, booleans_now, first_choice, choice_bool, literal}
+use Rattle.lv_cert_meaning.specs.lv_compile.Laws.{literal_is_true, Encode, EncodeMoves}
+use Rattle.lv_cert_meaning.proofs.lv_compile.FormulaLemmas.{as_true, as_false}
+use Rattle.lv_cert_meaning.specs.lv_meaning.Recovers.{has_modes, has_control, has_controls}
 use Rattle.lv_cert_meaning.specs.Units.{mode_literals, no_fault_of, no_fault_literals, control_literal}
 use Rattle.lv_cert_laws.proofs.Options.{tested}
 

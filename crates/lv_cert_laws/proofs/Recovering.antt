@@ -3,29 +3,29 @@ use Rattle.std.proofs.Common.{◌≡◌, ℕ, suc, ◌<◌, ◌≤◌, true, fal
 use Rattle.std.specs.List.{list_all}
 use Rattle.std.specs.Cmp.Lexicographic.{pointwise}
 use Rattle.std.proofs.lemmas.Bool.{and_parts}
-use Rattle.lv_base.specs.declared.rank.Rank.{Rank}
-use Rattle.lv_base.specs.declared.search.Pair.{Pair}
-use Rattle.lv_base.specs.Choices.{contains_all, pairs_of}
-use Rattle.lv_base.specs.Rank.{ranks_before}
-use Rattle.lv_model.specs.declared.plant.Plant.{Plant}
-use Rattle.lv_model.specs.declared.state.TrackedState.{TrackedState}
-use Rattle.lv_model.specs.Lists.{controls}
-use Rattle.lv_model.specs.WellFormed.{is_well_formed}
-use Rattle.lv_search_walk.specs.Ranked.{rises}
-use Rattle.lv_search_walk.proofs.RankedLemmas.{not_before_itself, not_both_before}
-use Rattle.lv_meaning.proofs.Among.{Among, all_among}
-use Rattle.lv_meaning.proofs.Answering.{among_passing, among_filtered, all_pass, rise_filtered}
-use Rattle.lv_meaning.proofs.Listing.{same_rank}
-use Rattle.lv_meaning.proofs.Reasons.{at_pairs, apart_by}
-use Rattle.lv_boxes.specs.RankedMembers.{ranked_members}
-use Rattle.lv_meaning.specs.Recovers.{has_control, meets_goals, reaches, can_miss, is_sure_from}
-use Rattle.lv_meaning.specs.Commands.{control_sizes, is_command_set, commands_cost, command_sets}
-use Rattle.lv_meaning.specs.Recovery.{rank_recovers}
-use Rattle.lv_meaning.specs.RecoveryLaws.{IsCommandSet}
-use Rattle.lv_meaning.proofs.NominalSteps.{some_step_less}
-use Rattle.lv_meaning.proofs.CommandSets.{sets_rise, set_among, among_is_set}
-use Rattle.lv_search_zones.specs.Commands.{control_slots, command_zone}
-use Rattle.lv_search_zones.proofs.CommandLemmas.{zone_has_sets}
+use Rattle.lv_cert_meaning.specs.lv_base.declared.rank.Rank.{Rank}
+use Rattle.lv_cert_meaning.specs.lv_base.declared.search.Pair.{Pair}
+use Rattle.lv_cert_meaning.specs.lv_base.Choices.{contains_all, pairs_of}
+use Rattle.lv_cert_meaning.specs.lv_base.Rank.{ranks_before}
+use Rattle.lv_cert_meaning.specs.lv_model.declared.plant.Plant.{Plant}
+use Rattle.lv_cert_meaning.specs.lv_model.declared.state.TrackedState.{TrackedState}
+use Rattle.lv_cert_meaning.specs.lv_model.Lists.{controls}
+use Rattle.lv_cert_meaning.specs.lv_model.WellFormed.{is_well_formed}
+use Rattle.lv_cert_meaning.specs.lv_search_walk.Ranked.{rises}
+use Rattle.lv_cert_meaning.proofs.lv_search_walk.RankedLemmas.{not_before_itself, not_both_before}
+use Rattle.lv_cert_meaning.proofs.lv_meaning.Among.{Among, all_among}
+use Rattle.lv_cert_meaning.proofs.lv_meaning.Answering.{among_passing, among_filtered, all_pass, rise_filtered}
+use Rattle.lv_cert_meaning.proofs.lv_meaning.Listing.{same_rank}
+use Rattle.lv_cert_meaning.proofs.lv_meaning.Reasons.{at_pairs, apart_by}
+use Rattle.lv_cert_meaning.specs.lv_boxes.RankedMembers.{ranked_members}
+use Rattle.lv_cert_meaning.specs.lv_meaning.Recovers.{has_control, meets_goals, reaches, can_miss, is_sure_from}
+use Rattle.lv_cert_meaning.specs.lv_meaning.Commands.{control_sizes, is_command_set, commands_cost, command_sets}
+use Rattle.lv_cert_meaning.specs.lv_meaning.Recovery.{rank_recovers}
+use Rattle.lv_cert_meaning.specs.lv_meaning.RecoveryLaws.{IsCommandSet}
+use Rattle.lv_cert_meaning.proofs.lv_meaning.NominalSteps.{some_step_less}
+use Rattle.lv_cert_meaning.proofs.lv_meaning.CommandSets.{sets_rise, set_among, among_is_set}
+use Rattle.lv_cert_meaning.specs.lv_search_zones.Commands.{control_slots, command_zone}
+use Rattle.lv_cert_meaning.proofs.lv_search_zones.CommandLemmas.{zone_has_sets}
 use Rattle.lv_cert_meaning.specs.Stated.{Stated}
 use Rattle.lv_cert_meaning.specs.Laws.{aim_of}
 use Rattle.lv_cert_laws.proofs.Exclusion.{same_choices}

@@ -3,30 +3,30 @@ use Rattle.std.proofs.Common.{◌≡◌, ℕ, ◌-◌, ◌≤◌, true, false, n
 use Rattle.std.specs.Prelude.{map, take, filter}
 use Rattle.std.proofs.lemmas.Bool.{and_parts}
 use Rattle.std.proofs.lemmas.Option.{cond_some}
-use Rattle.lv_base.specs.declared.rank.Rank.{Rank}
-use Rattle.lv_base.specs.declared.search.Pair.{Pair}
-use Rattle.lv_base.specs.Choices.{contains_all, pairs_of}
-use Rattle.lv_model.specs.declared.plant.Plant.{Plant}
-use Rattle.lv_model.specs.declared.state.TrackedState.{TrackedState}
-use Rattle.lv_model.specs.Lists.{sizes}
-use Rattle.lv_model.specs.WellFormed.{is_well_formed}
-use Rattle.lv_search_walk.specs.Ranked.{rises}
-use Rattle.lv_meaning.proofs.Among.{Among}
-use Rattle.lv_compile.specs.Booleans.{bool_count}
-use Rattle.lv_compile.specs.ModelClauses.{model_clauses}
-use Rattle.lv_meaning.specs.Recovers.{meets_goals, reaches, can_miss, recovers}
-use Rattle.lv_meaning.specs.Commands.{control_sizes, is_command_set, command_rank, command_sets}
-use Rattle.lv_meaning.specs.Recovery.{rank_recovers}
-use Rattle.lv_meaning.proofs.NominalSteps.{found_step}
-use Rattle.lv_search_zones.specs.Commands.{control_slots, command_zone}
-use Rattle.lv_cert_blocks.specs.Following.{literal_of, follows}
-use Rattle.lv_cert.specs.declared.line.Question.TheVariants.{Recovery}
-use Rattle.lv_cert.specs.declared.line.Literal.{Literal}
-use Rattle.lv_cert.specs.declared.line.Evidence.{Evidence}
-use Rattle.lv_cert.specs.declared.line.Line.{Line}
-use Rattle.lv_cert.specs.declared.order.Witness.TheVariants as witness
-use Rattle.lv_cert.specs.declared.order.Place.TheVariants as place
-use Rattle.lv_cert.specs.Order.{place_behind}
+use Rattle.lv_cert_meaning.specs.lv_base.declared.rank.Rank.{Rank}
+use Rattle.lv_cert_meaning.specs.lv_base.declared.search.Pair.{Pair}
+use Rattle.lv_cert_meaning.specs.lv_base.Choices.{contains_all, pairs_of}
+use Rattle.lv_cert_meaning.specs.lv_model.declared.plant.Plant.{Plant}
+use Rattle.lv_cert_meaning.specs.lv_model.declared.state.TrackedState.{TrackedState}
+use Rattle.lv_cert_meaning.specs.lv_model.Lists.{sizes}
+use Rattle.lv_cert_meaning.specs.lv_model.WellFormed.{is_well_formed}
+use Rattle.lv_cert_meaning.specs.lv_search_walk.Ranked.{rises}
+use Rattle.lv_cert_meaning.proofs.lv_meaning.Among.{Among}
+use Rattle.lv_cert_meaning.specs.lv_compile.Booleans.{bool_count}
+use Rattle.lv_cert_meaning.specs.lv_compile.ModelClauses.{model_clauses}
+use Rattle.lv_cert_meaning.specs.lv_meaning.Recovers.{meets_goals, reaches, can_miss, recovers}
+use Rattle.lv_cert_meaning.specs.lv_meaning.Commands.{control_sizes, is_command_set, command_rank, command_sets}
+use Rattle.lv_cert_meaning.specs.lv_meaning.Recovery.{rank_recovers}
+use Rattle.lv_cert_meaning.proofs.lv_meaning.NominalSteps.{found_step}
+use Rattle.lv_cert_meaning.specs.lv_search_zones.Commands.{control_slots, command_zone}
+use Rattle.lv_cert_meaning.specs.lv_cert_blocks.Following.{literal_of, follows}
+use Rattle.lv_cert_meaning.specs.lv_cert.declared.line.Question.TheVariants.{Recovery}
+use Rattle.lv_cert_meaning.specs.lv_cert.declared.line.Literal.{Literal}
+use Rattle.lv_cert_meaning.specs.lv_cert.declared.line.Evidence.{Evidence}
+use Rattle.lv_cert_meaning.specs.lv_cert.declared.line.Line.{Line}
+use Rattle.lv_cert_meaning.specs.lv_cert.declared.order.Witness.TheVariants as witness
+use Rattle.lv_cert_meaning.specs.lv_cert.declared.order.Place.TheVariants as place
+use Rattle.lv_cert_meaning.specs.lv_cert.Order.{place_behind}
 use Rattle.lv_cert_meaning.specs.Counting.{is_one_of, are_of, places_of, values_of, at_number, pairs_of_numbers}
 use Rattle.lv_cert_meaning.specs.Stated.{Stated}
 use Rattle.lv_cert_meaning.specs.Space.{Space, all_passed}

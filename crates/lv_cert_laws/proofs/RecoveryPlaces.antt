@@ -3,19 +3,19 @@ use Rattle.std.proofs.Common.{◌≡◌, ℕ, ◌+◌, ◌≤◌, Bool, true, fa
 use Rattle.std.specs.Option.{option_map_or}
 use Rattle.std.specs.Cmp.Lexicographic.{pointwise}
 use Rattle.std.proofs.lemmas.Option.{cond_some}
-use Rattle.lv_model.specs.declared.plant.Plant.{Plant}
-use Rattle.lv_model.specs.Lists.{sizes}
-use Rattle.lv_model.specs.WellFormed.{is_well_formed}
-use Rattle.lv_cert.specs.declared.line.Question.TheVariants.{Recovery}
-use Rattle.lv_cert.specs.declared.line.Head.TheVariants as head
-use Rattle.lv_cert.specs.declared.line.Line.{Line}
-use Rattle.lv_cert.specs.declared.line.Line.TheVariants as line
-use Rattle.lv_cert.specs.declared.order.Stage.{Stage}
-use Rattle.lv_cert.specs.declared.order.Witness.{Witness}
-use Rattle.lv_cert.specs.declared.order.Witness.TheVariants as witness
-use Rattle.lv_cert.specs.declared.order.Place.{Place}
-use Rattle.lv_cert.specs.declared.order.Place.TheVariants as place
-use Rattle.lv_cert.specs.Order.{has_pairs, splits, after_splits, after_blocks, after_first_clause, after_clauses, after_good, after_proof, after_refuted, after_stage, after_refuting, after_now, after_next, place_behind}
+use Rattle.lv_cert_meaning.specs.lv_model.declared.plant.Plant.{Plant}
+use Rattle.lv_cert_meaning.specs.lv_model.Lists.{sizes}
+use Rattle.lv_cert_meaning.specs.lv_model.WellFormed.{is_well_formed}
+use Rattle.lv_cert_meaning.specs.lv_cert.declared.line.Question.TheVariants.{Recovery}
+use Rattle.lv_cert_meaning.specs.lv_cert.declared.line.Head.TheVariants as head
+use Rattle.lv_cert_meaning.specs.lv_cert.declared.line.Line.{Line}
+use Rattle.lv_cert_meaning.specs.lv_cert.declared.line.Line.TheVariants as line
+use Rattle.lv_cert_meaning.specs.lv_cert.declared.order.Stage.{Stage}
+use Rattle.lv_cert_meaning.specs.lv_cert.declared.order.Witness.{Witness}
+use Rattle.lv_cert_meaning.specs.lv_cert.declared.order.Witness.TheVariants as witness
+use Rattle.lv_cert_meaning.specs.lv_cert.declared.order.Place.{Place}
+use Rattle.lv_cert_meaning.specs.lv_cert.declared.order.Place.TheVariants as place
+use Rattle.lv_cert_meaning.specs.lv_cert.Order.{has_pairs, splits, after_splits, after_blocks, after_first_clause, after_clauses, after_good, after_proof, after_refuted, after_stage, after_refuting, after_now, after_next, place_behind}
 use Rattle.lv_cert_meaning.specs.Counting.{are_of}
 use Rattle.lv_cert_meaning.specs.Judging.{Judged, judge_line, judge_next, judge_lines, comes_to}
 use Rattle.lv_cert_laws.proofs.Blocked.{IsKnown}

@@ -5,30 +5,30 @@ use Rattle.std.specs.Option.{option_map_or, option_and_then}
 use Rattle.std.specs.Cmp.Lexicographic.{pointwise}
 use Rattle.std.proofs.lemmas.Bool.{and_parts, eqb-true}
 use Rattle.std.proofs.lemmas.Option.{cond_some}
-use Rattle.lv_base.specs.declared.ids.ValId.{ValId}
-use Rattle.lv_base.specs.declared.rank.Rank.{Rank}
-use Rattle.lv_base.specs.Choices.{pairs_of}
-use Rattle.lv_formula.specs.Tree.{Tree}
-use Rattle.lv_model.specs.declared.plant.Plant.{Plant}
-use Rattle.lv_model.specs.declared.state.TrackedState.{TrackedState}
-use Rattle.lv_model.specs.Lists.{sizes}
-use Rattle.lv_model.specs.WellFormed.{is_well_formed}
-use Rattle.lv_meaning.specs.Recovers.{meets_goals, reaches}
-use Rattle.lv_meaning.specs.Commands.{is_command_set, command_rank}
-use Rattle.lv_meaning.proofs.NominalSteps.{found_step}
-use Rattle.lv_search_zones.specs.Commands.{control_slots, command_zone}
-use Rattle.lv_compile.specs.Booleans.{bool_count}
-use Rattle.lv_compile.specs.FormulaClauses.{Clauses}
-use Rattle.lv_compile.specs.ModelClauses.{model_clauses}
-use Rattle.lv_cert_blocks.specs.Following.{literal_of, follows}
-use Rattle.lv_cert.specs.declared.line.Question.TheVariants.{Recovery}
-use Rattle.lv_cert.specs.declared.line.Literal.{Literal}
-use Rattle.lv_cert.specs.declared.line.Line.{Line}
-use Rattle.lv_cert.specs.declared.order.Stage.{Stage}
-use Rattle.lv_cert.specs.declared.order.Task.{Task}
-use Rattle.lv_cert.specs.declared.order.Witness.TheVariants as witness
-use Rattle.lv_cert.specs.declared.order.Place.TheVariants as place
-use Rattle.lv_cert.specs.Order.{place_behind}
+use Rattle.lv_cert_meaning.specs.lv_base.declared.ids.ValId.{ValId}
+use Rattle.lv_cert_meaning.specs.lv_base.declared.rank.Rank.{Rank}
+use Rattle.lv_cert_meaning.specs.lv_base.Choices.{pairs_of}
+use Rattle.lv_cert_meaning.specs.lv_formula.Tree.{Tree}
+use Rattle.lv_cert_meaning.specs.lv_model.declared.plant.Plant.{Plant}
+use Rattle.lv_cert_meaning.specs.lv_model.declared.state.TrackedState.{TrackedState}
+use Rattle.lv_cert_meaning.specs.lv_model.Lists.{sizes}
+use Rattle.lv_cert_meaning.specs.lv_model.WellFormed.{is_well_formed}
+use Rattle.lv_cert_meaning.specs.lv_meaning.Recovers.{meets_goals, reaches}
+use Rattle.lv_cert_meaning.specs.lv_meaning.Commands.{is_command_set, command_rank}
+use Rattle.lv_cert_meaning.proofs.lv_meaning.NominalSteps.{found_step}
+use Rattle.lv_cert_meaning.specs.lv_search_zones.Commands.{control_slots, command_zone}
+use Rattle.lv_cert_meaning.specs.lv_compile.Booleans.{bool_count}
+use Rattle.lv_cert_meaning.specs.lv_compile.FormulaClauses.{Clauses}
+use Rattle.lv_cert_meaning.specs.lv_compile.ModelClauses.{model_clauses}
+use Rattle.lv_cert_meaning.specs.lv_cert_blocks.Following.{literal_of, follows}
+use Rattle.lv_cert_meaning.specs.lv_cert.declared.line.Question.TheVariants.{Recovery}
+use Rattle.lv_cert_meaning.specs.lv_cert.declared.line.Literal.{Literal}
+use Rattle.lv_cert_meaning.specs.lv_cert.declared.line.Line.{Line}
+use Rattle.lv_cert_meaning.specs.lv_cert.declared.order.Stage.{Stage}
+use Rattle.lv_cert_meaning.specs.lv_cert.declared.order.Task.{Task}
+use Rattle.lv_cert_meaning.specs.lv_cert.declared.order.Witness.TheVariants as witness
+use Rattle.lv_cert_meaning.specs.lv_cert.declared.order.Place.TheVariants as place
+use Rattle.lv_cert_meaning.specs.lv_cert.Order.{place_behind}
 use Rattle.lv_cert_meaning.specs.Counting.{is_one_of, are_of, values_of, at_number}
 use Rattle.lv_cert_meaning.specs.Space.{Space}
 use Rattle.lv_cert_meaning.specs.Judging.{Aimed, Judged, answer_values, judge_now, judge_good, judge_proof, with_proof, clauses_of_miss, judge_clause, judge_lines, comes_to, ends_empty}

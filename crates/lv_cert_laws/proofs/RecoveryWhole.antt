@@ -3,25 +3,25 @@ use Rattle.std.proofs.Common.{◌≡◌, ℕ, ◌+◌, true, nat_eq, nat_lt, Lis
 use Rattle.std.specs.Cmp.Lexicographic.{pointwise}
 use Rattle.std.proofs.lemmas.Option.{cond_some}
 use Rattle.std.proofs.lemmas.List.{length-append}
-use Rattle.lv_base.specs.declared.limits.TheConstants.{TRACKED}
-use Rattle.lv_formula.specs.Tree.{Tree}
-use Rattle.lv_formula.specs.Fits.{fits}
-use Rattle.lv_model.specs.declared.plant.Plant.{Plant}
-use Rattle.lv_model.specs.declared.state.TrackedState.{TrackedState}
-use Rattle.lv_model.specs.Ranges.{plant_ranges}
-use Rattle.lv_model.specs.WellFormed.{is_well_formed}
-use Rattle.lv_meaning.specs.declared.facts.Observation.{Observation}
-use Rattle.lv_meaning.proofs.Among.{among_either}
-use Rattle.lv_meaning.specs.Commands.{control_sizes, command_rank}
-use Rattle.lv_cert.specs.declared.line.Question.TheVariants.{Diagnosis, Recovery}
-use Rattle.lv_cert.specs.declared.line.Moment.TheVariants.{Now}
-use Rattle.lv_cert.specs.declared.line.Head.TheVariants as head
-use Rattle.lv_cert.specs.declared.line.Line.{Line}
-use Rattle.lv_cert.specs.declared.line.Line.TheVariants as line
-use Rattle.lv_cert.specs.declared.order.Task.{Task}
-use Rattle.lv_cert.specs.declared.order.Place.{Place}
-use Rattle.lv_cert.specs.declared.order.Place.TheVariants as place
-use Rattle.lv_cert.specs.Order.{after_named, after_known, after_known_facts, after_goals, place_after, place_behind}
+use Rattle.lv_cert_meaning.specs.lv_base.declared.limits.TheConstants.{TRACKED}
+use Rattle.lv_cert_meaning.specs.lv_formula.Tree.{Tree}
+use Rattle.lv_cert_meaning.specs.lv_formula.Fits.{fits}
+use Rattle.lv_cert_meaning.specs.lv_model.declared.plant.Plant.{Plant}
+use Rattle.lv_cert_meaning.specs.lv_model.declared.state.TrackedState.{TrackedState}
+use Rattle.lv_cert_meaning.specs.lv_model.Ranges.{plant_ranges}
+use Rattle.lv_cert_meaning.specs.lv_model.WellFormed.{is_well_formed}
+use Rattle.lv_cert_meaning.specs.lv_meaning.declared.facts.Observation.{Observation}
+use Rattle.lv_cert_meaning.proofs.lv_meaning.Among.{among_either}
+use Rattle.lv_cert_meaning.specs.lv_meaning.Commands.{control_sizes, command_rank}
+use Rattle.lv_cert_meaning.specs.lv_cert.declared.line.Question.TheVariants.{Diagnosis, Recovery}
+use Rattle.lv_cert_meaning.specs.lv_cert.declared.line.Moment.TheVariants.{Now}
+use Rattle.lv_cert_meaning.specs.lv_cert.declared.line.Head.TheVariants as head
+use Rattle.lv_cert_meaning.specs.lv_cert.declared.line.Line.{Line}
+use Rattle.lv_cert_meaning.specs.lv_cert.declared.line.Line.TheVariants as line
+use Rattle.lv_cert_meaning.specs.lv_cert.declared.order.Task.{Task}
+use Rattle.lv_cert_meaning.specs.lv_cert.declared.order.Place.{Place}
+use Rattle.lv_cert_meaning.specs.lv_cert.declared.order.Place.TheVariants as place
+use Rattle.lv_cert_meaning.specs.lv_cert.Order.{after_named, after_known, after_known_facts, after_goals, place_after, place_behind}
 use Rattle.lv_cert_meaning.specs.Counting.{are_of, places_of}
 use Rattle.lv_cert_meaning.specs.Stated.{state_of, with_state, observation_of, with_observation, goal_of, with_goal}
 use Rattle.lv_cert_meaning.specs.Judging.{Judged, unjudged, judge_line, judge_lines, comes_to, question_of}

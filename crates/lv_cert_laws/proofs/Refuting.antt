@@ -7,17 +7,17 @@ use Rattle.std.proofs.lemmas.Bool.{and_from}
 use Rattle.std.proofs.lemmas.Bool.Decides.{nat_tests}
 use Rattle.std.proofs.lemmas.List.{append_assoc}
 use Rattle.std.proofs.lemmas.List.Folds.{list_all-append}
-use Rattle.lv_base.specs.declared.ids.Lit.{Lit}
-use Rattle.lv_clauses.specs.Literals.{clause_holds}
-use Rattle.lv_model.specs.declared.plant.Plant.{Plant}
-use Rattle.lv_compile.specs.Booleans.{bool_count}
-use Rattle.lv_compile.specs.ModelClauses.{model_clauses}
-use Rattle.lv_cert.specs.declared.line.Question.{Question}
-use Rattle.lv_cert.specs.declared.line.Literal.{Literal}
-use Rattle.lv_cert.specs.declared.line.Line.{Line}
-use Rattle.lv_cert.specs.declared.line.Line.TheVariants as line
-use Rattle.lv_cert_blocks.specs.Following.{literal_of, follows}
-use Rattle.lv_cert_blocks.proofs.LogLemmas.{follows_sound}
+use Rattle.lv_cert_meaning.specs.lv_base.declared.ids.Lit.{Lit}
+use Rattle.lv_cert_meaning.specs.lv_clauses.Literals.{clause_holds}
+use Rattle.lv_cert_meaning.specs.lv_model.declared.plant.Plant.{Plant}
+use Rattle.lv_cert_meaning.specs.lv_compile.Booleans.{bool_count}
+use Rattle.lv_cert_meaning.specs.lv_compile.ModelClauses.{model_clauses}
+use Rattle.lv_cert_meaning.specs.lv_cert.declared.line.Question.{Question}
+use Rattle.lv_cert_meaning.specs.lv_cert.declared.line.Literal.{Literal}
+use Rattle.lv_cert_meaning.specs.lv_cert.declared.line.Line.{Line}
+use Rattle.lv_cert_meaning.specs.lv_cert.declared.line.Line.TheVariants as line
+use Rattle.lv_cert_meaning.specs.lv_cert_blocks.Following.{literal_of, follows}
+use Rattle.lv_cert_meaning.proofs.lv_cert_blocks.LogLemmas.{follows_sound}
 use Rattle.lv_cert_meaning.specs.Judging.{Judged, judge_line, judge_clause, judge_lines, comes_to, is_bad_at, ends_empty, ends_empty_after}
 
 -- a line that isn't bad, and what it comes to

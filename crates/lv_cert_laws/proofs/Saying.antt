@@ -6,22 +6,22 @@ use Rattle.std.proofs.lemmas.Bool.{and_parts, and_from, ltb-true, eqb-true}
 use Rattle.std.proofs.lemmas.List.Folds.{list_all-append}
 use Rattle.std.proofs.lemmas.List.Elements.{All-tail}
 use borrow.Author.Tests.{leb-true}
-use Rattle.lv_base.specs.declared.ids.ValId.{ValId}
-use Rattle.lv_base.specs.declared.ids.VarId.{VarId}
-use Rattle.lv_formula.specs.Tree.{number_of}
-use Rattle.lv_model.specs.declared.plant.Plant.{Plant}
-use Rattle.lv_model.specs.Lists.{sizes, controls, IsVariable}
-use Rattle.lv_model.specs.WellFormed.{is_well_formed}
-use Rattle.lv_model.proofs.Controls.{controls-in_range}
-use Rattle.lv_model.proofs.Sizes.{length-sizes}
-use Rattle.lv_model_names.specs.Names.{classes, is_observable}
-use Rattle.lv_meaning.specs.declared.facts.Observation.{Observation}
-use Rattle.lv_meaning.specs.Facts.{agrees, meets, commanded}
-use Rattle.lv_compile.specs.Booleans.{Booleans, booleans_now, booleans_next}
-use Rattle.lv_compile.specs.Laws.{literal_is_true, Encode}
-use Rattle.lv_compile.proofs.FormulaLemmas.{as_true}
-use Rattle.lv_cert.specs.declared.line.Moment.{Moment}
-use Rattle.lv_cert.specs.declared.line.Moment.TheVariants.{Now, Next}
+use Rattle.lv_cert_meaning.specs.lv_base.declared.ids.ValId.{ValId}
+use Rattle.lv_cert_meaning.specs.lv_base.declared.ids.VarId.{VarId}
+use Rattle.lv_cert_meaning.specs.lv_formula.Tree.{number_of}
+use Rattle.lv_cert_meaning.specs.lv_model.declared.plant.Plant.{Plant}
+use Rattle.lv_cert_meaning.specs.lv_model.Lists.{sizes, controls, IsVariable}
+use Rattle.lv_cert_meaning.specs.lv_model.WellFormed.{is_well_formed}
+use Rattle.lv_cert_meaning.proofs.lv_model.Controls.{controls-in_range}
+use Rattle.lv_cert_meaning.proofs.lv_model.Sizes.{length-sizes}
+use Rattle.lv_cert_meaning.specs.lv_model_names.Names.{classes, is_observable}
+use Rattle.lv_cert_meaning.specs.lv_meaning.declared.facts.Observation.{Observation}
+use Rattle.lv_cert_meaning.specs.lv_meaning.Facts.{agrees, meets, commanded}
+use Rattle.lv_cert_meaning.specs.lv_compile.Booleans.{Booleans, booleans_now, booleans_next}
+use Rattle.lv_cert_meaning.specs.lv_compile.Laws.{literal_is_true, Encode}
+use Rattle.lv_cert_meaning.proofs.lv_compile.FormulaLemmas.{as_true}
+use Rattle.lv_cert_meaning.specs.lv_cert.declared.line.Moment.{Moment}
+use Rattle.lv_cert_meaning.specs.lv_cert.declared.line.Moment.TheVariants.{Now, Next}
 use Rattle.lv_cert_meaning.specs.Counting.{is_one_of, values_of}
 use Rattle.lv_cert_meaning.specs.Stated.{Stated, observed_literal, with_controls, observation_of, with_observation}
 

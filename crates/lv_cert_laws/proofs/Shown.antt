@@ -3,24 +3,24 @@ use Rattle.std.proofs.Common.{◌≡◌, ℕ, ◌-◌, ◌<◌, true, nat_eq, na
 use Rattle.std.specs.Prelude.{map}
 use Rattle.std.proofs.lemmas.Bool.{and_parts, and_from, ltb-true, lt-ltb}
 use Rattle.std.proofs.lemmas.List.{length-map, get_or-map}
-use Rattle.lv_base.specs.declared.rank.Rank.{Rank}
-use Rattle.lv_base.specs.declared.search.Pair.{Pair}
-use Rattle.lv_base.specs.Choices.{picks, contains_all, pairs_of}
-use Rattle.lv_model.specs.declared.plant.Plant.{Plant}
-use Rattle.lv_model.specs.declared.state.TrackedState.{TrackedState}
-use Rattle.lv_model.specs.Lists.{sizes, move_counts}
-use Rattle.lv_search_walk.specs.Walk.{candidate_of}
-use Rattle.lv_meaning.specs.declared.facts.Facts.{Facts}
-use Rattle.lv_meaning.specs.Possible.{move_number, gives, extends}
-use Rattle.lv_meaning.specs.Candidates.{candidates, is_possible_rank}
-use Rattle.lv_meaning.specs.PossibleLaws.{are_below}
-use Rattle.lv_meaning.specs.CandidateLaws.{IsCandidate}
-use Rattle.lv_meaning.proofs.Among.{all_among, among}
-use Rattle.lv_meaning.proofs.Listing.{is_listed}
-use Rattle.lv_meaning.proofs.Possibility.{possible}
-use Rattle.lv_meaning.proofs.Reasons.{own_pairs}
-use Rattle.lv_search_zones.specs.Moves.{is_full_choice}
-use Rattle.lv_search_zones.proofs.ZoneLemmas.{candidates_are_full}
+use Rattle.lv_cert_meaning.specs.lv_base.declared.rank.Rank.{Rank}
+use Rattle.lv_cert_meaning.specs.lv_base.declared.search.Pair.{Pair}
+use Rattle.lv_cert_meaning.specs.lv_base.Choices.{picks, contains_all, pairs_of}
+use Rattle.lv_cert_meaning.specs.lv_model.declared.plant.Plant.{Plant}
+use Rattle.lv_cert_meaning.specs.lv_model.declared.state.TrackedState.{TrackedState}
+use Rattle.lv_cert_meaning.specs.lv_model.Lists.{sizes, move_counts}
+use Rattle.lv_cert_meaning.specs.lv_search_walk.Walk.{candidate_of}
+use Rattle.lv_cert_meaning.specs.lv_meaning.declared.facts.Facts.{Facts}
+use Rattle.lv_cert_meaning.specs.lv_meaning.Possible.{move_number, gives, extends}
+use Rattle.lv_cert_meaning.specs.lv_meaning.Candidates.{candidates, is_possible_rank}
+use Rattle.lv_cert_meaning.specs.lv_meaning.PossibleLaws.{are_below}
+use Rattle.lv_cert_meaning.specs.lv_meaning.CandidateLaws.{IsCandidate}
+use Rattle.lv_cert_meaning.proofs.lv_meaning.Among.{all_among, among}
+use Rattle.lv_cert_meaning.proofs.lv_meaning.Listing.{is_listed}
+use Rattle.lv_cert_meaning.proofs.lv_meaning.Possibility.{possible}
+use Rattle.lv_cert_meaning.proofs.lv_meaning.Reasons.{own_pairs}
+use Rattle.lv_cert_meaning.specs.lv_search_zones.Moves.{is_full_choice}
+use Rattle.lv_cert_meaning.proofs.lv_search_zones.ZoneLemmas.{candidates_are_full}
 use Rattle.lv_cert_meaning.specs.Counting.{is_one_of, are_of, places_of, values_of}
 use Rattle.lv_cert_meaning.specs.Judging.{is_step_of}
 use Rattle.lv_cert_laws.proofs.Saying.{one_below}

@@ -8,21 +8,21 @@ use Rattle.std.proofs.lemmas.Bool.{and_parts, and_from, eqb-true}
 use Rattle.std.proofs.lemmas.Option.{cond_some}
 use Rattle.std.proofs.lemmas.List.{length-append}
 use Rattle.std.proofs.lemmas.List.Folds.{list_all-append}
-use Rattle.lv_base.specs.declared.ids.Cost.{Cost}
-use Rattle.lv_base.specs.declared.ids.ValId.{ValId}
-use Rattle.lv_base.specs.declared.rank.Rank.{Rank}
-use Rattle.lv_base.specs.declared.search.Pair.{Pair}
-use Rattle.lv_base.specs.Choices.{contains_all, pairs_of}
-use Rattle.lv_base.specs.Rank.{rank_key, ranks_before}
-use Rattle.lv_base.proofs.OrderLemmas.{transitive}
-use Rattle.lv_boxes.specs.Members.{ZoneValue, are_left, is_member, choices_cost}
-use Rattle.lv_search_walk.specs.Ranked.{rises}
-use Rattle.lv_search_walk.specs.Walk.{candidate_of}
-use Rattle.lv_meaning.proofs.Among.{Among, among_left, among_either, all_among}
-use Rattle.lv_boxes.specs.RankedMembers.{ranks_in}
-use Rattle.lv_compile.specs.FormulaClauses.{Clauses}
-use Rattle.lv_cert.specs.declared.line.Evidence.{Evidence}
-use Rattle.lv_cert.specs.declared.line.Evidence.TheVariants as evidence
+use Rattle.lv_cert_meaning.specs.lv_base.declared.ids.Cost.{Cost}
+use Rattle.lv_cert_meaning.specs.lv_base.declared.ids.ValId.{ValId}
+use Rattle.lv_cert_meaning.specs.lv_base.declared.rank.Rank.{Rank}
+use Rattle.lv_cert_meaning.specs.lv_base.declared.search.Pair.{Pair}
+use Rattle.lv_cert_meaning.specs.lv_base.Choices.{contains_all, pairs_of}
+use Rattle.lv_cert_meaning.specs.lv_base.Rank.{rank_key, ranks_before}
+use Rattle.lv_cert_meaning.proofs.lv_base.OrderLemmas.{transitive}
+use Rattle.lv_cert_meaning.specs.lv_boxes.Members.{ZoneValue, are_left, is_member, choices_cost}
+use Rattle.lv_cert_meaning.specs.lv_search_walk.Ranked.{rises}
+use Rattle.lv_cert_meaning.specs.lv_search_walk.Walk.{candidate_of}
+use Rattle.lv_cert_meaning.proofs.lv_meaning.Among.{Among, among_left, among_either, all_among}
+use Rattle.lv_cert_meaning.specs.lv_boxes.RankedMembers.{ranks_in}
+use Rattle.lv_cert_meaning.specs.lv_compile.FormulaClauses.{Clauses}
+use Rattle.lv_cert_meaning.specs.lv_cert.declared.line.Evidence.{Evidence}
+use Rattle.lv_cert_meaning.specs.lv_cert.declared.line.Evidence.TheVariants as evidence
 use Rattle.lv_cert_meaning.specs.Counting.{at_number}
 use Rattle.lv_cert_meaning.specs.Stated.{Stated}
 use Rattle.lv_cert_meaning.specs.Space.{open_zone, with_split, is_behind, all_passed}

@@ -3,15 +3,15 @@ use Rattle.std.proofs.Common.{◌≡◌, ℕ, suc, ◌+◌, ◌<◌, ◌≤◌, 
 use Rattle.std.specs.Prelude.{map}
 use Rattle.std.proofs.lemmas.Bool.{cases_lt}
 use Rattle.std.proofs.lemmas.Option.{slice_get_within}
-use Rattle.lv_base.specs.Choices.{pairs_of}
-use Rattle.lv_formula.specs.Tree.{Tree, truth_of}
-use Rattle.lv_model.specs.declared.plant.Plant.{Plant}
-use Rattle.lv_model.specs.declared.state.TrackedState.{TrackedState}
-use Rattle.lv_meaning.specs.Possible.{value}
-use Rattle.lv_meaning.proofs.Among.{Among}
-use Rattle.lv_meaning.specs.Recovers.{meets_goals, reaches, is_sure_from, recovers}
-use Rattle.lv_meaning.specs.RecoveryLaws.{NominalStep, LeadsToGoals}
-use Rattle.lv_meaning.proofs.NominalSteps.{StepFound, step_found, leads_sure, each_passes}
+use Rattle.lv_cert_meaning.specs.lv_base.Choices.{pairs_of}
+use Rattle.lv_cert_meaning.specs.lv_formula.Tree.{Tree, truth_of}
+use Rattle.lv_cert_meaning.specs.lv_model.declared.plant.Plant.{Plant}
+use Rattle.lv_cert_meaning.specs.lv_model.declared.state.TrackedState.{TrackedState}
+use Rattle.lv_cert_meaning.specs.lv_meaning.Possible.{value}
+use Rattle.lv_cert_meaning.proofs.lv_meaning.Among.{Among}
+use Rattle.lv_cert_meaning.specs.lv_meaning.Recovers.{meets_goals, reaches, is_sure_from, recovers}
+use Rattle.lv_cert_meaning.specs.lv_meaning.RecoveryLaws.{NominalStep, LeadsToGoals}
+use Rattle.lv_cert_meaning.proofs.lv_meaning.NominalSteps.{StepFound, step_found, leads_sure, each_passes}
 use Rattle.lv_cert_meaning.specs.Stated.{Stated}
 use Rattle.lv_cert_meaning.specs.Laws.{aim_of}
 

@@ -1,26 +1,26 @@
 -- Certificates of an answer: valid ones that state its question and give it.
 use Rattle.std.specs.Prelude.{◌≡◌, ◌≤◌, ◌+◌, ℕ, Bool, true, List, All, IsTrue, length, map, Some}
 use Rattle.std.specs.List.{list_all}
-use Rattle.lv_base.specs.declared.limits.TheConstants.{TRACKED, OBSERVATIONS, TRACKED_COST, GOALS}
-use Rattle.lv_base.specs.declared.rank.Rank.{Rank}
-use Rattle.lv_base.specs.declared.search.Pair.{Pair}
-use Rattle.lv_formula.specs.Tree.{Tree}
-use Rattle.lv_model.specs.declared.plant.Plant.{Plant}
-use Rattle.lv_model.specs.declared.state.TrackedState.{TrackedState}
-use Rattle.lv_search_walk.specs.declared.outcome.Outcome.TheVariants.{Settled}
-use Rattle.lv_meaning.specs.declared.facts.Observation.{Observation}
-use Rattle.lv_meaning.specs.declared.facts.Facts.{Facts}
-use Rattle.lv_meaning.specs.Facts.{FactsFit, FactsInRange}
-use Rattle.lv_meaning.specs.Candidates.{candidates}
-use Rattle.lv_meaning.specs.Diagnosis.{diagnosis_walk}
-use Rattle.lv_meaning.specs.declared.aim.Aim.{Aim}
-use Rattle.lv_meaning.specs.Ranges.{StateFits, AimFits}
-use Rattle.lv_meaning.specs.Recovery.{recovery_walk}
+use Rattle.lv_model_names.specs.lv_base.declared.limits.TheConstants.{TRACKED, OBSERVATIONS, TRACKED_COST, GOALS}
+use Rattle.lv_model_names.specs.lv_base.declared.rank.Rank.{Rank}
+use Rattle.lv_model_names.specs.lv_base.declared.search.Pair.{Pair}
+use Rattle.lv_model_names.specs.lv_formula.Tree.{Tree}
+use Rattle.lv_model_names.specs.lv_model.declared.plant.Plant.{Plant}
+use Rattle.lv_model_names.specs.lv_model.declared.state.TrackedState.{TrackedState}
+use Rattle.lv_search_zones.specs.lv_search_walk.declared.outcome.Outcome.TheVariants.{Settled}
+use Rattle.lv_search_zones.specs.lv_meaning.declared.facts.Observation.{Observation}
+use Rattle.lv_search_zones.specs.lv_meaning.declared.facts.Facts.{Facts}
+use Rattle.lv_search_zones.specs.lv_meaning.Facts.{FactsFit, FactsInRange}
+use Rattle.lv_search_zones.specs.lv_meaning.Candidates.{candidates}
+use Rattle.lv_search_zones.specs.lv_meaning.Diagnosis.{diagnosis_walk}
+use Rattle.lv_search_zones.specs.lv_meaning.declared.aim.Aim.{Aim}
+use Rattle.lv_search_zones.specs.lv_meaning.Ranges.{StateFits, AimFits}
+use Rattle.lv_search_zones.specs.lv_meaning.Recovery.{recovery_walk}
 use Rattle.lv_model_names.specs.Names.{classes, is_observable}
-use Rattle.lv_cert.specs.declared.line.Question.TheVariants.{Diagnosis, Recovery}
-use Rattle.lv_cert.specs.declared.line.Line.{Line}
-use Rattle.lv_cert.specs.Words.{is_word}
-use Rattle.lv_cert.specs.Form.{is_formed}
+use Rattle.lv_cert_blocks.specs.lv_cert.declared.line.Question.TheVariants.{Diagnosis, Recovery}
+use Rattle.lv_cert_blocks.specs.lv_cert.declared.line.Line.{Line}
+use Rattle.lv_cert_blocks.specs.lv_cert.Words.{is_word}
+use Rattle.lv_cert_blocks.specs.lv_cert.Form.{is_formed}
 use Rattle.lv_cert_meaning.specs.Stated.{goal_of}
 use Rattle.lv_cert_meaning.specs.Judging.{Judged, question_of}
 use Rattle.lv_cert_meaning.specs.Laws.{aim_of, IsValid}

@@ -1,11 +1,11 @@
 -- Things of a plant by their numbers in a certificate, which count from 1. Here they have the places that count from 0.
 use Rattle.std.specs.Prelude.{ℕ, ◌-◌, Bool, true, false, nat_lt, nat_le, ◌&&◌, List, [], ◌∷◌, length, map, Option, Some, None, slice_get, slice_index_or, if◌then◌else◌}
-use Rattle.lv_base.specs.declared.ids.ValId.{ValId}
-use Rattle.lv_base.specs.declared.search.Pair.{Pair}
-use Rattle.lv_base.specs.Choices.{slots_rise}
-use Rattle.lv_model.specs.declared.plant.Plant.{Plant}
-use Rattle.lv_model.specs.declared.plant.Part.{Part}
-use Rattle.lv_model.specs.Lists.{sizes}
+use Rattle.lv_model_names.specs.lv_base.declared.ids.ValId.{ValId}
+use Rattle.lv_model_names.specs.lv_base.declared.search.Pair.{Pair}
+use Rattle.lv_model_names.specs.lv_base.Choices.{slots_rise}
+use Rattle.lv_model_names.specs.lv_model.declared.plant.Plant.{Plant}
+use Rattle.lv_model_names.specs.lv_model.declared.plant.Part.{Part}
+use Rattle.lv_model_names.specs.lv_model.Lists.{sizes}
 
 -- the number is of one of so many things
 abbrev pub is_one_of : ℕ → ℕ → Bool

@@ -3,42 +3,42 @@ use Rattle.std.specs.Prelude.{ℕ, ◌+◌, ◌-◌, Bool, true, false, nat_eq, 
 use Rattle.std.specs.List.{list_all, list_any, flat_map, range_with_len}
 use Rattle.std.specs.Option.{option_and_then, option_map_or}
 use Rattle.std.specs.Cmp.Lexicographic.{pointwise}
-use Rattle.lv_base.specs.declared.limits.TheConstants.{TRACKED}
-use Rattle.lv_base.specs.declared.ids.Lit.{Lit}
-use Rattle.lv_base.specs.declared.ids.ValId.{ValId}
-use Rattle.lv_base.specs.declared.rank.Rank.{Rank}
-use Rattle.lv_base.specs.declared.search.Pair.{Pair}
-use Rattle.lv_base.specs.Choices.{pairs_of}
-use Rattle.lv_base.specs.Rank.{ranks_before}
-use Rattle.lv_boxes.specs.Members.{ZoneValue}
-use Rattle.lv_clauses.specs.Literals.{same_truth}
-use Rattle.lv_formula.specs.Tree.{Tree}
-use Rattle.lv_model.specs.declared.plant.Plant.{Plant}
-use Rattle.lv_model.specs.declared.plant.ComponentType.{ComponentType}
-use Rattle.lv_model.specs.declared.plant.Part.{Part}
-use Rattle.lv_model.specs.declared.state.TrackedState.{TrackedState}
-use Rattle.lv_model.specs.Lists.{sizes, move_counts, controls, part_moves}
-use Rattle.lv_model.specs.Meaning.{is_feasible, part_steps, part_is_nominal, is_step}
-use Rattle.lv_meaning.specs.declared.facts.Facts.{Facts}
-use Rattle.lv_meaning.specs.Facts.{meets, meets_facts}
-use Rattle.lv_meaning.specs.Possible.{move_number}
-use Rattle.lv_compile.specs.Booleans.{bool_count}
-use Rattle.lv_compile.specs.FormulaClauses.{Clauses}
-use Rattle.lv_compile.specs.ModelClauses.{model_clauses}
-use Rattle.lv_meaning.specs.Recovers.{has_modes, has_controls, meets_goals}
-use Rattle.lv_meaning.specs.Commands.{control_sizes, is_command_set, command_rank}
+use Rattle.lv_model_names.specs.lv_base.declared.limits.TheConstants.{TRACKED}
+use Rattle.lv_model_names.specs.lv_base.declared.ids.Lit.{Lit}
+use Rattle.lv_model_names.specs.lv_base.declared.ids.ValId.{ValId}
+use Rattle.lv_model_names.specs.lv_base.declared.rank.Rank.{Rank}
+use Rattle.lv_model_names.specs.lv_base.declared.search.Pair.{Pair}
+use Rattle.lv_model_names.specs.lv_base.Choices.{pairs_of}
+use Rattle.lv_model_names.specs.lv_base.Rank.{ranks_before}
+use Rattle.lv_search_zones.specs.lv_boxes.Members.{ZoneValue}
+use Rattle.lv_cert_blocks.specs.lv_clauses.Literals.{same_truth}
+use Rattle.lv_model_names.specs.lv_formula.Tree.{Tree}
+use Rattle.lv_model_names.specs.lv_model.declared.plant.Plant.{Plant}
+use Rattle.lv_model_names.specs.lv_model.declared.plant.ComponentType.{ComponentType}
+use Rattle.lv_model_names.specs.lv_model.declared.plant.Part.{Part}
+use Rattle.lv_model_names.specs.lv_model.declared.state.TrackedState.{TrackedState}
+use Rattle.lv_model_names.specs.lv_model.Lists.{sizes, move_counts, controls, part_moves}
+use Rattle.lv_model_names.specs.lv_model.Meaning.{is_feasible, part_steps, part_is_nominal, is_step}
+use Rattle.lv_search_zones.specs.lv_meaning.declared.facts.Facts.{Facts}
+use Rattle.lv_search_zones.specs.lv_meaning.Facts.{meets, meets_facts}
+use Rattle.lv_search_zones.specs.lv_meaning.Possible.{move_number}
+use Rattle.lv_search_zones.specs.lv_compile.Booleans.{bool_count}
+use Rattle.lv_search_zones.specs.lv_compile.FormulaClauses.{Clauses}
+use Rattle.lv_search_zones.specs.lv_compile.ModelClauses.{model_clauses}
+use Rattle.lv_search_zones.specs.lv_meaning.Recovers.{has_modes, has_controls, meets_goals}
+use Rattle.lv_search_zones.specs.lv_meaning.Commands.{control_sizes, is_command_set, command_rank}
 use Rattle.lv_search_zones.specs.Moves.{move_slots, zones_from}
 use Rattle.lv_search_zones.specs.Commands.{control_slots, command_zone}
 use Rattle.lv_cert_blocks.specs.Following.{literal_of, follows}
-use Rattle.lv_cert.specs.declared.line.Question.{Question}
-use Rattle.lv_cert.specs.declared.line.Question.TheVariants.{Diagnosis, Recovery}
-use Rattle.lv_cert.specs.declared.line.Literal.{Literal}
-use Rattle.lv_cert.specs.declared.line.Evidence.{Evidence}
-use Rattle.lv_cert.specs.declared.line.Evidence.TheVariants as evidence
-use Rattle.lv_cert.specs.declared.line.Head.{Head}
-use Rattle.lv_cert.specs.declared.line.Head.TheVariants as head
-use Rattle.lv_cert.specs.declared.line.Line.{Line}
-use Rattle.lv_cert.specs.declared.line.Line.TheVariants as line
+use Rattle.lv_cert_blocks.specs.lv_cert.declared.line.Question.{Question}
+use Rattle.lv_cert_blocks.specs.lv_cert.declared.line.Question.TheVariants.{Diagnosis, Recovery}
+use Rattle.lv_cert_blocks.specs.lv_cert.declared.line.Literal.{Literal}
+use Rattle.lv_cert_blocks.specs.lv_cert.declared.line.Evidence.{Evidence}
+use Rattle.lv_cert_blocks.specs.lv_cert.declared.line.Evidence.TheVariants as evidence
+use Rattle.lv_cert_blocks.specs.lv_cert.declared.line.Head.{Head}
+use Rattle.lv_cert_blocks.specs.lv_cert.declared.line.Head.TheVariants as head
+use Rattle.lv_cert_blocks.specs.lv_cert.declared.line.Line.{Line}
+use Rattle.lv_cert_blocks.specs.lv_cert.declared.line.Line.TheVariants as line
 use Rattle.lv_cert_meaning.specs.Counting.{is_one_of, are_of, places_of, values_of, at_number, pairs_of_numbers}
 use Rattle.lv_cert_meaning.specs.Stated.{Stated, nothing_stated, state_of, with_state, with_controls, observation_of, with_observation, goal_of, with_goal, candidate_of_numbers}
 use Rattle.lv_cert_meaning.specs.Space.{Space, open_zone, with_split, all_passed}

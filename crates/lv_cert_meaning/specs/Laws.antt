@@ -1,16 +1,16 @@
 -- What a valid certificate proves.
 use Rattle.std.specs.Prelude.{◌≡◌, ℕ, true, List, [], ◌∷◌, take, filter, Some}
-use Rattle.lv_base.specs.declared.rank.Rank.{Rank}
-use Rattle.lv_model.specs.declared.plant.Plant.{Plant}
-use Rattle.lv_model.specs.WellFormed.{is_well_formed}
-use Rattle.lv_meaning.specs.Candidates.{first_possible}
-use Rattle.lv_meaning.specs.declared.aim.Aim.{Aim}
-use Rattle.lv_meaning.specs.Commands.{command_sets}
-use Rattle.lv_meaning.specs.Recovery.{rank_recovers}
-use Rattle.lv_cert.specs.declared.line.Question.TheVariants.{Diagnosis, Recovery}
-use Rattle.lv_cert.specs.declared.line.Line.{Line}
-use Rattle.lv_cert.specs.declared.order.Place.TheVariants.{Start, Done}
-use Rattle.lv_cert.specs.Order.{place_behind}
+use Rattle.lv_model_names.specs.lv_base.declared.rank.Rank.{Rank}
+use Rattle.lv_model_names.specs.lv_model.declared.plant.Plant.{Plant}
+use Rattle.lv_model_names.specs.lv_model.WellFormed.{is_well_formed}
+use Rattle.lv_search_zones.specs.lv_meaning.Candidates.{first_possible}
+use Rattle.lv_search_zones.specs.lv_meaning.declared.aim.Aim.{Aim}
+use Rattle.lv_search_zones.specs.lv_meaning.Commands.{command_sets}
+use Rattle.lv_search_zones.specs.lv_meaning.Recovery.{rank_recovers}
+use Rattle.lv_cert_blocks.specs.lv_cert.declared.line.Question.TheVariants.{Diagnosis, Recovery}
+use Rattle.lv_cert_blocks.specs.lv_cert.declared.line.Line.{Line}
+use Rattle.lv_cert_blocks.specs.lv_cert.declared.order.Place.TheVariants.{Start, Done}
+use Rattle.lv_cert_blocks.specs.lv_cert.Order.{place_behind}
 use Rattle.lv_cert_meaning.specs.Stated.{Stated}
 use Rattle.lv_cert_meaning.specs.Judging.{Judged, comes_to, question_of, judgement}
 

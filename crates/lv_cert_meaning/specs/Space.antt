@@ -2,13 +2,13 @@
 use Rattle.std.specs.Prelude.{ℕ, ◌-◌, Bool, true, false, ◌||◌, nat_eq, List, [], ◌∷◌, ◌++◌, length, map, Option, Some, None, option_map, slice_get, slice_set}
 use Rattle.std.specs.List.{list_all}
 use Rattle.std.specs.Option.{option_and_then, option_map_or}
-use Rattle.lv_base.specs.declared.ids.Cost.{Cost}
-use Rattle.lv_base.specs.declared.rank.Rank.{Rank}
-use Rattle.lv_base.specs.declared.search.Pair.{Pair}
-use Rattle.lv_base.specs.Rank.{ranks_before}
-use Rattle.lv_boxes.specs.Members.{ZoneValue, rank_in}
-use Rattle.lv_boxes.specs.Least.{cheapest_choices}
-use Rattle.lv_boxes.specs.Parts.{parts_of}
+use Rattle.lv_model_names.specs.lv_base.declared.ids.Cost.{Cost}
+use Rattle.lv_model_names.specs.lv_base.declared.rank.Rank.{Rank}
+use Rattle.lv_model_names.specs.lv_base.declared.search.Pair.{Pair}
+use Rattle.lv_model_names.specs.lv_base.Rank.{ranks_before}
+use Rattle.lv_search_zones.specs.lv_boxes.Members.{ZoneValue, rank_in}
+use Rattle.lv_search_zones.specs.lv_boxes.Least.{cheapest_choices}
+use Rattle.lv_search_zones.specs.lv_boxes.Parts.{parts_of}
 use Rattle.lv_cert_meaning.specs.Counting.{at_number}
 
 -- what the choices of each slot cost, and the zones so far, nothing where one was split

@@ -3,29 +3,29 @@ use Rattle.std.specs.Prelude.{ℕ, ◌+◌, ◌-◌, Bool, true, false, nat_lt, 
 use Rattle.std.specs.List.{list_all}
 use Rattle.std.specs.Option.{option_and_then}
 use Rattle.std.specs.Cmp.Lexicographic.{pointwise}
-use Rattle.lv_base.specs.declared.limits.TheConstants.{TRACKED_COST}
-use Rattle.lv_base.specs.declared.ids.Lit.{Lit}
-use Rattle.lv_base.specs.declared.rank.Rank.{Rank}
-use Rattle.lv_text.specs.Lexemes.{Lexeme, Reading, reads, has_bad_byte, is_too_long, line_reading}
-use Rattle.lv_formula.specs.Tree.{Tree}
-use Rattle.lv_model.specs.declared.plant.Plant.{Plant}
-use Rattle.lv_model.specs.declared.state.TrackedState.{TrackedState}
-use Rattle.lv_model.specs.Lists.{sizes, controls}
-use Rattle.lv_model.specs.Counts.{has_count, law_sizes}
-use Rattle.lv_formula_text.specs.PhraseTree.{PhraseTree}
-use Rattle.lv_formula_text.specs.Nesting.{is_too_deep}
-use Rattle.lv_formula_text.specs.Canonical.{canonical_text}
-use Rattle.lv_formula_text.specs.Resolving.{resolved}
-use Rattle.lv_formula_text.specs.declared.resolver.NameFault.{NameFault}
-use Rattle.lv_formula_text.specs.Descent.{phrase_of}
+use Rattle.lv_model_names.specs.lv_base.declared.limits.TheConstants.{TRACKED_COST}
+use Rattle.lv_model_names.specs.lv_base.declared.ids.Lit.{Lit}
+use Rattle.lv_model_names.specs.lv_base.declared.rank.Rank.{Rank}
+use Rattle.lv_model_names.specs.lv_text.Lexemes.{Lexeme, Reading, reads, has_bad_byte, is_too_long, line_reading}
+use Rattle.lv_model_names.specs.lv_formula.Tree.{Tree}
+use Rattle.lv_model_names.specs.lv_model.declared.plant.Plant.{Plant}
+use Rattle.lv_model_names.specs.lv_model.declared.state.TrackedState.{TrackedState}
+use Rattle.lv_model_names.specs.lv_model.Lists.{sizes, controls}
+use Rattle.lv_model_names.specs.lv_model.Counts.{has_count, law_sizes}
+use Rattle.lv_model_names.specs.lv_formula_text.PhraseTree.{PhraseTree}
+use Rattle.lv_model_names.specs.lv_formula_text.Nesting.{is_too_deep}
+use Rattle.lv_model_names.specs.lv_formula_text.Canonical.{canonical_text}
+use Rattle.lv_model_names.specs.lv_formula_text.Resolving.{resolved}
+use Rattle.lv_model_names.specs.lv_formula_text.declared.resolver.NameFault.{NameFault}
+use Rattle.lv_model_names.specs.lv_formula_text.Descent.{phrase_of}
 use Rattle.lv_model_names.specs.Names.{plant_names, classes, is_observable}
-use Rattle.lv_meaning.specs.declared.facts.Observation.{Observation}
-use Rattle.lv_meaning.specs.declared.facts.Facts.{Facts}
-use Rattle.lv_meaning.specs.Facts.{commanded}
-use Rattle.lv_meaning.specs.CandidateLaws.{are_moves, moves_cost}
-use Rattle.lv_compile.specs.Booleans.{Booleans, value_literal, booleans_now, booleans_next}
-use Rattle.lv_cert.specs.declared.line.Moment.{Moment}
-use Rattle.lv_cert.specs.declared.line.Moment.TheVariants.{Now, Next}
+use Rattle.lv_search_zones.specs.lv_meaning.declared.facts.Observation.{Observation}
+use Rattle.lv_search_zones.specs.lv_meaning.declared.facts.Facts.{Facts}
+use Rattle.lv_search_zones.specs.lv_meaning.Facts.{commanded}
+use Rattle.lv_search_zones.specs.lv_meaning.CandidateLaws.{are_moves, moves_cost}
+use Rattle.lv_search_zones.specs.lv_compile.Booleans.{Booleans, value_literal, booleans_now, booleans_next}
+use Rattle.lv_cert_blocks.specs.lv_cert.declared.line.Moment.{Moment}
+use Rattle.lv_cert_blocks.specs.lv_cert.declared.line.Moment.TheVariants.{Now, Next}
 use Rattle.lv_cert_meaning.specs.Counting.{is_one_of, are_of, places_of, values_of, at_number, mode_counts}
 
 -- the limit of a diagnosis; the tracked states; what was commanded and seen, and the same as literals in the order in which it is

@@ -2,19 +2,19 @@
 use Rattle.std.specs.Prelude.{ℕ, ◌+◌, Bool, true, false, List, [], ◌∷◌, ◌++◌, map, slice_get, slice_index_or, if◌then◌else◌}
 use Rattle.std.specs.List.{flat_map}
 use Rattle.std.specs.Option.{option_map_or}
-use Rattle.lv_base.specs.declared.ids.Lit.{Lit}
-use Rattle.lv_base.specs.declared.ids.ValId.{ValId}
-use Rattle.lv_base.specs.declared.search.Pair.{Pair}
-use Rattle.lv_formula.specs.Tree.{Tree}
-use Rattle.lv_model.specs.declared.plant.Plant.{Plant}
-use Rattle.lv_model.specs.declared.plant.Part.{Part}
-use Rattle.lv_model.specs.declared.plant.Move.{Move}
-use Rattle.lv_model.specs.Lists.{controls}
-use Rattle.lv_model.specs.Meaning.{is_no_fault}
-use Rattle.lv_meaning.specs.Candidates.{type_moves}
-use Rattle.lv_compile.specs.Booleans.{value_literal, booleans_now, booleans_next, choice_bool, literal}
-use Rattle.lv_compile.specs.FormulaClauses.{Clauses, formula_clauses}
-use Rattle.lv_compile.specs.Cleaning.{cleaned}
+use Rattle.lv_model_names.specs.lv_base.declared.ids.Lit.{Lit}
+use Rattle.lv_model_names.specs.lv_base.declared.ids.ValId.{ValId}
+use Rattle.lv_model_names.specs.lv_base.declared.search.Pair.{Pair}
+use Rattle.lv_model_names.specs.lv_formula.Tree.{Tree}
+use Rattle.lv_model_names.specs.lv_model.declared.plant.Plant.{Plant}
+use Rattle.lv_model_names.specs.lv_model.declared.plant.Part.{Part}
+use Rattle.lv_model_names.specs.lv_model.declared.plant.Move.{Move}
+use Rattle.lv_model_names.specs.lv_model.Lists.{controls}
+use Rattle.lv_model_names.specs.lv_model.Meaning.{is_no_fault}
+use Rattle.lv_search_zones.specs.lv_meaning.Candidates.{type_moves}
+use Rattle.lv_search_zones.specs.lv_compile.Booleans.{value_literal, booleans_now, booleans_next, choice_bool, literal}
+use Rattle.lv_search_zones.specs.lv_compile.FormulaClauses.{Clauses, formula_clauses}
+use Rattle.lv_search_zones.specs.lv_compile.Cleaning.{cleaned}
 
 -- each literal as a clause of its own
 abbrev pub units : List Lit → Clauses

@@ -8,7 +8,7 @@ use Rattle.lv_base.specs.declared.ids.Lit.{Lit}
 use Rattle.lv_base.specs.declared.ids.ValId.{ValId}
 use Rattle.lv_base.specs.declared.ids.VarId.{VarId}
 use Rattle.lv_base.specs.declared.search.Pair.{Pair}
-use Rattle.lv_clauses.specs.Literals.{is_clause, clause_holds}
+use Rattle.lv_system.specs.lv_clauses.Literals.{is_clause, clause_holds}
 use Rattle.lv_formula.specs.declared.range.Range.{Range}
 use Rattle.lv_formula.specs.Tree.{Tree, truth_of}
 use Rattle.lv_formula.specs.Fits.{fits, has_value}
@@ -19,25 +19,25 @@ use Rattle.lv_model.specs.Ranges.{plant_ranges}
 use Rattle.lv_meaning.specs.declared.aim.Aim.{Aim}
 use Rattle.lv_meaning.specs.Commands.{control_sizes}
 use Rattle.lv_meaning.specs.Ranges.{AimFits, GoalFits, modes_fit}
-use Rattle.lv_compile.specs.Booleans.{Booleans, bool_count}
-use Rattle.lv_compile.specs.FormulaClauses.{Clauses, formula_clauses}
-use Rattle.lv_compile.specs.Cleaning.{cleaned}
+use Rattle.lv_search_zones.specs.lv_compile.Booleans.{Booleans, bool_count}
+use Rattle.lv_search_zones.specs.lv_compile.FormulaClauses.{Clauses, formula_clauses}
+use Rattle.lv_search_zones.specs.lv_compile.Cleaning.{cleaned}
 use Rattle.lv_system.specs.Goals.{goal_speaks}
 use Rattle.lv_system.specs.Goals as goals
 use Rattle.lv_system.specs.Numbering.{IsOver}
 use Rattle.lv_system.specs.System.{SystemValue, IsSystemOf}
 use Rattle.lv_system.proofs.GoalLemmas.{goals_exact}
-use Rattle.lv_cert_meaning.specs.Units.{mode_literals, no_fault_literals, control_literal, nominal_units, goal_clauses}
+use Rattle.lv_cert_laws.specs.lv_cert_meaning.Units.{mode_literals, no_fault_literals, control_literal, nominal_units, goal_clauses}
 use Rattle.lv_cert_writing.specs.Pairs.{HasChoice}
 use Rattle.lv_cert_recovery.specs.Showing.{stated_by, own_clauses, reached_clauses, AreRefuted, IsStepFrom}
 use Rattle.lv_model.specs.WellFormed.{is_well_formed}
-use Rattle.lv_compile.specs.ModelClauses.{model_clauses}
-use Rattle.lv_compile.proofs.PlantBoundLemmas.{few_clauses, count_within}
+use Rattle.lv_search_zones.specs.lv_compile.ModelClauses.{model_clauses}
+use Rattle.lv_search_zones.proofs.lv_compile.PlantBoundLemmas.{few_clauses, count_within}
 use Rattle.lv_system.specs.Laws.{IsModelOf}
 use Rattle.lv_system.specs.declared.step_pair.StepPair.{StepPair}
-use Rattle.lv_cert_blocks.specs.Blocks.{clauses_of}
-use Rattle.lv_cert_blocks.specs.Deriving.{Derived, refutes}
-use Rattle.lv_cert_blocks.proofs.NumberLemmas.{clauses_are}
+use Rattle.lv_cert_laws.specs.lv_cert_blocks.Blocks.{clauses_of}
+use Rattle.lv_cert_laws.specs.lv_cert_blocks.Deriving.{Derived, refutes}
+use Rattle.lv_cert_laws.proofs.lv_cert_blocks.NumberLemmas.{clauses_are}
 use Rattle.lv_cert_writing.specs.BlockLines.{derived_of}
 use Rattle.lv_cert_recovery.specs.declared.asking.Told.{Told}
 use Rattle.lv_cert_recovery.specs.declared.asking.Told.TheVariants.{Step, Lines}

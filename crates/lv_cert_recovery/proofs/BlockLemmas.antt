@@ -15,7 +15,7 @@ use Rattle.lv_cert_writing.specs.BlockLines.{derived_of}
 use Rattle.lv_cert_writing.specs.declared.derivation.Derivation.{Derivation}
 use Rattle.lv_cert.specs.declared.line.Line.{Line}
 use Rattle.lv_cert_laws.proofs.Options.{got_among}
-use Rattle.lv_cert_meaning.specs.Certifying.{IsAsked}
+use Rattle.lv_cert_laws.specs.lv_cert_meaning.Certifying.{IsAsked}
 use Rattle.lv_cert_recovery.specs.Keeping.{IsReason, AreValues}
 use Rattle.lv_cert_recovery.specs.Leading.{excluding, standing, LeadsOn, Excludes, ExcludesAll, ReachFromAll, AddsCounter}
 use Rattle.lv_cert_recovery.specs.Telling.{AreUnmissed, NeverMisses, MissesLeft}

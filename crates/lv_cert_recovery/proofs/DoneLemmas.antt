@@ -10,14 +10,14 @@ use Rattle.lv_base.specs.declared.rank.Rank.{Rank}
 use Rattle.lv_base.specs.declared.search.Candidate.{Candidate}
 use Rattle.lv_base.specs.declared.search.Pair.{Pair}
 use Rattle.lv_base.specs.Choices.{pairs_of}
-use Rattle.lv_boxes.specs.Members.{ZoneValue}
+use Rattle.lv_search_zones.specs.lv_boxes.Members.{ZoneValue}
 use Rattle.lv_model.specs.declared.plant.Plant.{Plant}
 use Rattle.lv_model.specs.Lists.{sizes, controls}
 use Rattle.lv_model.specs.WellFormed.{is_well_formed}
 use Rattle.lv_model.specs.Ranges.{plant_ranges}
 use Rattle.lv_model.proofs.Reading.{few_variables}
-use Rattle.lv_search_walk.specs.declared.outcome.Outcome.TheVariants.{Settled}
-use Rattle.lv_search_walk.specs.Walk.{walk}
+use Rattle.lv_meaning.specs.lv_search_walk.declared.outcome.Outcome.TheVariants.{Settled}
+use Rattle.lv_meaning.specs.lv_search_walk.Walk.{walk}
 use Rattle.lv_meaning.proofs.Among.{Among}
 use Rattle.lv_meaning.specs.declared.aim.Aim.{Aim}
 use Rattle.lv_meaning.specs.Recovers.{recovers}
@@ -34,12 +34,12 @@ use Rattle.lv_cert_writing.proofs.SplitWalkLemmas.{search_explains}
 use Rattle.lv_cert.specs.declared.line.Question.TheVariants.{Recovery}
 use Rattle.lv_cert.specs.declared.line.Line.{Line}
 use Rattle.lv_cert.specs.declared.line.Line.TheVariants as line
-use Rattle.lv_cert_meaning.specs.Space.{all_passed}
-use Rattle.lv_cert_meaning.specs.Judging.{last_of}
+use Rattle.lv_cert_laws.specs.lv_cert_meaning.Space.{all_passed}
+use Rattle.lv_cert_laws.specs.lv_cert_meaning.Judging.{last_of}
 use Rattle.lv_cert_writing.specs.Lines.{split_lines}
 use Rattle.lv_cert_writing.proofs.Numbers.{have_value}
 use Rattle.lv_cert_writing.proofs.ClosedLemmas.{are_splits}
-use Rattle.lv_cert_meaning.specs.Certifying.{CertifiesRecovery, IsAsked, AreTexts, IsSettledRecovery, AreFormed}
+use Rattle.lv_cert_laws.specs.lv_cert_meaning.Certifying.{CertifiesRecovery, IsAsked, AreTexts, IsSettledRecovery, AreFormed}
 use Rattle.lv_cert_recovery.specs.Closing.{AreClosing}
 use Rattle.lv_cert_recovery.specs.Keeping.{IsRecovering, IsReason, IsGiven, AreValues, choices_of, answer_of}
 use Rattle.lv_cert_recovery.specs.Leading.{asked, excluding, standing, LeadsOn, ExcludesAll}

@@ -16,10 +16,10 @@ use Rattle.lv_model.specs.WellFormed.{is_well_formed}
 use Rattle.lv_model.proofs.Sizes.{few-sizes}
 use Rattle.lv_meaning.specs.declared.aim.Aim.{Aim}
 use Rattle.lv_meaning.specs.Commands.{control_sizes, is_command_set}
-use Rattle.lv_compile.specs.Booleans.{bool_count}
-use Rattle.lv_compile.specs.FormulaClauses.{Clauses}
-use Rattle.lv_compile.specs.ModelClauses.{model_clauses}
-use Rattle.lv_cert_blocks.specs.Deriving.{Derived, clause_of_line, derives, ends_empty as lines_end_empty}
+use Rattle.lv_search_zones.specs.lv_compile.Booleans.{bool_count}
+use Rattle.lv_search_zones.specs.lv_compile.FormulaClauses.{Clauses}
+use Rattle.lv_search_zones.specs.lv_compile.ModelClauses.{model_clauses}
+use Rattle.lv_cert_laws.specs.lv_cert_blocks.Deriving.{Derived, clause_of_line, derives, ends_empty as lines_end_empty}
 use Rattle.lv_cert.specs.declared.line.Question.TheVariants.{Recovery}
 use Rattle.lv_cert.specs.declared.line.Head.TheVariants as head
 use Rattle.lv_cert.specs.declared.line.Line.{Line}
@@ -28,8 +28,8 @@ use Rattle.lv_cert.specs.declared.order.Witness.TheVariants as witness
 use Rattle.lv_cert.specs.declared.order.Place.{Place}
 use Rattle.lv_cert.specs.declared.order.Place.TheVariants as place
 use Rattle.lv_cert.specs.Form.{is_within_limit}
-use Rattle.lv_cert_meaning.specs.Counting.{is_one_of, are_of, places_of}
-use Rattle.lv_cert_meaning.specs.Judging.{Aimed, Judged, with_conflict, clauses_of_goals, values_refuted}
+use Rattle.lv_cert_laws.specs.lv_cert_meaning.Counting.{is_one_of, are_of, places_of}
+use Rattle.lv_cert_laws.specs.lv_cert_meaning.Judging.{Aimed, Judged, with_conflict, clauses_of_goals, values_refuted}
 use Rattle.lv_cert_writing.specs.Lines.{numbers_of, pair_numbers, clause_lines}
 use Rattle.lv_cert_writing.specs.Ending.{Ends, BeginApart}
 use Rattle.lv_cert_writing.specs.Pairs.{HasChoice}

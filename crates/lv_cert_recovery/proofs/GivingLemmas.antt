@@ -23,19 +23,19 @@ use Rattle.lv_meaning.specs.Recovers.{meets_goals, reaches, can_miss, is_sure_fr
 use Rattle.lv_meaning.specs.Commands.{control_sizes}
 use Rattle.lv_meaning.proofs.NominalSteps.{denied}
 use Rattle.lv_meaning.proofs.CommandReasons.{reason_is_inside}
-use Rattle.lv_compile.specs.Booleans.{first_choice, bool_count}
+use Rattle.lv_search_zones.specs.lv_compile.Booleans.{first_choice, bool_count}
 use Rattle.lv_system.specs.declared.step_pair.StepPair.{StepPair}
 use Rattle.lv_system.proofs.SystemLemmas.{choices_fit}
 use Rattle.lv_search_zones.proofs.ControlLemmas.{few_controls}
-use Rattle.lv_cert_blocks.specs.Deriving.{Derived}
+use Rattle.lv_cert_laws.specs.lv_cert_blocks.Deriving.{Derived}
 use Rattle.lv_cert_writing.specs.BlockLines.{derived_of}
 use Rattle.lv_cert_writing.specs.declared.derivation.Derivation.{Derivation}
-use Rattle.lv_cert_meaning.specs.Units.{goal_clauses}
+use Rattle.lv_cert_laws.specs.lv_cert_meaning.Units.{goal_clauses}
 use Rattle.lv_cert.specs.declared.line.Line.{Line}
 use Rattle.lv_cert_laws.proofs.Options.{got_among}
 use Rattle.lv_cert_writing.specs.Lines.{clause_line, clause_lines}
 use Rattle.lv_cert_writing.specs.Pairs.{HasChoice}
-use Rattle.lv_cert_meaning.specs.Certifying.{IsAsked}
+use Rattle.lv_cert_laws.specs.lv_cert_meaning.Certifying.{IsAsked}
 use Rattle.lv_cert_recovery.specs.declared.asking.Told.{Told}
 use Rattle.lv_cert_recovery.specs.declared.asking.Told.TheVariants.{Step, Lines}
 use Rattle.lv_cert_recovery.specs.Showing.{IsStepFrom, AreRefuted, own_clauses, recovery_line, good_lines, proof_lines, conflict_lines, counter_lines}

@@ -9,7 +9,7 @@ use Rattle.lv_model.specs.declared.plant.Plant.{Plant}
 use Rattle.lv_model.specs.Lists.{variable_count}
 use Rattle.lv_model.specs.WellFormed.{is_well_formed}
 use Rattle.lv_meaning.specs.declared.aim.Aim.{Aim}
-use Rattle.lv_compile.specs.Booleans.{booleans_now}
+use Rattle.lv_search_zones.specs.lv_compile.Booleans.{booleans_now}
 use Rattle.lv_search_zones.specs.Commands.{control_slots, command_zone}
 use Rattle.lv_cert.specs.declared.line.Question.TheVariants.{Recovery}
 use Rattle.lv_cert.specs.declared.line.Moment.TheVariants.{Now}
@@ -19,8 +19,8 @@ use Rattle.lv_cert.specs.declared.order.Place.{Place}
 use Rattle.lv_cert.specs.declared.order.Place.TheVariants as place
 use Rattle.lv_cert.specs.Order.{after_known_facts, place_after}
 use Rattle.lv_cert.specs.Words.{is_word}
-use Rattle.lv_cert_meaning.specs.Stated.{observed_literal, goal_of, with_goal}
-use Rattle.lv_cert_meaning.specs.Judging.{Judged, unjudged}
+use Rattle.lv_cert_laws.specs.lv_cert_meaning.Stated.{observed_literal, goal_of, with_goal}
+use Rattle.lv_cert_laws.specs.lv_cert_meaning.Judging.{Judged, unjudged}
 use Rattle.lv_cert_writing.specs.Lines.{state_lines, fact_lines}
 use Rattle.lv_cert_writing.specs.Ending.{Ends}
 use Rattle.lv_cert_writing.proofs.Ending.{line_first}

@@ -12,7 +12,7 @@ use Rattle.lv_base.specs.declared.ids.MoveId.{MoveId}
 use Rattle.lv_base.specs.declared.ids.ValId.{ValId}
 use Rattle.lv_base.specs.declared.ids.VarId.{VarId}
 use Rattle.lv_base.specs.declared.search.Pair.{Pair}
-use Rattle.lv_clauses.specs.Literals.{in_range, is_clause}
+use Rattle.lv_system.specs.lv_clauses.Literals.{in_range, is_clause}
 use Rattle.lv_formula.specs.Fits.{has_value}
 use Rattle.lv_formula.specs.Tree.{number_of}
 use Rattle.lv_model.specs.declared.plant.Plant.{Plant}
@@ -28,12 +28,12 @@ use Rattle.lv_meaning.specs.Candidates.{type_moves}
 use Rattle.lv_meaning.specs.Commands.{control_sizes}
 use Rattle.lv_meaning.specs.Ranges.{modes_fit, ObservationFits}
 use Rattle.lv_meaning.specs.Recovers.{has_modes, has_control, has_controls}
-use Rattle.lv_compile.specs.Booleans.{value_literal, booleans_now, first_choice, choice_bool, literal, bool_count}
-use Rattle.lv_compile.specs.FormulaClauses.{size_of}
-use Rattle.lv_compile.specs.Laws.{literal_is_true, Encode, EncodeMoves, move_number}
+use Rattle.lv_search_zones.specs.lv_compile.Booleans.{value_literal, booleans_now, first_choice, choice_bool, literal, bool_count}
+use Rattle.lv_search_zones.specs.lv_compile.FormulaClauses.{size_of}
+use Rattle.lv_search_zones.specs.lv_compile.Laws.{literal_is_true, Encode, EncodeMoves, move_number}
 use Rattle.lv_system.proofs.LiteralLemmas.{value_true, choice_false, now_in_range, choice_in_range}
-use Rattle.lv_cert_meaning.specs.Stated.{observed_literal}
-use Rattle.lv_cert_meaning.specs.Units.{units, mode_literals, no_fault_of, no_fault_literals, control_literal}
+use Rattle.lv_cert_laws.specs.lv_cert_meaning.Stated.{observed_literal}
+use Rattle.lv_cert_laws.specs.lv_cert_meaning.Units.{units, mode_literals, no_fault_of, no_fault_literals, control_literal}
 use Rattle.lv_cert_writing.specs.Pairs.{HasChoice}
 use Rattle.lv_cert_writing.proofs.Numbers.{have_value}
 

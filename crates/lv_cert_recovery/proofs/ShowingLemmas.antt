@@ -9,7 +9,7 @@ use Rattle.lv_base.specs.declared.ids.ValId.{ValId}
 use Rattle.lv_base.specs.declared.ids.VarId.{VarId}
 use Rattle.lv_base.specs.declared.rank.Rank.{Rank}
 use Rattle.lv_base.specs.Choices.{pairs_of}
-use Rattle.lv_clauses.specs.Literals.{same_truth}
+use Rattle.lv_system.specs.lv_clauses.Literals.{same_truth}
 use Rattle.lv_formula.specs.Tree.{Tree}
 use Rattle.lv_model.specs.declared.plant.Plant.{Plant}
 use Rattle.lv_model.specs.declared.state.TrackedState.{TrackedState}
@@ -19,10 +19,10 @@ use Rattle.lv_model.proofs.Sizes.{few-sizes}
 use Rattle.lv_meaning.specs.declared.aim.Aim.{Aim}
 use Rattle.lv_meaning.specs.Recovers.{meets_goals}
 use Rattle.lv_meaning.specs.Commands.{control_sizes, is_command_set, command_rank}
-use Rattle.lv_compile.specs.Booleans.{bool_count}
-use Rattle.lv_compile.specs.FormulaClauses.{Clauses}
-use Rattle.lv_compile.specs.ModelClauses.{model_clauses}
-use Rattle.lv_cert_blocks.specs.Deriving.{Derived, clause_of_line, derives, ends_empty as lines_end_empty}
+use Rattle.lv_search_zones.specs.lv_compile.Booleans.{bool_count}
+use Rattle.lv_search_zones.specs.lv_compile.FormulaClauses.{Clauses}
+use Rattle.lv_search_zones.specs.lv_compile.ModelClauses.{model_clauses}
+use Rattle.lv_cert_laws.specs.lv_cert_blocks.Deriving.{Derived, clause_of_line, derives, ends_empty as lines_end_empty}
 use Rattle.lv_cert.specs.declared.line.Question.TheVariants.{Recovery}
 use Rattle.lv_cert.specs.declared.line.Head.TheVariants as head
 use Rattle.lv_cert.specs.declared.line.Line.{Line}
@@ -33,9 +33,9 @@ use Rattle.lv_cert.specs.declared.order.Place.{Place}
 use Rattle.lv_cert.specs.declared.order.Place.TheVariants as place
 use Rattle.lv_cert.specs.Order.{after_witness}
 use Rattle.lv_cert.specs.Form.{is_within_limit}
-use Rattle.lv_cert_meaning.specs.Counting.{is_one_of, are_of, places_of, values_of, at_number}
-use Rattle.lv_cert_meaning.specs.Units.{goal_clauses}
-use Rattle.lv_cert_meaning.specs.Judging.{Aimed, Judged, is_aimed_step, is_as_aimed, shows_aimed, with_proof}
+use Rattle.lv_cert_laws.specs.lv_cert_meaning.Counting.{is_one_of, are_of, places_of, values_of, at_number}
+use Rattle.lv_cert_laws.specs.lv_cert_meaning.Units.{goal_clauses}
+use Rattle.lv_cert_laws.specs.lv_cert_meaning.Judging.{Aimed, Judged, is_aimed_step, is_as_aimed, shows_aimed, with_proof}
 use Rattle.lv_cert_writing.specs.Lines.{numbers_of, value_numbers, values_line, clause_lines}
 use Rattle.lv_cert_writing.specs.Ending.{Ends, BeginApart}
 use Rattle.lv_cert_writing.proofs.Ending.{line_first}

@@ -8,7 +8,7 @@ use Rattle.lv_base.specs.declared.ids.MoveId.{MoveId}
 use Rattle.lv_base.specs.declared.ids.ValId.{ValId}
 use Rattle.lv_base.specs.declared.search.Pair.{Pair}
 use Rattle.lv_base.specs.Choices.{pairs_of}
-use Rattle.lv_clauses.specs.Literals.{same_truth, lit_holds, clause_holds}
+use Rattle.lv_system.specs.lv_clauses.Literals.{same_truth, lit_holds, clause_holds}
 use Rattle.lv_formula.specs.Tree.{Tree, truth_of}
 use Rattle.lv_formula.specs.Fits.{fits}
 use Rattle.lv_model.specs.declared.plant.Plant.{Plant}
@@ -28,20 +28,20 @@ use Rattle.lv_meaning.specs.Commands.{control_sizes}
 use Rattle.lv_meaning.specs.Ranges.{modes_fit, ObservationFits}
 use Rattle.lv_meaning.specs.Recovers.{has_modes, has_controls, meets_goals}
 use Rattle.lv_meaning.specs.RecoveryLaws.{NominalStep}
-use Rattle.lv_compile.specs.Booleans.{booleans_next}
-use Rattle.lv_compile.specs.FormulaClauses.{Clauses, formula_clauses}
-use Rattle.lv_compile.specs.Laws.{Encode}
-use Rattle.lv_compile.proofs.CleaningLemmas.{cleaned_true}
-use Rattle.lv_compile.proofs.FormulaLemmas.{exact}
-use Rattle.lv_compile.proofs.RangeLemmas.{have_system}
+use Rattle.lv_search_zones.specs.lv_compile.Booleans.{booleans_next}
+use Rattle.lv_search_zones.specs.lv_compile.FormulaClauses.{Clauses, formula_clauses}
+use Rattle.lv_search_zones.specs.lv_compile.Laws.{Encode}
+use Rattle.lv_search_zones.proofs.lv_compile.CleaningLemmas.{cleaned_true}
+use Rattle.lv_search_zones.proofs.lv_compile.FormulaLemmas.{exact}
+use Rattle.lv_search_zones.proofs.lv_compile.RangeLemmas.{have_system}
 use Rattle.lv_system.specs.Decoding.{IsDecoded}
 use Rattle.lv_system.specs.Encoding.{truth_in}
 use Rattle.lv_system.specs.Laws.{IsWholeStep, IsModelOf}
 use Rattle.lv_system.specs.System.{SystemValue, IsSystemOf}
 use Rattle.lv_system.proofs.RangeLemmas.{below_from_assignment, below_from_full_choice, values_back, moves_back}
-use Rattle.lv_cert_meaning.specs.Counting.{are_of}
-use Rattle.lv_cert_meaning.specs.Units.{mode_literals, no_fault_literals, control_literal, nominal_units, goal_clauses}
-use Rattle.lv_cert_meaning.specs.Judging.{Judged, steps_nominally, is_nominal_pair, is_aimed_step}
+use Rattle.lv_cert_laws.specs.lv_cert_meaning.Counting.{are_of}
+use Rattle.lv_cert_laws.specs.lv_cert_meaning.Units.{mode_literals, no_fault_literals, control_literal, nominal_units, goal_clauses}
+use Rattle.lv_cert_laws.specs.lv_cert_meaning.Judging.{Judged, steps_nominally, is_nominal_pair, is_aimed_step}
 use Rattle.lv_cert_laws.proofs.Blocks.{units_hold}
 use Rattle.lv_cert_writing.specs.Lines.{numbers_of, value_numbers}
 use Rattle.lv_cert_writing.specs.Pairs.{HasChoice}

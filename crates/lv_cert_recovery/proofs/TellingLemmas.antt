@@ -6,7 +6,7 @@ use Rattle.std.proofs.lemmas.List.Elements.{All-head, All-tail}
 use Rattle.std.proofs.lemmas.List.Folds.{list_all_at}
 use Rattle.lv_base.specs.declared.ids.ValId.{ValId}
 use Rattle.lv_base.specs.declared.search.Pair.{Pair}
-use Rattle.lv_clauses.specs.Literals.{clause_holds}
+use Rattle.lv_system.specs.lv_clauses.Literals.{clause_holds}
 use Rattle.lv_formula.specs.Tree.{Tree, truth_of}
 use Rattle.lv_formula.specs.Fits.{fits}
 use Rattle.lv_model.specs.declared.plant.Plant.{Plant}
@@ -22,15 +22,15 @@ use Rattle.lv_meaning.specs.Ranges.{ObservationFits}
 use Rattle.lv_meaning.specs.Recovers.{meets_goals, reaches, can_miss}
 use Rattle.lv_meaning.specs.RecoveryLaws.{NominalStep}
 use Rattle.lv_meaning.proofs.NominalSteps.{StepFound, step_found, found_step, denied}
-use Rattle.lv_compile.specs.Booleans.{booleans_now, bool_count}
-use Rattle.lv_compile.specs.FormulaClauses.{Clauses}
-use Rattle.lv_compile.specs.ModelClauses.{model_clauses}
-use Rattle.lv_compile.specs.Laws.{literal_is_true, Encode}
+use Rattle.lv_search_zones.specs.lv_compile.Booleans.{booleans_now, bool_count}
+use Rattle.lv_search_zones.specs.lv_compile.FormulaClauses.{Clauses}
+use Rattle.lv_search_zones.specs.lv_compile.ModelClauses.{model_clauses}
+use Rattle.lv_search_zones.specs.lv_compile.Laws.{literal_is_true, Encode}
 use Rattle.lv_system.proofs.LiteralLemmas.{value_true}
-use Rattle.lv_cert_blocks.specs.Deriving.{Derived}
-use Rattle.lv_cert_blocks.proofs.DerivingLemmas.{refuted_fail}
-use Rattle.lv_cert_meaning.specs.Stated.{observed_literal}
-use Rattle.lv_cert_meaning.specs.Units.{goal_clauses}
+use Rattle.lv_cert_laws.specs.lv_cert_blocks.Deriving.{Derived}
+use Rattle.lv_cert_laws.proofs.lv_cert_blocks.DerivingLemmas.{refuted_fail}
+use Rattle.lv_cert_laws.specs.lv_cert_meaning.Stated.{observed_literal}
+use Rattle.lv_cert_laws.specs.lv_cert_meaning.Units.{goal_clauses}
 use Rattle.lv_cert_writing.proofs.Numbers.{have_value}
 use Rattle.lv_cert_laws.proofs.Blocked.{IsKnown, never_reached, never_missed}
 use Rattle.lv_cert_recovery.specs.Showing.{stated_by, own_clauses, reached_clauses, AreRefuted}

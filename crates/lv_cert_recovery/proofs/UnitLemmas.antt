@@ -14,8 +14,8 @@ use Rattle.lv_model.specs.Ranges.{plant_ranges}
 use Rattle.lv_meaning.specs.declared.facts.Observation.{Observation}
 use Rattle.lv_meaning.specs.Commands.{control_sizes}
 use Rattle.lv_meaning.specs.Ranges.{modes_fit, ObservationFits}
-use Rattle.lv_compile.specs.Booleans.{Booleans, booleans_now}
-use Rattle.lv_compile.specs.FormulaClauses.{size_of}
+use Rattle.lv_search_zones.specs.lv_compile.Booleans.{Booleans, booleans_now}
+use Rattle.lv_search_zones.specs.lv_compile.FormulaClauses.{size_of}
 use Rattle.lv_cert_writing.specs.Pairs.{HasChoice}
 use Rattle.lv_cert_writing.proofs.Numbers.{have_value}
 use Rattle.lv_cert_recovery.proofs.MeaningLemmas.{IsControl, control_of}

@@ -8,12 +8,12 @@ use Rattle.lv_cert.specs.declared.line.Question.TheVariants.{Recovery}
 use Rattle.lv_cert.specs.declared.line.Line.{Line}
 use Rattle.lv_cert.specs.declared.line.Line.TheVariants as line
 use Rattle.lv_cert.specs.declared.order.Place.TheVariants as place
-use Rattle.lv_cert_meaning.specs.Judging.{Judged, unjudged}
-use Rattle.lv_cert_meaning.specs.Laws.{aim_of}
+use Rattle.lv_cert_laws.specs.lv_cert_meaning.Judging.{Judged, unjudged}
+use Rattle.lv_cert_laws.specs.lv_cert_meaning.Laws.{aim_of}
 use Rattle.lv_cert_writing.specs.Ending.{Ends, BeginApart}
 use Rattle.lv_cert_writing.specs.Splitting.{AreSplits, none, one_more}
 use Rattle.lv_cert_writing.proofs.Splits.{splits_end}
-use Rattle.lv_cert_meaning.specs.Certifying.{CertifiesRecovery, AreFormed}
+use Rattle.lv_cert_laws.specs.lv_cert_meaning.Certifying.{CertifiesRecovery, AreFormed}
 use Rattle.lv_cert_recovery.specs.Showing.{head_lines}
 use Rattle.lv_cert_recovery.specs.Leading.{asked, excluding, task_of, Standing, judged_at, Answers, AnswerFrom, Lead}
 use Rattle.lv_cert_recovery.specs.Closing.{AreClosing}

@@ -6,7 +6,7 @@ use Rattle.lv_model.specs.Lists.{controls}
 use Rattle.lv_model.specs.WellFormed.{is_well_formed}
 use Rattle.lv_meaning.specs.declared.aim.Aim.{Aim}
 use Rattle.lv_system.specs.System.{SystemValue, IsSystemOf}
-use Rattle.lv_cert_meaning.specs.Certifying.{IsAsked}
+use Rattle.lv_cert_laws.specs.lv_cert_meaning.Certifying.{IsAsked}
 
 -- the plant, the aim, and the plant's system
 pub record Asked : Type 0 where

@@ -6,8 +6,8 @@ use Rattle.lv_model.specs.declared.plant.Plant.{Plant}
 use Rattle.lv_search_zones.specs.Commands.{control_slots, command_zone}
 use Rattle.lv_cert.specs.declared.line.Question.TheVariants.{Recovery}
 use Rattle.lv_cert.specs.declared.line.Line.{Line}
-use Rattle.lv_cert_meaning.specs.Space.{Space, all_passed}
-use Rattle.lv_cert_meaning.specs.Judging.{Judged, full_to}
+use Rattle.lv_cert_laws.specs.lv_cert_meaning.Space.{Space, all_passed}
+use Rattle.lv_cert_laws.specs.lv_cert_meaning.Judging.{Judged, full_to}
 use Rattle.lv_cert_writing.specs.Splitting.{AreSplits}
 
 -- where this is listed and excluded, the lines split the zone of all command sets until each part is passed

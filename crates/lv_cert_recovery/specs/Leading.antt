@@ -8,7 +8,7 @@ use Rattle.lv_model.specs.declared.plant.Plant.{Plant}
 use Rattle.lv_model.specs.declared.state.TrackedState.{TrackedState}
 use Rattle.lv_meaning.specs.declared.aim.Aim.{Aim}
 use Rattle.lv_meaning.specs.Recovers.{reaches, can_miss}
-use Rattle.lv_compile.specs.FormulaClauses.{Clauses}
+use Rattle.lv_search_zones.specs.lv_compile.FormulaClauses.{Clauses}
 use Rattle.lv_search_zones.specs.Commands.{control_slots, command_zone}
 use Rattle.lv_cert.specs.declared.line.Question.TheVariants.{Recovery}
 use Rattle.lv_cert.specs.declared.line.Evidence.{Evidence}
@@ -20,7 +20,7 @@ use Rattle.lv_cert.specs.declared.order.Stage.{Stage}
 use Rattle.lv_cert.specs.declared.order.Place.{Place}
 use Rattle.lv_cert.specs.declared.order.Place.TheVariants as place
 use Rattle.lv_cert.specs.Order.{after_splits, after_blocks, place_after}
-use Rattle.lv_cert_meaning.specs.Judging.{Aimed, Judged}
+use Rattle.lv_cert_laws.specs.lv_cert_meaning.Judging.{Aimed, Judged}
 use Rattle.lv_cert_writing.specs.Ending.{Ends, BeginApart}
 use Rattle.lv_cert_recovery.specs.Showing.{stated_by}
 

@@ -8,17 +8,17 @@ use Rattle.lv_model.specs.declared.state.State.{State}
 use Rattle.lv_meaning.specs.Possible.{value}
 use Rattle.lv_meaning.specs.declared.aim.Aim.{Aim}
 use Rattle.lv_meaning.specs.RecoveryLaws.{NominalStep}
-use Rattle.lv_compile.specs.Booleans.{booleans_now, bool_count}
-use Rattle.lv_compile.specs.FormulaClauses.{Clauses}
-use Rattle.lv_compile.specs.ModelClauses.{model_clauses}
-use Rattle.lv_cert_blocks.specs.Deriving.{Derived, refutes}
+use Rattle.lv_search_zones.specs.lv_compile.Booleans.{booleans_now, bool_count}
+use Rattle.lv_search_zones.specs.lv_compile.FormulaClauses.{Clauses}
+use Rattle.lv_search_zones.specs.lv_compile.ModelClauses.{model_clauses}
+use Rattle.lv_cert_laws.specs.lv_cert_blocks.Deriving.{Derived, refutes}
 use Rattle.lv_cert.specs.declared.line.Question.TheVariants.{Recovery}
 use Rattle.lv_cert.specs.declared.line.Moment.TheVariants.{Now}
 use Rattle.lv_cert.specs.declared.line.Head.TheVariants as head
 use Rattle.lv_cert.specs.declared.line.Line.{Line}
 use Rattle.lv_cert.specs.declared.line.Line.TheVariants as line
-use Rattle.lv_cert_meaning.specs.Stated.{Stated, observed_literal}
-use Rattle.lv_cert_meaning.specs.Units.{nominal_units, goal_clauses}
+use Rattle.lv_cert_laws.specs.lv_cert_meaning.Stated.{Stated, observed_literal}
+use Rattle.lv_cert_laws.specs.lv_cert_meaning.Units.{nominal_units, goal_clauses}
 use Rattle.lv_cert_writing.specs.Lines.{numbers_of, state_lines, fact_lines, values_line, pair_numbers, clause_lines}
 
 -- what is stated of what a recovery is asked

@@ -2,7 +2,7 @@
 #![tactic(auto)]
 
 ghost use Rattle.std.specs.Prelude.{◌≡◌, ◌<◌, ◌≤◌, ◌^◌, ◌++◌, true, not, map, length, slice_index_or, All, IfOk};
-ghost use Rattle.lv_compile.specs.Booleans.{booleans_now};
+ghost use Rattle.lv_search_zones.specs.lv_compile.Booleans.{booleans_now};
 ghost use Rattle.lv_meaning.specs.Candidates.{type_moves};
 ghost use Rattle.lv_model.specs.Lists.{controls, move_counts};
 ghost use Rattle.lv_model.specs.Meaning.{is_no_fault};
@@ -10,8 +10,8 @@ ghost use Rattle.lv_model.specs.Ranges.{plant_ranges};
 ghost use Rattle.lv_meaning.specs.Commands.{control_sizes};
 ghost use Rattle.lv_meaning.specs.Ranges.{modes_fit, ObservationFits};
 ghost use Rattle.lv_system.specs.System.{IsSystemOf};
-ghost use Rattle.lv_cert_meaning.specs.Stated.{observed_literal};
-ghost use Rattle.lv_cert_meaning.specs.Units.{mode_literals, no_fault_of, no_fault_literals, control_literal};
+ghost use Rattle.lv_cert_laws.specs.lv_cert_meaning.Stated.{observed_literal};
+ghost use Rattle.lv_cert_laws.specs.lv_cert_meaning.Units.{mode_literals, no_fault_of, no_fault_literals, control_literal};
 ghost use Rattle.lv_cert_writing.specs.Pairs.{HasChoice};
 
 use lv_base::{Lit, MoveId, Pair, PartId, ValId, VarId};

@@ -3,7 +3,7 @@
 
 ghost use Rattle.std.specs.Prelude.{◌≡◌, [], IfOk};
 ghost use Rattle.lv_system.specs.System.{IsSystemOf};
-ghost use Rattle.lv_cert_meaning.specs.Certifying.{CertifiesRecovery, IsAsked, AreTexts, IsSettledRecovery, AreFormed};
+ghost use Rattle.lv_cert_laws.specs.lv_cert_meaning.Certifying.{CertifiesRecovery, IsAsked, AreTexts, IsSettledRecovery, AreFormed};
 ghost use Rattle.lv_cert_writing.specs.Lines.{split_lines};
 ghost use Rattle.lv_cert_recovery.specs.Closing.{AreClosing};
 ghost use Rattle.lv_cert_recovery.specs.Leading.{asked, excluding, standing, LeadsOn};

@@ -4,17 +4,17 @@ use Rattle.std.specs.List.{list_all}
 use Rattle.std.proofs.lemmas.Bool.{and_parts, and_from}
 use Rattle.std.proofs.lemmas.Bool.Decides.{nat_tests}
 use Rattle.lv_base.specs.declared.ids.Lit.{Lit}
-use Rattle.lv_clauses.specs.declared.marks.Finding.{Finding}
-use Rattle.lv_clauses.specs.declared.marks.Finding.TheVariants.{AllFalse, Unit, Open}
-use Rattle.lv_clauses.specs.Literals.{in_range, distinct, is_clause}
-use Rattle.lv_clauses.specs.ClauseMap.{Slots}
-use Rattle.lv_clauses.specs.Marks.{Marks, nothing, marked, look_at}
-use Rattle.lv_clauses.proofs.LiteralLemmas.{lit_of, not_not}
+use Rattle.lv_reflog.specs.lv_clauses.declared.marks.Finding.{Finding}
+use Rattle.lv_reflog.specs.lv_clauses.declared.marks.Finding.TheVariants.{AllFalse, Unit, Open}
+use Rattle.lv_reflog.specs.lv_clauses.Literals.{in_range, distinct, is_clause}
+use Rattle.lv_reflog.specs.lv_clauses.ClauseMap.{Slots}
+use Rattle.lv_reflog.specs.lv_clauses.Marks.{Marks, nothing, marked, look_at}
+use Rattle.lv_reflog.proofs.lv_clauses.LiteralLemmas.{lit_of, not_not}
 use Rattle.lv_reflog.specs.declared.log.Hint.{Hint}
 use Rattle.lv_reflog.specs.declared.log.Step.{Step}
 use Rattle.lv_reflog.specs.Following as Log
 use Rattle.lv_reflog.specs.Following.{goes_on, goes_on_from, denied}
-use Rattle.lv_cert_blocks.specs.Following.{names_boolean, literal_of, numbered, is_last, ends_well, follows}
+use Rattle.lv_cert_numbers.specs.lv_cert_blocks.Following.{names_boolean, literal_of, numbered, is_last, ends_well, follows}
 use Rattle.lv_cert_writing.specs.BlockLines.{literal_with, hint_number}
 use Rattle.lv_cert_writing.specs.Needed.{has_named}
 

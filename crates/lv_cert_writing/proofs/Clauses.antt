@@ -6,15 +6,15 @@ use Rattle.std.proofs.lemmas.Bool.{and_parts, and_from, lt-ltb, leb-true}
 use Rattle.std.proofs.lemmas.Bool.Decides.{nat_tests}
 use Rattle.std.proofs.lemmas.List.{append_assoc, append-nil, length-append}
 use Rattle.lv_base.specs.declared.ids.Lit.{Lit}
-use Rattle.lv_clauses.specs.declared.marks.Finding.{Finding}
-use Rattle.lv_clauses.specs.declared.marks.Finding.TheVariants.{AllFalse, Unit, Open}
-use Rattle.lv_clauses.specs.Marks.{Marks, look_at, marked, nothing}
-use Rattle.lv_clauses.specs.Literals.{distinct}
+use Rattle.lv_reflog.specs.lv_clauses.declared.marks.Finding.{Finding}
+use Rattle.lv_reflog.specs.lv_clauses.declared.marks.Finding.TheVariants.{AllFalse, Unit, Open}
+use Rattle.lv_reflog.specs.lv_clauses.Marks.{Marks, look_at, marked, nothing}
+use Rattle.lv_reflog.specs.lv_clauses.Literals.{distinct}
 use Rattle.lv_reflog.specs.Following.{goes_on, goes_on_from, denied}
 use Rattle.lv_model.specs.declared.plant.Plant.{Plant}
-use Rattle.lv_compile.specs.Booleans.{bool_count}
-use Rattle.lv_compile.specs.FormulaClauses.{Clauses}
-use Rattle.lv_compile.specs.ModelClauses.{model_clauses}
+use Rattle.lv_system.specs.lv_compile.Booleans.{bool_count}
+use Rattle.lv_system.specs.lv_compile.FormulaClauses.{Clauses}
+use Rattle.lv_system.specs.lv_compile.ModelClauses.{model_clauses}
 use Rattle.lv_cert.specs.declared.line.Question.{Question}
 use Rattle.lv_cert.specs.declared.line.Literal.{Literal}
 use Rattle.lv_cert.specs.declared.line.Line.{Line}
@@ -23,9 +23,9 @@ use Rattle.lv_cert.specs.declared.order.Place.{Place}
 use Rattle.lv_cert.specs.declared.order.Place.TheVariants.{Done}
 use Rattle.lv_cert.specs.Order.{place_after, place_behind}
 use Rattle.lv_cert.specs.Form.{is_formed, is_formed_literal, is_formed_hint, is_within_limit}
-use Rattle.lv_cert_blocks.specs.Following.{names_boolean, literal_of, numbered, is_last, ends_well, follows}
-use Rattle.lv_cert_blocks.specs.Deriving.{Derived, clause_of_line, derives, ends_empty as lines_end_empty}
-use Rattle.lv_cert_meaning.specs.Judging.{Judged, ends_empty_after}
+use Rattle.lv_cert_numbers.specs.lv_cert_blocks.Following.{names_boolean, literal_of, numbered, is_last, ends_well, follows}
+use Rattle.lv_cert_numbers.specs.lv_cert_blocks.Deriving.{Derived, clause_of_line, derives, ends_empty as lines_end_empty}
+use Rattle.lv_cert_numbers.specs.lv_cert_meaning.Judging.{Judged, ends_empty_after}
 use Rattle.lv_cert_writing.specs.Lines.{clause_line, clause_lines}
 use Rattle.lv_cert_writing.specs.Ending.{Ends, BeginApart}
 use Rattle.lv_cert_writing.proofs.Ending.{line_first}

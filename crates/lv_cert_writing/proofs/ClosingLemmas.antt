@@ -11,12 +11,12 @@ use Rattle.lv_base.specs.declared.rank.Rank.{Rank}
 use Rattle.lv_base.specs.declared.search.Pair.{Pair}
 use Rattle.lv_boxes.specs.Members.{ZoneValue}
 use Rattle.lv_boxes.specs.Parts.{parts_of}
-use Rattle.lv_search_walk.specs.Walk.{candidate_of}
+use Rattle.lv_boxes.specs.lv_search_walk.Walk.{candidate_of}
 use Rattle.lv_cert.specs.declared.line.Question.{Question}
 use Rattle.lv_cert.specs.declared.line.Evidence.{Evidence}
 use Rattle.lv_cert.specs.Order.{splits}
-use Rattle.lv_cert_meaning.specs.Space.{Space, same_zone, open_zone, with_split, least_rank, is_behind, is_passed}
-use Rattle.lv_cert_meaning.specs.Judging.{Judged, choices_of, judge_split}
+use Rattle.lv_cert_numbers.specs.lv_cert_meaning.Space.{Space, same_zone, open_zone, with_split, least_rank, is_behind, is_passed}
+use Rattle.lv_cert_numbers.specs.lv_cert_meaning.Judging.{Judged, choices_of, judge_split}
 use Rattle.lv_cert_writing.specs.Explained.{is_explained, AreExplained}
 use Rattle.lv_cert_writing.specs.Closing.{can_be_listed, Cut, cut_before, cut_at, after_cut, judge_splits, Closes}
 use Rattle.lv_cert_writing.specs.declared.closing.Split.{Split}

@@ -9,15 +9,15 @@ use Rattle.lv_base.specs.declared.rank.Rank.{Rank}
 use Rattle.lv_base.specs.declared.search.Pair.{Pair}
 use Rattle.lv_base.specs.Choices.{contains_all, pairs_from, pairs_of}
 use Rattle.lv_boxes.specs.Members.{ZoneValue}
-use Rattle.lv_search_walk.specs.Ranked.{is_rank, is_among}
-use Rattle.lv_search_walk.specs.Walk.{is_ruled_out}
-use Rattle.lv_search_walk.proofs.RankedLemmas.{same_rank}
+use Rattle.lv_boxes.specs.lv_search_walk.Ranked.{is_rank, is_among}
+use Rattle.lv_boxes.specs.lv_search_walk.Walk.{is_ruled_out}
+use Rattle.lv_boxes.proofs.lv_search_walk.RankedLemmas.{same_rank}
 use Rattle.lv_cert.specs.declared.line.Question.{Question}
 use Rattle.lv_cert.specs.declared.line.Question.TheVariants.{Diagnosis, Recovery}
 use Rattle.lv_cert.specs.Order.{splits}
-use Rattle.lv_cert_meaning.specs.Counting.{at_number}
-use Rattle.lv_cert_meaning.specs.Space.{is_behind}
-use Rattle.lv_cert_meaning.specs.Judging.{Judged, listed_choices, choices_of}
+use Rattle.lv_cert_numbers.specs.lv_cert_meaning.Counting.{at_number}
+use Rattle.lv_cert_numbers.specs.lv_cert_meaning.Space.{is_behind}
+use Rattle.lv_cert_numbers.specs.lv_cert_meaning.Judging.{Judged, listed_choices, choices_of}
 use Rattle.lv_cert_writing.specs.Explained.{is_explained}
 use Rattle.lv_cert_writing.specs.Closing.{can_be_listed, listed_evidence, Cut, cut_by_conflict, cut_by_listed, cut_of, cut_before}
 

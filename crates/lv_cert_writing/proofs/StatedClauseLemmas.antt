@@ -5,13 +5,13 @@ use Rattle.std.proofs.lemmas.Bool.{and_from}
 use Rattle.std.proofs.lemmas.List.{append_assoc, length-append, length-map, length-take, take_more}
 use Rattle.std.proofs.lemmas.List.Folds.{list_all-append}
 use Rattle.lv_base.specs.declared.ids.Lit.{Lit}
-use Rattle.lv_clauses.specs.Literals.{clause_holds}
-use Rattle.lv_clauses.specs.ClauseMap.{ClauseMap, clause_at, Puts, satisfies}
-use Rattle.lv_clauses.proofs.LiteralLemmas.{present_holds}
+use Rattle.lv_reflog.specs.lv_clauses.Literals.{clause_holds}
+use Rattle.lv_reflog.specs.lv_clauses.ClauseMap.{ClauseMap, clause_at, Puts, satisfies}
+use Rattle.lv_reflog.proofs.lv_clauses.LiteralLemmas.{present_holds}
 use Rattle.lv_system.specs.System.{SystemValue}
 use Rattle.lv_system.proofs.NumberingLemmas.{all_present_hold}
-use Rattle.lv_cert_blocks.specs.Blocks.{clauses_of}
-use Rattle.lv_cert_blocks.specs.Deriving.{refutes}
+use Rattle.lv_cert_numbers.specs.lv_cert_blocks.Blocks.{clauses_of}
+use Rattle.lv_cert_numbers.specs.lv_cert_blocks.Deriving.{refutes}
 use Rattle.lv_cert_writing.specs.declared.refuter.Refuted.{Refuted}
 use Rattle.lv_cert_writing.specs.declared.refuter.Refuted.TheVariants.{Values, Lines}
 use Rattle.lv_cert_writing.specs.BlockLines.{derived_of}

@@ -6,8 +6,8 @@ use Rattle.std.proofs.lemmas.List.{append_assoc, append-nil}
 use Rattle.std.proofs.lemmas.List.Elements.{All-head, All-tail}
 use Rattle.lv_base.specs.declared.limits.TheConstants.{TRACKED, TRACKED_COST}
 use Rattle.lv_base.specs.declared.ids.ValId.{ValId}
-use Rattle.lv_formula.specs.declared.range.Range.{Range}
-use Rattle.lv_formula.specs.Fits.{has_value}
+use Rattle.lv_model.specs.lv_formula.declared.range.Range.{Range}
+use Rattle.lv_model.specs.lv_formula.Fits.{has_value}
 use Rattle.lv_model.specs.declared.plant.Plant.{Plant}
 use Rattle.lv_model.specs.declared.plant.Part.{Part}
 use Rattle.lv_model.specs.declared.state.TrackedState.{TrackedState}
@@ -23,9 +23,9 @@ use Rattle.lv_cert.specs.declared.line.Line.TheVariants as line
 use Rattle.lv_cert.specs.declared.order.Place.{Place}
 use Rattle.lv_cert.specs.Order.{place_after}
 use Rattle.lv_cert.specs.Form.{is_formed, is_within_limit}
-use Rattle.lv_cert_meaning.specs.Counting.{is_one_of, are_of, values_of, mode_counts}
-use Rattle.lv_cert_meaning.specs.Stated.{state_of, with_state}
-use Rattle.lv_cert_meaning.specs.Judging.{Judged}
+use Rattle.lv_cert_numbers.specs.lv_cert_meaning.Counting.{is_one_of, are_of, values_of, mode_counts}
+use Rattle.lv_cert_numbers.specs.lv_cert_meaning.Stated.{state_of, with_state}
+use Rattle.lv_cert_numbers.specs.lv_cert_meaning.Judging.{Judged}
 use Rattle.lv_cert_writing.specs.Lines.{value_numbers, state_line, state_lines}
 use Rattle.lv_cert_writing.specs.Ending.{Ends}
 use Rattle.lv_cert_writing.proofs.Ending.{line_first}

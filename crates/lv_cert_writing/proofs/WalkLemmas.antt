@@ -7,15 +7,15 @@ use Rattle.std.proofs.lemmas.List.{append_assoc, append-nil, map-append, get_or_
 use Rattle.std.proofs.Math.Seq.{get_or-append_seam}
 use Rattle.std.proofs.lemmas.Option.{slice_get_within}
 use Rattle.lv_base.specs.declared.ids.Lit.{Lit}
-use Rattle.lv_clauses.specs.ClauseMap.{ClauseMap}
+use Rattle.lv_reflog.specs.lv_clauses.ClauseMap.{ClauseMap}
 use Rattle.lv_reflog.specs.declared.log.Hint.{Hint}
 use Rattle.lv_reflog.specs.declared.log.Hint.TheVariants.{Given, Earlier}
 use Rattle.lv_reflog.specs.declared.log.Step.{Step}
 use Rattle.lv_reflog.specs.Following.{first_bad_after, follows_by_hints}
 use Rattle.lv_reflog.proofs.SoundLemmas.{first_bad-next}
 use Rattle.lv_cert.specs.declared.line.Literal.{Literal}
-use Rattle.lv_cert_blocks.specs.Following.{literal_of, numbered, follows}
-use Rattle.lv_cert_blocks.specs.Deriving.{Derived, clause_of_line, derives, ends_empty, refutes}
+use Rattle.lv_cert_numbers.specs.lv_cert_blocks.Following.{literal_of, numbered, follows}
+use Rattle.lv_cert_numbers.specs.lv_cert_blocks.Deriving.{Derived, clause_of_line, derives, ends_empty, refutes}
 use Rattle.lv_cert_writing.specs.declared.derivation.Derivation.{Derivation}
 use Rattle.lv_cert_writing.specs.Needed.{is_marked, has_named}
 use Rattle.lv_cert_writing.specs.BlockLines.{literal_with, line_of, derived_of, IsRefuting}

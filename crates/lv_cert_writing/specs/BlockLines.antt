@@ -1,14 +1,14 @@
 -- The steps of a log as lines of a block.
 use Rattle.std.specs.Prelude.{◌≡◌, ◌+◌, ℕ, Bool, not, List, [], map, Some, None, slice_index}
 use Rattle.lv_base.specs.declared.ids.Lit.{Lit}
-use Rattle.lv_clauses.specs.ClauseMap.{ClauseMap}
+use Rattle.lv_reflog.specs.lv_clauses.ClauseMap.{ClauseMap}
 use Rattle.lv_reflog.specs.declared.log.Hint.{Hint}
 use Rattle.lv_reflog.specs.declared.log.Hint.TheVariants.{Given, Earlier}
 use Rattle.lv_reflog.specs.declared.log.Step.{Step}
 use Rattle.lv_reflog.specs.Following.{first_bad_step}
 use Rattle.lv_sat.specs.Answers.{last_clause}
 use Rattle.lv_cert.specs.declared.line.Literal.{Literal}
-use Rattle.lv_cert_blocks.specs.Deriving.{Derived}
+use Rattle.lv_cert_numbers.specs.lv_cert_blocks.Deriving.{Derived}
 use Rattle.lv_cert_writing.specs.declared.derivation.Derivation.{Derivation}
 use Rattle.lv_cert_writing.specs.BlockNumbers.{HaveNumbers}
 use Rattle.lv_cert_writing.specs.Needed.{AreNeeded}

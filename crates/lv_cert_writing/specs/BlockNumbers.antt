@@ -4,11 +4,11 @@ use Rattle.std.specs.Prelude.{◌≡◌, ◌≢◌, ℕ, true, List, Some, slice
 use Rattle.std.specs.List.{list_any}
 use Rattle.lv_base.specs.declared.ids.Lit.{Lit}
 use Rattle.lv_base.specs.declared.ids.ClauseId.{ClauseId}
-use Rattle.lv_clauses.specs.ClauseMap.{Slots, clause_at}
+use Rattle.lv_reflog.specs.lv_clauses.ClauseMap.{Slots, clause_at}
 use Rattle.lv_system.specs.Numbering.{has_number}
 use Rattle.lv_system.specs.System.{SystemValue}
-use Rattle.lv_cert_blocks.specs.Following.{numbered}
-use Rattle.lv_cert_blocks.specs.Blocks.{clauses_of}
+use Rattle.lv_cert_numbers.specs.lv_cert_blocks.Following.{numbered}
+use Rattle.lv_cert_numbers.specs.lv_cert_blocks.Blocks.{clauses_of}
 
 -- each clause of the set has, by the number kept at its place, its like among the numbered ones
 pub record HaveNumbers (slots : Slots) (clauses : List (List Lit)) (numbers : List ℕ) : Type 0 where

@@ -7,14 +7,14 @@ use Rattle.lv_base.specs.declared.rank.Rank.{Rank}
 use Rattle.lv_base.specs.declared.search.Pair.{Pair}
 use Rattle.lv_base.specs.Choices.{contains_all, pairs_of}
 use Rattle.lv_boxes.specs.Members.{ZoneValue}
-use Rattle.lv_search_walk.specs.Ranked.{is_rank}
+use Rattle.lv_boxes.specs.lv_search_walk.Ranked.{is_rank}
 use Rattle.lv_cert.specs.declared.line.Question.{Question}
 use Rattle.lv_cert.specs.declared.line.Question.TheVariants.{Diagnosis, Recovery}
 use Rattle.lv_cert.specs.declared.line.Evidence.{Evidence}
 use Rattle.lv_cert.specs.declared.line.Evidence.TheVariants as evidence
 use Rattle.lv_cert.specs.Order.{splits}
-use Rattle.lv_cert_meaning.specs.Space.{Space, open_zone, with_split, least_rank, is_behind, all_passed}
-use Rattle.lv_cert_meaning.specs.Judging.{Judged, judge_split}
+use Rattle.lv_cert_numbers.specs.lv_cert_meaning.Space.{Space, open_zone, with_split, least_rank, is_behind, all_passed}
+use Rattle.lv_cert_numbers.specs.lv_cert_meaning.Judging.{Judged, judge_split}
 use Rattle.lv_cert_writing.specs.declared.closing.Split.{Split}
 
 -- so many may be listed: of command sets one at most

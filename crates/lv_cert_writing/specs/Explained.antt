@@ -5,11 +5,11 @@ use Rattle.lv_base.specs.declared.ids.Cost.{Cost}
 use Rattle.lv_base.specs.declared.rank.Rank.{Rank}
 use Rattle.lv_base.specs.declared.search.Pair.{Pair}
 use Rattle.lv_boxes.specs.Members.{ZoneValue}
-use Rattle.lv_search_walk.specs.Ranked.{is_among}
-use Rattle.lv_search_walk.specs.Walk.{is_ruled_out}
+use Rattle.lv_boxes.specs.lv_search_walk.Ranked.{is_among}
+use Rattle.lv_boxes.specs.lv_search_walk.Walk.{is_ruled_out}
 use Rattle.lv_boxes.specs.RankedMembers.{ranks_in}
-use Rattle.lv_cert_meaning.specs.Space.{is_behind}
-use Rattle.lv_cert_meaning.specs.Judging.{last_of}
+use Rattle.lv_cert_numbers.specs.lv_cert_meaning.Space.{is_behind}
+use Rattle.lv_cert_numbers.specs.lv_cert_meaning.Judging.{last_of}
 
 -- it ranks behind the last that counts, or an excluded conflict is in it, or it is listed
 abbrev pub is_explained : Option Rank → List Rank → List (List Pair) → Rank → Bool

@@ -2,11 +2,11 @@
 use Rattle.std.specs.Prelude.{◌≡◌, Bool, true, List, [], ◌++◌, length, map}
 use Rattle.std.specs.List.{list_all}
 use Rattle.lv_base.specs.declared.ids.Lit.{Lit}
-use Rattle.lv_clauses.specs.Literals.{clause_holds}
-use Rattle.lv_clauses.specs.ClauseMap.{ClauseMap, satisfies}
+use Rattle.lv_reflog.specs.lv_clauses.Literals.{clause_holds}
+use Rattle.lv_reflog.specs.lv_clauses.ClauseMap.{ClauseMap, satisfies}
 use Rattle.lv_system.specs.System.{SystemValue}
-use Rattle.lv_cert_blocks.specs.Blocks.{clauses_of}
-use Rattle.lv_cert_blocks.specs.Deriving.{refutes}
+use Rattle.lv_cert_numbers.specs.lv_cert_blocks.Blocks.{clauses_of}
+use Rattle.lv_cert_numbers.specs.lv_cert_blocks.Deriving.{refutes}
 use Rattle.lv_cert_writing.specs.declared.refuter.Refuted.{Refuted}
 use Rattle.lv_cert_writing.specs.declared.refuter.Refuted.TheVariants.{Values, Lines}
 use Rattle.lv_cert_writing.specs.BlockLines.{derived_of}

@@ -3,8 +3,8 @@
 
 ghost use Rattle.std.specs.Prelude.{◌≡◌, ◌<◌, ◌^◌, ℕ, true, List, IfOk, length, map};
 ghost use Rattle.lv_base.specs.declared.ids.Lit.{Lit};
-ghost use Rattle.lv_clauses.specs.ClauseMap.{ClauseMap};
-ghost use Rattle.lv_cert_blocks.specs.Deriving.{refutes};
+ghost use Rattle.lv_reflog.specs.lv_clauses.ClauseMap.{ClauseMap};
+ghost use Rattle.lv_cert_numbers.specs.lv_cert_blocks.Deriving.{refutes};
 ghost use Rattle.lv_cert_writing.specs.BlockLines as Lines;
 ghost use Rattle.lv_cert_writing.specs.BlockLines.{derived_of, IsRefuting};
 

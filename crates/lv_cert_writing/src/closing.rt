@@ -6,8 +6,8 @@ ghost use Rattle.std.specs.Prelude.{◌≡◌, ◌≤◌, ◌^◌, true, length,
 ghost use Rattle.std.specs.Option.{option_copied};
 ghost use Rattle.lv_base.specs.Choices.{contains_all};
 ghost use Rattle.lv_boxes.specs.Members.{ZoneValue};
-ghost use Rattle.lv_search_walk.specs.Ranked.{is_rank};
-ghost use Rattle.lv_cert_meaning.specs.Space as Spaces;
+ghost use Rattle.lv_boxes.specs.lv_search_walk.Ranked.{is_rank};
+ghost use Rattle.lv_cert_numbers.specs.lv_cert_meaning.Space as Spaces;
 ghost use Rattle.lv_cert_writing.specs.Explained.{AreExplained};
 ghost use Rattle.lv_cert_writing.specs.Explained as Explanations;
 ghost use Rattle.lv_cert_writing.specs.Closing.{Cut, can_be_listed, cut_of, cut_at, with_cut, after_cut, Closes, EvidenceIsSmall, SplitIsSmall};

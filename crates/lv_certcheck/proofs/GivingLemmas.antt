@@ -7,7 +7,7 @@ use Rattle.lv_base.specs.declared.ids.Lit.{Lit}
 use Rattle.lv_base.specs.declared.ids.ValId.{ValId}
 use Rattle.lv_base.specs.declared.ids.VarId.{VarId}
 use Rattle.lv_model.specs.declared.plant.Part.{Part}
-use Rattle.lv_compile.specs.FormulaClauses.{Clauses}
+use Rattle.lv_search_zones.specs.lv_compile.FormulaClauses.{Clauses}
 use Rattle.lv_cert_blocks.specs.Blocks.{BlockValue, with_clause}
 use Rattle.lv_cert_numbers.specs.Fitting.{are_values}
 use Rattle.lv_certcheck.specs.Giving.{with_clauses}

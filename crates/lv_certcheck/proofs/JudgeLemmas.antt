@@ -29,12 +29,12 @@ use Rattle.lv_cert.specs.declared.line.Moment.{Moment}
 use Rattle.lv_cert.specs.declared.line.Moment.TheVariants.{Now, Next}
 use Rattle.lv_formula.specs.Tree.{Tree}
 use Rattle.lv_base.specs.Choices.{pairs_of, pairs_from}
-use Rattle.lv_cert_meaning.specs.Counting.{is_one_of, at_number, pairs_of_numbers}
-use Rattle.lv_cert_meaning.specs.Judging as Judging
-use Rattle.lv_cert_meaning.specs.Space.{open_zone, with_split}
-use Rattle.lv_cert_meaning.specs.Stated.{Stated, with_state}
-use Rattle.lv_cert_meaning.specs.Units.{units, choice_literal, nominal_units, goal_clauses}
-use Rattle.lv_compile.specs.FormulaClauses.{Clauses}
+use Rattle.lv_cert_laws.specs.lv_cert_meaning.Counting.{is_one_of, at_number, pairs_of_numbers}
+use Rattle.lv_cert_laws.specs.lv_cert_meaning.Judging as Judging
+use Rattle.lv_cert_laws.specs.lv_cert_meaning.Space.{open_zone, with_split}
+use Rattle.lv_cert_laws.specs.lv_cert_meaning.Stated.{Stated, with_state}
+use Rattle.lv_cert_laws.specs.lv_cert_meaning.Units.{units, choice_literal, nominal_units, goal_clauses}
+use Rattle.lv_search_zones.specs.lv_compile.FormulaClauses.{Clauses}
 use Rattle.lv_cert_blocks.specs.Blocks.{BlockValue}
 use Rattle.lv_meaning.specs.Commands.{control_sizes, is_command_set}
 use Rattle.lv_cert_numbers.specs.Fitting.{IsStateOf, HasFewChoices, IsPairOf}

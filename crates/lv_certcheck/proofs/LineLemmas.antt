@@ -5,7 +5,7 @@ use Rattle.std.proofs.lemmas.List.{take_all, length-drop}
 use Rattle.lv_model.specs.declared.plant.Plant.{Plant}
 use Rattle.lv_cert.specs.declared.line.Question.{Question}
 use Rattle.lv_cert.specs.declared.line.Line.{Line}
-use Rattle.lv_cert_meaning.specs.Judging.{Judged, Judgement, is_bad_at, judge_line, judge_lines}
+use Rattle.lv_cert_laws.specs.lv_cert_meaning.Judging.{Judged, Judgement, is_bad_at, judge_line, judge_lines}
 
 first_at : (lines : List Line) (k : ℕ) (l : Line) → k < length lines → l ≡ slice_index_or lines k l → drop k lines ≡ l ∷ drop (suc k) lines
 first_at [] k l below at = absurd (omega (arith, below))

@@ -4,7 +4,7 @@ use Rattle.lv_model.specs.declared.plant.Plant.{Plant}
 use Rattle.lv_model.specs.WellFormed.{is_well_formed}
 use Rattle.lv_cert.specs.declared.line.Line.{Line}
 use Rattle.lv_cert.specs.Form.{IsCertificate}
-use Rattle.lv_cert_meaning.specs.Judging.{Judgement, comes_to, is_bad_at, judgement}
+use Rattle.lv_cert_laws.specs.lv_cert_meaning.Judging.{Judgement, comes_to, is_bad_at, judgement}
 use Rattle.lv_cert_laws.proofs.DiagnosisWhole.{diagnosis_answers}
 use Rattle.lv_cert_laws.proofs.RecoveryWhole.{recovery_answers}
 use Rattle.lv_certcheck.specs.declared.check.Verdict.{Verdict}

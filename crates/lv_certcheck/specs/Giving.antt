@@ -1,6 +1,6 @@
 -- Clauses that are given to a block, and what has to be known of what they say.
 use Rattle.std.specs.Prelude.{◌≡◌, ◌<◌, ◌≤◌, ℕ, true, List, ◌++◌, All, length, slice_index_or, IfSome}
-use Rattle.lv_compile.specs.FormulaClauses.{Clauses}
+use Rattle.lv_search_zones.specs.lv_compile.FormulaClauses.{Clauses}
 use Rattle.lv_base.specs.declared.ids.ValId.{ValId}
 use Rattle.lv_base.specs.declared.limits.TheConstants.{TRACKED}
 use Rattle.lv_model.specs.declared.plant.Plant.{Plant}

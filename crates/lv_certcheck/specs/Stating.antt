@@ -5,7 +5,7 @@ use Rattle.lv_meaning.specs.declared.facts.Observation.{Observation}
 use Rattle.lv_meaning.specs.declared.facts.Facts.{Facts}
 use Rattle.lv_cert.specs.declared.line.Moment.{Moment}
 use Rattle.lv_cert.specs.declared.line.Moment.TheVariants.{Now, Next}
-use Rattle.lv_cert_meaning.specs.Stated.{Stated}
+use Rattle.lv_cert_laws.specs.lv_cert_meaning.Stated.{Stated}
 
 abbrev pub facts_with : Moment → Facts → Observation → Facts
 facts_with Now facts o = record facts { present = facts.present ++ o ∷ [] }

@@ -7,8 +7,8 @@ use Rattle.lv_meaning.specs.Recovery.{rank_recovers}
 use Rattle.lv_cert.specs.declared.line.Question.TheVariants.{Diagnosis, Recovery}
 use Rattle.lv_cert.specs.declared.line.Line.{Line}
 use Rattle.lv_cert.specs.Form.{IsCertificate, IsFaultAt}
-use Rattle.lv_cert_meaning.specs.Judging.{Judged as AllJudged, Judgement, comes_to, is_bad_at, question_of, judgement}
-use Rattle.lv_cert_meaning.specs.Laws.{aim_of}
+use Rattle.lv_cert_laws.specs.lv_cert_meaning.Judging.{Judged as AllJudged, Judgement, comes_to, is_bad_at, question_of, judgement}
+use Rattle.lv_cert_laws.specs.lv_cert_meaning.Laws.{aim_of}
 use Rattle.lv_certcheck.specs.declared.check.Verdict.{Verdict}
 use Rattle.lv_certcheck.specs.declared.check.Verdict.TheVariants.{Valid, Invalid}
 use Rattle.lv_certcheck.specs.declared.judged.Judged.{Judged}

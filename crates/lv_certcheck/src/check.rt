@@ -2,7 +2,7 @@
 #![tactic(auto)]
 
 ghost use Rattle.std.specs.Prelude.{◌≡◌, IfOk};
-ghost use Rattle.lv_cert_meaning.specs.Judging as Judging;
+ghost use Rattle.lv_cert_laws.specs.lv_cert_meaning.Judging as Judging;
 ghost use Rattle.lv_certcheck.specs.Settings.{IsSetting, plant_of};
 ghost use Rattle.lv_certcheck.specs.Giving.{Fits};
 ghost use Rattle.lv_certcheck.specs.Verdicts.{judged_of, verdict, IsVerdictOn, ProvesItsAnswer};
@@ -70,14 +70,16 @@ fn unjudged<'a>(
         Question::Diagnosis => 0,
         Question::Recovery => 1,
     };
+    let space = first_space(alloc, setting.model, question)?;
+    // What is large comes last, so that no exit lets go of it.
     Ok(Judged {
         stated: Stated::new(alloc, k),
-        space: first_space(alloc, setting.model, question)?,
+        space,
         listed: Vec::new(alloc),
         excluded: Vec::new(alloc),
-        block: Block::new(alloc, setting.system)?,
         aimed: None,
         before: None,
+        block: Block::new(alloc, setting.system)?,
     })
 }
 

@@ -3,7 +3,7 @@
 
 ghost use Rattle.std.specs.Prelude.{◌≡◌};
 ghost use Rattle.std.specs.Option.{option_copied};
-ghost use Rattle.lv_cert_meaning.specs.Judging as Judging;
+ghost use Rattle.lv_cert_laws.specs.lv_cert_meaning.Judging as Judging;
 ghost use Rattle.lv_certcheck.specs.Verdicts.{judged_of};
 
 use crate::stated::Stated;
@@ -22,7 +22,7 @@ pub struct Aimed {
 }
 
 impl Model for Aimed {
-    ghost use Rattle.lv_cert_meaning.specs.Judging.{Aimed};
+    ghost use Rattle.lv_cert_laws.specs.lv_cert_meaning.Judging.{Aimed};
 
     ghost Value = { Aimed };
 

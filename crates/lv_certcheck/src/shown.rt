@@ -4,7 +4,7 @@
 ghost use Rattle.std.specs.Prelude.{◌≡◌, true, false, nat_eq, length, slice_get, All, IfOk, map};
 ghost use Rattle.std.specs.Option.{option_map_or};
 ghost use Rattle.lv_base.specs.declared.ids.ValId.{ValId as Value};
-ghost use Rattle.lv_clauses.specs.Literals.{same_truth};
+ghost use Rattle.lv_system.specs.lv_clauses.Literals.{same_truth};
 ghost use Rattle.lv_formula.specs.Tree.{number_of};
 ghost use Rattle.lv_model.specs.WellFormed.{Reads};
 ghost use Rattle.lv_meaning.specs.Facts as Facts;
@@ -12,7 +12,7 @@ ghost use Rattle.lv_meaning.specs.Facts.{meets, commanded};
 ghost use Rattle.lv_meaning.specs.Possible.{move_number};
 ghost use Rattle.lv_meaning.specs.Recovers as Recovers;
 ghost use Rattle.lv_meaning.specs.Ranges.{GoalFits};
-ghost use Rattle.lv_cert_meaning.specs.Judging as Judging;
+ghost use Rattle.lv_cert_laws.specs.lv_cert_meaning.Judging as Judging;
 ghost use Rattle.lv_certcheck.specs.Settings.{IsSetting, plant_of};
 ghost use Rattle.lv_certcheck.specs.Giving.{Fits, IsWhole};
 ghost use Rattle.lv_certcheck.specs.Verdicts.{judged_of};

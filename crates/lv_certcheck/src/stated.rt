@@ -3,7 +3,7 @@
 
 ghost use Rattle.std.specs.Prelude.{◌≡◌, ◌++◌, ◌∷◌, [], IfOk, OnOk};
 ghost use Rattle.lv_certcheck.specs.Stating.{observed};
-ghost use Rattle.lv_cert_meaning.specs.Stated as Stating;
+ghost use Rattle.lv_cert_laws.specs.lv_cert_meaning.Stated as Stating;
 
 use lv_base::{Lit, Seq, ValId};
 use lv_cert::Moment;
@@ -25,7 +25,7 @@ pub struct Stated {
 }
 
 impl Model for Stated {
-    ghost use Rattle.lv_cert_meaning.specs.Stated.{Stated};
+    ghost use Rattle.lv_cert_laws.specs.lv_cert_meaning.Stated.{Stated};
     ghost use Rattle.std.specs.Coded.{codes};
     ghost use Rattle.lv_formula.specs.contracts.Condition as condition;
 

@@ -5,12 +5,12 @@ use Rattle.std.specs.Option.{option_and_then}
 use Rattle.std.proofs.lemmas.Bool.{and_from, lt-ltb, leb-true}
 use Rattle.std.proofs.lemmas.List.{length-drop}
 use Rattle.std.proofs.lemmas.List.Elements.{All-head, All-tail, All-drop}
-use Rattle.lv_text.specs.Laws.{IsLexeme}
-use Rattle.lv_text.specs.Lexemes.{Lexeme, Reading, reads, has_bad_byte, is_too_long, line_reading, is_word, word_of, word_at}
-use Rattle.lv_text.specs.Kinds.{has_kind}
-use Rattle.lv_text.specs.declared.lexer.TokenKind.{TokenKind}
-use Rattle.lv_text.specs.declared.lexer.TokenKind.TheVariants.{Word, Number, Iff, Implies, Arrow, Equals, Not, And, Or, Open, Close, Dot}
-use Rattle.lv_text.proofs.ReadBack.{lexemes_have}
+use Rattle.lv_formula_text.specs.lv_text.Laws.{IsLexeme}
+use Rattle.lv_formula_text.specs.lv_text.Lexemes.{Lexeme, Reading, reads, has_bad_byte, is_too_long, line_reading, is_word, word_of, word_at}
+use Rattle.lv_formula_text.specs.lv_text.Kinds.{has_kind}
+use Rattle.lv_formula_text.specs.lv_text.declared.lexer.TokenKind.{TokenKind}
+use Rattle.lv_formula_text.specs.lv_text.declared.lexer.TokenKind.TheVariants.{Word, Number, Iff, Implies, Arrow, Equals, Not, And, Or, Open, Close, Dot}
+use Rattle.lv_formula_text.proofs.lv_text.ReadBack.{lexemes_have}
 use Rattle.lv_model.proofs.Reading.{All-at}
 use Rattle.lv_reader.specs.declared.statement.Statement.{Statement}
 use Rattle.lv_reader.specs.declared.statement.Statement.TheVariants.{ModelLine, DomainLine, TypeLine, VariableLine, ModeLine, LawLine, InLine, StepLine, FaultLine, EndLine, PartLine, PriceLine}

@@ -3,7 +3,7 @@ use Rattle.std.proofs.Common.{◌≡◌, ◌≤◌, ◌<◌, ◌+◌, ◌^◌, �
 use Rattle.std.specs.List.{onto_first}
 use Rattle.std.specs.Str.Lines.{strip_carriage_return}
 use Rattle.std.proofs.lemmas.List.{length-map, drop_more}
-use Rattle.lv_text.specs.Lines.{is_line_feed, unended_lines, lines_of}
+use Rattle.lv_formula_text.specs.lv_text.Lines.{is_line_feed, unended_lines, lines_of}
 use Rattle.lv_model.specs.declared.plant.Plant.{Plant}
 use Rattle.lv_reader.specs.declared.code.ModelCode.{ModelCode}
 use Rattle.lv_reader.specs.declared.fault.ModelFault.{ModelFault}

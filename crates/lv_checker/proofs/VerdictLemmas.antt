@@ -1,8 +1,8 @@
 -- A text has one verdict, by what its lines read as.
 use Rattle.std.proofs.Common.{◌≡◌, ◌≤◌, ℕ, List, [], ◌∷◌, length, map, refl, sym, ◌∙◌, ap, ap₂, subst, arith}
 use Rattle.lv_base.specs.declared.limits.TheConstants.{MODEL_BYTES}
-use Rattle.lv_text.specs.Lexemes.{Reading, line_reading}
-use Rattle.lv_text.specs.Lines.{lines_of}
+use Rattle.lv_formula_text.specs.lv_text.Lexemes.{Reading, line_reading}
+use Rattle.lv_formula_text.specs.lv_text.Lines.{lines_of}
 use Rattle.lv_reader.specs.declared.code.ModelCode.{ModelCode}
 use Rattle.lv_reader.specs.declared.statement.NumberedStatement.{NumberedStatement}
 use Rattle.lv_reader.specs.declared.statement.ModelText.{ModelText}

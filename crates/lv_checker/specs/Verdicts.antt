@@ -2,8 +2,8 @@
 -- comes before every fault of checking.
 use Rattle.std.specs.Prelude.{◌≡◌, ◌≤◌, ℕ, true, List, length, map}
 use Rattle.lv_base.specs.declared.limits.TheConstants.{MODEL_BYTES}
-use Rattle.lv_text.specs.Lexemes.{line_reading}
-use Rattle.lv_text.specs.Lines.{lines_of}
+use Rattle.lv_formula_text.specs.lv_text.Lexemes.{line_reading}
+use Rattle.lv_formula_text.specs.lv_text.Lines.{lines_of}
 use Rattle.lv_model.specs.declared.plant.Plant.{Plant}
 use Rattle.lv_model.specs.WellFormed.{is_well_formed}
 use Rattle.lv_reader.specs.declared.code.ModelCode.{ModelCode}

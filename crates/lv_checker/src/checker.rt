@@ -310,7 +310,10 @@ fn finished(draft: Draft, lines: usize) -> Result<Model, ModelFault>
 {
     let line = lines + 1;
     match ending_code(&draft) {
-        Some(code) => Err(ModelFault::At { code, line }),
+        Some(code) => {
+            drop(draft);
+            Err(ModelFault::At { code, line })
+        }
         None => Ok(model_of_draft(draft)),
     }
 }
@@ -323,8 +326,13 @@ pub fn check_model(alloc: Global, text: &ModelText) -> Result<Model, ModelFault>
     ensures fault { IfErr result (λ fault. Finds fault (checked text.now)) }
 {
     let mut draft = empty(alloc)?;
-    add_all(alloc, &mut draft, text.statements.as_slice())?;
-    finished(draft, text.lines)
+    match add_all(alloc, &mut draft, text.statements.as_slice()) {
+        Ok(()) => finished(draft, text.lines),
+        Err(fault) => {
+            drop(draft);
+            Err(fault)
+        }
+    }
 }
 
 /// The model of a text's bytes, or its first fault: those of reading come first.

@@ -18,3 +18,5 @@ pub mod Steps
 pub mod Sound
 pub mod Shorter
 pub mod Complete
+
+pub use Rattle.lv_text.proofs as lv_text

@@ -16,3 +16,5 @@ pub mod Fitting
 pub mod Descent
 pub mod DescentLaws
 pub mod DescentExample
+
+pub use Rattle.lv_text.specs as lv_text

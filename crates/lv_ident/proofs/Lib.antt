@@ -8,3 +8,5 @@ pub mod TrialLemmas
 pub mod ReasonLemmas
 pub mod ReducingLemmas
 pub mod QueryLemmas
+
+pub use Rattle.lv_search_zones.proofs as lv_search_zones

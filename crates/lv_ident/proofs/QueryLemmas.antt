@@ -5,13 +5,13 @@ use Rattle.lv_base.specs.declared.rank.Rank.{Rank}
 use Rattle.lv_base.specs.declared.ids.Cost.{Cost}
 use Rattle.lv_base.specs.declared.search.Pair.{Pair}
 use Rattle.lv_base.specs.declared.search.Candidate.{Candidate}
-use Rattle.lv_boxes.specs.Members.{ZoneValue}
+use Rattle.lv_search.specs.lv_boxes.Members.{ZoneValue}
 use Rattle.lv_model.specs.declared.plant.Plant.{Plant}
 use Rattle.lv_model.specs.declared.state.TrackedState.{TrackedState}
 use Rattle.lv_meaning.specs.declared.facts.Facts.{Facts}
 use Rattle.lv_meaning.specs.Candidates.{candidates, is_possible_candidate}
 use Rattle.lv_meaning.specs.Diagnosis.{reason_of}
-use Rattle.lv_boxes.specs.RankedMembers.{ranked_members}
+use Rattle.lv_search.specs.lv_boxes.RankedMembers.{ranked_members}
 use Rattle.lv_search.specs.Standing.{Standing, IsUnderWay, AreSame}
 use Rattle.lv_search.specs.Search.{SearchValue}
 use Rattle.lv_search_zones.specs.Moves.{move_slots, zones_from, is_full_choice}

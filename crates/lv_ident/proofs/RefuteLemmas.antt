@@ -10,9 +10,9 @@ use Rattle.lv_clauses.specs.Literals.{neg, same_truth, same_var, in_range, disti
 use Rattle.lv_clauses.specs.ClauseMap.{ClauseMap, satisfies}
 use Rattle.lv_clauses.specs.Marks.{Marks, nothing, is_marked, marked, mark_is}
 use Rattle.lv_clauses.proofs.LiteralLemmas.{any_member, all_member, lit_or_neg, Contains-cases, Contains-tail, Contains-head, Contains-nil}
-use Rattle.lv_reflog.specs.declared.log.Step.{Step}
-use Rattle.lv_reflog.specs.Following.{first_bad_step, IsImplied}
-use Rattle.lv_reflog.proofs.SoundLemmas.{checked}
+use Rattle.lv_sat.specs.lv_reflog.declared.log.Step.{Step}
+use Rattle.lv_sat.specs.lv_reflog.Following.{first_bad_step, IsImplied}
+use Rattle.lv_sat.proofs.lv_reflog.SoundLemmas.{checked}
 use Rattle.lv_sat.specs.Answers.{IsSublist, nothing as no_literals, left_out, taken, last_clause, IsRefutation}
 use Rattle.lv_ident.specs.Refutation.{HasNoModel, marked_literals}
 

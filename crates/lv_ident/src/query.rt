@@ -45,7 +45,7 @@ pub struct Query<'a> {
 
 impl<'a> marker::Model for Query<'a> {
     ghost use Rattle.std.specs.Coded.{codes};
-    ghost use Rattle.lv_formula.specs.contracts.Condition as condition;
+    ghost use Rattle.lv_model.specs.lv_formula.contracts.Condition as condition;
     ghost use Rattle.lv_ident.specs.Query.{QueryValue, IsTriedBy};
 
     ghost Value = { QueryValue };

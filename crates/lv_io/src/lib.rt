@@ -3,7 +3,7 @@
 //!
 //! The two traits say what any shelf and any sink keeps. `MemShelf` and `MemSink` are exact, for tests
 //! and proofs; `HostShelf` and `HostSink` stand for the files and streams of the system, of whose bytes
-//! nothing can be claimed. `read_all`, `read_file` and `write_all` work over any of them.
+//! nothing can be claimed. `read_all`, `read_file`, `write_all` and `flush_after` work over any of them.
 #![tactic(auto)]
 
 ghost use Rattle.std.specs.Prelude.{◌≡◌, ◌≢◌, ℕ, Bool, true, List, Option, IfOk, OnOk, OnErr, IsTrue};
@@ -11,6 +11,7 @@ ghost use Rattle.lv_io.specs.declared.IoFault.TheVariants.{Memory as IoMemory};
 ghost use Rattle.lv_io.specs.declared.ReadFault.TheVariants.{Memory as ReadMemory};
 ghost use Rattle.lv_io.specs.Faults.{read_fault_of};
 
+mod flush;
 mod host_shelf;
 mod host_sink;
 mod mem_shelf;
@@ -19,6 +20,7 @@ mod plan;
 mod shelf_log;
 mod whole;
 
+pub use flush::flush_after;
 pub use host_shelf::HostShelf;
 pub use host_sink::HostSink;
 pub use mem_shelf::MemShelf;

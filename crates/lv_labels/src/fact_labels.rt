@@ -54,14 +54,15 @@ impl FactLabels {
         ensures { IfOk result (λ labels. IsClaiming model.now [] labels) }
     {
         let set = system.clauses();
+        // What is large comes last, so that no exit lets go of it.
         Ok(FactLabels {
-            ltms: ltms_of(alloc, set)?,
             counts: no_claims(alloc, set.bools())?,
             values: Values {
                 before: system.bools_at(lv_system::Moment::Now).copied(alloc)?,
                 after: system.bools_at(lv_system::Moment::Next).copied(alloc)?,
             },
             modes: mode_variables(alloc, model.plant())?,
+            ltms: ltms_of(alloc, set)?,
         })
     }
 

@@ -11,3 +11,5 @@ pub mod NominalSteps
 pub mod CommandSets
 pub mod CommandReasons
 pub mod RecoveryWalks
+
+pub use Rattle.lv_search_walk.proofs as lv_search_walk

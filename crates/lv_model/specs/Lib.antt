@@ -8,3 +8,5 @@ pub mod Counts
 pub mod Denials
 pub mod WellFormed
 pub mod Laws
+
+pub use Rattle.lv_formula.specs as lv_formula

@@ -7,7 +7,7 @@ pub mod Numerals
 pub mod Places
 pub mod Keywords
 pub mod Reprinting
-pub mod Forms
+pub mod CanonicalForms
 pub mod Statements
 pub mod Lines
 pub mod Texts

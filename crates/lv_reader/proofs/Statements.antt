@@ -30,7 +30,7 @@ use Rattle.lv_reader.proofs.Numerals.{number_no_longer, number_told, number_is_l
 use Rattle.lv_reader.proofs.Places.{word_next, says_next, IsNumeralAt, numeral_next}
 use Rattle.lv_reader.proofs.Keywords.{keyword_first}
 use Rattle.lv_reader.proofs.Reprinting.{Reprints, same_tokens, alike_itself, alike_behind, Derives, IsCut, cut_tokens}
-use Rattle.lv_reader.proofs.Forms.{ahead, one_name, names_then, two_words, three_words, move_words, price_words}
+use Rattle.lv_reader.proofs.CanonicalForms.{ahead, one_name, names_then, two_words, three_words, move_words, price_words}
 
 -- the first word of canonical tokens
 law_word : (us : List Lexeme) → keyword_of (word (codes "law") ∷ us) ≡ Some LawWord

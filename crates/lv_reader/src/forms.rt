@@ -149,6 +149,7 @@ pub fn statement_of(alloc: Global, line: &TokenLine<'_>) -> Result<Statement, Li
         Err(FormFault::Memory) => return Err(LineFault::Memory),
     };
     if !statement.number_fits() {
+        drop(statement);
         return Err(LineFault::Refused(ModelCode::NumberOutOfRange));
     }
     Ok(statement)

@@ -20,7 +20,7 @@ use Rattle.lv_model.specs.Lists.{sizes, controls}
 use Rattle.lv_compile.specs.Booleans.{booleans_now, value_literal, bool_count}
 use Rattle.lv_compile.specs.FormulaClauses.{size_of}
 use Rattle.lv_compile.proofs.BooleanLemmas.{is_there}
-use Rattle.lv_boxes.proofs.RankedMemberLemmas.{one_test}
+use Rattle.lv_search.proofs.lv_boxes.RankedMemberLemmas.{one_test}
 use Rattle.lv_system.specs.Encoding.{truth_in}
 use Rattle.lv_system.proofs.LiteralLemmas.{value_true}
 use Rattle.lv_meaning.specs.Commands.{control_sizes}

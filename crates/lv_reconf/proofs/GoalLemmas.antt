@@ -22,7 +22,7 @@ use Rattle.lv_compile.specs.FormulaClauses.{formula_clauses, speaks_of}
 use Rattle.lv_compile.specs.Cleaning.{cleaned}
 use Rattle.lv_compile.specs.ModelClauses.{model_clauses}
 use Rattle.lv_compile.proofs.StepLemmas.{step_exact}
-use Rattle.lv_boxes.proofs.RankedMemberLemmas.{one_test}
+use Rattle.lv_search.proofs.lv_boxes.RankedMemberLemmas.{one_test}
 use Rattle.lv_system.specs.Encoding.{truth_in}
 use Rattle.lv_system.specs.Numbering.{IsOver}
 use Rattle.lv_system.specs.Goals.{goal_clauses}

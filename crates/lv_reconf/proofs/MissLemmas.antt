@@ -7,7 +7,7 @@ use Rattle.lv_model.specs.declared.plant.Plant.{Plant}
 use Rattle.lv_model.specs.declared.state.TrackedState.{TrackedState}
 use Rattle.lv_meaning.specs.Possible.{value}
 use Rattle.lv_meaning.proofs.Among.{Among, all_among}
-use Rattle.lv_boxes.proofs.RankedMemberLemmas.{one_test}
+use Rattle.lv_search.proofs.lv_boxes.RankedMemberLemmas.{one_test}
 use Rattle.lv_meaning.specs.declared.aim.Aim.{Aim}
 use Rattle.lv_meaning.specs.Recovers.{meets_goals, can_miss}
 use Rattle.lv_meaning.proofs.NominalSteps.{StepFound, step_found, found_step, denied}

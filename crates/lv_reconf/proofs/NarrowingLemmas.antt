@@ -25,7 +25,7 @@ use Rattle.lv_compile.specs.FormulaClauses.{size_of}
 use Rattle.lv_compile.specs.Laws.{move_number}
 use Rattle.lv_meaning.specs.declared.facts.Observation.{Observation}
 use Rattle.lv_meaning.specs.Facts.{agrees, meets}
-use Rattle.lv_boxes.proofs.RankedMemberLemmas.{one_test}
+use Rattle.lv_search.proofs.lv_boxes.RankedMemberLemmas.{one_test}
 use Rattle.lv_system.specs.Choices.{choice_literal}
 use Rattle.lv_system.specs.Encoding.{truth_in}
 use Rattle.lv_system.proofs.NumberingLemmas.{all_present_hold}

@@ -5,13 +5,13 @@ use Rattle.lv_base.specs.declared.rank.Rank.{Rank}
 use Rattle.lv_base.specs.declared.ids.Cost.{Cost}
 use Rattle.lv_base.specs.declared.search.Pair.{Pair}
 use Rattle.lv_base.specs.declared.search.Candidate.{Candidate}
-use Rattle.lv_boxes.specs.Members.{ZoneValue}
+use Rattle.lv_search.specs.lv_boxes.Members.{ZoneValue}
 use Rattle.lv_model.specs.declared.plant.Plant.{Plant}
 use Rattle.lv_model.specs.WellFormed.{is_well_formed}
 use Rattle.lv_meaning.specs.declared.aim.Aim.{Aim}
 use Rattle.lv_meaning.specs.Commands.{command_sets}
 use Rattle.lv_meaning.specs.Recovery.{candidate_recovers, candidate_reason}
-use Rattle.lv_boxes.specs.RankedMembers.{ranked_members}
+use Rattle.lv_search.specs.lv_boxes.RankedMembers.{ranked_members}
 use Rattle.lv_search.specs.Standing.{Standing, IsUnderWay}
 use Rattle.lv_search.specs.Search.{SearchValue}
 use Rattle.lv_search_zones.specs.Commands.{control_slots, command_zone}

@@ -14,8 +14,8 @@ use Rattle.lv_model.specs.declared.state.TrackedState.{TrackedState}
 use Rattle.lv_model.specs.Lists.{controls}
 use Rattle.lv_meaning.specs.Recovers.{has_control, meets_goals, reaches}
 use Rattle.lv_meaning.proofs.NominalSteps.{some_step_less}
-use Rattle.lv_search_walk.specs.Reason.{reduced}
-use Rattle.lv_search_walk.proofs.ReasonLemmas.{pair_kept, pair_left_out}
+use Rattle.lv_meaning.specs.lv_search_walk.Reason.{reduced}
+use Rattle.lv_meaning.proofs.lv_search_walk.ReasonLemmas.{pair_kept, pair_left_out}
 use Rattle.lv_reconf.specs.Assuming.{control_literal, marked_controls, pair_fits, pairs_fit}
 use Rattle.lv_reconf.specs.Lawful.{fewer_fit}
 use Rattle.lv_reconf.specs.Refuting.{RefutesSteps, RefutesAt, needs, IsReducing}

@@ -6,3 +6,5 @@ pub mod Refuting
 pub mod Judging
 pub mod Lawful
 pub mod Query
+
+pub use Rattle.lv_search.specs as lv_search

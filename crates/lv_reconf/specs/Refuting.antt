@@ -7,7 +7,7 @@ use Rattle.lv_model.specs.declared.plant.Plant.{Plant}
 use Rattle.lv_model.specs.declared.state.State.{State}
 use Rattle.lv_meaning.specs.declared.facts.Observation.{Observation}
 use Rattle.lv_meaning.specs.Recovers.{some_nominal_step}
-use Rattle.lv_search_walk.specs.Reason.{reduced}
+use Rattle.lv_meaning.specs.lv_search_walk.Reason.{reduced}
 use Rattle.lv_reconf.specs.Assuming.{control_literal, marked_controls, pairs_fit}
 use Rattle.lv_reconf.specs.Trying.{ReachingValue, reaches_at}
 

@@ -5,7 +5,7 @@ ghost use Rattle.std.specs.Prelude.{◌≡◌, ◌+◌, ◌<◌, ◌≤◌, ◌+
 ghost use Rattle.std.specs.List.{prefix_len};
 ghost use Rattle.lv_model.specs.declared.state.TrackedState.{TrackedState};
 ghost use Rattle.lv_meaning.specs.Recovers.{reaches};
-ghost use Rattle.lv_search_walk.specs.Reason.{reduced};
+ghost use Rattle.lv_meaning.specs.lv_search_walk.Reason.{reduced};
 ghost use Rattle.lv_model.specs.Lists.{controls};
 ghost use Rattle.lv_reconf.specs.Assuming.{pair_fits, pairs_fit};
 ghost use Rattle.lv_reconf.specs.Refuting.{IsReducing, RefutesAt, needs};

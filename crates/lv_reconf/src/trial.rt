@@ -5,7 +5,7 @@ ghost use Rattle.std.specs.Prelude.{◌≡◌, ◌≤◌, [], ℕ, List, Bool, t
 ghost use Rattle.lv_base.specs.Choices.{pairs_of};
 ghost use Rattle.lv_meaning.specs.Commands.{is_command_set};
 ghost use Rattle.lv_meaning.specs.Recovery.{candidate_recovers, candidate_reason};
-ghost use Rattle.lv_search_walk.specs.Reason.{reduced};
+ghost use Rattle.lv_meaning.specs.lv_search_walk.Reason.{reduced};
 ghost use Rattle.lv_reconf.specs.Assuming.{pairs_fit};
 ghost use Rattle.lv_reconf.specs.Judging.{candidate_commands, Judges};
 ghost use Rattle.lv_reconf.specs.Trying.{looking_at, reaches_at, some_can_miss};

@@ -1,1 +1,3 @@
 pub mod Following
+
+pub use Rattle.lv_clauses.specs as lv_clauses

@@ -4,14 +4,14 @@ use Rattle.std.specs.Prelude.{IfSome, IfOk, IfErr, IsTrue, IsErrAnd, Result, Ok,
 use Rattle.std.specs.Io.KnownBytes.{append_known}
 use Rattle.lv_base.specs.declared.limits.TheConstants.{CERTIFICATE_BYTES}
 use Rattle.lv_model.specs.declared.plant.Plant.{Plant}
-use Rattle.lv_text.specs.Lines.{lines_of}
-use Rattle.lv_session.specs.Session.{start}
+use Rattle.lv_run_words.specs.lv_text.Lines.{lines_of}
+use Rattle.lv_serve.specs.lv_session.Session.{start}
 use Rattle.lv_serve.specs.Served.{fits, within_limit}
 use Rattle.lv_serve.proofs.TranscriptLemmas.{none_of_front}
 use Rattle.lv_gen.specs.Series.{model_text}
 use Rattle.lv_run_drive.specs.Drives.{drive_text}
 use Rattle.lv_run_words.specs.declared.commands.Kind.{Kind}
-use Rattle.lv_session.proofs.Writing.{no_front}
+use Rattle.lv_serve.proofs.lv_session.Writing.{no_front}
 use Rattle.lv_reader.specs.declared.code.ModelCode.{ModelCode}
 use Rattle.lv_checker.specs.Verdicts.{IsVerdict, accepted, refused}
 use Rattle.lv_certcheck.specs.Verdicts.{IsVerdictOn}

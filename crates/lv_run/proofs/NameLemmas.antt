@@ -3,18 +3,18 @@ use Rattle.std.proofs.Common.{◌≡◌, ◌+◌, ℕ, Bool, true, false, cond, 
 use Rattle.std.specs.List.{list_all}
 use Rattle.std.specs.Cmp.Derive.{both_true}
 use Rattle.std.proofs.lemmas.Bool.{and_parts}
-use Rattle.lv_text.specs.declared.lexer.TokenKind.{TokenKind}
-use Rattle.lv_text.specs.declared.lexer.TokenKind.TheVariants as token
-use Rattle.lv_text.specs.Kinds.{has_kind}
-use Rattle.lv_text.specs.Laws.{IsLexeme}
-use Rattle.lv_text.specs.Lexemes.{Lexeme, Reading, reads, has_bad_byte, is_too_long, line_reading, is_word as is_word_kind, word_of, word_at}
-use Rattle.lv_text.proofs.ReadBack.{lexemes_have}
+use Rattle.lv_run_words.specs.lv_text.declared.lexer.TokenKind.{TokenKind}
+use Rattle.lv_run_words.specs.lv_text.declared.lexer.TokenKind.TheVariants as token
+use Rattle.lv_run_words.specs.lv_text.Kinds.{has_kind}
+use Rattle.lv_run_words.specs.lv_text.Laws.{IsLexeme}
+use Rattle.lv_run_words.specs.lv_text.Lexemes.{Lexeme, Reading, reads, has_bad_byte, is_too_long, line_reading, is_word as is_word_kind, word_of, word_at}
+use Rattle.lv_run_words.proofs.lv_text.ReadBack.{lexemes_have}
 use Rattle.lv_base.specs.declared.ids.ValId.{ValId}
 use Rattle.lv_base.specs.declared.ids.VarId.{VarId}
 use Rattle.lv_model.specs.declared.plant.Plant.{Plant}
 use Rattle.lv_model.proofs.Reading.{All-at}
-use Rattle.lv_cert.specs.Words.{is_word}
-use Rattle.lv_session_request.proofs.WordLaws.{word_is_one}
+use Rattle.lv_certcheck.specs.lv_cert.Words.{is_word}
+use Rattle.lv_serve.proofs.lv_session.lv_session_request.WordLaws.{word_is_one}
 use Rattle.lv_reader.specs.declared.code.ModelCode.{ModelCode}
 use Rattle.lv_reader.specs.declared.code.ModelCode.TheVariants.{UnknownName, NoFit, Misplaced, LimitPassed, NotEnded, NoPart}
 use Rattle.lv_reader.specs.declared.statement.Statement.{Statement}

@@ -4,20 +4,20 @@ use Rattle.std.specs.Prelude.{Option}
 use Rattle.std.specs.List.{list_all}
 use Rattle.lv_model.specs.declared.plant.Plant.{Plant}
 use Rattle.lv_checker.specs.Verdicts.{IsVerdict, accepted}
-use Rattle.lv_cert.specs.declared.line.Line.{Line}
-use Rattle.lv_cert.specs.Form.{is_formed}
-use Rattle.lv_cert.specs.Texts.{text_of}
-use Rattle.lv_cert.specs.Words.{is_word}
-use Rattle.lv_cert_meaning.specs.Judging.{Judged}
-use Rattle.lv_cert_meaning.specs.Laws.{IsValid}
+use Rattle.lv_certcheck.specs.lv_cert.declared.line.Line.{Line}
+use Rattle.lv_certcheck.specs.lv_cert.Form.{is_formed}
+use Rattle.lv_certcheck.specs.lv_cert.Texts.{text_of}
+use Rattle.lv_certcheck.specs.lv_cert.Words.{is_word}
+use Rattle.lv_certcheck.specs.lv_cert_meaning.Judging.{Judged}
+use Rattle.lv_certcheck.specs.lv_cert_meaning.Laws.{IsValid}
 use Rattle.lv_certcheck.specs.Verdicts.{verdict_of, IsVerdictOn, of_lines}
 use Rattle.lv_certcheck.specs.declared.check.Verdict.TheVariants.{Valid}
-use Rattle.lv_session.specs.declared.query.Query.{Query}
-use Rattle.lv_session.specs.declared.query.Query.TheVariants.{Absent, Diagnosis, Recovery}
-use Rattle.lv_session.specs.Session.{SessionState}
-use Rattle.lv_session.specs.Certificates.{Certifies, IsTextOf}
-use Rattle.lv_session.specs.Transcript.{IsTranscriptFrom, ends, goes_on, AddsTranscript}
-use Rattle.lv_reply.specs.declared.reply.Reply.{Reply}
+use Rattle.lv_serve.specs.lv_session.declared.query.Query.{Query}
+use Rattle.lv_serve.specs.lv_session.declared.query.Query.TheVariants.{Absent, Diagnosis, Recovery}
+use Rattle.lv_serve.specs.lv_session.Session.{SessionState}
+use Rattle.lv_serve.specs.lv_session.Certificates.{Certifies, IsTextOf}
+use Rattle.lv_serve.specs.lv_session.Transcript.{IsTranscriptFrom, ends, goes_on, AddsTranscript}
+use Rattle.lv_serve.specs.lv_session.lv_reply.declared.reply.Reply.{Reply}
 use Rattle.lv_run.specs.Printed.{PrintedCertificateIsValid, IsCertifiedFrom, all_told, told, AddsCertified}
 use Rattle.lv_run.proofs.NameLemmas.{accepted_name}
 

@@ -7,10 +7,10 @@ use Rattle.std.specs.Prelude.{IfErr, IsErrAnd}
 use Rattle.std.specs.Io.KnownBytes.{prepend_known, IsAtEnd}
 use Rattle.lv_base.specs.declared.limits.TheConstants.{SESSION_BYTES}
 use Rattle.lv_model.specs.declared.plant.Plant.{Plant}
-use Rattle.lv_text.specs.Lines.{lines_of}
-use Rattle.lv_session.specs.Session.{start}
-use Rattle.lv_session.specs.Transcript.{ends as ends_lines, AddsTranscript, AddsFrontOfTranscript}
-use Rattle.lv_session.proofs.Writing.{append-none}
+use Rattle.lv_run_words.specs.lv_text.Lines.{lines_of}
+use Rattle.lv_serve.specs.lv_session.Session.{start}
+use Rattle.lv_serve.specs.lv_session.Transcript.{ends as ends_lines, AddsTranscript, AddsFrontOfTranscript}
+use Rattle.lv_serve.proofs.lv_session.Writing.{append-none}
 use Rattle.lv_serve.specs.Ends.{ended}
 use Rattle.lv_serve.specs.Served.{quits, fits, within_limit, Serves, ServesAll, ServesFront, IsWhole, at_end, at_quit, IsDue, ended_lines, all_lines}
 use Rattle.lv_serve.specs.declared.fault.ServeFault.{ServeFault}

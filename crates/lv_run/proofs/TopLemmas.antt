@@ -8,10 +8,10 @@ use Rattle.lv_io.specs.declared.Role.TheVariants.{Model, Second}
 use Rattle.lv_model.specs.declared.plant.Plant.{Plant}
 use Rattle.std.proofs.lemmas.List.{take-append-drop, take-take}
 use Rattle.lv_base.specs.declared.limits.TheConstants.{SESSION_BYTES}
-use Rattle.lv_text.specs.Lines.{lines_of}
-use Rattle.lv_session.specs.Session.{start}
-use Rattle.lv_session.specs.Transcript.{AddsTranscript, AddsFrontOfTranscript}
-use Rattle.lv_session.proofs.Writing.{whole_front}
+use Rattle.lv_run_words.specs.lv_text.Lines.{lines_of}
+use Rattle.lv_serve.specs.lv_session.Session.{start}
+use Rattle.lv_serve.specs.lv_session.Transcript.{AddsTranscript, AddsFrontOfTranscript}
+use Rattle.lv_serve.proofs.lv_session.Writing.{whole_front}
 use Rattle.lv_serve.specs.Ends.{ended}
 use Rattle.lv_serve.specs.Served.{within_limit}
 use Rattle.lv_serve.proofs.TranscriptLemmas.{front_of_lines}

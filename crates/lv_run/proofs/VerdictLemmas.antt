@@ -9,7 +9,7 @@ use Rattle.lv_reader.proofs.ReadingLemmas.{text_one}
 use Rattle.lv_checker.specs.Verdicts.{IsVerdict, accepted, refused, not_read}
 use Rattle.lv_checker.proofs.VerdictLemmas.{verdict_one}
 use Rattle.lv_reader.specs.CanonicalTexts.{canonical_model}
-use Rattle.lv_cert.proofs.AgreeLemmas.{one_certificate, one_fault, fault_or_certificate}
+use Rattle.lv_certcheck.proofs.lv_cert.AgreeLemmas.{one_certificate, one_fault, fault_or_certificate}
 use Rattle.lv_certcheck.specs.Verdicts.{IsVerdictOn, of_lines, of_form, verdict}
 use Rattle.lv_certcheck.specs.declared.check.Verdict.{Verdict}
 use Rattle.lv_certcheck.specs.declared.check.Verdict.TheVariants.{Invalid}

@@ -9,7 +9,7 @@ use Rattle.lv_reader.specs.declared.code.ModelCode.{ModelCode}
 use Rattle.lv_checker.specs.Verdicts.{Verdict as ModelVerdict, accepted, refused, IsVerdict}
 use Rattle.lv_certcheck.specs.Verdicts.{IsVerdictOn}
 use Rattle.lv_certcheck.specs.declared.check.Verdict.{Verdict}
-use Rattle.lv_session.specs.Transcript.{AddsTranscript, AddsFrontOfTranscript}
+use Rattle.lv_serve.specs.lv_session.Transcript.{AddsTranscript, AddsFrontOfTranscript}
 use Rattle.lv_serve.specs.Ends.{ended}
 use Rattle.lv_serve.specs.Served.{fits, within_limit}
 use Rattle.lv_gen.specs.Series.{model_text}

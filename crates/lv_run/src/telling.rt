@@ -13,8 +13,7 @@ ghost use Rattle.lv_run.specs.Telling.{TellsFault, Tells};
 
 use crate::fault::{OUT_OF_MEMORY, RunFault};
 use crate::status::Status;
-use lv_io::{IoFault, Sink, write_all};
-use lv_session::flush_after;
+use lv_io::{IoFault, Sink, flush_after, write_all};
 use std::alloc::Global;
 
 /// Writes the line of a fault and flushes it.

@@ -11,7 +11,7 @@ ghost use Rattle.lv_run.specs.Inputs.{opens_of};
 ghost use Rattle.lv_run.specs.Expected.{Expected, Expects, status_expected, Meets, Follows, TellsVerdict, is_silent, keeps_shelf};
 ghost use Rattle.lv_run.specs.Opens.{HasOpened};
 ghost use Rattle.lv_run.specs.Telling.{Tells};
-ghost use Rattle.lv_session.specs.Transcript.{AddsTranscript};
+ghost use Rattle.lv_serve.specs.lv_session.Transcript.{AddsTranscript};
 ghost use Rattle.lv_run.specs.Printed.{AddsCertified};
 ghost use Rattle.lv_run.specs.Top.{Asks, AsksToCheck, AsksForText, HasNoFault, TellsItsVerdict, TellsOwnEnd};
 ghost use Rattle.lv_run.specs.Judged.{verdict_status};

@@ -6,8 +6,7 @@ ghost use Rattle.std.specs.Io.KnownBytes.{append_known};
 ghost use Rattle.lv_io.specs.Outside.{HasCause};
 ghost use Rattle.lv_io.specs.Whole.{AddsFront};
 
-use lv_io::{IoFault, Sink, write_all};
-use lv_session::flush_after;
+use lv_io::{IoFault, Sink, flush_after, write_all};
 
 /// Writes a text and flushes what was written.
 pub fn write_text<O: Sink>(text: &[u8], out: &mut O) -> Result<(), IoFault>

@@ -1,22 +1,22 @@
 -- A certificate is told in reply to a line that begins with the word `certificate`, and to no other.
 use Rattle.std.proofs.Common.{◌≡◌, ℕ, Bool, true, false, cond, nat_eq, List, length, Option, Some, None, Result, Ok, Err, refl, codes}
 use Rattle.lv_text.specs.Lexemes.{Lexeme, Reading, reads, has_bad_byte, is_too_long, line_reading, says}
-use Rattle.lv_base.specs.declared.limits.TheConstants.{TRACKED, BUDGET}
+use Rattle.lv_text.specs.lv_base.declared.limits.TheConstants.{TRACKED, BUDGET}
 use Rattle.lv_model.specs.declared.plant.Plant.{Plant}
-use Rattle.lv_formula_text.specs.Nesting.{is_too_deep}
-use Rattle.lv_model_names.specs.declared.lists.Lists.{Lists}
-use Rattle.lv_model_names.specs.Lists.{lists_of}
+use Rattle.lv_session.specs.lv_formula_text.Nesting.{is_too_deep}
+use Rattle.lv_session.specs.lv_model_names.declared.lists.Lists.{Lists}
+use Rattle.lv_session.specs.lv_model_names.Lists.{lists_of}
 use Rattle.lv_reply.specs.declared.reply.Refusal.{Refusal}
 use Rattle.lv_reply.specs.declared.reply.Refusal.TheVariants.{Form, TooComplex}
 use Rattle.lv_reply.specs.declared.reply.Reply.TheVariants.{Nothing as Silence}
-use Rattle.lv_session_request.specs.declared.words.Word.{Word}
-use Rattle.lv_session_request.specs.declared.words.Word.TheVariants as word
-use Rattle.lv_session_request.specs.declared.request.Request.{Request}
-use Rattle.lv_session_request.specs.declared.request.Request.TheVariants.{Nothing, Track, SetBudget, SetControl, Release, Observe, Retract, SetGoal, DropGoal, Diagnose, Recover, More, Commit, Conflicts, Labels, LabelsFrom, States, Reset, Quit}
-use Rattle.lv_session_request.specs.Chain.{and_then}
-use Rattle.lv_session_request.specs.Forms.{first_word, number_to}
-use Rattle.lv_session_request.specs.Goals.{goal_of}
-use Rattle.lv_session_request.specs.Requests.{alone, command_of, release_of, sighting_of, retracted_of, request_by, asked_by_first, asked, asked_by, request_of}
+use Rattle.lv_session.specs.lv_session_request.declared.words.Word.{Word}
+use Rattle.lv_session.specs.lv_session_request.declared.words.Word.TheVariants as word
+use Rattle.lv_session.specs.lv_session_request.declared.request.Request.{Request}
+use Rattle.lv_session.specs.lv_session_request.declared.request.Request.TheVariants.{Nothing, Track, SetBudget, SetControl, Release, Observe, Retract, SetGoal, DropGoal, Diagnose, Recover, More, Commit, Conflicts, Labels, LabelsFrom, States, Reset, Quit}
+use Rattle.lv_session.specs.lv_session_request.Chain.{and_then}
+use Rattle.lv_session.specs.lv_session_request.Forms.{first_word, number_to}
+use Rattle.lv_session.specs.lv_session_request.Goals.{goal_of}
+use Rattle.lv_session.specs.lv_session_request.Requests.{alone, command_of, release_of, sighting_of, retracted_of, request_by, asked_by_first, asked, asked_by, request_of}
 use Rattle.lv_session.specs.Session.{SessionState, unchanged, answered, stepped}
 use Rattle.lv_session.specs.Laws.{is_certificate}
 use Rattle.lv_session.proofs.StepLaws.{asks_certificate, request_told}

@@ -6,7 +6,7 @@ use Rattle.std.specs.Cmp.Lexicographic.{same_text}
 use Rattle.std.specs.Option.{option_map_or}
 use Rattle.std.specs.Str.Lines.{strip_carriage_return}
 use Rattle.std.proofs.lemmas.Bool.{and_parts, eqb-true}
-use Rattle.lv_base.specs.Names.{is_named}
+use Rattle.lv_text.specs.lv_base.Names.{is_named}
 use Rattle.lv_text.specs.declared.lexer.Token.{Token}
 use Rattle.lv_text.specs.Bytes.{is_digit}
 use Rattle.lv_text.specs.Kinds.{token_text}

@@ -1,7 +1,7 @@
 -- Replies counted one by one.
 use Rattle.std.proofs.Common.{◌≡◌, false, ℕ, ◌+◌, ◌-◌, ◌≤◌, List, [], ◌∷◌, ◌++◌, length, take, drop, map, fold, refl, sym, ◌∙◌, ap, ap₂, subst, arith, length-drop}
 use Rattle.std.specs.List.{concat}
-use Rattle.lv_io.proofs.Pieces.{rest_of_bytes}
+use Rattle.lv_session.proofs.lv_io.Pieces.{rest_of_bytes}
 use Rattle.lv_text.specs.Lines.{lines_of, BeginsWithLine}
 use Rattle.lv_gen.specs.Session.{session_text}
 use Rattle.lv_model.specs.declared.plant.Plant.{Plant}

@@ -1,2 +1,4 @@
 pub mod Parted
 pub mod Readings
+
+pub use Rattle.lv_text.proofs as lv_text

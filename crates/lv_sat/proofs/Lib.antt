@@ -7,3 +7,5 @@ mod CutLemmas
 mod MeasureLemmas
 mod SearchLemmas
 mod FrontLemmas
+
+pub use Rattle.lv_reflog.proofs as lv_reflog

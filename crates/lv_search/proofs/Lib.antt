@@ -3,3 +3,5 @@ pub mod FollowLemmas
 pub mod TimesLemmas
 pub mod LeftLemmas
 pub mod RunLemmas
+
+pub use Rattle.lv_boxes.proofs as lv_boxes

@@ -4,3 +4,5 @@ pub mod TranscriptLemmas
 pub mod StandingLemmas
 pub mod PieceLemmas
 pub mod ReadLemmas
+
+pub use Rattle.lv_session.proofs as lv_session

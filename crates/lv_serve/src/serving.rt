@@ -37,7 +37,7 @@ pub struct Serving<'a> {
 
 impl<'a> marker::Model for Serving<'a> {
     ghost use Rattle.std.specs.Coded.{codes};
-    ghost use Rattle.lv_formula.specs.contracts.Condition as condition;
+    ghost use Rattle.lv_model.specs.lv_formula.contracts.Condition as condition;
     ghost use Rattle.lv_serve.specs.Standing.{Standing};
 
     ghost Value = { Standing };

@@ -21,7 +21,7 @@ use Rattle.lv_search_walk.specs.Walk.{Walked}
 use Rattle.lv_meaning.specs.declared.facts.Facts.{Facts}
 use Rattle.lv_meaning.specs.Candidates.{IsTracked, candidates}
 use Rattle.lv_meaning.specs.Diagnosis.{diagnosis_walk}
-use Rattle.lv_search.specs.Standing.{trials_of}
+use Rattle.lv_ident.specs.lv_search.Standing.{trials_of}
 use Rattle.lv_ident.specs.Query.{QueryValue, IsQueryOf}
 use Rattle.lv_tracker.specs.Tracked.{IsCheap, HasModes}
 use Rattle.lv_reply.specs.declared.reply.Refusal.TheVariants.{NoQuery, NotUnsettled}

@@ -12,9 +12,9 @@ use Rattle.lv_text.proofs.ReadBack.{lexemes_have}
 use Rattle.lv_formula.specs.Tree.{Tree}
 use Rattle.lv_model.specs.declared.plant.Plant.{Plant}
 use Rattle.lv_model.specs.declared.state.TrackedState.{TrackedState}
-use Rattle.lv_formula_text.specs.Canonical.{tokens_of, canonical_text}
-use Rattle.lv_formula_text.specs.Resolving.{resolved}
-use Rattle.lv_formula_text.specs.Descent.{phrase_of}
+use Rattle.lv_model_names.specs.lv_formula_text.Canonical.{tokens_of, canonical_text}
+use Rattle.lv_model_names.specs.lv_formula_text.Resolving.{resolved}
+use Rattle.lv_model_names.specs.lv_formula_text.Descent.{phrase_of}
 use Rattle.lv_model_names.specs.Names.{plant_names}
 use Rattle.lv_search_walk.specs.declared.outcome.Outcome.{Outcome}
 use Rattle.lv_search_walk.specs.declared.outcome.Outcome.TheVariants.{Settled, Unsettled}
@@ -24,8 +24,8 @@ use Rattle.lv_tracker.specs.Tracked.{IsWithinCost}
 use Rattle.lv_cert.specs.declared.line.Line.{Line}
 use Rattle.lv_cert.specs.Words.{is_word}
 use Rattle.lv_cert.specs.Texts.{text_of}
-use Rattle.lv_cert_meaning.specs.Stated.{simple_goal, goal_as, goal_in, goal_of}
-use Rattle.lv_cert_meaning.specs.Certifying.{CertifiesDiagnosis, CertifiesRecovery, StateStands, IsSeen, AreStates, AreFacts, IsSettledDiagnosis, IsAsked, IsSettledRecovery, AreTexts, AreFormed}
+use Rattle.lv_cert_diagnosis.specs.lv_cert_meaning.Stated.{simple_goal, goal_as, goal_in, goal_of}
+use Rattle.lv_cert_diagnosis.specs.lv_cert_meaning.Certifying.{CertifiesDiagnosis, CertifiesRecovery, StateStands, IsSeen, AreStates, AreFacts, IsSettledDiagnosis, IsAsked, IsSettledRecovery, AreTexts, AreFormed}
 use Rattle.lv_session_request.specs.Held.{observation_of}
 use Rattle.lv_session_request.specs.declared.goals.Goal.{Goal}
 use Rattle.lv_session_request.specs.declared.request.Sighting.{Sighting}

@@ -17,8 +17,8 @@ use Rattle.lv_model.specs.Lists.{sizes}
 use Rattle.lv_model.specs.Ranges.{plant_ranges, type_ranges}
 use Rattle.lv_model.specs.WellFormed.{is_well_formed, names_fit, counts_fit, formulas_fit, moves_fit, move_fits, kind_fits, guard_fits, part_fits, name_fits, moves_rise, stays_once}
 use Rattle.lv_model.proofs.Reading.{All-at, All-of_test, type_of_place, types_pass, parts_pass, follow_pass}
-use Rattle.lv_compile.specs.Booleans.{booleans_now}
-use Rattle.lv_compile.proofs.RangeLemmas.{have_part}
+use Rattle.lv_system.specs.lv_compile.Booleans.{booleans_now}
+use Rattle.lv_system.proofs.lv_compile.RangeLemmas.{have_part}
 use Rattle.lv_meaning.specs.Ranges.{modes_fit, StateFits}
 use Rattle.lv_tracker.specs.Targets.{target_mode, target_modes, target_state, HasMoves}
 use Rattle.lv_tracker.specs.Tracked.{start_state}

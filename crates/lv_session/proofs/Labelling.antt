@@ -17,9 +17,9 @@ use Rattle.lv_model.specs.Ranges.{plant_ranges}
 use Rattle.lv_formula.specs.Fits.{has_value}
 use Rattle.lv_meaning.specs.declared.facts.Observation.{Observation}
 use Rattle.lv_meaning.specs.Facts.{commanded, now_facts, HasValue}
-use Rattle.lv_compile.specs.Booleans.{booleans_now}
-use Rattle.lv_compile.specs.FormulaClauses.{size_of}
-use Rattle.lv_search_zones.proofs.ControlLemmas.{few_controls}
+use Rattle.lv_system.specs.lv_compile.Booleans.{booleans_now}
+use Rattle.lv_system.specs.lv_compile.FormulaClauses.{size_of}
+use Rattle.lv_ident.proofs.lv_search_zones.ControlLemmas.{few_controls}
 use Rattle.lv_meaning.specs.Ranges.{modes_fit, StateFits}
 use Rattle.lv_reply.specs.declared.reply.Refusal.TheVariants.{OutOfLimits}
 use Rattle.lv_reply.specs.declared.reply.Reply.TheVariants.{Refused}

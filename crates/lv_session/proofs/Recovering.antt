@@ -9,7 +9,7 @@ use Rattle.lv_search_walk.specs.declared.outcome.Outcome.{Outcome}
 use Rattle.lv_search_walk.specs.declared.outcome.Outcome.TheVariants.{Settled, Unsettled}
 use Rattle.lv_search_walk.specs.Walk.{Walked}
 use Rattle.lv_search_walk.proofs.WalkLemmas.{at_most, used_up_unsettled}
-use Rattle.lv_search.specs.Standing.{trials_of}
+use Rattle.lv_ident.specs.lv_search.Standing.{trials_of}
 use Rattle.lv_meaning.specs.declared.aim.Aim.{Aim}
 use Rattle.lv_meaning.specs.Commands.{command_sets}
 use Rattle.lv_meaning.specs.Ranges.{ObservationFits, GoalFits, AimFits}

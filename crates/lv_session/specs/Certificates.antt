@@ -3,7 +3,7 @@ use Rattle.std.specs.Prelude.{◌≡◌, ℕ, List, true}
 use Rattle.lv_model.specs.declared.plant.Plant.{Plant}
 use Rattle.lv_cert.specs.declared.line.Line.{Line}
 use Rattle.lv_cert.specs.Texts.{text_of}
-use Rattle.lv_cert_meaning.specs.Certifying.{CertifiesDiagnosis, CertifiesRecovery, AreFormed}
+use Rattle.lv_cert_diagnosis.specs.lv_cert_meaning.Certifying.{CertifiesDiagnosis, CertifiesRecovery, AreFormed}
 use Rattle.lv_reply.specs.declared.reply.Reply.{Reply}
 use Rattle.lv_reply.specs.declared.reply.Reply.TheVariants.{Certificate}
 use Rattle.lv_reply.specs.Texts.{reply_text}

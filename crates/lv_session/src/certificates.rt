@@ -5,7 +5,7 @@
 
 ghost use Rattle.std.specs.Prelude.{◌≡◌, ◌≤◌, ℕ, IfOk, length, true};
 ghost use Rattle.lv_system.specs.System.{IsSystemOf};
-ghost use Rattle.lv_cert_meaning.specs.Certifying.{CertifiesDiagnosis, CertifiesRecovery, IsSettledDiagnosis, IsSettledRecovery, AreFormed};
+ghost use Rattle.lv_cert_diagnosis.specs.lv_cert_meaning.Certifying.{CertifiesDiagnosis, CertifiesRecovery, IsSettledDiagnosis, IsSettledRecovery, AreFormed};
 ghost use Rattle.lv_session.specs.Session.{facts_of, aim_of, is_settled_by, is_settled, certificate};
 ghost use Rattle.lv_session.specs.States.{IsStateOf};
 ghost use Rattle.lv_session.specs.Current.{IsDiagnosisAt, IsRecoveryAt, IsCurrent};

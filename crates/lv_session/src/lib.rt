@@ -15,7 +15,6 @@
 //! | `labels` | what propagation finds |
 //! | `query` | the current query |
 //! | `running` | what is kept of it from line to line |
-//! | `flush` | what was written handed on |
 //! | `laws` | what holds of steps and transcripts |
 //!
 //! What a line does is a function of the state; which text stands for its reply is a relation, and so is the transcript
@@ -24,7 +23,6 @@
 
 mod certificates;
 mod diagnoses;
-pub mod flush;
 mod goals;
 mod labels;
 pub mod laws;
@@ -37,7 +35,6 @@ pub mod session;
 pub mod state;
 pub mod workings;
 
-pub use flush::flush_after;
 pub use query::Query;
 pub use session::Session;
 pub use state::State;

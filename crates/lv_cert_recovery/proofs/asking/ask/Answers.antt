@@ -1,6 +1,6 @@
 -- values that were told make the system's clauses true
 use Rattle.std.proofs.Common.{◌∙◌, length, subst, sym, ap}
-use Rattle.lv_clauses.specs.ClauseMap.{satisfies}
+use Rattle.lv_system.specs.lv_clauses.ClauseMap.{satisfies}
 use Rattle.lv_system.specs.System.{SystemValue, IsSystemOf}
 use Rattle.lv_cert_writing.specs.Refuting.{MakeTrue, Tells}
 use Rattle.lv_cert_recovery.proofs.asking.ask.Goals as goal

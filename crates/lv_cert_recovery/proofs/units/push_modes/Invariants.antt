@@ -1,5 +1,5 @@
 use Rattle.std.proofs.Common.{◌≡◌, ◌++◌, drop}
-use Rattle.lv_cert_meaning.specs.Units.{mode_literals}
+use Rattle.lv_cert_laws.specs.lv_cert_meaning.Units.{mode_literals}
 use Rattle.lv_cert_recovery.proofs.units.push_modes.Given as goal
 
 abbrev pub invariant-loop-k : goal.invariant-loop-k

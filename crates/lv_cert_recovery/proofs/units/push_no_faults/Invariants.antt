@@ -1,5 +1,5 @@
 use Rattle.std.proofs.Common.{◌≡◌, ◌++◌, drop}
-use Rattle.lv_cert_meaning.specs.Units.{no_fault_literals}
+use Rattle.lv_cert_laws.specs.lv_cert_meaning.Units.{no_fault_literals}
 use Rattle.lv_cert_recovery.proofs.units.push_no_faults.Given as goal
 
 abbrev pub invariant-loop-k : goal.invariant-loop-k

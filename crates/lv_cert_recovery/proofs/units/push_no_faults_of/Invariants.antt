@@ -1,5 +1,5 @@
 use Rattle.std.proofs.Common.{◌≡◌, ◌++◌, drop}
-use Rattle.lv_cert_meaning.specs.Units.{no_fault_of}
+use Rattle.lv_cert_laws.specs.lv_cert_meaning.Units.{no_fault_of}
 use Rattle.lv_cert_recovery.proofs.units.push_no_faults_of.Given as goal
 
 abbrev pub invariant-loop-n : goal.invariant-loop-n

@@ -1,7 +1,7 @@
 -- each command set is explained
 use Rattle.std.proofs.Common.{◌≡◌, ◌∙◌, ◌++◌, ◌∷◌, [], List, ap}
 use Rattle.std.specs.Option.{option_copied}
-use Rattle.lv_boxes.specs.Members.{ZoneValue}
+use Rattle.lv_search_zones.specs.lv_boxes.Members.{ZoneValue}
 use Rattle.lv_search_zones.specs.Commands.{command_zone}
 use Rattle.lv_cert_recovery.proofs.DoneLemmas.{one_listed, explained_so, closing, of_both}
 use Rattle.lv_cert_recovery.proofs.whole.splits_of.Goals as goal

@@ -2,8 +2,8 @@
 use Rattle.std.proofs.Common.{◌≡◌, ◌++◌, ℕ, List, length, subst, sym, ◌∙◌, arith}
 use Rattle.std.proofs.lemmas.List.{length-append}
 use Rattle.std.proofs.lemmas.Result.{IfOk-weaker}
-use Rattle.lv_clauses.specs.ClauseMap.{ClauseMap}
-use Rattle.lv_cert_blocks.specs.Blocks.{clauses_of}
+use Rattle.lv_reflog.specs.lv_clauses.ClauseMap.{ClauseMap}
+use Rattle.lv_cert_numbers.specs.lv_cert_blocks.Blocks.{clauses_of}
 use Rattle.lv_cert_writing.specs.BlockNumbers.{HaveNumbers}
 use Rattle.lv_cert_writing.specs.StatedClauses.{Adds}
 use Rattle.lv_cert_writing.proofs.BlockNumberLemmas.{all_numbered}

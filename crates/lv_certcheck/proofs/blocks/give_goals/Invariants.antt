@@ -1,6 +1,6 @@
 use Rattle.std.proofs.Common.{◌≡◌, drop, true}
 use Rattle.std.specs.List.{flat_map}
-use Rattle.lv_cert_meaning.specs.Units.{goal_clauses}
+use Rattle.lv_cert_laws.specs.lv_cert_meaning.Units.{goal_clauses}
 use Rattle.lv_certcheck.specs.Settings.{plant_of}
 use Rattle.lv_certcheck.specs.Giving.{with_clauses}
 use Rattle.lv_certcheck.proofs.blocks.give_goals.Given as goal

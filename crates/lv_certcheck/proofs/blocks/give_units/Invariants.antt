@@ -1,5 +1,5 @@
 use Rattle.std.proofs.Common.{◌≡◌, drop}
-use Rattle.lv_cert_meaning.specs.Units.{units}
+use Rattle.lv_cert_laws.specs.lv_cert_meaning.Units.{units}
 use Rattle.lv_certcheck.specs.Giving.{with_clauses}
 use Rattle.lv_certcheck.proofs.blocks.give_units.Given as goal
 

@@ -1,5 +1,5 @@
 use Rattle.std.proofs.Common.{◌≡◌, ◌+◌, drop}
-use Rattle.lv_cert_meaning.specs.Judging.{judge_lines, judgement}
+use Rattle.lv_cert_laws.specs.lv_cert_meaning.Judging.{judge_lines, judgement}
 use Rattle.lv_certcheck.specs.Settings.{plant_of}
 use Rattle.lv_certcheck.specs.Giving.{Fits}
 use Rattle.lv_certcheck.specs.Verdicts.{judged_of}

@@ -1,5 +1,5 @@
 use Rattle.std.proofs.Common.{◌≡◌, drop}
-use Rattle.lv_cert_meaning.specs.Judging.{ends_empty_after, ends_empty}
+use Rattle.lv_cert_laws.specs.lv_cert_meaning.Judging.{ends_empty_after, ends_empty}
 use Rattle.lv_certcheck.proofs.judge.ends_empty.Given as goal
 
 -- what is left ends as all do

@@ -1,6 +1,6 @@
 -- the zones' members are the candidates
 use Rattle.std.proofs.Common.{◌∙◌, ap}
-use Rattle.lv_boxes.specs.RankedMembers.{sources_differ}
+use Rattle.lv_search.specs.lv_boxes.RankedMembers.{sources_differ}
 use Rattle.lv_search_zones.proofs.ZoneLemmas.{zones_differ}
 use Rattle.lv_ident.proofs.QueryLemmas.{start_of, start_is_query, start_is_tried}
 use Rattle.lv_ident.proofs.query.identify.Goals as goal

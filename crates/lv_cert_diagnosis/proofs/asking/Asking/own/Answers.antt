@@ -3,7 +3,7 @@ use Rattle.std.proofs.Common.{◌≡◌, ◌++◌, ◌∙◌, List, subst, ap}
 use Rattle.lv_base.specs.declared.ids.Lit.{Lit}
 use Rattle.lv_system.specs.System.{choices_of}
 use Rattle.lv_ident.specs.Literals.{pair_literals}
-use Rattle.lv_cert_meaning.specs.Units.{units}
+use Rattle.lv_cert_laws.specs.lv_cert_meaning.Units.{units}
 use Rattle.lv_cert_diagnosis.specs.Showing.{Asked}
 use Rattle.lv_cert_diagnosis.specs.Keeping.{IsAsking}
 use Rattle.lv_cert_diagnosis.proofs.Telling.{own_made, moves_there}

@@ -5,7 +5,7 @@ use Rattle.lv_base.specs.declared.limits.TheConstants.{PARTS, VARIABLES}
 use Rattle.lv_model.specs.declared.plant.Part.{Part}
 use Rattle.lv_model.specs.declared.plant.Plant.{Plant}
 use Rattle.lv_model.specs.Lists.{sizes, controls, variable_count, part_moves, IsFew}
-use Rattle.lv_search_zones.proofs.ControlLemmas.{few_controls}
+use Rattle.lv_cert_meaning.proofs.lv_search_zones.ControlLemmas.{few_controls}
 use Rattle.lv_cert_numbers.proofs.CountLemmas.{few_found, as_many}
 use Rattle.lv_cert_numbers.proofs.counts.Counts.of.Goals as goal
 

@@ -4,7 +4,7 @@ use Rattle.std.proofs.lemmas.Result.{IfOk-weaker}
 use Rattle.lv_formula.specs.Tree.{tree_of}
 use Rattle.lv_meaning.specs.Ranges.{GoalFits}
 use Rattle.lv_system.specs.Goals as goals
-use Rattle.lv_cert_meaning.specs.Units as units
+use Rattle.lv_cert_laws.specs.lv_cert_meaning.Units as units
 use Rattle.lv_cert_recovery.specs.Asking.{Asked}
 use Rattle.lv_cert_recovery.proofs.AskingLemmas.{goal_made, goal_spoken}
 use Rattle.lv_cert_recovery.proofs.asking.Asking.goal.Goals as goal

@@ -4,7 +4,7 @@ use Rattle.std.proofs.lemmas.Result.{IfOk-weaker}
 use Rattle.lv_base.specs.declared.ids.Lit.{Lit}
 use Rattle.lv_system.specs.Numbering.{IsOver}
 use Rattle.lv_system.specs.System.{SystemValue}
-use Rattle.lv_cert_meaning.specs.Units.{nominal_units, goal_clauses}
+use Rattle.lv_cert_laws.specs.lv_cert_meaning.Units.{nominal_units, goal_clauses}
 use Rattle.lv_cert_recovery.specs.Asking.{Asked, IsAsking}
 use Rattle.lv_cert_recovery.specs.Showing.{stated_by, own_clauses}
 use Rattle.lv_cert_recovery.specs.Telling.{IsTold}

@@ -2,11 +2,11 @@
 use Rattle.std.proofs.Common.{◌≡◌, ◌++◌, ◌∙◌, List, map, true, subst, sym, ap}
 use Rattle.lv_base.specs.declared.ids.Lit.{Lit}
 use Rattle.lv_base.specs.declared.ids.ValId.{ValId}
-use Rattle.lv_compile.specs.Booleans.{booleans_now}
+use Rattle.lv_search_zones.specs.lv_compile.Booleans.{booleans_now}
 use Rattle.lv_model.specs.Ranges.{plant_ranges}
 use Rattle.lv_meaning.specs.Ranges.{modes_fit}
-use Rattle.lv_cert_meaning.specs.Stated.{observed_literal}
-use Rattle.lv_cert_meaning.specs.Units.{units, mode_literals, no_fault_literals, control_literal, nominal_units}
+use Rattle.lv_cert_laws.specs.lv_cert_meaning.Stated.{observed_literal}
+use Rattle.lv_cert_laws.specs.lv_cert_meaning.Units.{units, mode_literals, no_fault_literals, control_literal, nominal_units}
 use Rattle.lv_cert_recovery.specs.Asking.{Asked}
 use Rattle.lv_cert_recovery.proofs.AskingLemmas.{modes_long, regrouped}
 use Rattle.lv_cert_recovery.proofs.asking.Asking.nominal.Goals as goal

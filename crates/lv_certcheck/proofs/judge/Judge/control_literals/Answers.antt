@@ -2,8 +2,8 @@
 use Rattle.std.proofs.Common.{◌≡◌, ◌∙◌, ◌<◌, true, List, map, slice_index_or, sym, ap, subst}
 use Rattle.lv_base.specs.declared.ids.VarId.{VarId}
 use Rattle.lv_model.specs.Lists.{sizes, controls}
-use Rattle.lv_compile.specs.Booleans.{Booleans}
-use Rattle.lv_compile.specs.FormulaClauses.{size_of}
+use Rattle.lv_search_zones.specs.lv_compile.Booleans.{Booleans}
+use Rattle.lv_search_zones.specs.lv_compile.FormulaClauses.{size_of}
 use Rattle.lv_cert_numbers.specs.Fitting.{are_values}
 use Rattle.lv_certcheck.specs.Settings.{plant_of}
 use Rattle.lv_certcheck.proofs.GivingLemmas.{control_below}

@@ -1,8 +1,8 @@
 use Rattle.std.proofs.Common.{◌≡◌, ◌++◌, drop, map}
 use Rattle.lv_model.specs.Lists.{controls}
 use Rattle.lv_meaning.specs.Facts.{commanded}
-use Rattle.lv_compile.specs.Booleans.{booleans_now}
-use Rattle.lv_cert_meaning.specs.Stated.{observed_literal}
+use Rattle.lv_search_zones.specs.lv_compile.Booleans.{booleans_now}
+use Rattle.lv_cert_laws.specs.lv_cert_meaning.Stated.{observed_literal}
 use Rattle.lv_certcheck.specs.Settings.{plant_of}
 use Rattle.lv_certcheck.proofs.judge.Judge.control_literals.Given as goal
 

@@ -1,5 +1,5 @@
 use Rattle.std.proofs.Common.{[], false, length, slice_index_or, sym, refl, ap, ◌∙◌, arith}
-use Rattle.lv_cert_meaning.specs.Units.{nominal_units, goal_clauses}
+use Rattle.lv_cert_laws.specs.lv_cert_meaning.Units.{nominal_units, goal_clauses}
 use Rattle.lv_meaning.specs.Commands.{control_sizes}
 use Rattle.lv_certcheck.specs.Settings.{plant_of}
 use Rattle.lv_certcheck.proofs.JudgeLemmas.{pairs_of_values, below_counts, goal_there, goal_at, proof_opened, fits_opened, at_place}

@@ -1,7 +1,7 @@
 -- what the search says of its trial it says of the plant and the aim
 use Rattle.std.proofs.Common.{◌≡◌, ◌+◌, ℕ, true, subst, sym, ◌∙◌}
 use Rattle.std.specs.Result.{IfOk}
-use Rattle.lv_search_walk.specs.Walk.{walk}
+use Rattle.lv_meaning.specs.lv_search_walk.Walk.{walk}
 use Rattle.lv_meaning.specs.Commands.{command_sets}
 use Rattle.lv_meaning.specs.Recovery.{candidate_recovers, candidate_reason, recovery_walk}
 use Rattle.lv_search.specs.Standing.{trials_of, all_suit, IsUnderWay}

@@ -1,6 +1,6 @@
 -- the facts are such as a session holds
 use Rattle.std.proofs.Common.{sym, subst}
-use Rattle.lv_cert_meaning.specs.Certifying.{AreFacts}
+use Rattle.lv_cert_diagnosis.specs.lv_cert_meaning.Certifying.{AreFacts}
 use Rattle.lv_session.proofs.Certifying.{are_facts}
 use Rattle.lv_session.proofs.state.State.diagnosis_certificate.Goals as goal
 

@@ -4,7 +4,7 @@ use Rattle.lv_model.specs.declared.plant.Plant.{Plant}
 use Rattle.lv_model.specs.declared.state.TrackedState.{TrackedState}
 use Rattle.lv_model.specs.WellFormed.{is_well_formed}
 use Rattle.lv_meaning.specs.Facts.{FactsFit, FactsInRange}
-use Rattle.lv_search.specs.Standing.{trials_of}
+use Rattle.lv_ident.specs.lv_search.Standing.{trials_of}
 use Rattle.lv_ident.specs.Query.{QueryValue, IsQueryOf}
 use Rattle.lv_session.specs.Session.{SessionState}
 use Rattle.lv_session.proofs.Asking.{facts_fit, facts_in_range, has_run, listed_at}

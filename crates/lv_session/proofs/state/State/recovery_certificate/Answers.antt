@@ -5,7 +5,7 @@ use Rattle.lv_formula.specs.Tree.{Tree}
 use Rattle.lv_model.specs.declared.state.TrackedState.{TrackedState}
 use Rattle.lv_tracker.specs.Tracked.{IsWithinCost}
 use Rattle.lv_meaning.specs.declared.aim.Aim.{Aim}
-use Rattle.lv_cert_meaning.specs.Certifying.{IsAsked, AreTexts}
+use Rattle.lv_cert_diagnosis.specs.lv_cert_meaning.Certifying.{IsAsked, AreTexts}
 use Rattle.lv_session_request.specs.declared.goals.Goal.{Goal}
 use Rattle.lv_session.specs.Session.{SessionState, text_of_goal, formula_of}
 use Rattle.lv_session.proofs.Certifying.{are_states, is_asked, are_texts}

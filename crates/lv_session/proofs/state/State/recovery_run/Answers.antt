@@ -1,7 +1,7 @@
 -- the aim is of the plant and its values; the search has run along the command sets
 use Rattle.std.proofs.Common.{◌≡◌, sym, ap, subst, ◌∙◌, arith}
 use Rattle.lv_meaning.specs.Ranges.{AimFits}
-use Rattle.lv_search.specs.Standing.{trials_of}
+use Rattle.lv_ident.specs.lv_search.Standing.{trials_of}
 use Rattle.lv_reconf.specs.Query.{QueryValue}
 use Rattle.lv_session.proofs.Recovering.{aim_fits, recovery_has_run}
 use Rattle.lv_session.proofs.state.State.recovery_run.Goals as goal

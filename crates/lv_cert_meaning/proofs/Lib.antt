@@ -1,0 +1,11 @@
+pub use Rattle.lv_model_names.proofs.lv_base as lv_base
+pub use Rattle.lv_search_zones.proofs.lv_boxes as lv_boxes
+pub use Rattle.lv_cert_blocks.proofs as lv_cert_blocks
+pub use Rattle.lv_search_zones.proofs.lv_compile as lv_compile
+pub use Rattle.lv_model_names.proofs.lv_formula_text as lv_formula_text
+pub use Rattle.lv_search_zones.proofs.lv_meaning as lv_meaning
+pub use Rattle.lv_model_names.proofs.lv_model as lv_model
+pub use Rattle.lv_model_names.proofs as lv_model_names
+pub use Rattle.lv_search_zones.proofs.lv_search_walk as lv_search_walk
+pub use Rattle.lv_search_zones.proofs as lv_search_zones
+pub use Rattle.lv_cert_blocks.proofs.lv_system as lv_system

@@ -1,0 +1,1 @@
+pub use Rattle.lv_reflog.specs as lv_reflog

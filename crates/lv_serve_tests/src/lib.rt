@@ -1,5 +1,0 @@
-//! Tests of serving a session piece by piece.
-#![tactic(auto)]
-
-#[cfg(test)]
-mod pieces;
