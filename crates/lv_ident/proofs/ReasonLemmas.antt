@@ -11,11 +11,11 @@ use Rattle.lv_base.specs.Choices.{picks, contains_all, slots_rise_from, pairs_fr
 use Rattle.lv_clauses.proofs.LiteralLemmas.{Contains-cases, Contains-tail, Contains-head, Contains-nil}
 use Rattle.lv_model.specs.declared.plant.Plant.{Plant}
 use Rattle.lv_model.specs.Lists.{move_counts}
-use Rattle.lv_meaning.specs.lv_search_walk.Walk.{candidate_of, walk_from}
-use Rattle.lv_meaning.specs.lv_search_walk.Laws.{each_is_needed, is_pair, has_pairs, none_in_another, AreMinimal}
-use Rattle.lv_meaning.proofs.lv_search_walk.WalkLemmas.{turn}
-use Rattle.lv_meaning.proofs.lv_search_walk.KeptLemmas.{walk_kept_apart}
-use Rattle.lv_meaning.proofs.lv_search_walk.ReasonLemmas.{still_impossible, part_of_all, all_needed}
+use Rattle.lv_search_walk.specs.Walk.{candidate_of, walk_from}
+use Rattle.lv_search_walk.specs.Laws.{each_is_needed, is_pair, has_pairs, none_in_another, AreMinimal}
+use Rattle.lv_search_walk.proofs.WalkLemmas.{turn}
+use Rattle.lv_search_walk.proofs.KeptLemmas.{walk_kept_apart}
+use Rattle.lv_search_walk.proofs.ReasonLemmas.{still_impossible, part_of_all, all_needed}
 use Rattle.lv_meaning.specs.declared.facts.Facts.{Facts}
 use Rattle.lv_meaning.specs.Possible.{is_possible}
 use Rattle.lv_meaning.specs.Candidates.{is_possible_candidate}

@@ -9,8 +9,8 @@ use Rattle.lv_clauses.specs.Marks.{Marks, is_marked}
 use Rattle.lv_model.specs.declared.plant.Plant.{Plant}
 use Rattle.lv_model.specs.Lists.{move_counts}
 use Rattle.lv_system.specs.Choices.{Choices}
-use Rattle.lv_meaning.specs.lv_search_walk.Reason.{reduced}
-use Rattle.lv_meaning.proofs.lv_search_walk.ReasonLemmas.{pair_kept, pair_left_out}
+use Rattle.lv_search_walk.specs.Reason.{reduced}
+use Rattle.lv_search_walk.proofs.ReasonLemmas.{pair_kept, pair_left_out}
 use Rattle.lv_meaning.specs.declared.facts.Facts.{Facts}
 use Rattle.lv_meaning.specs.Possible.{is_possible}
 use Rattle.lv_ident.specs.Literals.{pair_literal, HasMove, plant_choices, marked_pairs}

@@ -5,7 +5,7 @@ use Rattle.lv_base.specs.Choices.{slots_rise}
 use Rattle.lv_clauses.specs.Marks.{Marks}
 use Rattle.lv_model.specs.declared.plant.Plant.{Plant}
 use Rattle.lv_model.specs.Lists.{move_counts}
-use Rattle.lv_meaning.specs.lv_search_walk.Reason.{reduced}
+use Rattle.lv_search_walk.specs.Reason.{reduced}
 use Rattle.lv_meaning.specs.declared.facts.Facts.{Facts}
 use Rattle.lv_meaning.specs.Possible.{is_possible}
 use Rattle.lv_ident.specs.Literals.{HasMove, plant_choices, marked_pairs}

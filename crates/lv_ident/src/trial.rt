@@ -8,7 +8,7 @@ ghost use Rattle.lv_clauses.specs.Marks.{is_marked};
 ghost use Rattle.lv_model.specs.Lists.{move_counts};
 ghost use Rattle.std.specs.List.{sum};
 ghost use Rattle.lv_system.specs.System.{IsSystemOf};
-ghost use Rattle.lv_meaning.specs.lv_search_walk.Reason.{reduced};
+ghost use Rattle.lv_search_walk.specs.Reason.{reduced};
 ghost use Rattle.lv_meaning.specs.Facts.{FactsFit, FactsInRange};
 ghost use Rattle.lv_meaning.specs.Possible.{is_possible};
 ghost use Rattle.lv_meaning.specs.Candidates.{is_possible_candidate};
@@ -246,7 +246,7 @@ impl<'a> IdentTrial<'a> {
 impl Trial for IdentTrial<'_> {
     ghost use Rattle.std.proofs.Common.{refl};
     ghost use Rattle.lv_base.specs.Choices.{picks};
-    ghost use Rattle.lv_meaning.proofs.lv_search_walk.ReasonLemmas.{part_of_all};
+    ghost use Rattle.lv_search_walk.proofs.ReasonLemmas.{part_of_all};
     ghost use Rattle.lv_meaning.proofs.Reasons.{own_pairs, reason_apart};
 
     ghost suits = { λ t c. is_full_choice t.plant c };

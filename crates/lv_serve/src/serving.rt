@@ -161,8 +161,7 @@ impl<'a> Serving<'a> {
         ensures ok { OnOk result (IsReplied self.old self.new) }
         ensures err { OnErr result (self.new.replies ≡ self.old.replies) }
     {
-        let reply = self.session.step(self.line.line())?;
-        let text = self.session.text_of(&reply)?;
+        let text = self.session.answer_text(self.line.line())?;
         self.replies.extend_from_slice(text.as_slice())?;
         self.line.clear();
         Ok(())

@@ -96,6 +96,15 @@ impl<'a> Session<'a> {
         }
     }
 
+    /// Does what a line asks for, and answers a text of the reply.
+    pub fn answer_text(&mut self, line: &[u8]) -> Result<Vec<u8>, AllocError>
+        ensures state { OnOk result (self.new ≡ record self.old { state = (stepped self.old.plant self.old.state line.now).state }) }
+        ensures text { IfOk result (λ text. IsTextOf self.new.plant self.new.state (stepped self.old.plant self.old.state line.now).reply text.items) }
+    {
+        let reply = self.step(line)?;
+        self.text_of(&reply)
+    }
+
     /// Whether the session has ended: exactly where a `quit` was accepted. Takes no memory.
     pub fn ended(&self) -> bool
         ensures { result ≡ self.now.state.is_ended }

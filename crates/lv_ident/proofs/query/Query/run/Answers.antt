@@ -3,7 +3,7 @@ use Rattle.std.proofs.Common.{◌≡◌, ◌+◌, true, Bool, List, subst, sym}
 use Rattle.std.specs.Result.{IfOk}
 use Rattle.lv_base.specs.declared.rank.Rank.{Rank}
 use Rattle.lv_base.specs.declared.search.Candidate.{Candidate}
-use Rattle.lv_meaning.specs.lv_search_walk.Walk.{walk}
+use Rattle.lv_search_walk.specs.Walk.{walk}
 use Rattle.lv_meaning.specs.Candidates.{candidates, is_possible_candidate}
 use Rattle.lv_meaning.specs.Diagnosis.{reason_of, diagnosis_walk}
 use Rattle.lv_search.specs.Standing.{trials_of, all_suit, IsUnderWay}

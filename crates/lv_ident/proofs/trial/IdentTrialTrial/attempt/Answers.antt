@@ -2,7 +2,7 @@
 use Rattle.std.proofs.Common.{◌≡◌, List, [], false, true, subst, sym, ap, ◌∙◌}
 use Rattle.lv_base.specs.declared.search.Pair.{Pair}
 use Rattle.lv_base.specs.Choices.{slots_rise}
-use Rattle.lv_meaning.proofs.lv_search_walk.ReasonLemmas.{still_rising}
+use Rattle.lv_search_walk.proofs.ReasonLemmas.{still_rising}
 use Rattle.lv_meaning.specs.Possible.{is_possible}
 use Rattle.lv_ident.specs.Literals.{marked_pairs, plant_choices}
 use Rattle.lv_ident.specs.Trial.{TrialValue}
