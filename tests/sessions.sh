@@ -1,7 +1,8 @@
 #!/usr/bin/env bash
 # Runs the built program over the sessions sessions/NAME.ses and compares what it writes with NAME.out, which was worked
-# out by hand: worked examples, each refusal on a new session and after a settled diagnosis, and as many observations
-# as may be held. The model is series.lv for series.ses and the valve of examples/ for the others.
+# out by hand: worked examples, each refusal on a new session and after a settled diagnosis, as many observations as may
+# be held, a row of 32 valves with 2^32 candidates of cost 0. The model is the one that a session's name begins with, or
+# else the valve of examples/.
 # shellcheck source-path=SCRIPTDIR source=common.sh
 . "$(dirname "$(readlink -f "${BASH_SOURCE[0]}")")/common.sh"
 

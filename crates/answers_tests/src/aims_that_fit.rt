@@ -10,8 +10,8 @@ ghost use Rattle.lv_meaning.specs.Ranges.{modes_fit, AimFits};
 use lv_base::ValId;
 use lv_formula::range::has_value;
 use lv_formula::{Condition, Range};
-use lv_model::{Part, Plant, TrackedState};
 use lv_meaning::Aim;
+use lv_model::{Part, Plant, TrackedState};
 
 /// Whether there is one mode for each part, and the part has it.
 pub fn have_modes(ranges: &[Range], parts: &[Part], modes: &[ValId]) -> bool

@@ -16,8 +16,8 @@ use lv_checker::model_of;
 use lv_ident::{IdentTrial, Query, identify};
 use lv_meaning::{Facts, Observation};
 use lv_model::{Model, Part, State, TrackedState};
-use lv_system::{StepSystem, compile};
 use lv_search_walk::Outcome;
+use lv_system::{StepSystem, compile};
 use std::alloc::{AllocError, Global};
 
 /// A valve that follows its command or is stuck, with its inflow present.

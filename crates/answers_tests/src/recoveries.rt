@@ -10,12 +10,12 @@ use crate::aims_that_fit::is_of;
 use lv_base::{Conflict, Cost, Pair, Rank, Seq, ValId, VarId};
 use lv_checker::model_of;
 use lv_formula::{Condition, Formula};
+use lv_meaning::Aim;
 use lv_model::ranges::plant_ranges;
 use lv_model::{Model, State, TrackedState};
 use lv_reconf::{Query, recover};
-use lv_meaning::Aim;
-use lv_system::{StepSystem, compile};
 use lv_search_walk::Outcome;
+use lv_system::{StepSystem, compile};
 use std::alloc::{AllocError, Global};
 
 /// One valve. What flows out of it is its fourth variable.

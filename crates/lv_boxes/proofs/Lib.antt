@@ -5,5 +5,4 @@ pub mod LeastLemmas
 pub mod MemberLemmas
 pub mod Among
 pub mod RankedMemberLemmas
-
 pub use Rattle.lv_search_walk.proofs as lv_search_walk

@@ -4,5 +4,4 @@ pub mod Least
 pub mod Parts
 pub mod Laws
 pub mod RankedMembers
-
 pub use Rattle.lv_search_walk.specs as lv_search_walk

@@ -18,10 +18,10 @@ ghost use Rattle.lv_cert_diagnosis.specs.Showing.{own_clauses, ShowsStep, TellsO
 
 use lv_base::{Lit, Pair, Rank, Seq, pairs_of};
 use lv_cert_writing::asking::{lines_told, push_units, values_told};
+use lv_cert_writing::{Derivation, Refuted, Refuter};
 use lv_ident::literals::{fact_literals, push_pairs};
 use lv_meaning::Facts;
 use lv_model::Model;
-use lv_cert_writing::{Derivation, Refuted, Refuter};
 use lv_system::{StepPair, StepSystem};
 use std::alloc::{AllocError, Global};
 use std::marker;

@@ -20,8 +20,8 @@ use lv_cert_writing::stating::push_splits;
 use lv_cert_writing::{Split, close, last_if_full};
 use lv_meaning::Facts;
 use lv_model::{Model, TrackedState};
-use lv_system::StepSystem;
 use lv_search_zones::{move_grid, zones_of};
+use lv_system::StepSystem;
 use std::alloc::{AllocError, Global};
 
 /// What a settled search came to: what it lists, and the conflicts that it kept.

@@ -19,5 +19,4 @@ pub mod RecoveryStages
 pub mod RecoveryLines
 pub mod RecoveryPlaces
 pub mod RecoveryWhole
-
 pub use Rattle.lv_cert_meaning.proofs.lv_cert_blocks as lv_cert_blocks

@@ -5,7 +5,6 @@ pub mod Units
 pub mod Judging
 pub mod Laws
 pub mod Certifying
-
 pub use Rattle.lv_model_names.specs.lv_base as lv_base
 pub use Rattle.lv_search_zones.specs.lv_boxes as lv_boxes
 pub use Rattle.lv_cert_blocks.specs.lv_cert as lv_cert

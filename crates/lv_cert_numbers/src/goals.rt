@@ -15,8 +15,8 @@ ghost use Rattle.lv_meaning.specs.Ranges.{GoalFits};
 ghost use Rattle.lv_cert_meaning.specs.Stated as Stated;
 
 use lv_formula::Condition;
-use lv_model::{Model, Plant};
 use lv_formula_text::{Phrase, PhraseFault, ResolveFault, is_too_deep, print_phrase, read_phrase};
+use lv_model::{Model, Plant};
 use lv_model_names::{Lists, goal_formula};
 use lv_text::{TextFault, TokenLine};
 use std::alloc::{AllocError, Global};

@@ -18,10 +18,10 @@ ghost use Rattle.lv_cert_recovery.specs.declared.asking.Told.TheVariants.{Step, 
 use crate::units::{push_controls, push_modes, push_no_faults, push_seen};
 use lv_base::{Lit, Pair, Seq, VarId};
 use lv_cert_writing::asking::push_units;
-use lv_formula::Condition;
-use lv_model::{Model, State};
-use lv_meaning::Aim;
 use lv_cert_writing::{Derivation, Refuted, Refuter};
+use lv_formula::Condition;
+use lv_meaning::Aim;
+use lv_model::{Model, State};
 use lv_system::{StepPair, StepSystem};
 use std::alloc::{AllocError, Global};
 use std::marker;

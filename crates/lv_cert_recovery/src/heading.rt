@@ -8,8 +8,8 @@ ghost use Rattle.lv_cert_recovery.specs.Showing.{goal_lines, head_lines};
 use lv_base::Seq;
 use lv_cert::{Line, Moment, Question};
 use lv_cert_writing::stating::{push_facts, push_states};
-use lv_model::Model;
 use lv_meaning::Aim;
+use lv_model::Model;
 use std::alloc::{AllocError, Global};
 
 /// The model's name.

@@ -16,10 +16,10 @@ use lv_base::{Conflict, Rank, Seq, pairs_of};
 use lv_cert::{Cert, Line, Question};
 use lv_cert_writing::stating::push_splits;
 use lv_cert_writing::{Split, close, last_if_full};
-use lv_model::Model;
 use lv_meaning::Aim;
-use lv_system::StepSystem;
+use lv_model::Model;
 use lv_search_zones::{command_grid, command_zone};
+use lv_system::StepSystem;
 use std::alloc::{AllocError, Global};
 
 /// What a settled search came to: what it lists, and the conflicts that it kept.

@@ -8,9 +8,9 @@ ghost use Rattle.lv_cert_writing.specs.declared.refuter.Refuted.TheVariants.{Val
 ghost use Rattle.lv_cert_writing.specs.Asking.{are_values, are_lines};
 ghost use Rattle.lv_cert_writing.specs.Lines.{clause_lines};
 
+use crate::{Derivation, Refuted};
 use lv_base::{Lit, Seq};
 use lv_cert::Line;
-use crate::{Derivation, Refuted};
 use std::alloc::{AllocError, Global};
 
 /// Adds each literal as a clause of its own.

@@ -8,8 +8,8 @@ ghost use Rattle.lv_cert_numbers.specs.lv_cert_blocks.Deriving.{refutes};
 ghost use Rattle.lv_cert_writing.specs.BlockLines as Lines;
 ghost use Rattle.lv_cert_writing.specs.BlockLines.{derived_of, IsRefuting};
 
-use crate::derivation::Derivation;
 use crate::block_numbers::number_at;
+use crate::derivation::Derivation;
 use lv_base::{Lit, Seq};
 use lv_cert::Literal;
 use lv_reflog::{Hint, Log, Step};

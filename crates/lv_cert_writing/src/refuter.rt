@@ -9,10 +9,10 @@ ghost use Rattle.lv_system.specs.System.{IsSystemOf};
 ghost use Rattle.lv_cert_writing.specs.BlockNumbers.{HaveNumbers, AreSystemNumbers};
 ghost use Rattle.lv_cert_writing.specs.Refuting.{Answers, Tells};
 
-use crate::derivation::Derivation;
 use crate::block_lines::lines_of;
-use crate::needed::needed_steps;
 use crate::block_numbers::numbers_of;
+use crate::derivation::Derivation;
+use crate::needed::needed_steps;
 use crate::stated_clauses::state_all;
 use lv_base::{Lit, Seq};
 use lv_sat::{Answer, Solver};

@@ -5,9 +5,9 @@ ghost use Rattle.std.specs.Prelude.{◌≡◌, ◌++◌, ◌∷◌, IfOk};
 ghost use Rattle.lv_cert_writing.specs.Lines as Lines;
 ghost use Rattle.lv_cert_writing.specs.Lines.{value_numbers, numbers_of, pair_numbers};
 
+use crate::Split;
 use lv_base::{Pair, Seq, ValId};
 use lv_cert::{Head, Line, Moment};
-use crate::Split;
 use lv_meaning::Observation;
 use lv_model::TrackedState;
 use std::alloc::{AllocError, Global};

@@ -12,15 +12,14 @@ use crate::judge::Judge;
 use crate::judged::Judged;
 use crate::setting::Setting;
 use crate::stated::Stated;
-use lv_cert_blocks::Block;
 use lv_boxes::{Grid, Zone};
 use lv_cert::{Cert, CertFault, Line, Question, read_cert};
-use lv_cert_numbers::Counts;
+use lv_cert_blocks::Block;
+use lv_cert_numbers::{Counts, Space};
 use lv_model::Model;
 use lv_model_names::Lists;
-use lv_cert_numbers::Space;
-use lv_system::{StepSystem, compile};
 use lv_search_zones::{command_grid, command_zone, move_grid};
+use lv_system::{StepSystem, compile};
 use std::alloc::{AllocError, Global};
 
 /// What a certificate is worth.

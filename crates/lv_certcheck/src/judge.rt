@@ -36,8 +36,8 @@ use lv_cert_numbers::{
     candidate_of, conflict_of, goal_of, observation_of, places_of, state_of, values_of,
 };
 use lv_meaning::Observation;
-use lv_system::Moment as Side;
 use lv_search_zones::zones_of;
+use lv_system::Moment as Side;
 use std::alloc::{AllocError, Global};
 
 /// A setting, and the room that judging takes.

@@ -17,12 +17,12 @@ use crate::draft::{CheckFault, Draft, Entry, TypeDraft};
 use crate::faults::{judged, share_of};
 use crate::types::{add_inside, begun};
 use lv_base::{Name, Seq};
-use lv_model_draft::{NamedPlant, NamedType};
 use lv_formula::{Condition, Range};
 use lv_model::counts::{law_count, type_count};
 use lv_model::ranges::push_part;
 use lv_model::totals::{limited, with};
 use lv_model::{Domain, Model, Part, Plant, Price};
+use lv_model_draft::{NamedPlant, NamedType};
 use lv_reader::{ModelCode, ModelFault, ModelText, NumberedStatement, Statement, read_model};
 use std::alloc::{AllocError, Global};
 

@@ -15,10 +15,10 @@ use crate::places::{
 };
 use crate::scope::{system_formula, type_formula, value_of_system, variable_of_part};
 use lv_base::{Class, Cost, Name, Seq, ValId, VarId};
-use lv_model_draft::{NamedPlant, NamedType};
 use lv_formula::Condition;
-use lv_model::{ComponentType, Domain, ModeFormula, Move, MoveKind, Part, Price, Variable};
 use lv_formula_text::Phrase;
+use lv_model::{ComponentType, Domain, ModeFormula, Move, MoveKind, Part, Price, Variable};
+use lv_model_draft::{NamedPlant, NamedType};
 use lv_reader::{ModelCode, Statement};
 use std::alloc::{AllocError, Global};
 

@@ -7,9 +7,9 @@ ghost use Rattle.lv_model.specs.declared.plant.ComponentType.{ComponentType};
 ghost use Rattle.lv_checker.specs.Places.{placed, domain_place, type_place, value_place, mode_place, variable_numbered, variable_place, part_of_name, value_of_domain, mode_of_type, value_of_sort};
 
 use lv_base::{Name, ValId, VarId, find_name};
-use lv_model_draft::{NamedPlant, NamedType};
 use lv_formula::Sort;
 use lv_model::{ComponentType, Domain, Part};
+use lv_model_draft::{NamedPlant, NamedType};
 
 /// A place in a list, or a number counted from one, as a number of 32 bits.
 pub fn placed(place: usize) -> Option<u32>

@@ -12,11 +12,11 @@ use crate::places::{
     variable_place,
 };
 use lv_base::{ValId, VarId};
-use lv_model_draft::{NamedPlant, NamedType};
 use lv_formula::range::is_same_sort;
 use lv_formula::{Condition, Path, Sort};
-use lv_model::{ComponentType, Domain, Part};
 use lv_formula_text::{Phrase, ResolveFault, Scope, resolve};
+use lv_model::{ComponentType, Domain, Part};
+use lv_model_draft::{NamedPlant, NamedType};
 use lv_reader::ModelCode;
 use std::alloc::Global;
 

@@ -7,10 +7,10 @@ ghost use Rattle.lv_checker.specs.Drafts.{begun, stay_in, stands_before, place_a
 
 use crate::draft::{Entry, TypeDraft};
 use lv_base::{Cost, Name, Seq, ValId, limits};
-use lv_model_draft::NamedType;
 use lv_formula::Condition;
 use lv_model::counts::variable_size;
 use lv_model::{Domain, ModeFormula, Move, MoveKind, Variable};
+use lv_model_draft::NamedType;
 use std::alloc::{AllocError, Global};
 
 /// A type that has only its name. In its formulas the mode counts with as many values as a type may have modes.

@@ -18,5 +18,4 @@ pub mod Steps
 pub mod Sound
 pub mod Shorter
 pub mod Complete
-
 pub use Rattle.lv_text.proofs as lv_text

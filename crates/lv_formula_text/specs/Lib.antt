@@ -16,5 +16,4 @@ pub mod Fitting
 pub mod Descent
 pub mod DescentLaws
 pub mod DescentExample
-
 pub use Rattle.lv_text.specs as lv_text

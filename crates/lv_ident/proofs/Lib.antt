@@ -8,5 +8,4 @@ pub mod TrialLemmas
 pub mod ReasonLemmas
 pub mod ReducingLemmas
 pub mod QueryLemmas
-
 pub use Rattle.lv_search_zones.proofs as lv_search_zones

@@ -4,6 +4,5 @@ pub mod Reducing
 pub mod Trial
 pub mod Query
 pub mod Laws
-
 pub use Rattle.lv_search.specs as lv_search
 pub use Rattle.lv_search_zones.specs as lv_search_zones

@@ -18,8 +18,8 @@ use lv_meaning::Facts;
 use lv_model::{Model, TrackedState};
 use lv_sat::Effort;
 use lv_search::{By, Outcome, Search, Split};
-use lv_system::StepSystem;
 use lv_search_zones::{move_grid, zones_of};
+use lv_system::StepSystem;
 use std::alloc::{AllocError, Global};
 use std::marker;
 

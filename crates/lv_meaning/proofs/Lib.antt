@@ -11,5 +11,4 @@ pub mod NominalSteps
 pub mod CommandSets
 pub mod CommandReasons
 pub mod RecoveryWalks
-
 pub use Rattle.lv_search_walk.proofs as lv_search_walk

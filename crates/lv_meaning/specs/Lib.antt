@@ -13,5 +13,4 @@ pub mod Recovery
 pub mod Ranges
 pub mod RecoveryLaws
 pub mod WorkedRecovery
-
 pub use Rattle.lv_search_walk.specs as lv_search_walk

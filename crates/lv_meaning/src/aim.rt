@@ -1,9 +1,9 @@
 //! The question of a recovery: to which goals the plant is to be brought, from where, and what is seen of it now.
 #![tactic(auto)]
 
+use crate::Observation;
 use lv_base::Seq;
 use lv_formula::Condition;
-use crate::Observation;
 use lv_model::TrackedState;
 
 /// The states that the plant may be in, what is observed before the step, and the formulas that are to be true after it.

@@ -32,4 +32,7 @@ pub mod recovery_laws;
 
 pub use aim::Aim;
 pub use facts::{Facts, Observation};
-pub use laws::{answer_is_first, answer_is_one, candidates_are_all, candidates_rise, diagnosis_walk_is_exact, possible_parts, possible_reads, reason_is_minimal, valve_example};
+pub use laws::{
+    answer_is_first, answer_is_one, candidates_are_all, candidates_rise, diagnosis_walk_is_exact,
+    possible_parts, possible_reads, reason_is_minimal, valve_example,
+};

@@ -3,9 +3,9 @@
 
 ghost use Rattle.std.specs.Prelude.{◌≡◌, []};
 
+use crate::FirstPlaces;
 use crate::priced::PricedValues;
 use lv_base::Seq;
-use crate::FirstPlaces;
 use std::alloc::Global;
 
 /// The first places of the names of a plant's lists, and the values of controls that are priced.

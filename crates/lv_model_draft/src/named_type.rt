@@ -6,10 +6,10 @@ ghost use Rattle.lv_model.specs.Names.{variable_named};
 ghost use Rattle.lv_model_draft.specs.Places.{noted};
 ghost use Rattle.lv_model_draft.specs.Names.{variable_places};
 
+use crate::FirstPlaces;
 use lv_base::{Name, Seq};
 use lv_formula::Condition;
 use lv_model::{ComponentType, ModeFormula, Move, Variable};
-use crate::FirstPlaces;
 use std::alloc::{AllocError, Global};
 use std::marker::Model;
 use std::mem;

@@ -9,8 +9,8 @@ ghost use Rattle.lv_model_names.specs.Names.{names_over};
 use crate::names::{share_domain, value_of, variable_of};
 use lv_base::{ValId, VarId};
 use lv_formula::{Condition, Path, Range};
-use lv_model::Plant;
 use lv_formula_text::{Phrase, ResolveFault, Scope, resolve};
+use lv_model::Plant;
 use std::alloc::Global;
 
 /// The scope of goals: a plant, and what its variables range over.

@@ -5,10 +5,10 @@ ghost use Rattle.std.specs.Prelude.{◌≡◌, OnOk, [], ◌∷◌, map, Some};
 ghost use Rattle.lv_formula_text.specs.Spacing.{written, word};
 ghost use Rattle.lv_reader.specs.CanonicalTokens.{number, class_word, named_tokens, move_tokens, guard_tokens, cost_tokens, price_tokens, statement_tokens};
 
+use crate::Statement;
 use itoa::Buffer;
 use lv_base::{Class, Name};
 use lv_formula_text::{LineWriter, Phrase, write_phrase};
-use crate::Statement;
 use lv_text::TokenKind;
 use std::alloc::AllocError;
 

@@ -6,8 +6,8 @@ ghost use Rattle.std.specs.List.{flat_map};
 ghost use Rattle.lv_reader.specs.CanonicalTexts.{statements_of, begins_with_name, name_before, ended_line, canonical_model};
 
 use crate::canonical_statement::write_statement;
-use lv_formula_text::LineWriter;
 use crate::{ModelText, NumberedStatement, Statement};
+use lv_formula_text::LineWriter;
 use std::alloc::{AllocError, Global};
 
 /// The canonical text of a model.

@@ -6,5 +6,4 @@ pub mod Refuting
 pub mod Judging
 pub mod Lawful
 pub mod Query
-
 pub use Rattle.lv_search.specs as lv_search

@@ -13,11 +13,11 @@ ghost use Rattle.lv_reconf.specs.Query.{IsQuery};
 use super::setting::Setting;
 use super::trial::ReconfTrial;
 use lv_base::{Conflict, Rank};
-use lv_model::Model;
 use lv_meaning::Aim;
+use lv_model::Model;
 use lv_search::{Outcome, Search};
-use lv_system::StepSystem;
 use lv_search_zones::{command_grid, command_zone};
+use lv_system::StepSystem;
 use std::alloc::{AllocError, Global};
 use std::marker;
 

@@ -1,3 +1,2 @@
 pub mod SoundLemmas
-
 pub use Rattle.lv_clauses.proofs as lv_clauses

@@ -1,3 +1,2 @@
 pub mod Following
-
 pub use Rattle.lv_clauses.specs as lv_clauses

@@ -9,8 +9,8 @@ use crate::status::Status;
 use itoa::Buffer;
 use lv_io::IoFault;
 use lv_reader::ModelCode;
-use lv_serve::ServeFault;
 use lv_run_words::WordsFault;
+use lv_serve::ServeFault;
 use std::alloc::{AllocError, Global};
 
 /// The line that tells which words are taken.

@@ -1,5 +1,4 @@
 pub mod Numbers
 pub mod Words
 pub mod Commands
-
 pub use Rattle.lv_text.specs as lv_text

@@ -7,5 +7,4 @@ mod CutLemmas
 mod MeasureLemmas
 mod SearchLemmas
 mod FrontLemmas
-
 pub use Rattle.lv_reflog.proofs as lv_reflog

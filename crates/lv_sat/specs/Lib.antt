@@ -3,5 +3,4 @@ pub mod Trail
 pub mod Analysis
 pub mod Measure
 pub mod Front
-
 pub use Rattle.lv_reflog.specs as lv_reflog

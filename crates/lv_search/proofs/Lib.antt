@@ -3,5 +3,4 @@ pub mod FollowLemmas
 pub mod TimesLemmas
 pub mod LeftLemmas
 pub mod RunLemmas
-
 pub use Rattle.lv_boxes.proofs as lv_boxes

@@ -5,5 +5,4 @@ pub mod Turn
 pub mod Zones
 pub mod Search
 pub mod Laws
-
 pub use Rattle.lv_boxes.specs as lv_boxes

@@ -4,5 +4,4 @@ pub mod TranscriptLemmas
 pub mod StandingLemmas
 pub mod PieceLemmas
 pub mod ReadLemmas
-
 pub use Rattle.lv_session.proofs as lv_session

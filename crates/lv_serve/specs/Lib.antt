@@ -6,5 +6,4 @@ pub mod Pieces
 pub mod Standing
 pub mod Served
 pub mod Serving
-
 pub use Rattle.lv_session.specs as lv_session

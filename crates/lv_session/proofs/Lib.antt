@@ -9,6 +9,5 @@ pub mod Recovering
 pub mod Labelling
 pub mod CurrentLemmas
 pub mod Certifying
-
 pub use Rattle.lv_io.proofs as lv_io
 pub use Rattle.lv_session_request.proofs as lv_session_request

@@ -20,8 +20,8 @@ use lv_cert_diagnosis::{Settled as SettledDiagnosis, certify_diagnosis};
 use lv_cert_recovery::{Settled as SettledRecovery, certify_recovery};
 use lv_model::Model;
 use lv_reply::{Refusal, Reply};
-use lv_system::StepSystem;
 use lv_search_walk::Outcome;
+use lv_system::StepSystem;
 use std::alloc::{AllocError, Global};
 
 /// Whether a query with this outcome is settled.

@@ -19,14 +19,14 @@ use crate::running::{Diagnosed, Running};
 use crate::state::{State, resting_values};
 use lv_base::limits::COMMITS;
 use lv_base::{Rank, Seq};
-use lv_session_request::{Held, facts};
 use lv_ident::identify;
 use lv_meaning::Facts;
 use lv_model::Model;
 use lv_reply::{Refusal, Reply};
+use lv_search_walk::Outcome;
+use lv_session_request::{Held, facts};
 use lv_system::StepSystem;
 use lv_tracker::Tracked;
-use lv_search_walk::Outcome;
 use std::alloc::{AllocError, Global};
 use std::mem;
 

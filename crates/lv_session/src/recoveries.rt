@@ -19,13 +19,13 @@ use crate::query::Query;
 use crate::running::{Recovering, Running};
 use crate::state::State;
 use lv_base::{Rank, Seq};
+use lv_meaning::Aim;
 use lv_model::Model;
 use lv_reconf::recover;
-use lv_meaning::Aim;
 use lv_reply::{Refusal, Reply};
+use lv_search_walk::Outcome;
 use lv_system::StepSystem;
 use lv_tracker::copies_of;
-use lv_search_walk::Outcome;
 use std::alloc::{AllocError, Global};
 
 /// How many trials a recovery made.

@@ -17,10 +17,10 @@ use crate::forms::name_at;
 use crate::unread::Unread;
 use lv_base::{Name, Seq};
 use lv_formula::Condition;
-use lv_model::Plant;
 use lv_formula_text::{Phrase, PhraseFault, ResolveFault, print_phrase, read_phrase};
-use lv_reply::Refusal;
+use lv_model::Plant;
 use lv_model_names::{Lists, goal_formula};
+use lv_reply::Refusal;
 use lv_text::TokenLine;
 use std::alloc::Global;
 

@@ -15,10 +15,10 @@ ghost use Rattle.std.specs.Prelude.{◌≡◌, ◌^◌, ◌<◌, false, [], ◌�
 ghost use Rattle.std.specs.List.{list_any};
 ghost use Rattle.lv_session_request.specs.Held.{observation_of, has_name, lacks_name};
 
+use crate::Sighting;
 use indexmap::IndexMap;
 use lv_base::{Seq, ValId};
 use lv_meaning::{Facts, Observation};
-use crate::Sighting;
 use std::alloc::{AllocError, Global};
 use std::marker::Model;
 

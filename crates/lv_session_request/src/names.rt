@@ -8,9 +8,9 @@ ghost use Rattle.lv_session_request.specs.Names.{variable_named, control_among, 
 
 use lv_base::{ValId, VarId};
 use lv_model::Plant;
-use lv_reply::Refusal;
 use lv_model_names::Lists;
 use lv_model_names::names::{is_observable, value_of, variable_of};
+use lv_reply::Refusal;
 
 /// A control by its place among the controls in written order, and its variable.
 #[derive(Clone, Copy, Debug, PartialEq, Eq)]

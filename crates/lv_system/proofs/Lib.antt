@@ -5,5 +5,4 @@ pub mod SystemLemmas
 pub mod RangeLemmas
 pub mod DecodingLemmas
 pub mod GoalLemmas
-
 pub use Rattle.lv_compile.proofs as lv_compile

@@ -6,5 +6,4 @@ pub mod Lines
 pub mod Numbers
 pub mod Lexemes
 pub mod Laws
-
 pub use Rattle.lv_base.specs as lv_base

@@ -72,7 +72,11 @@ fn lists_are_those_of_one_valve(alloc: Global, model: &Model) -> Result<bool, Al
     let sizes = model.sizes(alloc)?;
     let controls = model.controls(alloc)?;
     let counts = model.move_counts(alloc)?;
-    Ok(sizes.as_slice() == &[4, 3, 2, 2][..] && controls.len() == 1 && counts.as_slice() == &[4 + 4 + 1 + 1][..])
+    Ok(
+        sizes.as_slice() == &[4, 3, 2, 2][..]
+            && controls.len() == 1
+            && counts.as_slice() == &[4 + 4 + 1 + 1][..],
+    )
 }
 
 #[test]

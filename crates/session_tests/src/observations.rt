@@ -1,8 +1,7 @@
 //! Observations that are put in, looked for and taken out, with ample memory.
 use lv_base::{Seq, ValId, VarId};
-use lv_session_request::Held;
 use lv_meaning::Observation;
-use lv_session_request::Sighting;
+use lv_session_request::{Held, Sighting};
 use std::alloc::{AllocError, Global};
 
 const FIRST: Observation = Observation {

@@ -1,7 +1,6 @@
 //! A text with every kind of statement, and its canonical text.
 
-use lv_reader::print_model;
-use lv_reader::read_model;
+use lv_reader::{print_model, read_model};
 use std::alloc::AllocError;
 
 const WRITTEN: &[u8] = b"# a plant with every statement
