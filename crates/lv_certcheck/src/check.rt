@@ -82,6 +82,26 @@ fn unjudged<'a>(
     })
 }
 
+/// The verdict on lines, of which none was judged yet.
+fn judge_on<'a>(
+    judge: &Judge<'a>,
+    judged: &mut Judged<'a>,
+    lines: &[Line],
+) -> Result<Verdict, AllocError>
+    requires setting { IsSetting judge.now.setting }
+    requires question { judge.now.question ≡ Judging.question_of lines.now }
+    requires start { judged_of judged.old ≡ Judging.unjudged (plant_of judge.now.setting) judge.now.question }
+    requires fits { Fits (plant_of judge.now.setting) judge.now.setting.system.now judged.old }
+    ensures { IfOk result (λ v. v ≡ verdict (plant_of judge.now.setting) lines.now) }
+{
+    for (at, line) in lines.iter().enumerate() {
+        if !judge.line(judged, &lines[at + 1..], line)? {
+            return Ok(Verdict::Invalid(at as u64 + 1));
+        }
+    }
+    Ok(Verdict::Valid)
+}
+
 /// The verdict on lines in a setting.
 fn judge_lines(judge: &Judge<'_>, lines: &[Line]) -> Result<Verdict, AllocError>
     requires setting { IsSetting judge.now.setting }
@@ -89,22 +109,18 @@ fn judge_lines(judge: &Judge<'_>, lines: &[Line]) -> Result<Verdict, AllocError>
     ensures { IfOk result (λ v. v ≡ verdict (plant_of judge.now.setting) lines.now) }
 {
     let mut judged = unjudged(judge.alloc, &judge.setting, judge.question)?;
-    for (at, line) in lines.iter().enumerate() {
-        if !judge.line(&mut judged, &lines[at + 1..], line)? {
-            return Ok(Verdict::Invalid(at as u64 + 1));
-        }
-    }
-    Ok(Verdict::Valid)
+    judge_on(judge, &mut judged, lines)
 }
 
 /// The verdict on a certificate in its form.
 pub fn check_cert(alloc: Global, model: &Model, cert: &Cert) -> Result<Verdict, AllocError>
     ensures { IfOk result (λ v. v ≡ verdict model.now cert.now.lines) }
 {
-    let system = compile(alloc, model)?;
     let lists = Lists::of(alloc, model)?;
     let counts = Counts::of(alloc, model)?;
     let lines = cert.lines.as_slice();
+    // What is large comes last, so that no exit lets go of it.
+    let system = compile(alloc, model)?;
     let setting = Setting {
         model,
         system: &system,

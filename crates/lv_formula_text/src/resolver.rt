@@ -87,24 +87,21 @@ fn resolve_node<S: Scope>(
         },
         PhraseNode::Implies(f, g) => {
             let left = match resolve_node(alloc, f, scope)? {
-                Ok(left) => left,
+                Ok(left) => Box::new(alloc, left)?,
                 Err(fault) => return Ok(Err(fault)),
             };
             match resolve_node(alloc, g, scope)? {
-                Ok(right) => Ok(Ok(Formula::Implies(
-                    Box::new(alloc, left)?,
-                    Box::new(alloc, right)?,
-                ))),
+                Ok(right) => Ok(Ok(Formula::Implies(left, Box::new(alloc, right)?))),
                 Err(fault) => Ok(Err(fault)),
             }
         }
         PhraseNode::Iff(f, g) => {
             let left = match resolve_node(alloc, f, scope)? {
-                Ok(left) => left,
+                Ok(left) => Box::new(alloc, left)?,
                 Err(fault) => return Ok(Err(fault)),
             };
             match resolve_node(alloc, g, scope)? {
-                Ok(right) => Ok(Ok(Formula::Iff(Box::new(alloc, left)?, Box::new(alloc, right)?))),
+                Ok(right) => Ok(Ok(Formula::Iff(left, Box::new(alloc, right)?))),
                 Err(fault) => Ok(Err(fault)),
             }
         }

@@ -98,17 +98,18 @@ impl<'a> IdentTrial<'a> {
         let _plant = model.plant();
         let literals = fact_literals(alloc, model, system, &facts)?;
         let assumed = each_once(alloc, first_of_choices(system), literals.as_slice())?;
-        let solutions = Solutions::new(alloc);
         let choices = system.choices().copied(alloc)?;
         // What is large comes last, so that no exit lets go of it.
+        let solver = Solver::new(alloc, system.clauses())?;
+        let solutions = Solutions::new(alloc);
         Ok(IdentTrial {
             alloc,
             model,
             facts,
+            solver,
             choices,
             assumed,
             solutions,
-            solver: Solver::new(alloc, system.clauses())?,
         })
     }
 

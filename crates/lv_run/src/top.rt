@@ -12,6 +12,7 @@ ghost use Rattle.lv_run.specs.Expected.{Expected, Expects, status_expected, Meet
 ghost use Rattle.lv_run.specs.Opens.{HasOpened};
 ghost use Rattle.lv_run.specs.Telling.{Tells};
 ghost use Rattle.lv_serve.specs.lv_session.Transcript.{AddsTranscript};
+ghost use Rattle.lv_serve.specs.lv_session.Answers.{AddsTrueTranscript};
 ghost use Rattle.lv_run.specs.Printed.{AddsCertified};
 ghost use Rattle.lv_run.specs.Top.{Asks, AsksToCheck, AsksForText, HasNoFault, TellsItsVerdict, TellsOwnEnd};
 ghost use Rattle.lv_run.specs.Judged.{verdict_status};
@@ -42,6 +43,11 @@ pub fn livingstone<F: Shelf, O: Sink, E: Sink>(
     // nominally to the goals, or 'no recovery' exactly where none does.
     ensures headline { (plant : Plant) (session : List ℕ) → Asks (F.file shelf.old) (map string_bytes words.items) plant session → result ≡ Status.Done
         → AddsTranscript plant session (O.text out.old) (O.text out.new) × (E.text err.new ≡ E.text err.old) }
+    // The same in the words of the definitions: in what is written each settled diagnosis is the first k candidates of the
+    // tracked states that are possible under the facts, each recovery the first command set that recovers, and 'no
+    // recovery' stands exactly where none does (`lv_session::laws::settled_answers_are_first`).
+    ensures answers { (plant : Plant) (session : List ℕ) → Asks (F.file shelf.old) (map string_bytes words.items) plant session → result ≡ Status.Done
+        → AddsTrueTranscript plant session (O.text out.old) (O.text out.new) }
     // Each certificate among the replies is valid for the model, so that a check over it calls it valid.
     ensures certified { (plant : Plant) (session : List ℕ) → Asks (F.file shelf.old) (map string_bytes words.items) plant session → result ≡ Status.Done
         → AddsCertified plant session (O.text out.old) (O.text out.new) }

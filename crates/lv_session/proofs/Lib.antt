@@ -4,6 +4,7 @@ pub mod Listed
 pub mod Fitting
 pub mod Keeping
 pub mod StepLaws
+pub mod TrueAnswers
 pub mod Asking
 pub mod Recovering
 pub mod Labelling

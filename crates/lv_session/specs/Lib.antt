@@ -4,6 +4,7 @@ pub mod Current
 pub mod Certificates
 pub mod Transcript
 pub mod Laws
+pub mod Answers
 pub use Rattle.lv_model_names.specs.lv_formula_text as lv_formula_text
 pub use Rattle.lv_model_names.specs as lv_model_names
 pub use Rattle.lv_reply.specs as lv_reply

@@ -93,8 +93,13 @@ impl State {
         let _plant = model.plant();
         let facts = self.facts(alloc)?;
         let mut query = identify(alloc, model, system, self.tracked.as_slice(), facts, self.k)?;
-        let outcome = query.run(n)?;
-        Ok(Diagnosed { query, outcome })
+        match query.run(n) {
+            Ok(outcome) => Ok(Diagnosed { query, outcome }),
+            Err(error) => {
+                drop(query);
+                Err(error)
+            }
+        }
     }
 
     /// A diagnosis with so many trials, which becomes the current query.

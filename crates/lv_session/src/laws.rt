@@ -2,6 +2,7 @@
 #![tactic(auto)]
 
 ghost use Rattle.lv_session.specs.Laws.{TranscriptIsOne, RefusedLineChangesNothing, NoQuerySurvivesAChange, MoreIsTheSum, CertificateChangesNothing, EndedIsSilent};
+ghost use Rattle.lv_session.specs.Answers.{SettledAnswersAreFirst};
 
 /// Where no certificate is told, a session has exactly one transcript.
 pub fn transcript_is_one()
@@ -31,4 +32,11 @@ pub fn certificate_changes_nothing()
 /// In an ended session a line gets no reply and changes nothing.
 pub fn ended_is_silent()
     ensures { EndedIsSilent }
+{}
+
+/// Each settled diagnosis of every transcript lists the first k candidates of the tracked states that are possible under
+/// the facts, in the order of their ranks, or all if fewer are; each settled recovery is the first command set that takes
+/// every tracked state nominally to the goals, and `no recovery` is told exactly where none does.
+pub fn settled_answers_are_first()
+    ensures { SettledAnswersAreFirst }
 {}

@@ -93,8 +93,13 @@ impl State {
         let _plant = model.plant();
         let aim = self.aim(alloc)?;
         let mut query = recover(alloc, model, system, aim)?;
-        let outcome = query.run(n)?;
-        Ok(Recovering { query, outcome })
+        match query.run(n) {
+            Ok(outcome) => Ok(Recovering { query, outcome }),
+            Err(error) => {
+                drop(query);
+                Err(error)
+            }
+        }
     }
 
     /// A recovery with so many trials, which becomes the current query.

@@ -8,6 +8,7 @@ use Rattle.lv_run.specs.Faults.{ended_status}
 use Rattle.lv_run.specs.declared.status.Status.{Status}
 use Rattle.lv_run.proofs.TopLemmas.{reported_meets, status_due, expected_run, expected_check, expected_text, told_verdict, ended_done, output_cause}
 use Rattle.lv_run.proofs.OpenLemmas.{all_opened}
+use Rattle.lv_serve.proofs.lv_session.TrueAnswers.{adds_true}
 use Rattle.lv_run.proofs.PrintedLemmas.{adds_certified}
 use Rattle.lv_run.proofs.top.livingstone.Goals as goal
 
@@ -42,6 +43,10 @@ returns-clause-headline g c =
           (returns-clause-meets g c (serves plant session) (expected_run (g.F.Shelf.file c.args.shelf.now) (map (string_bytes {Z = Global}) c.args.words.items) plant session asks))).1,
       ended_done c.carry_out-ended.result _ _ c.tell_end.result c.tell_end.ensures.status c.tell_end.ensures.told done,
     )
+
+pub returns-clause-answers : goal.returns-clause-answers
+returns-clause-answers g c =
+    λ plant session asks done. adds_true plant session (g.O.Sink.text c.args.out.now) (g.O.Sink.text c.carry_out-ended.new.out) (returns-clause-headline g c plant session asks done).0
 
 pub returns-clause-certified : goal.returns-clause-certified
 returns-clause-certified g c =

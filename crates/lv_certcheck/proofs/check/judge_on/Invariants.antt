@@ -3,7 +3,7 @@ use Rattle.lv_cert_laws.specs.lv_cert_meaning.Judging.{judge_lines, judgement}
 use Rattle.lv_certcheck.specs.Settings.{plant_of}
 use Rattle.lv_certcheck.specs.Giving.{Fits}
 use Rattle.lv_certcheck.specs.Verdicts.{judged_of}
-use Rattle.lv_certcheck.proofs.check.judge_lines.Given as goal
+use Rattle.lv_certcheck.proofs.check.judge_on.Given as goal
 
 -- the lines that are left come to what all come to
 abbrev pub invariant-loop-at : goal.invariant-loop-at

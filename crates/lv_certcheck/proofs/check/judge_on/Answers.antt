@@ -4,7 +4,7 @@ use Rattle.lv_cert_laws.specs.lv_cert_meaning.Judging.{judgement}
 use Rattle.lv_certcheck.specs.Settings.{plant_of}
 use Rattle.lv_certcheck.specs.Verdicts.{judged_of, came}
 use Rattle.lv_certcheck.proofs.LineLemmas.{goes_on}
-use Rattle.lv_certcheck.proofs.check.judge_lines.Goals as goal
+use Rattle.lv_certcheck.proofs.check.judge_on.Goals as goal
 
 pub loop-at-preserved : goal.loop-at-preserved
 loop-at-preserved c =

@@ -1,0 +1,151 @@
+-- Settled answers are the first.
+use Rattle.std.proofs.Common.{◌≡◌, ℕ, ◌+◌, ◌-◌, Bool, true, false, cond, nat_eq, nat_le, slice_get, Option, None, Some, List, [], ◌∷◌, ◌++◌, length, Contains, filter, Result, Ok, Err, refl, sym, subst, arith}
+use Rattle.std.specs.Option.{option_map_or}
+use Rattle.lv_base.specs.declared.limits.TheConstants.{COMMITS}
+use Rattle.lv_base.specs.declared.rank.Rank.{Rank}
+use Rattle.lv_model.specs.declared.plant.Plant.{Plant}
+use Rattle.lv_model.specs.declared.state.State.{State}
+use Rattle.lv_model.specs.declared.state.TrackedState.{TrackedState}
+use Rattle.lv_search_walk.specs.declared.outcome.Outcome.{Outcome}
+use Rattle.lv_search_walk.specs.declared.outcome.Outcome.TheVariants.{Settled, Unsettled}
+use Rattle.lv_meaning.specs.Candidates.{candidates}
+use Rattle.lv_meaning.proofs.DiagnosisWalks.{diagnosis_exact}
+use Rattle.lv_meaning.proofs.RecoveryWalks.{walk_found, walk_none}
+use Rattle.lv_tracker.specs.Tracked.{advanced}
+use Rattle.lv_labels.specs.declared.labelling.Labelling.{Labelling}
+use Rattle.lv_labels.specs.declared.labelling.Labelling.TheVariants as labelling
+use Rattle.lv_labels.specs.Literals.{fact_literals, state_literals}
+use Rattle.lv_labels.specs.Finding.{labelling}
+use Rattle.lv_reply.specs.declared.reply.Refusal.{Refusal}
+use Rattle.lv_reply.specs.declared.reply.Refusal.TheVariants.{NameHeld, NameNotHeld, OutOfLimits, NoQuery, NothingListed, NoGoal, TooManyHeld, TooManyCommits}
+use Rattle.lv_reply.specs.declared.reply.Reply.{Reply}
+use Rattle.lv_reply.specs.declared.reply.Reply.TheVariants.{Nothing as Silence, Refused, Committed, Certificate as Certified}
+use Rattle.lv_session_request.specs.declared.goals.Goal.{Goal}
+use Rattle.lv_session_request.specs.declared.request.Sighting.{Sighting}
+use Rattle.lv_session_request.specs.declared.request.Request.{Request}
+use Rattle.lv_session_request.specs.declared.request.Request.TheVariants.{Nothing, Track, SetBudget, SetControl, Release, Observe, Retract, SetGoal, DropGoal, Diagnose, Recover, More, Commit, Conflicts, Certificate, Labels, LabelsFrom, States, Reset, Quit}
+use Rattle.lv_session_request.specs.Requests.{request_of}
+use Rattle.lv_session_request.specs.Held.{lacks_name}
+use Rattle.lv_session.specs.declared.query.Query.{Query}
+use Rattle.lv_session.specs.declared.query.Query.TheVariants.{Absent, Diagnosis, Recovery}
+use Rattle.lv_session.specs.Session.{SessionState, Stepped, start, unchanged, cleared, walked, recovery, aim_of, facts_of, is_held, has_no_room, is_goal, has_no_goal_room, lacks_goal_name, reply_by, diagnosed, found, recovery_reply_by, recovered, more, more_by, more_recovery_by, is_settled, labels_reply, labelled, labelled_from, commit, commit_by, conflicts, taken_over, advanced_to, carried_out, answered, stepped}
+use Rattle.lv_session.specs.Transcript.{IsTranscriptFrom, ends, goes_on, AddsTranscript}
+use Rattle.lv_session.specs.Answers.{IsTrueAnswer, IsTrueTranscriptFrom, all_told, told, AddsTrueTranscript}
+
+module _ (plant : Plant) (state : SessionState) where
+  -- a diagnosis that came to its walk
+  walked_true : (sum : ℕ) (o : Outcome) → (walked plant state sum).outcome ≡ o → IsTrueAnswer plant state (reply_by o (walked plant state sum))
+  unfolding walked
+  walked_true sum Settled settled = diagnosis_exact plant (facts_of state) state.k sum (candidates plant state.tracked) settled
+  walked_true sum Unsettled e = tt
+
+  diagnosis_true : (sum : ℕ) → IsTrueAnswer plant state (diagnosed plant state sum).reply
+  diagnosis_true sum = walked_true sum (walked plant state sum).outcome refl
+
+  -- a recovery that came to its walk
+  found_true : (sum : ℕ) (rs : List Rank) → (recovery plant state sum).outcome ≡ Settled → (recovery plant state sum).listed ≡ rs → IsTrueAnswer plant state (found rs)
+  unfolding recovery
+  found_true sum [] settled e = walk_none plant (aim_of state) sum settled e
+  found_true sum (r ∷ rs) settled e = walk_found plant (aim_of state) sum r settled (subst (λ (xs : List Rank). Contains xs r) (sym e) (0, omega arith, refl))
+
+  recovery_by_true : (sum : ℕ) (o : Outcome) → (recovery plant state sum).outcome ≡ o → IsTrueAnswer plant state (recovery_reply_by o (recovery plant state sum))
+  recovery_by_true sum Settled settled = found_true sum (recovery plant state sum).listed settled refl
+  recovery_by_true sum Unsettled e = tt
+
+  recovery_true : (sum : ℕ) → IsTrueAnswer plant state (recovered plant state sum).reply
+  recovery_true sum = recovery_by_true sum (recovery plant state sum).outcome refl
+
+  -- replies by cases of which none is an answer
+  either : (b : Bool) (s t : Stepped) → IsTrueAnswer plant state s.reply → IsTrueAnswer plant state t.reply → IsTrueAnswer plant state (cond b s t).reply
+  either true s t p q = p
+  either false s t p q = q
+
+  labelled_true : (of : Option State) → IsTrueAnswer plant state (labelled plant state of).reply
+  labelled_true of = by (labelling plant (fact_literals plant (facts_of state) ++ state_literals plant of))
+    where
+      by : (l : Labelling) → IsTrueAnswer plant state (labels_reply l)
+      by labelling.Contradiction = tt
+      by (labelling.Labels labels) = tt
+
+  labelled_from_true : (n : ℕ) → IsTrueAnswer plant state (labelled_from plant state n).reply
+  labelled_from_true n = by (slice_get state.tracked (n - 1))
+    where
+      by : (o : Option TrackedState) → IsTrueAnswer plant state (option_map_or (λ (s : TrackedState). labelled plant state (Some s.state)) o (unchanged state (Refused OutOfLimits))).reply
+      by None = tt
+      by (Some s) = labelled_true (Some s.state)
+
+  more_true : (q : Query) (n : ℕ) → IsTrueAnswer plant state (more q plant state n).reply
+  more_true Absent n = tt
+  more_true (Diagnosis sum) n = by (walked plant state sum).outcome
+    where
+      by : (o : Outcome) → IsTrueAnswer plant state (more_by o plant state (sum + n)).reply
+      by Settled = tt
+      by Unsettled = diagnosis_true (sum + n)
+  more_true (Recovery sum) n = by (recovery plant state sum).outcome
+    where
+      by : (o : Outcome) → IsTrueAnswer plant state (more_recovery_by o plant state (sum + n)).reply
+      by Settled = tt
+      by Unsettled = recovery_true (sum + n)
+
+  taking_true : (listed : List Rank) → IsTrueAnswer plant state (taken_over plant state listed).reply
+  taking_true listed =
+      either (nat_eq (length listed) 0) (unchanged state (Refused NothingListed))
+      (cond (nat_le COMMITS state.time) (unchanged state (Refused TooManyCommits)) (record { state = advanced_to plant state listed; reply = Committed (state.time + 1) (length (advanced plant listed)) })) tt
+      (either (nat_le COMMITS state.time) (unchanged state (Refused TooManyCommits)) (record { state = advanced_to plant state listed; reply = Committed (state.time + 1) (length (advanced plant listed)) }) tt tt)
+
+  commit_true : (q : Query) → IsTrueAnswer plant state (commit q plant state).reply
+  commit_true Absent = tt
+  commit_true (Diagnosis sum) = by (walked plant state sum).outcome
+    where
+      by : (o : Outcome) → IsTrueAnswer plant state (commit_by o plant state (walked plant state sum).listed).reply
+      by Settled = taking_true (walked plant state sum).listed
+      by Unsettled = tt
+  commit_true (Recovery sum) = tt
+
+  conflicts_true : (q : Query) → IsTrueAnswer plant state (conflicts q plant state).reply
+  conflicts_true Absent = tt
+  conflicts_true (Diagnosis sum) = tt
+  conflicts_true (Recovery sum) = tt
+
+  request_true : (request : Request) → IsTrueAnswer plant state (carried_out plant state request).reply
+  request_true Nothing = tt
+  request_true (Track n) = tt
+  request_true (SetBudget n) = tt
+  request_true (SetControl c) = tt
+  request_true (Release place) = tt
+  request_true (Observe s) =
+      either (is_held state s.name) (unchanged state (Refused NameHeld)) (cond (has_no_room state s.name) (unchanged state (Refused TooManyHeld)) (cleared (record state { next = state.next ++ (s ∷ []) }))) tt
+      (either (has_no_room state s.name) (unchanged state (Refused TooManyHeld)) (cleared (record state { next = state.next ++ (s ∷ []) })) tt tt)
+  request_true (Retract name) =
+      either (is_held state name) (cleared (record state { present = filter (lacks_name name) state.present; next = filter (lacks_name name) state.next })) (unchanged state (Refused NameNotHeld)) tt tt
+  request_true (SetGoal g) =
+      either (is_goal state g.name) (unchanged state (Refused NameHeld)) (cond (has_no_goal_room state g.name) (unchanged state (Refused TooManyHeld)) (cleared (record state { goals = state.goals ++ (g ∷ []) }))) tt
+      (either (has_no_goal_room state g.name) (unchanged state (Refused TooManyHeld)) (cleared (record state { goals = state.goals ++ (g ∷ []) })) tt tt)
+  request_true (DropGoal name) =
+      either (is_goal state name) (cleared (record state { goals = filter (lacks_goal_name name) state.goals })) (unchanged state (Refused NameNotHeld)) tt tt
+  request_true Diagnose = diagnosis_true state.budget
+  request_true Recover = either (nat_eq (length state.goals) 0) (unchanged state (Refused NoGoal)) (recovered plant state state.budget) tt (recovery_true state.budget)
+  request_true (More n) = more_true state.query n
+  request_true Commit = commit_true state.query
+  request_true Conflicts = conflicts_true state.query
+  request_true Certificate = either (is_settled state.query plant state) (unchanged state Certified) (unchanged state (Refused NoQuery)) tt tt
+  request_true Labels = labelled_true None
+  request_true (LabelsFrom n) = labelled_from_true n
+  request_true States = tt
+  request_true Reset = tt
+  request_true Quit = tt
+
+  answered_true : (r : Result Request Refusal) → IsTrueAnswer plant state (answered plant state r).reply
+  answered_true (Ok request) = request_true request
+  answered_true (Err refusal) = tt
+
+  pub reply_true : (line : List ℕ) → IsTrueAnswer plant state (stepped plant state line).reply
+  reply_true line = either state.is_ended (unchanged state Silence) (answered plant state (request_of plant line)) tt (answered_true (request_of plant line))
+
+-- by induction on the transcript
+pub transcript_true : (plant : Plant) {state : SessionState} {lines : List (List ℕ)} {text : List ℕ} → IsTranscriptFrom plant state lines text → IsTrueTranscriptFrom plant state lines text
+transcript_true plant ends = all_told
+transcript_true plant (goes_on {state} {next} {line} {lines} {reply} {rest} {text} step others is) = told step (reply_true plant state line) (transcript_true plant others) is
+
+pub adds_true : (plant : Plant) (session : List ℕ) (before after : Option (List ℕ)) → AddsTranscript plant session before after → AddsTrueTranscript plant session before after
+adds_true plant session before after adds = record { written = adds.written; is_true = transcript_true plant adds.is_transcript; added = adds.added }
