@@ -17,7 +17,7 @@ In a document a fenced block is an example where its first word is one of these:
     err STATUS       the line that the example before it writes on standard error, and its status
     out STATUS       what it writes and its status, where standard error stays empty
 
-A model of which an `err` follows at once is run with an empty session. Each example but a model has its `out` or `err`; one that
+A model that its `out` or `err` follows at once is run with an empty session, and is not kept as the current one. Each example but a model has its `out` or `err`; one that
 has none is a failure, since nothing would be tried. With names, only the folders and documents of these names are tried.
 """
 
@@ -108,6 +108,8 @@ class Examples:
             place = f"{path.name}:{number}"
             kind = words[0]
             if kind in ("out", "err"):
+                if pending is not None and pending[0] == "lv":
+                    model = accepted
                 if pending is None:
                     self.judge(f"{place}: nothing stands before it", True, False)
                 else:
@@ -118,7 +120,7 @@ class Examples:
                 self.judge(f"{place}: the example before it has no answer", True, False)
             pending = (kind, text)
             if kind == "lv":
-                model = text
+                accepted, model = model, text
             if len(words) > 1:
                 self.judge(f"{place}: {words[1]}", ((ROOT / words[1]).read_text(),), (text,))
             if kind == "talk":
