@@ -3,8 +3,8 @@
 usage: examples.py PROGRAM [NAME..]
 
 A worked plant is a folder of examples/ with model.lv; each NAME.ses of it is run over NAME.lv, or else over model.lv, and
-has to write NAME.out with status 0. What is named in `certificate` replies is not compared line by line, since more than
-one text is right; each is checked over the model, and its first lines, the question and the answer, are compared.
+has to write NAME.out with status 0. Of a certificate among the replies the lines that state the question and the answer are
+compared, since more than one text shows why it is right; and each certificate is checked over the model.
 
 In a document a fenced block is an example where its first word is one of these:
 
@@ -23,6 +23,7 @@ has none is a failure, since nothing would be tried. With names, only the folder
 
 import os
 import pathlib
+import re
 import subprocess
 import sys
 import tempfile
@@ -37,6 +38,10 @@ DOCUMENTS = [
     "docs/SESSION_LANGUAGE.md",
     "docs/CERTIFICATES.md",
 ]
+# Pages of which only the names of files are looked up.
+PAGES = ["CONTRIBUTING.md", "docs/PROVED.md", "examples/README.md", "examples/*/README.md"]
+# What a page names stands below one of these folders.
+FOLDERS = ("", "crates/", "docs/")
 SECONDS = 120
 # The lines of a certificate that say what was asked and what is answered; the others show why, and may differ.
 STATED = ("certificate", "model", "k", "state", "control", "fact", "goal", "listed", "recovery", "good", "end")
@@ -64,6 +69,11 @@ class Examples:
             if one != other:
                 print(f"  {what} wanted:\n{one}\n  {what} got:\n{other}")
 
+    def refuse(self, name):
+        """Counts a failure that no comparison shows."""
+        self.failed += 1
+        print(f"FAILED: {name}")
+
     def call(self, words, text=""):
         """The status, output and standard error of a call in the folder."""
         try:
@@ -85,7 +95,7 @@ class Examples:
         """Runs each session of a worked plant."""
         sessions = sorted(folder.glob("*.ses"))
         if not sessions:
-            self.judge(f"{folder.name}: it has no session", True, False)
+            self.refuse(f"{folder.name}: it has no session")
         for session in sessions:
             model = session.with_suffix(".lv")
             if not model.exists():
@@ -93,11 +103,15 @@ class Examples:
             name = f"{folder.name}/{session.name}"
             status, output, error = self.run(model, session.read_text())
             wanted = session.with_suffix(".out").read_text()
-            for number, certificate in enumerate(certificates_of(output), 1):
-                (self.folder / "shown.cert").write_text(certificate)
-                verdict = self.call(["./livingstone", "check", str(model), "shown.cert"])
-                self.judge(f"{name}: certificate {number}", (0, "valid\n", ""), verdict)
             self.judge(name, (0, stated(wanted), ""), (status, stated(output), error))
+            self.check_certificates(name, model, output)
+
+    def check_certificates(self, name, model, output):
+        """Has each certificate of an output checked over the model's file."""
+        for number, certificate in enumerate(certificates_of(output), 1):
+            (self.folder / "shown.cert").write_text(certificate)
+            verdict = self.call(["./livingstone", "check", str(model), "shown.cert"])
+            self.judge(f"{name}: certificate {number}", (0, "valid\n", ""), verdict)
 
     def compare_document(self, path):
         """Runs each example of a document."""
@@ -111,13 +125,13 @@ class Examples:
                 if pending is not None and pending[0] == "lv":
                     model = accepted
                 if pending is None:
-                    self.judge(f"{place}: nothing stands before it", True, False)
+                    self.refuse(f"{place}: nothing stands before it")
                 else:
                     self.compare_block(place, pending, model, words, text)
                 pending = None
                 continue
             if pending is not None and pending[0] != "lv":
-                self.judge(f"{place}: the example before it has no answer", True, False)
+                self.refuse(f"{place}: the example before it has no answer")
             pending = (kind, text)
             if kind == "lv":
                 accepted, model = model, text
@@ -127,9 +141,9 @@ class Examples:
                 self.compare_talk(place, model, text)
                 pending = None
         if pending is not None and pending[0] != "lv":
-            self.judge(f"{path.name}: the last example has no answer", True, False)
+            self.refuse(f"{path.name}: the last example has no answer")
         if self.passed + self.failed == before:
-            self.judge(f"{path.name}: it has no example", True, False)
+            self.refuse(f"{path.name}: it has no example")
 
     def compare_block(self, place, pending, model, words, text):
         """Runs an example and compares it with the block behind it."""
@@ -146,7 +160,9 @@ class Examples:
             got = self.run(source, "")
         status = int(words[1]) if len(words) > 1 else 0
         if words[0] == "out":
-            self.judge(place, (status, text, ""), got)
+            self.judge(place, (status, stated(text), ""), (got[0], stated(got[1]), got[2]))
+            if kind == "ses":
+                self.check_certificates(place, "model.lv", got[1])
         else:
             self.judge(place, (status, text), (got[0], got[2]))
 
@@ -156,6 +172,23 @@ class Examples:
         session = "".join(line[2:] for line in lines if line.startswith("> "))
         replies = "".join(line for line in lines if not line.startswith("> "))
         self.judge(place, (0, replies, ""), self.run(model, session))
+
+
+    def look_up_names(self, path):
+        """Looks that each file that a page names in backticks is there."""
+        absent = []
+        for name in re.findall(r"`([\w./@-]+)`", path.read_text()):
+            if "NAME" in name:
+                continue
+            is_crate = re.fullmatch(r"(lv_|bench_|livingstone_)\w+", name)
+            if is_crate:
+                name = "crates/" + name
+            elif not re.match(r"(lv_\w+|docs|tests|examples|bench|shell|editors|crates)/", name) and not name.endswith(".md"):
+                continue
+            places = [ROOT / folder / name for folder in FOLDERS] + [path.parent / name]
+            if not any(place.exists() for place in places):
+                absent.append(name)
+        self.judge(f"{path.relative_to(ROOT)}: names of files that aren't there", ([],), (absent,))
 
 
 def certificates_of(output):
@@ -210,6 +243,10 @@ def main():
         for document in DOCUMENTS:
             if not names or os.path.basename(document) in names:
                 examples.compare_document(ROOT / document)
+        for page in DOCUMENTS + PAGES:
+            for path in sorted(ROOT.glob(page)):
+                if not names or path.name in names:
+                    examples.look_up_names(path)
     print(f"{examples.passed} passed, {examples.failed} failed")
     sys.exit(examples.failed > 0 or examples.passed == 0)
 
