@@ -25,21 +25,28 @@ WRONG = {
 }
 # Of each language a file and the heading of the table whose first column has its words.
 TABLES = {"lv": ("docs/MODEL_LANGUAGE.md", "## Statements"), "ses": ("docs/SESSION_LANGUAGE.md", "## Lines")}
+# Of each text its first character without a colour or with that of an error, or that there is none.
 VIM = """
 set runtimepath^={editors}
 filetype on
 syntax on
-edit {text}
-let lines = []
-for l in range(1, line('$'))
-  for c in range(1, col([l, '$']) - 1)
-    if getline(l)[c - 1] !~ '\\s'
-      let name = synIDattr(synID(l, c, 1), 'name')
-      call add(lines, l . ' ' . c . ' ' . (name == '' ? '-' : name))
-    endif
+let told = []
+for text in {texts}
+  execute 'edit ' . fnameescape(text)
+  let fault = ''
+  for l in range(1, line('$'))
+    for c in range(1, col([l, '$']) - 1)
+      if fault == '' && getline(l)[c - 1] !~ '\\s'
+        let name = synIDattr(synID(l, c, 1), 'name')
+        if name == '' || name =~ 'Error$'
+          let fault = 'line ' . l . ' column ' . c . ': ' . (name == '' ? 'no colour' : name)
+        endif
+      endif
+    endfor
   endfor
+  call add(told, fault == '' ? 'none' : fault)
 endfor
-call writefile(lines, '{out}')
+call writefile(told, '{out}')
 qall!
 """
 
@@ -80,18 +87,17 @@ def grammar_faults(grammar, text):
     return ""
 
 
-def vim_faults(path):
-    """The same by Vim."""
+def vim_faults(paths):
+    """The same by Vim, of each text."""
     with tempfile.TemporaryDirectory() as folder:
         script, out = pathlib.Path(folder) / "look.vim", pathlib.Path(folder) / "out"
-        script.write_text(VIM.format(editors=ROOT / "editors/vim", text=path, out=out))
+        script.write_text(VIM.format(editors=ROOT / "editors/vim", texts=[str(path) for path in paths], out=out))
         words = ["vim", "--not-a-term", "-N", "-u", "NONE", "-i", "NONE", "-n", "-es", "-S", str(script)]
-        subprocess.run(words, stdin=subprocess.DEVNULL, capture_output=True, timeout=60, check=False)
-        told = out.read_text().splitlines() if out.exists() else ["0 0 -"]
-    for line in told:
-        if line.endswith(" -") or line.endswith("Error"):
-            return line
-    return "" if told else "nothing was told"
+        subprocess.run(words, stdin=subprocess.DEVNULL, capture_output=True, timeout=120, check=False)
+        told = out.read_text().splitlines() if out.exists() else []
+    if len(told) != len(paths):
+        return ["Vim told nothing"] * len(paths)
+    return ["" if fault == "none" else fault for fault in told]
 
 
 def words_of_table(path, heading):
@@ -107,26 +113,26 @@ def words_of_grammar(grammar):
 
 
 def try_texts(grammars, has_vim):
-    for path in sorted(ROOT.glob("examples/**/*.*")):
-        end = path.suffix[1:]
-        if end in KINDS:
-            name = path.relative_to(ROOT)
-            fault = grammar_faults(grammars[end], path.read_text())
-            judge(f"TextMate: {name}", not fault, fault)
-            if has_vim:
-                fault = vim_faults(path)
-                judge(f"Vim: {name}", not fault, fault)
+    paths = [path for path in sorted(ROOT.glob("examples/**/*.*")) if path.suffix[1:] in KINDS]
+    for path in paths:
+        fault = grammar_faults(grammars[path.suffix[1:]], path.read_text())
+        judge(f"TextMate: {path.relative_to(ROOT)}", not fault, fault)
+    if has_vim:
+        for path, fault in zip(paths, vim_faults(paths)):
+            judge(f"Vim: {path.relative_to(ROOT)}", not fault, fault)
 
 
 def try_wrong_texts(grammars, has_vim):
     with tempfile.TemporaryDirectory() as folder:
+        paths = []
         for end, texts in WRONG.items():
             for number, text in enumerate(texts):
-                path = pathlib.Path(folder) / f"wrong{number}.{end}"
-                path.write_text(text)
                 judge(f"TextMate: no error in {text!r}", grammar_faults(grammars[end], text))
-                if has_vim:
-                    judge(f"Vim: no error in {text!r}", vim_faults(path))
+                paths.append(pathlib.Path(folder) / f"wrong{number}.{end}")
+                paths[-1].write_text(text)
+        if has_vim:
+            for path, fault in zip(paths, vim_faults(paths)):
+                judge(f"Vim: no error in {path.read_text()!r}", fault.startswith("line 1 "), fault)
 
 
 def try_words(grammars):
