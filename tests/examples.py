@@ -37,9 +37,10 @@ DOCUMENTS = [
     "docs/MODEL_LANGUAGE.md",
     "docs/SESSION_LANGUAGE.md",
     "docs/CERTIFICATES.md",
+    "examples/README.md",
 ]
 # Pages of which only the names of files are looked up.
-PAGES = ["CONTRIBUTING.md", "docs/PROVED.md", "examples/README.md", "examples/*/README.md"]
+PAGES = ["CONTRIBUTING.md", "docs/PROVED.md", "examples/*/README.md"]
 # What a page names stands below one of these folders.
 FOLDERS = ("", "crates/", "docs/")
 SECONDS = 120
