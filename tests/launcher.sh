@@ -81,6 +81,10 @@ expect 'a current program judges its words' 5 'proved: jump -x' ''
 run 3 run valve.lv first.ses
 expect 'an older program' 5 'proved: run valve.lv first.ses' 'livingstone: sources are newer: ./build'
 
+# A build that can't tell the state ends the launcher, and nothing is run.
+run 1 run valve.lv first.ses
+expect 'a state that is not told' 125 '' "livingstone: whether the program is built can't be told"
+
 # Without a program wrong words are refused before anything is built.
 while IFS= read -r line; do
     eval "words=($line)"
