@@ -146,7 +146,11 @@ END
 rm "$top/unbuildable"
 
 # Without the kit a sentence says what is missing, before anything is built.
-path="$work/nothing:/usr/bin:/bin"
+mkdir "$work/tools"
+for tool in bash env cat cp dirname grep iconv mktemp readlink rm tail; do
+    ln -s "$(command -v "$tool")" "$work/tools"
+done
+path="$work/tools"
 run 4 run valve.lv first.ses
 expect 'no kit' 127 '' "livingstone: 'rt' is not on the path.*Rattle kit*"
 run 4 run valve.lv
