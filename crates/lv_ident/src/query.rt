@@ -89,15 +89,21 @@ pub fn identify<'a>(
     let grid = move_grid(alloc, model)?;
     let zones = zones_of(alloc, model, tracked)?;
     let first_zones = zones.len();
+    let asked = copied(alloc, &facts)?;
     let search = Search::new(alloc, grid, zones, k)?;
-    let trial = IdentTrial::new(alloc, model, system, copied(alloc, &facts)?)?;
-    Ok(Query {
-        model,
-        facts,
-        trial,
-        search,
-        first_zones,
-    })
+    match IdentTrial::new(alloc, model, system, asked) {
+        Ok(trial) => Ok(Query {
+            model,
+            facts,
+            trial,
+            search,
+            first_zones,
+        }),
+        Err(error) => {
+            drop(search);
+            Err(error)
+        }
+    }
 }
 
 impl<'a> Query<'a> {

@@ -16,20 +16,20 @@ identify-requires-clause-fit c = subst (FactsFit c.args.model.now) (sym c.in_ok-
 pub identify-requires-clause-in_range : goal.identify-requires-clause-in_range
 identify-requires-clause-in_range c = subst (FactsInRange c.args.model.now) (sym c.in_ok-facts.ensures) (facts_in_range c.args.model.now c.args.self.now c.requires.state)
 
-pub returns-clause-at : goal.returns-clause-at
-returns-clause-at c =
+pub returns-in-Ok-clause-at : goal.returns-in-Ok-clause-at
+returns-in-Ok-clause-at c =
     let start = c.in_ok-query.ensures.start in
     let none : trials_of c.in_ok-query.query.standing ≡ 0 = ap (λ (q : QueryValue). trials_of q.standing) start in
     let on : IsQueryOf c.args.self.now.tracked c.in_ok-query.query =
     subst (λ (ts : List TrackedState). IsQueryOf ts c.in_ok-query.query) (c.as_slice.ensures.states ∙ ap (λ (s : SessionState). s.tracked) c.self.view_is) c.in_ok-query.ensures.query in
-    has_run c.args.model.now c.args.self.now c.args.n c.args.n c.in_ok-query.query c.run.new.self c.in_ok-outcome.outcome
+    has_run c.args.model.now c.args.self.now c.args.n c.args.n c.in_ok-query.query c.run.new.self c.in-Ok.outcome
     (ap (λ (q : QueryValue). q.plant) start)
     (ap (λ (q : QueryValue). q.facts) start ∙ c.in_ok-facts.ensures)
     (ap (λ (q : QueryValue). q.standing.k) start ∙ ap (λ (s : SessionState). s.k) c.self.view_is)
-    (omega (arith, none)) (c.in_ok-outcome.ensures.query c.args.self.now.tracked on) (c.in_ok-outcome.ensures.walk c.args.self.now.tracked on)
-    c.in_ok-outcome.ensures.plant c.in_ok-outcome.ensures.facts c.in_ok-outcome.ensures.k
+    (omega (arith, none)) ((rw c.in-Ok.is at c.run.ensures.query) c.args.self.now.tracked on) ((rw c.in-Ok.is at c.run.ensures.walk) c.args.self.now.tracked on)
+    c.run.ensures.plant c.run.ensures.facts (rw c.in-Ok.is at c.run.ensures.k)
 
-pub returns-clause-listed : goal.returns-clause-listed
-returns-clause-listed c =
+pub returns-in-Ok-clause-listed : goal.returns-in-Ok-clause-listed
+returns-in-Ok-clause-listed c =
     let well : is_well_formed c.args.model.now ≡ true = subst (λ (p : Plant). is_well_formed p ≡ true) c.plant-plant.ensures.plant c.plant-plant.ensures.well_formed in
-    listed_at c.args.model.now c.args.self.now c.args.n (record { query = c.run.new.self; outcome = c.in_ok-outcome.outcome }) well c.requires.state (returns-clause-at c)
+    listed_at c.args.model.now c.args.self.now c.args.n (record { query = c.run.new.self; outcome = c.in-Ok.outcome }) well c.requires.state (returns-in-Ok-clause-at c)

@@ -9,13 +9,13 @@ use Rattle.lv_session.proofs.state.State.recovery_run.Goals as goal
 pub recover-requires-clause-fits : goal.recover-requires-clause-fits
 recover-requires-clause-fits c = subst (AimFits c.args.model.now) (sym c.in_ok-aim.ensures) (aim_fits c.args.model.now c.args.self.now c.requires.state)
 
-pub returns : goal.returns
-returns c =
+pub returns-in-Ok : goal.returns-in-Ok
+returns-in-Ok c =
     let start = c.in_ok-query.ensures.start in
     let none : trials_of c.in_ok-query.query.standing ≡ 0 = ap (λ (q : QueryValue). trials_of q.standing) start in
     record {
-      at = recovery_has_run c.args.model.now c.args.self.now c.args.n c.args.n c.in_ok-query.query c.run.new.self c.in_ok-outcome.outcome
+      at = recovery_has_run c.args.model.now c.args.self.now c.args.n c.args.n c.in_ok-query.query c.run.new.self c.in-Ok.outcome
           (ap (λ (q : QueryValue). q.plant) start) (ap (λ (q : QueryValue). q.aim) start ∙ c.in_ok-aim.ensures) c.requires.some (omega (arith, none))
-          (c.in_ok-outcome.ensures.query c.in_ok-query.ensures.query) (c.in_ok-outcome.ensures.walk c.in_ok-query.ensures.query)
-          c.in_ok-outcome.ensures.plant c.in_ok-outcome.ensures.aim;
+          ((rw c.in-Ok.is at c.run.ensures.query) c.in_ok-query.ensures.query) ((rw c.in-Ok.is at c.run.ensures.walk) c.in_ok-query.ensures.query)
+          c.run.ensures.plant c.run.ensures.aim;
     }
