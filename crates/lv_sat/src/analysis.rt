@@ -10,6 +10,7 @@ ghost use Rattle.lv_sat.specs.Trail.{IsChain, IsFalse, lits_of, unforced};
 ghost use Rattle.lv_sat.specs.Analysis as Analysis;
 ghost use Rattle.lv_sat.specs.Analysis.{denial, seen_all, seen_by, GoesPast, HasReason, IsForcedIfSeen, IsApart, IsChoiceOr, IsCut, Derives, IsDerived, IsPending, StopsAt};
 
+use super::order::Order;
 use super::trail::Entry;
 use lv_base::Lit;
 use lv_clauses::{ClauseSet, negation};
@@ -30,6 +31,7 @@ pub fn derive(
     alloc: Global,
     set: &ClauseSet,
     log: &mut Log,
+    order: &mut Order,
     entries: &[Entry],
     floor: usize,
     hint: Hint,
@@ -41,15 +43,23 @@ pub fn derive(
 {
     let mut seen = vec![in alloc; false; set.bools() as usize]?;
     let mut hints = Vec::new(alloc);
-    take_reason(set, log, hint, &mut seen, &mut hints)?;
-    match walk(set, log, entries, floor, &mut seen, &mut hints)? {
+    take_reason(set, log, order, hint, &mut seen, &mut hints)?;
+    match walk(set, log, order, entries, floor, &mut seen, &mut hints)? {
         Some(flip) => {
             let clause = negate_seen(alloc, seen.as_slice(), &entries[..flip.place + 1])?;
             add_step(log, clause.as_slice(), &mut hints)?;
             Ok(Some(flip))
         }
         None => {
-            settle(alloc, set, log, &entries[..floor], &mut seen, &mut hints)?;
+            settle(
+                alloc,
+                set,
+                log,
+                order,
+                &entries[..floor],
+                &mut seen,
+                &mut hints,
+            )?;
             Ok(None)
         }
     }
@@ -60,6 +70,7 @@ pub fn refute(
     alloc: Global,
     set: &ClauseSet,
     log: &mut Log,
+    order: &mut Order,
     entries: &[Entry],
     hint: Hint,
 ) -> Result<(), AllocError>
@@ -69,8 +80,8 @@ pub fn refute(
 {
     let mut seen = vec![in alloc; false; set.bools() as usize]?;
     let mut hints = Vec::new(alloc);
-    take_reason(set, log, hint, &mut seen, &mut hints)?;
-    settle(alloc, set, log, entries, &mut seen, &mut hints)
+    take_reason(set, log, order, hint, &mut seen, &mut hints)?;
+    settle(alloc, set, log, order, entries, &mut seen, &mut hints)
 }
 
 /// Goes back through all entries, and adds the step of those needed that have no reason.
@@ -78,6 +89,7 @@ fn settle(
     alloc: Global,
     set: &ClauseSet,
     log: &mut Log,
+    order: &mut Order,
     entries: &[Entry],
     seen: &mut Vec<bool>,
     hints: &mut Vec<Hint>,
@@ -86,7 +98,7 @@ fn settle(
     requires pending { IsPending set.now log.old entries.now (lits_of entries.now) seen.old.items hints.old.items }
     ensures { OnOk result (IsDerived set.now log.old log.new (unforced entries.now)) }
 {
-    go_back(set, log, entries, seen, hints)?;
+    go_back(set, log, order, entries, seen, hints)?;
     let clause = negate_unforced(alloc, seen.as_slice(), entries)?;
     add_step(log, clause.as_slice(), hints)
 }
@@ -104,6 +116,7 @@ fn add_step(log: &mut Log, clause: &[Lit], hints: &mut Vec<Hint>) -> Result<(), 
 fn go_back(
     set: &ClauseSet,
     log: &Log,
+    order: &mut Order,
     entries: &[Entry],
     seen: &mut Vec<bool>,
     hints: &mut Vec<Hint>,
@@ -115,7 +128,7 @@ fn go_back(
     let mut at = entries.len();
     while at > 0 {
         at -= 1;
-        pass(set, log, entries[at], seen, hints)?;
+        pass(set, log, order, entries[at], seen, hints)?;
     }
     Ok(())
 }
@@ -125,6 +138,7 @@ fn go_back(
 fn walk(
     set: &ClauseSet,
     log: &Log,
+    order: &mut Order,
     entries: &[Entry],
     floor: usize,
     seen: &mut Vec<bool>,
@@ -141,7 +155,7 @@ fn walk(
         if let Some(cut) = find_cut(seen.as_slice(), entries, floor, at) {
             return Ok(Some(Flip { place: at, cut }));
         }
-        pass(set, log, entries[at], seen, hints)?;
+        pass(set, log, order, entries[at], seen, hints)?;
     }
     Ok(None)
 }
@@ -195,6 +209,7 @@ fn choice_at(entries: &[Entry], at: usize, other: Option<usize>) -> Option<usize
 fn pass(
     set: &ClauseSet,
     log: &Log,
+    order: &mut Order,
     entry: Entry,
     seen: &mut Vec<bool>,
     hints: &mut Vec<Hint>,
@@ -206,7 +221,7 @@ fn pass(
     }
     match entry.reason {
         None => Ok(()),
-        Some(hint) => take_reason(set, log, hint, seen, hints),
+        Some(hint) => take_reason(set, log, order, hint, seen, hints),
     }
 }
 
@@ -214,6 +229,7 @@ fn pass(
 fn take_reason(
     set: &ClauseSet,
     log: &Log,
+    order: &mut Order,
     hint: Hint,
     seen: &mut Vec<bool>,
     hints: &mut Vec<Hint>,
@@ -222,33 +238,37 @@ fn take_reason(
     ensures seen { OnOk result (seen.new.items ≡ seen_by set.now.slots log.now hint seen.old.items) }
 {
     hints.push(hint)?;
-    see_clause(find_clause(set, log, hint), seen);
+    see_clause(find_clause(set, log, hint), order, seen);
     Ok(())
 }
 
 /// Sees the booleans of a clause, if there is one.
-fn see_clause(clause: Option<&[Lit]>, seen: &mut Vec<bool>)
+fn see_clause(clause: Option<&[Lit]>, order: &mut Order, seen: &mut Vec<bool>)
     ensures { seen.new.items ≡ seen_all seen.old.items (unwrap_or (option_map (λ lits. lits.now) clause.entry) []) }
 {
     match clause {
-        Some(lits) => see_all(lits, seen),
+        Some(lits) => see_all(lits, order, seen),
         None => {}
     }
 }
 
-fn see_all(lits: &[Lit], seen: &mut Vec<bool>)
+fn see_all(lits: &[Lit], order: &mut Order, seen: &mut Vec<bool>)
     ensures { seen.new.items ≡ seen_all seen.old.items lits.now }
 {
     for lit in lits {
-        see(*lit, seen);
+        see(*lit, order, seen);
     }
 }
 
-fn see(lit: Lit, seen: &mut Vec<bool>)
+/// Sees a literal's boolean, which is touched where it wasn't seen before.
+fn see(lit: Lit, order: &mut Order, seen: &mut Vec<bool>)
     ensures { seen.new.items ≡ slice_set seen.old.items lit.var.0 true }
 {
     let index = lit.var.0 as usize;
     if index < seen.len() {
+        if !seen[index] {
+            order.touch(lit.var);
+        }
         seen[index] = true;
     }
 }
