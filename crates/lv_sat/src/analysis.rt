@@ -4,11 +4,11 @@
 //! the reasons used, in the order of the trail, and the false clause: one step of the log.
 #![tactic(auto)]
 
-ghost use Rattle.std.specs.Prelude.{◌≡◌, ◌<◌, ◌≤◌, ◌+◌, ◌^◌, true, ◌++◌, ◌∷◌, [], length, take, IfOk, IfSome, IfNone, OnOk, option_map, reverse, slice_set, unwrap_or};
+ghost use Rattle.std.specs.Prelude.{◌≡◌, ◌<◌, ◌≤◌, ◌+◌, ◌^◌, true, false, ◌++◌, ◌∷◌, [], length, take, IfOk, IfSome, IfNone, OnOk, option_map, reverse, slice_set, unwrap_or};
 ghost use Rattle.lv_reflog.specs.Following.{clause_of};
 ghost use Rattle.lv_sat.specs.Trail.{IsChain, IsFalse, lits_of, unforced};
 ghost use Rattle.lv_sat.specs.Analysis as Analysis;
-ghost use Rattle.lv_sat.specs.Analysis.{denial, seen_all, seen_by, GoesPast, HasReason, IsForcedIfSeen, IsApart, IsChoiceOr, IsCut, Derives, IsDerived, IsPending, StopsAt};
+ghost use Rattle.lv_sat.specs.Analysis.{denial, seen_all, seen_by, GoesPast, HasReason, IsForcedIfSeen, IsApart, IsChoiceOr, IsCut, Derives, IsDerived, IsPending, Replaces, StopsAt};
 
 use super::order::Order;
 use super::trail::Entry;
@@ -152,12 +152,120 @@ fn walk(
     let mut at = entries.len();
     while at > floor {
         at -= 1;
-        if let Some(cut) = find_cut(seen.as_slice(), entries, floor, at) {
+        if let Some(cut) = cut_at(set, log, order, entries, floor, at, seen, hints)? {
             return Ok(Some(Flip { place: at, cut }));
         }
         pass(set, log, order, entries[at], seen, hints)?;
     }
     Ok(None)
+}
+
+/// The choice in whose place the negation of an entry can be taken as true, where there is one: then entries before it have
+/// given way to their reasons, where all that forced them is needed too.
+fn cut_at(
+    set: &ClauseSet,
+    log: &Log,
+    order: &mut Order,
+    entries: &[Entry],
+    floor: usize,
+    at: usize,
+    seen: &mut Vec<bool>,
+    hints: &mut Vec<Hint>,
+) -> Result<Option<usize>, AllocError>
+    requires chain { IsChain set.now log.now entries.now }
+    requires floor { floor ≤ at }
+    requires within { at < length entries.now }
+    requires pending { IsPending set.now log.now entries.now (lits_of (take (at + 1) entries.now)) seen.old.items hints.old.items }
+    ensures pending { OnOk result (IsPending set.now log.now entries.now (lits_of (take (at + 1) entries.now)) seen.new.items hints.new.items) }
+    ensures found { IfOk result (λ found. IfSome found (λ cut. IsCut seen.new.items entries.now floor at cut)) }
+    ensures forced { IfOk result (λ found. IfNone found (IsForcedIfSeen seen.new.items entries.now at)) }
+{
+    if find_cut(seen.as_slice(), entries, floor, at).is_some() {
+        shorten(set, log, order, entries, at, seen, hints)?;
+    }
+    Ok(find_cut(seen.as_slice(), entries, floor, at))
+}
+
+/// Lets entries needed before a place give way to their reasons, where these need nothing else.
+fn shorten(
+    set: &ClauseSet,
+    log: &Log,
+    order: &mut Order,
+    entries: &[Entry],
+    place: usize,
+    seen: &mut Vec<bool>,
+    hints: &mut Vec<Hint>,
+) -> Result<(), AllocError>
+    requires chain { IsChain set.now log.now entries.now }
+    requires within { place < length entries.now }
+    requires pending { IsPending set.now log.now entries.now (lits_of (take (place + 1) entries.now)) seen.old.items hints.old.items }
+    ensures { OnOk result (IsPending set.now log.now entries.now (lits_of (take (place + 1) entries.now)) seen.new.items hints.new.items) }
+{
+    let base = count_base(entries);
+    let mut at = place;
+    while at > 0 {
+        at -= 1;
+        if is_spare(set, log, entries[at], at < base, seen.as_slice()) {
+            replace(set, log, order, entries[at], seen, hints)?;
+        }
+    }
+    Ok(())
+}
+
+/// How many entries are before the first one without a reason.
+fn count_base(entries: &[Entry]) -> usize {
+    entries
+        .iter()
+        .position(|entry| entry.reason.is_none())
+        .unwrap_or(entries.len())
+}
+
+/// Whether an entry was seen, and so were all that forced it, or nothing that was assumed or chosen did.
+fn is_spare(set: &ClauseSet, log: &Log, entry: Entry, is_base: bool, seen: &[bool]) -> bool {
+    let Some(hint) = entry.reason else {
+        return false;
+    };
+    sees(seen, entry.lit) && (is_base || are_seen(find_clause(set, log, hint), entry.lit, seen))
+}
+
+/// Whether all literals of a clause but those of this boolean were seen.
+fn are_seen(clause: Option<&[Lit]>, lit: Lit, seen: &[bool]) -> bool {
+    match clause {
+        Some(lits) => lits
+            .iter()
+            .all(|other| other.var == lit.var || sees(seen, *other)),
+        None => false,
+    }
+}
+
+/// An entry gives way to its reason, if it has one, and isn't seen any more.
+fn replace(
+    set: &ClauseSet,
+    log: &Log,
+    order: &mut Order,
+    entry: Entry,
+    seen: &mut Vec<bool>,
+    hints: &mut Vec<Hint>,
+) -> Result<(), AllocError>
+    ensures { OnOk result (Replaces set.now.slots log.now entry.lit entry.reason seen.old.items hints.old.items seen.new.items hints.new.items) }
+{
+    match entry.reason {
+        None => Ok(()),
+        Some(hint) => {
+            take_reason(set, log, order, hint, seen, hints)?;
+            unsee(entry.lit, seen);
+            Ok(())
+        }
+    }
+}
+
+fn unsee(lit: Lit, seen: &mut Vec<bool>)
+    ensures { seen.new.items ≡ slice_set seen.old.items lit.var.0 false }
+{
+    let index = lit.var.0 as usize;
+    if index < seen.len() {
+        seen[index] = false;
+    }
 }
 
 /// The first choice behind the last entry before this one that was seen, where this one was seen too and is behind it or
