@@ -159,7 +159,7 @@ module _ (cs : ClauseMap) (log : List Step) (entries : List Entry) (trail : IsCh
           by_place l (inr here) = ap (among kept) (sym (same_lit-equal (get_or entries at d).lit l here)) ∙ stays
 
       -- an entry that was seen gives way to its reason
-      pending_reason : (h : Hint) (now_seen : List Bool) (taken : List Hint) → (get_or entries at d).reason ≡ Some h → ((l : Lit) → among (lits_of (take at entries)) l ≡ true → among kept l ≡ true)
+      pub pending_reason : (h : Hint) (now_seen : List Bool) (taken : List Hint) → (get_or entries at d).reason ≡ Some h → ((l : Lit) → among (lits_of (take at entries)) l ≡ true → among kept l ≡ true)
           → ((l : Lit) → among kept l ≡ true → l.var.0 ≢ (get_or entries at d).lit.var.0) → GivesWay cs.slots log h seen hints now_seen taken → IsPending cs log entries kept now_seen taken
       pending_reason h now_seen taken reason front apart way =
           record {

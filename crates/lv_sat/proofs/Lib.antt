@@ -3,6 +3,7 @@ mod TrailLemmas
 mod SeenLemmas
 mod PartLemmas
 mod AnalysisLemmas
+mod ShorterLemmas
 mod CutLemmas
 mod MeasureLemmas
 mod SearchLemmas

@@ -1,8 +1,9 @@
 -- A longer trail leaves no more above, and a turned choice leaves less.
-use Rattle.std.proofs.Common.{◌≡◌, ℕ, suc, zero, ◌+◌, ◌<◌, ◌≤◌, List, [], ◌∷◌, ◌++◌, length, take, get_or, Option, Some, None, refl, ap, arith}
+use Rattle.std.proofs.Common.{◌≡◌, ℕ, suc, zero, ◌+◌, ◌*◌, ◌<◌, ◌≤◌, List, [], ◌∷◌, ◌++◌, length, take, get_or, Option, Some, None, refl, ap, arith}
 use Rattle.lv_reflog.specs.declared.log.Hint.{Hint}
 use Rattle.lv_sat.specs.declared.trail.Entry.{Entry}
-use Rattle.lv_sat.specs.Measure.{all_above, left_by, above}
+use Rattle.std.proofs.Math.Nat.{add-mul}
+use Rattle.lv_sat.specs.Measure.{all_above, left_by, above, trails_left}
 
 left_fits : (n : ℕ) (r : Option Hint) → left_by n r ≤ n + 1
 left_fits n None = omega arith
@@ -29,3 +30,8 @@ above_turned zero (e ∷ es) place d t h size within chosen forced = absurd (ome
 above_turned (suc n) (e ∷ es) zero d t h size within chosen forced =
     omega (arith, ap (left_by (all_above n)) forced, ap (left_by (all_above n)) chosen, above_none n)
 above_turned (suc n) (e ∷ es) (suc k) d t h size within chosen forced = omega (arith, above_turned n es k d t h (omega (arith, size)) (omega (arith, within)) chosen forced)
+
+-- what is taken back leaves any trail once more, and one time less
+pub fewer_times : (n old new : ℕ) (entries left : List Entry) → old ≡ new + 1 → trails_left n new left ≤ trails_left n old entries
+fewer_times n old new entries left e =
+    omega (arith, ap (λ k. k * (all_above n + 1)) e, add-mul new 1 (all_above n + 1), above_fits n left)

@@ -99,6 +99,16 @@ GoesPast slots log false reason old hints new more = IsUnchanged old hints new m
 GoesPast slots log true None old hints new more = IsUnchanged old hints new more
 GoesPast slots log true (Some h) old hints new more = GivesWay slots log h old hints new more
 
+-- an entry's literal gives way to its reason, and isn't seen any more
+pub record IsReplaced (slots : Slots) (log : List Step) (l : Lit) (h : Hint) (old : List Bool) (given : List Hint) (new : List Bool) (more : List Hint) : Type 0 where
+  pub seen : new ≡ slice_set (seen_by slots log h old) l.var.0 false
+  pub hints : more ≡ given ++ h ∷ []
+
+-- where it has no reason, it stays
+abbrev pub Replaces : Slots → List Step → Lit → Option Hint → List Bool → List Hint → List Bool → List Hint → Type 0
+Replaces slots log l None old hints new more = IsUnchanged old hints new more
+Replaces slots log l (Some h) old hints new more = IsReplaced slots log l h old hints new more
+
 -- the log has one step more, which follows by its hints: its clause is of negations of these entries
 pub record IsDerived (set : ClauseMap) (old new : List Step) (kept : List Entry) : Type 0 where
   pub step : Step

@@ -1,6 +1,7 @@
 -- Why the search ends: read as digits, 1 for a choice and 2 for what is forced, trails of at most so many entries only
--- rise; what is left below the greatest falls.
-use Rattle.std.specs.Prelude.{ℕ, suc, zero, ◌+◌, List, [], ◌∷◌, Option, Some, None}
+-- rise; what is left below the greatest falls. Only where all choices are taken back it rises again, and that so many
+-- times at most.
+use Rattle.std.specs.Prelude.{ℕ, suc, zero, ◌+◌, ◌*◌, List, [], ◌∷◌, Option, Some, None}
 use Rattle.lv_reflog.specs.declared.log.Hint.{Hint}
 use Rattle.lv_sat.specs.declared.trail.Entry.{Entry}
 
@@ -19,3 +20,7 @@ abbrev pub above : ℕ → List Entry → ℕ
 above zero entries = 0
 above (suc n) [] = all_above (suc n)
 above (suc n) (e ∷ es) = left_by (all_above n) e.reason + above n es
+
+-- and once all choices are taken back so many times, any of them anew each time
+abbrev pub trails_left : ℕ → ℕ → List Entry → ℕ
+trails_left n times entries = times * (all_above n + 1) + above n entries

@@ -4,12 +4,13 @@
 //! the reasons used, in the order of the trail, and the false clause: one step of the log.
 #![tactic(auto)]
 
-ghost use Rattle.std.specs.Prelude.{◌≡◌, ◌<◌, ◌≤◌, ◌+◌, ◌^◌, true, ◌++◌, ◌∷◌, [], length, take, IfOk, IfSome, IfNone, OnOk, option_map, reverse, slice_set, unwrap_or};
+ghost use Rattle.std.specs.Prelude.{◌≡◌, ◌<◌, ◌≤◌, ◌+◌, ◌^◌, true, false, ◌++◌, ◌∷◌, [], length, take, IfOk, IfSome, IfNone, OnOk, option_map, reverse, slice_set, unwrap_or};
 ghost use Rattle.lv_reflog.specs.Following.{clause_of};
 ghost use Rattle.lv_sat.specs.Trail.{IsChain, IsFalse, lits_of, unforced};
 ghost use Rattle.lv_sat.specs.Analysis as Analysis;
-ghost use Rattle.lv_sat.specs.Analysis.{denial, seen_all, seen_by, GoesPast, HasReason, IsForcedIfSeen, IsApart, IsChoiceOr, IsCut, Derives, IsDerived, IsPending, StopsAt};
+ghost use Rattle.lv_sat.specs.Analysis.{denial, seen_all, seen_by, GoesPast, HasReason, IsForcedIfSeen, IsApart, IsChoiceOr, IsCut, Derives, IsDerived, IsPending, Replaces, StopsAt};
 
+use super::order::Order;
 use super::trail::Entry;
 use lv_base::Lit;
 use lv_clauses::{ClauseSet, negation};
@@ -30,6 +31,7 @@ pub fn derive(
     alloc: Global,
     set: &ClauseSet,
     log: &mut Log,
+    order: &mut Order,
     entries: &[Entry],
     floor: usize,
     hint: Hint,
@@ -41,15 +43,23 @@ pub fn derive(
 {
     let mut seen = vec![in alloc; false; set.bools() as usize]?;
     let mut hints = Vec::new(alloc);
-    take_reason(set, log, hint, &mut seen, &mut hints)?;
-    match walk(set, log, entries, floor, &mut seen, &mut hints)? {
+    take_reason(set, log, order, hint, &mut seen, &mut hints)?;
+    match walk(set, log, order, entries, floor, &mut seen, &mut hints)? {
         Some(flip) => {
             let clause = negate_seen(alloc, seen.as_slice(), &entries[..flip.place + 1])?;
             add_step(log, clause.as_slice(), &mut hints)?;
             Ok(Some(flip))
         }
         None => {
-            settle(alloc, set, log, &entries[..floor], &mut seen, &mut hints)?;
+            settle(
+                alloc,
+                set,
+                log,
+                order,
+                &entries[..floor],
+                &mut seen,
+                &mut hints,
+            )?;
             Ok(None)
         }
     }
@@ -60,6 +70,7 @@ pub fn refute(
     alloc: Global,
     set: &ClauseSet,
     log: &mut Log,
+    order: &mut Order,
     entries: &[Entry],
     hint: Hint,
 ) -> Result<(), AllocError>
@@ -69,8 +80,8 @@ pub fn refute(
 {
     let mut seen = vec![in alloc; false; set.bools() as usize]?;
     let mut hints = Vec::new(alloc);
-    take_reason(set, log, hint, &mut seen, &mut hints)?;
-    settle(alloc, set, log, entries, &mut seen, &mut hints)
+    take_reason(set, log, order, hint, &mut seen, &mut hints)?;
+    settle(alloc, set, log, order, entries, &mut seen, &mut hints)
 }
 
 /// Goes back through all entries, and adds the step of those needed that have no reason.
@@ -78,6 +89,7 @@ fn settle(
     alloc: Global,
     set: &ClauseSet,
     log: &mut Log,
+    order: &mut Order,
     entries: &[Entry],
     seen: &mut Vec<bool>,
     hints: &mut Vec<Hint>,
@@ -86,7 +98,7 @@ fn settle(
     requires pending { IsPending set.now log.old entries.now (lits_of entries.now) seen.old.items hints.old.items }
     ensures { OnOk result (IsDerived set.now log.old log.new (unforced entries.now)) }
 {
-    go_back(set, log, entries, seen, hints)?;
+    go_back(set, log, order, entries, seen, hints)?;
     let clause = negate_unforced(alloc, seen.as_slice(), entries)?;
     add_step(log, clause.as_slice(), hints)
 }
@@ -104,6 +116,7 @@ fn add_step(log: &mut Log, clause: &[Lit], hints: &mut Vec<Hint>) -> Result<(), 
 fn go_back(
     set: &ClauseSet,
     log: &Log,
+    order: &mut Order,
     entries: &[Entry],
     seen: &mut Vec<bool>,
     hints: &mut Vec<Hint>,
@@ -115,7 +128,7 @@ fn go_back(
     let mut at = entries.len();
     while at > 0 {
         at -= 1;
-        pass(set, log, entries[at], seen, hints)?;
+        pass(set, log, order, entries[at], seen, hints)?;
     }
     Ok(())
 }
@@ -125,6 +138,7 @@ fn go_back(
 fn walk(
     set: &ClauseSet,
     log: &Log,
+    order: &mut Order,
     entries: &[Entry],
     floor: usize,
     seen: &mut Vec<bool>,
@@ -138,12 +152,120 @@ fn walk(
     let mut at = entries.len();
     while at > floor {
         at -= 1;
-        if let Some(cut) = find_cut(seen.as_slice(), entries, floor, at) {
+        if let Some(cut) = cut_at(set, log, order, entries, floor, at, seen, hints)? {
             return Ok(Some(Flip { place: at, cut }));
         }
-        pass(set, log, entries[at], seen, hints)?;
+        pass(set, log, order, entries[at], seen, hints)?;
     }
     Ok(None)
+}
+
+/// The choice in whose place the negation of an entry can be taken as true, where there is one: then entries before it have
+/// given way to their reasons, where all that forced them is needed too.
+fn cut_at(
+    set: &ClauseSet,
+    log: &Log,
+    order: &mut Order,
+    entries: &[Entry],
+    floor: usize,
+    at: usize,
+    seen: &mut Vec<bool>,
+    hints: &mut Vec<Hint>,
+) -> Result<Option<usize>, AllocError>
+    requires chain { IsChain set.now log.now entries.now }
+    requires floor { floor ≤ at }
+    requires within { at < length entries.now }
+    requires pending { IsPending set.now log.now entries.now (lits_of (take (at + 1) entries.now)) seen.old.items hints.old.items }
+    ensures pending { OnOk result (IsPending set.now log.now entries.now (lits_of (take (at + 1) entries.now)) seen.new.items hints.new.items) }
+    ensures found { IfOk result (λ found. IfSome found (λ cut. IsCut seen.new.items entries.now floor at cut)) }
+    ensures forced { IfOk result (λ found. IfNone found (IsForcedIfSeen seen.new.items entries.now at)) }
+{
+    if find_cut(seen.as_slice(), entries, floor, at).is_some() {
+        shorten(set, log, order, entries, at, seen, hints)?;
+    }
+    Ok(find_cut(seen.as_slice(), entries, floor, at))
+}
+
+/// Lets entries needed before a place give way to their reasons, where these need nothing else.
+fn shorten(
+    set: &ClauseSet,
+    log: &Log,
+    order: &mut Order,
+    entries: &[Entry],
+    place: usize,
+    seen: &mut Vec<bool>,
+    hints: &mut Vec<Hint>,
+) -> Result<(), AllocError>
+    requires chain { IsChain set.now log.now entries.now }
+    requires within { place < length entries.now }
+    requires pending { IsPending set.now log.now entries.now (lits_of (take (place + 1) entries.now)) seen.old.items hints.old.items }
+    ensures { OnOk result (IsPending set.now log.now entries.now (lits_of (take (place + 1) entries.now)) seen.new.items hints.new.items) }
+{
+    let base = count_base(entries);
+    let mut at = place;
+    while at > 0 {
+        at -= 1;
+        if is_spare(set, log, entries[at], at < base, seen.as_slice()) {
+            replace(set, log, order, entries[at], seen, hints)?;
+        }
+    }
+    Ok(())
+}
+
+/// How many entries are before the first one without a reason.
+fn count_base(entries: &[Entry]) -> usize {
+    entries
+        .iter()
+        .position(|entry| entry.reason.is_none())
+        .unwrap_or(entries.len())
+}
+
+/// Whether an entry was seen, and so were all that forced it, or nothing that was assumed or chosen did.
+fn is_spare(set: &ClauseSet, log: &Log, entry: Entry, is_base: bool, seen: &[bool]) -> bool {
+    let Some(hint) = entry.reason else {
+        return false;
+    };
+    sees(seen, entry.lit) && (is_base || are_seen(find_clause(set, log, hint), entry.lit, seen))
+}
+
+/// Whether all literals of a clause but those of this boolean were seen.
+fn are_seen(clause: Option<&[Lit]>, lit: Lit, seen: &[bool]) -> bool {
+    match clause {
+        Some(lits) => lits
+            .iter()
+            .all(|other| other.var == lit.var || sees(seen, *other)),
+        None => false,
+    }
+}
+
+/// An entry gives way to its reason, if it has one, and isn't seen any more.
+fn replace(
+    set: &ClauseSet,
+    log: &Log,
+    order: &mut Order,
+    entry: Entry,
+    seen: &mut Vec<bool>,
+    hints: &mut Vec<Hint>,
+) -> Result<(), AllocError>
+    ensures { OnOk result (Replaces set.now.slots log.now entry.lit entry.reason seen.old.items hints.old.items seen.new.items hints.new.items) }
+{
+    match entry.reason {
+        None => Ok(()),
+        Some(hint) => {
+            take_reason(set, log, order, hint, seen, hints)?;
+            unsee(entry.lit, seen);
+            Ok(())
+        }
+    }
+}
+
+fn unsee(lit: Lit, seen: &mut Vec<bool>)
+    ensures { seen.new.items ≡ slice_set seen.old.items lit.var.0 false }
+{
+    let index = lit.var.0 as usize;
+    if index < seen.len() {
+        seen[index] = false;
+    }
 }
 
 /// The first choice behind the last entry before this one that was seen, where this one was seen too and is behind it or
@@ -195,6 +317,7 @@ fn choice_at(entries: &[Entry], at: usize, other: Option<usize>) -> Option<usize
 fn pass(
     set: &ClauseSet,
     log: &Log,
+    order: &mut Order,
     entry: Entry,
     seen: &mut Vec<bool>,
     hints: &mut Vec<Hint>,
@@ -206,7 +329,7 @@ fn pass(
     }
     match entry.reason {
         None => Ok(()),
-        Some(hint) => take_reason(set, log, hint, seen, hints),
+        Some(hint) => take_reason(set, log, order, hint, seen, hints),
     }
 }
 
@@ -214,6 +337,7 @@ fn pass(
 fn take_reason(
     set: &ClauseSet,
     log: &Log,
+    order: &mut Order,
     hint: Hint,
     seen: &mut Vec<bool>,
     hints: &mut Vec<Hint>,
@@ -222,33 +346,37 @@ fn take_reason(
     ensures seen { OnOk result (seen.new.items ≡ seen_by set.now.slots log.now hint seen.old.items) }
 {
     hints.push(hint)?;
-    see_clause(find_clause(set, log, hint), seen);
+    see_clause(find_clause(set, log, hint), order, seen);
     Ok(())
 }
 
 /// Sees the booleans of a clause, if there is one.
-fn see_clause(clause: Option<&[Lit]>, seen: &mut Vec<bool>)
+fn see_clause(clause: Option<&[Lit]>, order: &mut Order, seen: &mut Vec<bool>)
     ensures { seen.new.items ≡ seen_all seen.old.items (unwrap_or (option_map (λ lits. lits.now) clause.entry) []) }
 {
     match clause {
-        Some(lits) => see_all(lits, seen),
+        Some(lits) => see_all(lits, order, seen),
         None => {}
     }
 }
 
-fn see_all(lits: &[Lit], seen: &mut Vec<bool>)
+fn see_all(lits: &[Lit], order: &mut Order, seen: &mut Vec<bool>)
     ensures { seen.new.items ≡ seen_all seen.old.items lits.now }
 {
     for lit in lits {
-        see(*lit, seen);
+        see(*lit, order, seen);
     }
 }
 
-fn see(lit: Lit, seen: &mut Vec<bool>)
+/// Sees a literal's boolean, which is touched where it wasn't seen before.
+fn see(lit: Lit, order: &mut Order, seen: &mut Vec<bool>)
     ensures { seen.new.items ≡ slice_set seen.old.items lit.var.0 true }
 {
     let index = lit.var.0 as usize;
     if index < seen.len() {
+        if !seen[index] {
+            order.touch(lit.var);
+        }
         seen[index] = true;
     }
 }

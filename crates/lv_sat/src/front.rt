@@ -10,6 +10,7 @@ ghost use Rattle.lv_sat.specs.Front.{assumed, AreLevels, Assumes, IsFront, IsKep
 
 use super::analysis::refute;
 use super::guide::{Guide, take_back};
+use super::order::Order;
 use super::propagation::{propagate, visit_all};
 use super::trail::{Entry, Trail};
 use lv_base::Lit;
@@ -50,7 +51,14 @@ pub fn stand(
 {
     keep(guide, front, assumptions);
     if let Some(hint) = begin(set, log, guide, &mut front.trail)? {
-        refute(alloc, set, log, front.trail.entries(), hint)?;
+        refute(
+            alloc,
+            set,
+            log,
+            &mut guide.order,
+            front.trail.entries(),
+            hint,
+        )?;
         forget(guide, front);
         return Ok(false);
     }
@@ -161,12 +169,26 @@ fn assume(
         return Ok(true);
     }
     if !front.trail.is_open(lit) {
-        contradict(alloc, set, log, front.trail.entries(), lit)?;
+        contradict(
+            alloc,
+            set,
+            log,
+            &mut guide.order,
+            front.trail.entries(),
+            lit,
+        )?;
         return Ok(false);
     }
     match take_on(set, log, guide, &mut front.trail, lit)? {
         Some(hint) => {
-            refute(alloc, set, log, front.trail.entries(), hint)?;
+            refute(
+                alloc,
+                set,
+                log,
+                &mut guide.order,
+                front.trail.entries(),
+                hint,
+            )?;
             take_back(guide, &mut front.trail, place);
             Ok(false)
         }
@@ -200,6 +222,7 @@ fn contradict(
     alloc: Global,
     set: &ClauseSet,
     log: &mut Log,
+    order: &mut Order,
     entries: &[Entry],
     lit: Lit,
 ) -> Result<(), AllocError>
@@ -213,7 +236,7 @@ fn contradict(
         return Ok(());
     };
     let instead = put_instead(alloc, &entries[..place], lit)?;
-    refute(alloc, set, log, instead.as_slice(), hint)
+    refute(alloc, set, log, order, instead.as_slice(), hint)
 }
 
 /// The entries and the assumption behind them.

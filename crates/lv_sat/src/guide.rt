@@ -13,12 +13,26 @@ use lv_base::Lit;
 use lv_watches::Watches;
 use std::alloc::AllocError;
 
-/// Which clauses to look at, what to choose, and what was done.
+/// For how many learned clauses there is room at first.
+pub const FIRST_ROOM: usize = 2000;
+
+/// For how many more, each time that half of them were let go of.
+const MORE_ROOM: usize = 300;
+
+/// Which clauses to look at, how many of those learned, what to choose, and what was done.
 #[derive(Drop)]
 pub struct Guide {
     pub watches: Watches,
+    pub room: usize,
     pub order: Order,
     pub effort: Effort,
+}
+
+/// Notes that a question is asked.
+pub fn note_call(guide: &mut Guide) {
+    guide.effort = guide.effort.with_call();
+    guide.watches.clear_learned();
+    guide.room = FIRST_ROOM;
 }
 
 /// Notes a clause learned, and that the entries from a place on are taken back.
@@ -32,8 +46,12 @@ pub fn learn(
     requires { cut ≤ length entries.now }
 {
     guide.effort = guide.effort.with(&entries[cut..]).with_conflict();
-    touch_all(&mut guide.order, clause);
+    guide.order.age();
     put_back_all(&mut guide.order, &entries[cut..]);
+    if guide.watches.learned() > guide.room {
+        guide.room = guide.room.saturating_add(MORE_ROOM);
+        guide.watches.reduce()?;
+    }
     guide.watches.add_learned(clause, step)
 }
 
@@ -52,12 +70,6 @@ pub fn take_back(guide: &mut Guide, trail: &mut Trail, len: usize)
 fn note_back(guide: &mut Guide, entries: &[Entry]) {
     guide.effort = guide.effort.with(entries);
     put_back_all(&mut guide.order, entries);
-}
-
-fn touch_all(order: &mut Order, clause: &[Lit]) {
-    for lit in clause {
-        order.touch(lit.var);
-    }
 }
 
 fn put_back_all(order: &mut Order, entries: &[Entry]) {

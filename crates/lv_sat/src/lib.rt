@@ -9,6 +9,7 @@
 //! | literals taken as true | `trail` |
 //! | what a false clause teaches | `analysis` |
 //! | what to choose next | `order` |
+//! | when to begin anew | `pace` |
 //! | with which clauses to look at | `guide` |
 //! | what clauses force | `propagation` |
 //! | the assumptions on the trail | `front` |
@@ -21,6 +22,7 @@ pub mod effort;
 mod front;
 mod guide;
 mod order;
+mod pace;
 mod propagation;
 mod search;
 pub mod solver;

@@ -8,20 +8,10 @@ ghost use Rattle.lv_sat.specs.Trail.{IsTrail, IsPropagated};
 use super::analysis::find_clause;
 use super::trail::Trail;
 use lv_base::Lit;
-use lv_clauses::{ClauseSet, Finding, is_marked, look, negation};
+use lv_clauses::{ClauseSet, Finding, look, negation};
 use lv_reflog::{Hint, Log};
-use lv_watches::{Watch, Watches};
+use lv_watches::{Fate, Watch, Watches};
 use std::alloc::AllocError;
-
-/// What becomes of a watch whose literal is false.
-enum Fate {
-    /// The clause is true.
-    Stays,
-    /// The clause watches another literal now, or is gone.
-    Leaves,
-    /// The clause has to be looked at.
-    Asks,
-}
 
 /// Adds what clauses force by the entries from a place on and by those that this adds; or finds a false clause.
 pub fn propagate(
@@ -76,13 +66,16 @@ fn visit_row(
 {
     let mut at = 0;
     while at < row.len() {
-        match meet(set, log, watches, trail.marks(), row[at], turned)? {
+        match watches.meet(trail.marks(), row[at], turned)? {
             Fate::Leaves => {
                 row.swap_remove(at);
             }
-            Fate::Stays => at += 1,
-            Fate::Asks => {
-                if let Some(found) = examine(set, log, trail, row[at].hint)? {
+            Fate::Stays(watch) => {
+                row[at] = watch;
+                at += 1;
+            }
+            Fate::Asks(hint) => {
+                if let Some(found) = examine(set, log, trail, hint)? {
                     return Ok(Some(found));
                 }
                 at += 1;
@@ -90,49 +83,6 @@ fn visit_row(
         }
     }
     Ok(None)
-}
-
-/// Finds another literal to watch for a clause that isn't true, if there is one.
-fn meet(
-    set: &ClauseSet,
-    log: &Log,
-    watches: &mut Watches,
-    marks: &[Option<bool>],
-    watch: Watch,
-    turned: Lit,
-) -> Result<Fate, AllocError> {
-    if is_marked(marks, watch.other) {
-        return Ok(Fate::Stays);
-    }
-    if watch.is_pair {
-        return Ok(Fate::Asks);
-    }
-    let (Some(kept), Some(clause)) = (
-        watches.beside(watch.hint, turned),
-        find_clause(set, log, watch.hint),
-    ) else {
-        return Ok(Fate::Leaves);
-    };
-    if is_marked(marks, kept) {
-        return Ok(Fate::Stays);
-    }
-    match free_beside(marks, clause, kept) {
-        Some(lit) => {
-            watches.turn_to(watch.hint, kept, lit)?;
-            Ok(Fate::Leaves)
-        }
-        None => Ok(Fate::Asks),
-    }
-}
-
-/// A literal of the clause, another than this one, that isn't false.
-fn free_beside(marks: &[Option<bool>], clause: &[Lit], kept: Lit) -> Option<Lit> {
-    for lit in clause {
-        if *lit != kept && !is_marked(marks, negation(*lit)) {
-            return Some(*lit);
-        }
-    }
-    None
 }
 
 /// Adds what the clauses that hints name force; or finds a false one.

@@ -10,13 +10,16 @@ ghost use Rattle.lv_clauses.specs.ClauseMap.{ClauseMap, satisfies};
 ghost use Rattle.lv_reflog.specs.Following.{first_bad_step};
 ghost use Rattle.lv_sat.specs.Answers.{Answers, last_clause};
 ghost use Rattle.lv_sat.specs.Front.{Finds, IsKept, IsRefuted};
-ghost use Rattle.lv_sat.specs.Trail.{is_open, IsTrail, IsReached, IsFalsified, IsGrown, TellsFalse, Reaches};
+ghost use Rattle.lv_reflog.specs.declared.log.Step.{Step};
+ghost use Rattle.lv_sat.specs.Measure.{trails_left};
+ghost use Rattle.lv_sat.specs.Trail.{is_open, IsSearch, IsTrail, IsReached, IsFalsified, IsGrown, TellsFalse, Reaches};
 
 use super::analysis::derive;
 use super::answer::Answer;
 use super::front::{Front, forget, stand};
-use super::guide::{Guide, learn, take_back};
+use super::guide::{Guide, learn, note_call, take_back};
 use super::order::Order;
+use super::pace::Pace;
 use super::propagation::propagate;
 use super::trail::{Entry, Trail};
 use lv_base::{ClauseId, Lit, Seq};
@@ -46,8 +49,7 @@ pub fn search(
     ensures answer { IfOk result (λ answer. Answers set.now assumptions.now answer) }
     ensures kept { IsKept set.now front.new.levels.items front.new.trail.marks.items front.new.trail.entries.items }
 {
-    guide.effort = guide.effort.with_call();
-    guide.watches.clear_learned();
+    note_call(guide);
     match find_answer(alloc, set, guide, front, assumptions) {
         Ok(answer) => Ok(answer),
         Err(error) => {
@@ -124,12 +126,15 @@ fn seek(
     ensures trail { OnOk result (IsGrown set.now trail.old.entries.items trail.new.marks.items trail.new.entries.items) }
 {
     let floor = trail.entries().len();
+    let mut pace = Pace::new();
     let mut from = floor;
     'conflicts: loop {
+        from = rest(guide, trail, floor, from, &mut pace);
         match extend(alloc, set, log, guide, from, trail)? {
             Reached::Values(values) => return Ok(Some(values)),
             Reached::False(hint) => {
-                match derive(alloc, set, log, trail.entries(), floor, hint)? {
+                let order = &mut guide.order;
+                match derive(alloc, set, log, order, trail.entries(), floor, hint)? {
                     None => return Ok(None),
                     Some(flip) => {
                         let last = log.len() - 1;
@@ -142,6 +147,21 @@ fn seek(
             }
         }
     }
+}
+
+/// Takes all choices back where it is time to begin anew with what was learned. Answers the place of the first entry whose
+/// clauses weren't looked at yet; before it was this one.
+fn rest(guide: &mut Guide, trail: &mut Trail, floor: usize, from: usize, pace: &mut Pace) -> usize
+    requires { floor ≤ length trail.old.entries.items }
+    ensures search { (set : ClauseMap) (start : List Entry) (log : List Step) → length start ≡ floor → IsSearch set start log trail.old.marks.items trail.old.entries.items
+        → IsSearch set start log trail.new.marks.items trail.new.entries.items }
+    ensures fewer { (bools : ℕ) → trails_left bools pace.new.left trail.new.entries.items ≤ trails_left bools pace.old.left trail.old.entries.items }
+{
+    if !pace.is_due() {
+        return from;
+    }
+    take_back(guide, trail, floor);
+    floor
 }
 
 /// Adds choices to the trail, and what clauses force, until each boolean is marked or a clause is false. The entries from

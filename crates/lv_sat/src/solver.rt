@@ -9,7 +9,7 @@ ghost use Rattle.lv_clauses.specs.ClauseMap.{clause_at, Puts};
 use super::answer::Answer;
 use super::effort::Effort;
 use super::front::{Front, forget};
-use super::guide::Guide;
+use super::guide::{FIRST_ROOM, Guide};
 use super::order::Order;
 use super::search::search;
 use super::trail::Trail;
@@ -52,6 +52,7 @@ impl Solver {
             set: set.copy()?,
             guide: Guide {
                 watches: Watches::new(alloc, set)?,
+                room: FIRST_ROOM,
                 order: Order::new(alloc, set.bools())?,
                 effort: Effort::new(),
             },

@@ -3,9 +3,11 @@
 //!
 //! | part | items |
 //! |---|---|
-//! | the clauses that watch a literal | `Watches`, `Watch` |
+//! | the clauses that watch a literal | `Watches`, `Watch`, `Fate` |
+//! | their literals | `Arena` |
 #![tactic(auto)]
 
+mod arena;
 pub mod watches;
 
-pub use watches::{Watch, Watches};
+pub use watches::{Fate, Watch, Watches};

@@ -3,27 +3,39 @@
 //! judges by all clauses in the end, and each clause is looked at before it is used.
 #![tactic(auto)]
 
+use super::arena::{Arena, Turn};
 use lv_base::{ClauseId, Lit};
-use lv_clauses::ClauseSet;
+use lv_clauses::{ClauseSet, is_marked};
 use lv_reflog::Hint;
 use std::alloc::{AllocError, Global};
 use std::mem;
 
-/// A clause that watches a literal, and another of its literals: while that one is true, the clause needs no look. In a
-/// clause of two literals it is the only other one.
-#[derive(Clone, Copy, Debug)]
-pub struct Watch {
-    pub hint: Hint,
-    pub other: Lit,
-    pub is_pair: bool,
+/// Where a clause stands.
+#[derive(Clone, Copy, Debug, PartialEq, Eq)]
+pub enum Kind {
+    Given,
+    Learned,
 }
 
-/// The two literals that a clause watches, and whether it has no others.
+/// A clause that watches a literal, by its number in the arena of its kind, and another of its literals: while that one is
+/// true, the clause needs no look.
 #[derive(Clone, Copy, Debug)]
-struct Pair {
-    first: Lit,
-    second: Lit,
-    is_whole: bool,
+pub struct Watch {
+    number: u32,
+    kind: Kind,
+    /// It has no third literal.
+    is_pair: bool,
+    other: Lit,
+}
+
+/// What becomes of a watch whose literal is false.
+pub enum Fate {
+    /// The clause is true.
+    Stays(Watch),
+    /// The clause watches another literal now, or is gone.
+    Leaves,
+    /// The clause has to be looked at.
+    Asks(Hint),
 }
 
 #[derive(Drop)]
@@ -31,15 +43,17 @@ struct Row {
     watches: Vec<Watch>,
 }
 
-/// For each literal the clauses that watch it, for each clause what it watches, and apart from these the clauses of at
-/// most one literal.
+/// For each literal the clauses that watch it, the literals of each clause, the two that it watches first, and apart from
+/// these the clauses given of at most one literal.
 #[derive(Drop)]
 pub struct Watches {
     alloc: Global,
     of_true: Vec<Row>,
     of_false: Vec<Row>,
-    given: Vec<Option<Pair>>,
-    learned: Vec<Option<Pair>>,
+    given: Arena,
+    learned: Arena,
+    /// The steps of the clauses learned, by their numbers.
+    steps: Vec<usize>,
     short: Vec<Hint>,
 }
 
@@ -51,8 +65,9 @@ impl Watches {
             alloc,
             of_true: rows_for(alloc, counts.of_true.as_slice())?,
             of_false: rows_for(alloc, counts.of_false.as_slice())?,
-            given: vec![in alloc; None; set.bound()]?,
-            learned: Vec::new(alloc),
+            given: Arena::new(alloc),
+            learned: Arena::new(alloc),
+            steps: Vec::new(alloc),
             short: Vec::new(alloc),
         };
         for key in 0..set.bound() {
@@ -66,53 +81,71 @@ impl Watches {
 
     /// Adds a clause that is present.
     pub fn add_given(&mut self, lits: &[Lit], id: ClauseId) -> Result<(), AllocError> {
-        let pair = last_two(lits);
-        extend_to(&mut self.given, id.0)?;
-        put_pair(&mut self.given, id.0, pair);
-        match pair {
-            Some(pair) => self.watch_both(pair, Hint::Given(id)),
-            None => {
-                self.short.push(Hint::Given(id))?;
-                Ok(())
-            }
+        if lits.len() < 2 {
+            self.short.push(Hint::Given(id))?;
+            return Ok(());
         }
+        self.given.put(lits, id.0)?;
+        self.watch_both(lits, Kind::Given, id.0)
     }
 
-    /// Adds the clause of the last step of the log, which is at this place.
+    /// Adds the clause of the last step of the log, which is at this place. The last literal of it is to become true, and the
+    /// one before it became false last: these two are watched.
     pub fn add_learned(&mut self, lits: &[Lit], place: usize) -> Result<(), AllocError> {
-        let pair = last_two(lits);
-        extend_to(&mut self.learned, place)?;
-        put_pair(&mut self.learned, place, pair);
-        match pair {
-            Some(pair) => self.watch_both(pair, Hint::Earlier(place)),
-            None => Ok(()),
+        let mut backwards = Vec::from_slice(self.alloc, lits)?;
+        backwards.reverse();
+        self.put_learned(backwards.as_slice(), place)
+    }
+
+    fn put_learned(&mut self, lits: &[Lit], place: usize) -> Result<(), AllocError> {
+        if lits.len() < 2 {
+            return Ok(());
         }
+        let number = self.steps.len();
+        self.learned.put(lits, number)?;
+        self.steps.push(place)?;
+        self.watch_both(lits, Kind::Learned, number)
     }
 
     /// Takes a clause out that is no longer present. Takes no memory.
     pub fn remove_given(&mut self, id: ClauseId) {
-        let hint = Hint::Given(id);
-        match pair_at(self.given.as_slice(), id.0) {
-            Some(pair) => {
-                put_pair(&mut self.given, id.0, None);
-                self.unwatch_both(pair, hint);
+        match self.given.watched(id.0) {
+            Some((first, second)) => {
+                self.unwatch(first, Kind::Given, id.0);
+                self.unwatch(second, Kind::Given, id.0);
+                self.given.remove(id.0);
             }
-            None => {
-                if let Some(place) = self.short.iter().position(|other| *other == hint) {
-                    self.short.swap_remove(place);
-                }
-            }
+            None => self.short.retain(|hint| *hint != Hint::Given(id)),
         }
     }
 
     /// Takes all learned clauses out. Takes no memory.
     pub fn clear_learned(&mut self) {
-        for place in 0..self.learned.len() {
-            if let Some(pair) = pair_at(self.learned.as_slice(), place) {
-                self.unwatch_both(pair, Hint::Earlier(place));
+        if !self.steps.is_empty() {
+            self.unwatch_learned();
+            self.learned.clear();
+            self.steps.clear();
+        }
+    }
+
+    /// How many learned clauses there are.
+    pub fn learned(&self) -> usize {
+        self.steps.len()
+    }
+
+    /// Lets go of half of the learned clauses: the longest, of these the oldest.
+    pub fn reduce(&mut self) -> Result<(), AllocError> {
+        let kept = self.learned.shorter_half(self.alloc)?;
+        let alloc = self.alloc;
+        let old = mem::replace(&mut self.learned, Arena::new(alloc));
+        let steps = mem::replace(&mut self.steps, Vec::new(alloc));
+        self.unwatch_learned();
+        for (number, is_kept) in kept.iter().enumerate() {
+            if *is_kept && number < steps.len() {
+                self.put_learned(old.lits(number), steps[number])?;
             }
         }
-        self.learned.clear();
+        Ok(())
     }
 
     /// The clauses given of at most one literal.
@@ -120,41 +153,51 @@ impl Watches {
         self.short.as_slice()
     }
 
-    /// The literal that a clause watches beside this one; None where it doesn't watch this one.
-    pub fn beside(&self, hint: Hint, lit: Lit) -> Option<Lit> {
-        let pair = match hint {
-            Hint::Given(id) => pair_at(self.given.as_slice(), id.0)?,
-            Hint::Earlier(place) => pair_at(self.learned.as_slice(), place)?,
+    /// What becomes of a watch of a literal that is false: where the clause isn't true, it watches another literal that isn't
+    /// false, if there is one.
+    pub fn meet(
+        &mut self,
+        marks: &[Option<bool>],
+        watch: Watch,
+        turned: Lit,
+    ) -> Result<Fate, AllocError> {
+        if is_marked(marks, watch.other) {
+            return Ok(Fate::Stays(watch));
+        }
+        if watch.is_pair {
+            return Ok(self.asks(watch));
+        }
+        let number = watch.number as usize;
+        let turn = match watch.kind {
+            Kind::Given => self.given.turn(marks, number, turned),
+            Kind::Learned => self.learned.turn(marks, number, turned),
         };
-        if pair.first == lit {
-            Some(pair.second)
-        } else if pair.second == lit {
-            Some(pair.first)
-        } else {
-            None
+        match turn {
+            Turn::Absent => Ok(Fate::Leaves),
+            Turn::Holds(other) => Ok(Fate::Stays(Watch { other, ..watch })),
+            Turn::Stuck => Ok(self.asks(watch)),
+            Turn::Moves { kept, new } => {
+                self.watch(
+                    new,
+                    Watch {
+                        other: kept,
+                        ..watch
+                    },
+                )?;
+                Ok(Fate::Leaves)
+            }
         }
     }
 
-    /// Lets a clause of more than two literals watch these two, the second of which it didn't watch before.
-    pub fn turn_to(&mut self, hint: Hint, kept: Lit, new: Lit) -> Result<(), AllocError> {
-        let is_pair = false;
-        let pair = Some(Pair {
-            first: kept,
-            second: new,
-            is_whole: is_pair,
-        });
-        match hint {
-            Hint::Given(id) => put_pair(&mut self.given, id.0, pair),
-            Hint::Earlier(place) => put_pair(&mut self.learned, place, pair),
-        }
-        self.watch(
-            new,
-            Watch {
-                hint,
-                other: kept,
-                is_pair,
+    fn asks(&self, watch: Watch) -> Fate {
+        let number = watch.number as usize;
+        match watch.kind {
+            Kind::Given => Fate::Asks(Hint::Given(ClauseId(number))),
+            Kind::Learned => match self.steps.get(number).copied() {
+                Some(step) => Fate::Asks(Hint::Earlier(step)),
+                None => Fate::Leaves,
             },
-        )
+        }
     }
 
     /// The watches of a literal, which are to be put back.
@@ -180,26 +223,26 @@ impl Watches {
         }
     }
 
-    fn watch_both(&mut self, pair: Pair, hint: Hint) -> Result<(), AllocError> {
-        let Pair {
-            first,
-            second,
-            is_whole: is_pair,
-        } = pair;
+    /// Lets a clause watch its first two literals.
+    fn watch_both(&mut self, lits: &[Lit], kind: Kind, number: usize) -> Result<(), AllocError> {
+        let [first, second, others @ ..] = lits else {
+            return Ok(());
+        };
+        let Ok(number) = u32::try_from(number) else {
+            return Ok(());
+        };
+        let watch = Watch {
+            number,
+            kind,
+            is_pair: others.is_empty(),
+            other: *second,
+        };
+        self.watch(*first, watch)?;
         self.watch(
-            first,
+            *second,
             Watch {
-                hint,
-                other: second,
-                is_pair,
-            },
-        )?;
-        self.watch(
-            second,
-            Watch {
-                hint,
-                other: first,
-                is_pair,
+                other: *first,
+                ..watch
             },
         )
     }
@@ -211,52 +254,25 @@ impl Watches {
         Ok(())
     }
 
-    fn unwatch_both(&mut self, pair: Pair, hint: Hint) {
-        self.unwatch(pair.first, hint);
-        self.unwatch(pair.second, hint);
-    }
-
-    fn unwatch(&mut self, lit: Lit, hint: Hint) {
+    fn unwatch(&mut self, lit: Lit, kind: Kind, number: usize) {
         if let Some(row) = self.rows(lit.sign).get_mut(lit.var.0 as usize)
-            && let Some(place) = row.watches.iter().position(|watch| watch.hint == hint)
+            && let Some(place) = row.watches.iter().position(|watch| watch.kind == kind
+                && watch.number as usize == number)
         {
             row.watches.swap_remove(place);
         }
     }
-}
 
-/// The last two literals of a clause that has so many. Of a clause that was learned the last one is to become true, and
-/// the one before it became false last.
-fn last_two(lits: &[Lit]) -> Option<Pair> {
-    match lits {
-        [others @ .., first, second] => Some(Pair {
-            first: *first,
-            second: *second,
-            is_whole: others.is_empty(),
-        }),
-        _ => None,
+    /// Takes the watches of learned clauses out of all rows.
+    fn unwatch_learned(&mut self) {
+        keep_given(&mut self.of_true);
+        keep_given(&mut self.of_false);
     }
 }
 
-fn pair_at(pairs: &[Option<Pair>], place: usize) -> Option<Pair> {
-    if place < pairs.len() {
-        pairs[place]
-    } else {
-        None
-    }
-}
-
-/// Has a place up to this one and with it.
-fn extend_to(pairs: &mut Vec<Option<Pair>>, place: usize) -> Result<(), AllocError> {
-    for _ in pairs.len()..=place {
-        pairs.push(None)?;
-    }
-    Ok(())
-}
-
-fn put_pair(pairs: &mut Vec<Option<Pair>>, place: usize, pair: Option<Pair>) {
-    if place < pairs.len() {
-        pairs[place] = pair;
+fn keep_given(rows: &mut Vec<Row>) {
+    for row in rows {
+        row.watches.retain(|watch| watch.kind == Kind::Given);
     }
 }
 
@@ -275,9 +291,9 @@ impl Counts {
             of_false: vec![in alloc; 0; set.bools() as usize]?,
         };
         for key in 0..set.bound() {
-            if let Some(pair) = set.find(ClauseId(key)).and_then(|lits| last_two(lits)) {
-                counts.raise(pair.first);
-                counts.raise(pair.second);
+            if let Some([first, second, ..]) = set.find(ClauseId(key)) {
+                counts.raise(*first);
+                counts.raise(*second);
             }
         }
         Ok(counts)

@@ -1,5 +1,5 @@
 -- each entry is left out or gives way to its reason
-use Rattle.std.proofs.Common.{◌-◌, false, None, ℕ, sym, take, subst, arith}
+use Rattle.std.proofs.Common.{◌≡◌, ◌-◌, false, None, Some, Option, IfNone, ℕ, refl, sym, subst, arith}
 use Rattle.std.proofs.Math.Seq.{take-length}
 use Rattle.lv_sat.specs.declared.trail.Entry.{Entry}
 use Rattle.lv_sat.specs.Trail.{lits_of}
@@ -9,6 +9,11 @@ use Rattle.lv_sat.proofs.analysis.walk.Goals as goal
 
 abbrev blank : Entry
 blank = record { lit = record { var = record { 0 = 0 }; sign = false }; reason = None }
+
+-- where there is no cut, what is said of that holds
+none_left : (o : Option ℕ) (A : Type 0) → ((n : ℕ) → o ≡ Some n → ⊥) → IfNone o A → A
+none_left None A never told = told
+none_left (Some n) A never told = absurd (never n refl)
 
 pub loop-at-init : goal.loop-at-init
 loop-at-init c =
@@ -25,7 +30,6 @@ loop-at-preserved c =
       floor = omega arith;
       within = omega (arith, c.loop-at.invariant.within);
       pending =
-          pending_walk c.args.set.now c.args.log.now c.args.entries.now c.requires.chain at blank (omega (arith, c.loop-at.invariant.within, c.loop-at-test.true)) c.loop-at.seen.items c.loop-at.hints.items c.pass.new.seen.items c.pass.new.hints.items
-          (subst (λ k. IsPending c.args.set.now c.args.log.now c.args.entries.now (lits_of (take k c.args.entries.now)) c.loop-at.seen.items c.loop-at.hints.items) (omega (arith, c.loop-at-test.true)) c.loop-at.invariant.pending)
-          (subst (λ s. IsForcedIfSeen s c.args.entries.now at) c.as_slice.ensures.value c.in_default.ensures.forced) c.in_ok-pass.ensures;
+          pending_walk c.args.set.now c.args.log.now c.args.entries.now c.requires.chain at blank (omega (arith, c.loop-at.invariant.within, c.loop-at-test.true)) c.cut_at.new.seen.items c.cut_at.new.hints.items c.pass.new.seen.items c.pass.new.hints.items
+          c.in_ok-cut.ensures.pending (none_left c.in_ok-cut.field-0 (IsForcedIfSeen c.cut_at.new.seen.items c.args.entries.now at) c.in_default.not-Some c.in_ok-cut.ensures.forced) c.in_ok-pass.ensures;
     }

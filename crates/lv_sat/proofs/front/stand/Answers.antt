@@ -1,7 +1,9 @@
 -- what clauses force without any assumption comes first
-use Rattle.std.proofs.Common.{List, subst}
+use Rattle.std.proofs.Common.{List, subst, sym}
 use Rattle.lv_sat.specs.declared.trail.Entry.{Entry}
-use Rattle.lv_sat.specs.Trail.{unforced}
+use Rattle.lv_reflog.specs.declared.log.Step.{Step}
+use Rattle.lv_sat.specs.Front.{IsKept}
+use Rattle.lv_sat.specs.Trail.{unforced, IsTrail}
 use Rattle.lv_sat.specs.Analysis.{IsDerived}
 use Rattle.lv_sat.proofs.FrontLemmas.{begun_refuted, begun_stands}
 use Rattle.lv_sat.proofs.front.stand.Goals as goal
@@ -19,3 +21,9 @@ pub assume_all-requires-clause-standing : goal.assume_all-requires-clause-standi
 assume_all-requires-clause-standing c =
     begun_stands c.args.set.now c.keep.new.front.levels.items c.keep.new.front.trail.marks.items c.begin.new.trail.marks.items c.keep.new.front.trail.entries.items c.begin.new.trail.entries.items c.args.log.now c.in_ok-hint.field-0
     (c.keep.ensures.kept c.args.set.now c.requires.kept) c.in_ok-hint.ensures c.requires.log
+
+pub begin-requires : goal.begin-requires
+begin-requires c =
+    λ some.
+    let here : IsKept c.args.set.now c.keep.new.front.levels.items c.keep.new.front.trail.marks.items c.keep.new.front.trail.entries.items = c.keep.ensures.kept c.args.set.now c.requires.kept in
+    subst (λ (steps : List Step). IsTrail c.args.set.now steps c.keep.new.front.trail.marks.items c.keep.new.front.trail.entries.items) (sym c.requires.log) (here.trail some)
