@@ -272,3 +272,11 @@ def clause_share(kind: PartType) -> int:
         # The n-th of k steps is denied by the later steps and by the stay.
         total += sum(count(step.guard, False) * (len(steps) - place) for place, step in enumerate(steps))
     return total
+
+
+def read_goal(plant: Plant, text: str) -> Formula:
+    """A formula over a whole plant, as in a goal; raises ModelFault where it is none."""
+    statement = read_statements(f"law {text}".encode("ascii", "replace"))[0][0]
+    builder = _Builder()
+    builder.plant = plant
+    return _resolved(statement, builder._plant_scope, plant.values)

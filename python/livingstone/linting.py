@@ -114,13 +114,11 @@ def unread_variables(plant: Plant) -> Iterator[Finding]:
             part, name = variable.split(".")
             read[plant.parts[part].type.name].add(name)
     for kind in plant.types.values():
-        for variable in kind.variables.values():
-            if variable.name not in read[kind.name]:
-                message = f"no formula reads the {variable.kind} {variable.name} of type {kind.name}"
-                hint = {"control": "commanding it changes nothing", "observable": "observing it tells nothing"}
-                yield Finding(
-                    variable.line, "unread-variable", message, hint.get(variable.kind, "it can go"), variable.name
-                )
+        for one in kind.variables.values():
+            if one.name not in read[kind.name]:
+                message = f"no formula reads the {one.kind} {one.name} of type {kind.name}"
+                hints = {"control": "commanding it changes nothing", "observable": "observing it tells nothing"}
+                yield Finding(one.line, "unread-variable", message, hints.get(one.kind, "it can go"), one.name)
 
 
 def dear_repairs(plant: Plant) -> Iterator[Finding]:

@@ -64,7 +64,7 @@ class Model:
 
     def session(self) -> Session:
         """A new session, in a process of its own."""
-        return Session(PipeTransport(self.program, self.path))
+        return Session(PipeTransport(self.program, self.path), self)
 
     def check(self, certificate: Union[str, bytes]) -> Optional[int]:
         """The first bad line of a certificate, or None where it is valid."""
@@ -75,7 +75,9 @@ class Model:
 class Session:
     """A conversation. A refused line raises Refused, unless `ask` is told not to."""
 
-    def __init__(self, transport: Transport) -> None:
+    def __init__(self, transport: Transport, model: Optional[Model] = None) -> None:
+        # A model that was made from a text takes its file away with it, so it lives as long as the session.
+        self.model = model
         self._transport = transport
         self._ended = False
 
