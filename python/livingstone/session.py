@@ -168,9 +168,9 @@ class Session:
         """A `diagnose`, a `recover` or, with `more`, the current query, in slices of so many trials up to a budget.
 
         Behind each slice `progress` is told the trials made and those allowed. An interrupt between slices or in one
-        leaves the session usable, with the query as far as it came. The session's own budget is `slice_` afterwards.
+        leaves the session usable, with the query as far as it came. The session's own budget is that of a slice afterwards.
         """
-        self.budget(slice_)
+        self.budget(min(slice_, budget))
         first = f"more {min(slice_, budget)}" if word == "more" else word
         reply = self.ask(first, refusals=False)
         made = min(slice_, budget)
