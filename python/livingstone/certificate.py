@@ -3,7 +3,7 @@
 from __future__ import annotations
 
 from dataclasses import dataclass, field
-from typing import Dict, Iterator, List, Optional, Set, Tuple
+from typing import Dict, Iterator, List, Optional, Set, Tuple, Union
 
 from .clauses import NEXT, NOW, ModelClauses, Origin, cleaned, faults_of, formula_clauses
 from .declarations import read_goal
@@ -45,7 +45,7 @@ class CertificateText:
     recovery: Optional[Numbers] = None
     shown: List[Shown] = field(default_factory=list)
     proofs: List[Block] = field(default_factory=list)
-    conflicts: List[object] = field(default_factory=list)
+    conflicts: List[Union[Block, Shown]] = field(default_factory=list)
     splits: List[Tuple[int, str, int]] = field(default_factory=list)
 
 
@@ -68,7 +68,10 @@ def read_certificate(text: str) -> CertificateText:
         elif word in ("listed", "good", "counter"):
             numbers = [int(item) for item in rest]
             shown = Shown(word, numbers[0], numbers[1:])
-            (found.conflicts if word == "counter" else found.shown).append(shown)
+            if word == "counter":
+                found.conflicts.append(shown)
+            else:
+                found.shown.append(shown)
         else:
             _stated(found, word, rest)
     return found
@@ -245,5 +248,4 @@ def _split_pairs(text: CertificateText, by: str, place: int) -> List[Tuple[int, 
     other = text.conflicts[place - 1]
     if isinstance(other, Shown):
         return list(enumerate(other.choices, 1))
-    assert isinstance(other, Block)
     return pairs_of(other.given)

@@ -67,9 +67,9 @@ def tell(namer: Namer, file: str, origins: Origins, steps: bool) -> Dict[str, An
     told["listed"] = [_shown(namer, shown) for shown in text.shown]
     told["excluded"] = []
     for one in text.conflicts:
-        told["excluded"].append(_shown(namer, one) if isinstance(one, Shown) else block(one))  # type: ignore[arg-type]
+        told["excluded"].append(_shown(namer, one) if isinstance(one, Shown) else block(one))
         if text.about == "recovery":
-            told["excluded"][-1]["state"] = one.state  # type: ignore[attr-defined]
+            told["excluded"][-1]["state"] = one.state
     told["splits"], told["left"] = _splits(namer)
     return told
 
