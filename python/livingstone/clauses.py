@@ -3,7 +3,7 @@
 from __future__ import annotations
 
 from dataclasses import dataclass
-from typing import Callable, Dict, Iterator, List, Optional, Sequence, Tuple
+from typing import Dict, Iterator, List, Optional, Sequence, Tuple
 
 from .formula import And, Constant, Formula, Iff, Implies, Is, Not, Or, Same, renamed, text_of
 from .plant import MODE, Move, Part, Plant
@@ -44,35 +44,52 @@ class Booleans:
 
 def formula_clauses(booleans: Booleans, formula: Formula, sign: bool, when: str) -> List[Clause]:
     """The clauses of a formula over the plant's variables, in a sign and at a time."""
+    return _Compiler(booleans, when).clauses(formula, sign)
 
-    def value(variable: str, name: str) -> int:
-        return booleans.of_value[when, variable, name]
 
-    def walk(inner: Formula, positive: bool) -> List[Clause]:
-        if isinstance(inner, Constant):
-            return [] if inner.value == positive else [()]
-        if isinstance(inner, Is):
-            number = value(inner.variable, inner.value)
-            return [(number if positive else -number,)]
-        if isinstance(inner, Same):
-            pairs = [(value(inner.left, name), value(inner.right, name)) for name in booleans.plant.values(inner.left)]
-            return [(-left, right if positive else -right) for left, right in pairs]
-        if isinstance(inner, Not):
-            return walk(inner.inner, not positive)
-        if isinstance(inner, (And, Or)):
-            lists = [walk(member, positive) for member in inner.members]
-            return sum(lists, []) if positive == isinstance(inner, And) else _product(lists)
-        assert isinstance(inner, (Implies, Iff))
-        left, right = inner.left, inner.right
-        if isinstance(inner, Implies):
-            if positive:
-                return _product([walk(left, False), walk(right, True)])
-            return walk(left, True) + walk(right, False)
-        if positive:
-            return _product([walk(left, False), walk(right, True)]) + _product([walk(left, True), walk(right, False)])
-        return _product([walk(left, True), walk(right, True)]) + _product([walk(left, False), walk(right, False)])
+class _Compiler:
+    """Makes the clauses of each formula once in each sign: an equivalence asks for both signs of both its sides."""
 
-    return walk(formula, sign)
+    def __init__(self, booleans: Booleans, when: str) -> None:
+        self.booleans = booleans
+        self.when = when
+        self.known: Dict[Tuple[int, bool], List[Clause]] = {}
+
+    def clauses(self, formula: Formula, sign: bool) -> List[Clause]:
+        key = (id(formula), sign)
+        if key not in self.known:
+            self.known[key] = self._made(formula, sign)
+        return self.known[key]
+
+    def _value(self, variable: str, name: str) -> int:
+        return self.booleans.of_value[self.when, variable, name]
+
+    def _made(self, formula: Formula, sign: bool) -> List[Clause]:
+        if isinstance(formula, Constant):
+            return [] if formula.value == sign else [()]
+        if isinstance(formula, Is):
+            number = self._value(formula.variable, formula.value)
+            return [(number if sign else -number,)]
+        if isinstance(formula, Same):
+            names = self.booleans.plant.values(formula.left)
+            pairs = [(self._value(formula.left, name), self._value(formula.right, name)) for name in names]
+            return [(-left, right if sign else -right) for left, right in pairs]
+        if isinstance(formula, Not):
+            return self.clauses(formula.inner, not sign)
+        if isinstance(formula, (And, Or)):
+            lists = [self.clauses(member, sign) for member in formula.members]
+            return sum(lists, []) if sign == isinstance(formula, And) else _product(lists)
+        assert isinstance(formula, (Implies, Iff))
+        left, right = formula.left, formula.right
+        if isinstance(formula, Implies):
+            if sign:
+                return _product([self.clauses(left, False), self.clauses(right, True)])
+            return self.clauses(left, True) + self.clauses(right, False)
+        if sign:
+            forward = _product([self.clauses(left, False), self.clauses(right, True)])
+            return forward + _product([self.clauses(left, True), self.clauses(right, False)])
+        both = _product([self.clauses(left, True), self.clauses(right, True)])
+        return both + _product([self.clauses(left, False), self.clauses(right, False)])
 
 
 def _product(lists: Sequence[List[Clause]]) -> List[Clause]:

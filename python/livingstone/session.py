@@ -2,7 +2,9 @@
 
 from __future__ import annotations
 
+import shutil
 import tempfile
+import weakref
 from pathlib import Path
 from types import TracebackType
 from typing import Callable, Optional, Type, TypeVar, Union
@@ -44,16 +46,19 @@ class Model:
         self.path = "./stdin" if path == "stdin" else path
         self.canonical = print_model(self.program, self.path)
         self._plant: Optional[Plant] = None
-        self._folder: Optional[tempfile.TemporaryDirectory[str]] = None
 
     @classmethod
     def from_text(cls, text: Union[str, bytes], program: Optional[str] = None) -> Model:
         """A model from its text, which is kept in a file as long as the model is in use."""
-        folder = tempfile.TemporaryDirectory(prefix="livingstone-")
-        path = Path(folder.name) / "model.lv"
-        path.write_bytes(text.encode() if isinstance(text, str) else text)
-        model = cls(str(path), program)
-        model._folder = folder
+        folder = tempfile.mkdtemp(prefix="livingstone-")
+        try:
+            path = Path(folder) / "model.lv"
+            path.write_bytes(text.encode() if isinstance(text, str) else text)
+            model = cls(str(path), program)
+        except BaseException:
+            shutil.rmtree(folder, ignore_errors=True)
+            raise
+        weakref.finalize(model, shutil.rmtree, folder, ignore_errors=True)
         return model
 
     @property
