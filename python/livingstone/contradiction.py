@@ -7,7 +7,9 @@ added part tells the time, as it is in its first mode before the step and in its
 
 from __future__ import annotations
 
+import tempfile
 from dataclasses import dataclass
+from pathlib import Path
 from typing import Callable, Dict, List, Optional, Sequence, Tuple
 
 from .errors import LivingstoneError, ModelRefused
@@ -15,8 +17,9 @@ from .formula import Formula, Implies, Is, renamed, text_of
 from .history import Seen
 from .plant import MODE, Part, Plant
 from .replies import Diagnosis, Reply
-from .session import Model
+from .session import Model, Session
 from .text import first_word
+from .transport import PipeTransport
 
 MOST_TRIALS = 1_000_000
 
@@ -113,19 +116,24 @@ class Prober:
         return not any(self._possible(text + laws) for text in self.texts)
 
     def _possible(self, text: str) -> bool:
-        try:
-            model = Model.from_text(text, self.program)
-        except ModelRefused as fault:
-            raise CannotExplain(f"the model is too near a limit to be asked in parts ({fault.code})") from fault
-        with model.session() as session:
-            session.track(1)
-            session.budget(MOST_TRIALS)
-            for control, value in self.commands.items():
-                session.command(control, value)
-            reply: Reply = session.diagnose()
-            while isinstance(reply, Diagnosis) and not reply.settled:
-                reply = session.more(MOST_TRIALS)
-            return isinstance(reply, Diagnosis) and bool(reply.candidates)
+        with tempfile.TemporaryDirectory(prefix="livingstone-") as folder:
+            path = Path(folder) / "model.lv"
+            path.write_text(text, encoding="ascii")
+            try:
+                with Session(PipeTransport(self.program, str(path))) as session:
+                    return self._asked(session)
+            except ModelRefused as fault:
+                raise CannotExplain(f"the model is too near a limit to be asked in parts ({fault.code})") from fault
+
+    def _asked(self, session: Session) -> bool:
+        session.track(1)
+        session.budget(MOST_TRIALS)
+        for control, value in self.commands.items():
+            session.command(control, value)
+        reply: Reply = session.diagnose()
+        while isinstance(reply, Diagnosis) and not reply.settled:
+            reply = session.more(MOST_TRIALS)
+        return isinstance(reply, Diagnosis) and bool(reply.candidates)
 
 
 def minimal(elements: Sequence[Element], contradicts: Callable[[Sequence[Element]], bool]) -> Optional[List[Element]]:

@@ -10,11 +10,11 @@ import sys
 import time
 
 
-def say(text):
+def say(text: str) -> None:
     os.write(1, text.encode())
 
 
-def main():
+def main() -> int:
     words = [word for word in sys.argv[1:] if word != "--"]
     with open(words[1], encoding="ascii") as stream:
         kind = stream.read().strip()

@@ -17,7 +17,6 @@ EXAMPLES = ROOT / "examples"
 VALVE = str(EXAMPLES / "valve.lv")
 FAKE = str(Path(__file__).resolve().parent / "fake_program.py")
 
-# Two parts and a session in which nothing goes wrong; the first lines of tests that need a model with a mistake.
 Ended = Tuple[int, str, str]
 
 
