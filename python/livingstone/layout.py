@@ -5,11 +5,11 @@ from __future__ import annotations
 from dataclasses import dataclass
 from typing import Dict, FrozenSet, List, Set, Tuple
 
-from .formula import text_of, variables_of
+from .formula import Same, text_of, variables_of
 from .plant import Plant
 
 # So many columns stand side by side; further ones begin a new band below.
-MOST_COLUMNS = 10
+MOST_COLUMNS = 12
 _SWEEPS = 6
 
 
@@ -32,19 +32,40 @@ def joints(plant: Plant) -> Dict[FrozenSet[str], List[str]]:
     return found
 
 
+def flows(plant: Plant) -> Dict[str, List[str]]:
+    """Which parts stand to the right of which: behind an equation of two parts' variables the one whose variable's name
+    begins with `in` where the other's doesn't, or doesn't begin with `out` where the other's does. This is a guess from
+    names, for the picture alone."""
+    found: Dict[str, List[str]] = {part: [] for part in plant.parts}
+    for law in plant.laws:
+        if not isinstance(law.formula, Same):
+            continue
+        sides = [tuple(side.split(".")) for side in (law.formula.left, law.formula.right)]
+        for (part, name), (other, other_name) in (sides, sides[::-1]):
+            gives = name.startswith("out") and not other_name.startswith("out")
+            takes = other_name.startswith("in") and not name.startswith("in")
+            if part != other and (gives or takes) and part not in found[other]:
+                found[part].append(other)
+    return found
+
+
 def places(plant: Plant) -> Dict[str, Place]:
-    """A place for each part: joined parts stand in the same column or in neighbouring ones."""
+    """A place for each part: joined parts stand in the same column or in neighbouring ones, as far as that can be."""
     near: Dict[str, List[str]] = {part: [] for part in plant.parts}
     for parts in joints(plant):
         for part in sorted(parts, key=list(plant.parts).index):
             near[part] += [other for other in plant.parts if other in parts and other != part]
+    flow = flows(plant)
     columns: List[List[str]] = []
     lone = [part for part in plant.parts if not near[part]]
     seen: Set[str] = set(lone)
     for part in plant.parts:
         if part not in seen:
-            own = _columns(near, _end_of(near, part))
+            own = _columns(near, part)
             seen.update(name for column in own for name in column)
+            members = [name for name in plant.parts if any(name in column for column in own)]
+            flowing = any(flow[name] for name in members)
+            own = _flow_columns(near, flow, members) if flowing else _columns(near, _end_of(near, part))
             for place, column in enumerate(own):
                 columns[place:place + 1] = [(columns[place] if place < len(columns) else []) + column]
     _untangle(columns, near)
@@ -53,6 +74,47 @@ def places(plant: Plant) -> Dict[str, Place]:
     for number, part in enumerate(lone):
         found[part] = Place(bands, number % MOST_COLUMNS, number // MOST_COLUMNS)
     return found
+
+
+def _flow_columns(near: Dict[str, List[str]], flow: Dict[str, List[str]], members: List[str]) -> List[List[str]]:
+    """The parts of a plant behind those that they take from; where that goes round, one of the ways is left out."""
+    level: Dict[str, int] = {}
+    order = _in_order(flow, members)
+    place = {part: number for number, part in enumerate(order)}
+    for part in order:
+        before = [other for other in members if part in flow[other] and place[other] < place[part]]
+        level[part] = 1 + max((level[other] for other in before), default=-1)
+    given = {other for part in members for other in flow[part]}
+    sources = [part for part in order if part not in given]
+    # What takes from nothing stands next to the first that takes from it, or else that it is joined with.
+    for behind in (flow, near):
+        for part in sources:
+            if behind is flow and flow[part] or behind is near and not flow[part]:
+                level[part] = min(level[other] for other in behind[part]) - 1
+    least = min(level.values())
+    columns: List[List[str]] = [[] for _ in range(1 + max(level.values()) - least)]
+    for part in members:
+        columns[level[part] - least].append(part)
+    return [column for column in columns if column]
+
+
+def _in_order(flow: Dict[str, List[str]], members: List[str]) -> List[str]:
+    """The parts, each before those that take from it as far as that can be."""
+    order: List[str] = []
+    seen: Set[str] = set()
+    for first in members:
+        stack = [(first, iter(flow[first]))] if first not in seen else []
+        seen.add(first)
+        while stack:
+            part, rest = stack[-1]
+            following = next((other for other in rest if other not in seen), None)
+            if following is None:
+                order.append(part)
+                stack.pop()
+            else:
+                seen.add(following)
+                stack.append((following, iter(flow[following])))
+    return order[::-1]
 
 
 def _columns(near: Dict[str, List[str]], first: str) -> List[List[str]]:
@@ -66,7 +128,7 @@ def _columns(near: Dict[str, List[str]], first: str) -> List[List[str]]:
 
 
 def _end_of(near: Dict[str, List[str]], part: str) -> str:
-    """A part that is as far away as any; the first by name's place in its column, so that pictures don't change."""
+    """A part at one end: as far away as any from the one that is farthest from the part given."""
     return _columns(near, _columns(near, part)[-1][0])[-1][0]
 
 
@@ -90,7 +152,10 @@ def _placed(columns: List[List[str]]) -> Dict[str, Place]:
     for start in range(0, len(columns), MOST_COLUMNS):
         band = columns[start:start + MOST_COLUMNS]
         most = max(len(column) for column in band)
+        turned = start // MOST_COLUMNS % 2 == 1
         for number, column in enumerate(band):
+            # Every other band goes from the right to the left, so that neighbours stay near.
+            place = MOST_COLUMNS - 1 - number if turned else number
             for row, part in enumerate(column):
-                found[part] = Place(start // MOST_COLUMNS, number, row + (most - len(column)) / 2)
+                found[part] = Place(start // MOST_COLUMNS, place, row + (most - len(column)) / 2)
     return found

@@ -60,7 +60,7 @@ class _Frame:
 def draw(plant: Plant, scene: Scene) -> str:
     """The picture as SVG."""
     frames = _frames(plant, scene)
-    width = max((frame.x + frame.width for frame in frames.values()), default=0) + _MARGIN
+    width = max((frame.x + frame.width for frame in frames.values()), default=0) + _GAP_X
     width = max(width, 720, len(scene.title) * 8.4 + 2 * _MARGIN)
     bottom = max((frame.y + frame.height for frame in frames.values()), default=0) + _MARGIN
     body = [_joint(frames, parts, laws) for parts, laws in joints(plant).items()]
@@ -141,9 +141,12 @@ def _joint(frames: Dict[str, _Frame], parts: FrozenSet[str], laws: Sequence[str]
 
 
 def _curve(left: _Frame, right: _Frame) -> str:
-    """From the right side of one box to the left side of the other, or round the side where they stand in a column."""
+    """From the right side of one box to the left side of the other; in one column straight down to the next box, or round
+    the side to one farther away."""
     start_x, start_y = left.x + left.width, left.middle[1]
     end_y = right.middle[1]
+    if abs(left.x - right.x) < 1 and right.y - left.y - left.height < 3 * _GAP_Y:
+        return f"M {left.middle[0]:.1f} {left.y + left.height:.1f} L {left.middle[0]:.1f} {right.y:.1f}"
     if abs(left.x - right.x) < 1:
         side = start_x + _GAP_X * 0.6
         return f"M {start_x:.1f} {start_y:.1f} C {side:.1f} {start_y:.1f} {side:.1f} {end_y:.1f} {start_x:.1f} {end_y:.1f}"
