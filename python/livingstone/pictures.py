@@ -66,7 +66,7 @@ def draw(plant: Plant, scene: Scene) -> str:
     body = [_joint(frames, parts, laws) for parts, laws in joints(plant).items()]
     body += _outlines(frames, scene)
     body += [_box(plant, name, scene.boxes[name], frame) for name, frame in frames.items()]
-    legend, height = _legend(scene, bottom)
+    legend, height = _legend(scene, bottom, int((width - 3 * _MARGIN) / _LETTER))
     return "\n".join([
         f'<svg xmlns="http://www.w3.org/2000/svg" width="{width:.0f}" height="{height:.0f}" '
         f'viewBox="0 0 {width:.0f} {height:.0f}" font-family="DejaVu Sans Mono, monospace" font-size="12">',
@@ -172,7 +172,7 @@ def _outlines(frames: Dict[str, _Frame], scene: Scene) -> List[str]:
     return found
 
 
-def _legend(scene: Scene, top: float) -> Tuple[List[str], float]:
+def _legend(scene: Scene, top: float, letters: int) -> Tuple[List[str], float]:
     lines, x = [], float(_MARGIN)
     for colour, words in _LEGEND:
         fill, border = _COLOURS[colour]
@@ -181,14 +181,14 @@ def _legend(scene: Scene, top: float) -> Tuple[List[str], float]:
         x += 40 + len(words) * _LETTER
     if scene.note:
         top += 24
-        lines.append(_text(_MARGIN, top + 11, scene.note))
+        lines.append(_text(_MARGIN, top + 11, scene.note[:letters]))
     for number, (text, _) in enumerate(scene.conflicts[:_MOST_OUTLINES]):
         top += 24
         lines.append(
             f'<rect x="{_MARGIN}" y="{top:.1f}" width="16" height="12" fill="none" stroke="{_OUTLINES[number]}" '
             'stroke-width="1.6" stroke-dasharray="6 3"/>'
         )
-        lines.append(_text(_MARGIN + 22, top + 11, text if len(text) <= 84 else text[:82] + ".."))
+        lines.append(_text(_MARGIN + 22, top + 11, text if len(text) <= letters else text[: letters - 2] + ".."))
     if len(scene.conflicts) > _MOST_OUTLINES:
         top += 24
         more = len(scene.conflicts) - _MOST_OUTLINES

@@ -120,6 +120,8 @@ def scene_of(plant: Plant, cycle: Cycle, wanted: int) -> Scene:
     for number, items in enumerate(cycle.conflicts.conflicts if cycle.conflicts else (), 1):
         text = f"conflict {number}: " + (", ".join(str(item) for item in items) or "rules out everything")
         conflicts.append((text, frozenset(_part(item) for item in items)))
+    # Few conflicts have an outline: first those that speak of what changes.
+    conflicts.sort(key=lambda conflict: all(boxes[part].colour == "still" for part in conflict[1]))
     title = f"{plant.name}, time {cycle.time}: {_title(answer, shown, wanted)}"
     goals = ", ".join(f"{name} {text}" for name, text in cycle.held.goals.items())
     several = len(cycle.states) > 1
