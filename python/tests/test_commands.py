@@ -20,8 +20,8 @@ FIRST = str(EXAMPLES / "first.ses")
 
 class Everywhere(FolderTest):
     def test_help(self) -> None:
-        for words in ([], *([command] for command in COMMANDS)):
-            status, out, _ = lv(*words, "--help")
+        for words in ["--help"], *([command, "--help"] for command in COMMANDS):
+            status, out, _ = lv(*words)
             self.assertEqual(status, 0)
             self.assertIn("exit statuses", out)
 
