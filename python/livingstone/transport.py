@@ -3,10 +3,12 @@
 from __future__ import annotations
 
 import os
+import queue
 import subprocess
 import tempfile
+import threading
 from abc import ABC, abstractmethod
-from typing import List, Optional
+from typing import List, Optional, Tuple
 
 from .errors import ProgramFailed, ProgramNotFound, ReplyCut, SessionEnded
 from .program import failure, said_of
@@ -29,15 +31,15 @@ class Transport(ABC):
 
 
 class PipeTransport(Transport):
-    """A session served by the program, in a process of its own, over pipes."""
+    """A session served by the program, in a process of its own, over pipes.
+
+    A thread writes lines and reads replies, and the caller waits for its reply by a number. Interrupts come to the main
+    thread alone, so none is lost in the middle of a read: the reply that nobody waits for any more is passed over.
+    """
 
     def __init__(self, program: str, model: str) -> None:
         self._model = model
-        self._buffer = b""
-        self._got: List[bytes] = []
-        self._owed: Optional[bytes] = None
         self._errors = tempfile.TemporaryFile()
-        self._failed: Optional[Exception] = None
         try:
             # In a session of its own, so that an interrupt at the terminal doesn't reach it.
             self._process = subprocess.Popen(
@@ -51,28 +53,56 @@ class PipeTransport(Transport):
         except OSError as fault:
             self._errors.close()
             raise ProgramNotFound(f"{program} can't be run: {fault.strerror}") from fault
+        self._buffer = b""
+        self._got: List[bytes] = []
+        self._number = 0
+        self._closed = False
+        self._asked: queue.SimpleQueue[Optional[Tuple[int, bytes]]] = queue.SimpleQueue()
+        # The number of the last line that was answered with its reply, and why no further one is.
+        self._answered: Tuple[int, bytes] = (0, b"")
+        self._failed: Optional[Exception] = None
+        self._news = threading.Condition()
+        self._thread = threading.Thread(target=self._serve, daemon=True)
+        self._thread.start()
 
     def exchange(self, line: bytes) -> bytes:
         if b"\n" in line:
             raise ValueError("a session line has no line feed in it")
-        if self._process.stdin is None or self._process.stdin.closed:
+        if self._closed:
             raise SessionEnded("the session was closed")
-        if self._failed is not None:
+        self._number += 1
+        number = self._number
+        self._asked.put((number, line))
+        with self._news:
+            self._news.wait_for(lambda: self._failed is not None or self._answered[0] >= number)
+            if self._answered[0] == number:
+                return self._answered[1]
+            assert self._failed is not None
             raise self._failed
-        try:
-            if self._owed is not None:
-                self._reply(self._owed)
-            self._send(line)
-            return b"" if is_silent(line) else self._reply(line)
-        except (ProgramFailed, ReplyCut) as fault:
-            self._failed = fault
-            raise
+
+    def _serve(self) -> None:
+        """The thread: sends each line that is asked, and reads its reply."""
+        while True:
+            asked = self._asked.get()
+            if asked is None:
+                return
+            number, line = asked
+            try:
+                self._got = []
+                self._send(line)
+                answer = b"" if is_silent(line) else self._reply(line)
+            except (ProgramFailed, ReplyCut) as fault:
+                with self._news:
+                    self._failed = fault
+                    self._news.notify_all()
+                return
+            with self._news:
+                self._answered = (number, answer)
+                self._news.notify_all()
 
     def _send(self, line: bytes) -> None:
         assert self._process.stdin is not None
         rest = memoryview(line + b"\n")
-        if not is_silent(line):
-            self._owed, self._got = line, []
         try:
             while rest:
                 rest = rest[os.write(self._process.stdin.fileno(), rest):]
@@ -81,14 +111,11 @@ class PipeTransport(Transport):
 
     def _reply(self, line: bytes) -> bytes:
         word = first_word(line)
-        if not self._got:
-            self._got.append(self._line(line))
+        self._got.append(self._line(line))
         behind = lines_behind(word, self._got[0].decode("ascii", "replace"))
         while behind is None and self._got[-1] != b"end" or behind is not None and len(self._got) <= behind:
             self._got.append(self._line(line))
-        reply = b"".join(got + b"\n" for got in self._got)
-        self._owed, self._got = None, []
-        return reply
+        return b"".join(got + b"\n" for got in self._got)
 
     def _line(self, asked: bytes) -> bytes:
         assert self._process.stdout is not None
@@ -120,11 +147,16 @@ class PipeTransport(Transport):
             return self._process.wait()
 
     def close(self) -> None:
-        for stream in (self._process.stdin, self._process.stdout):
-            if stream is not None:
-                stream.close()
-        # A closed output doesn't end a program that is in the middle of a search.
-        if self._owed is not None:
+        if self._closed:
+            return
+        self._closed = True
+        if self._failed is None and self._answered[0] < self._number:
+            # It is in the middle of a search, which nobody waits for.
             self._process.kill()
+        self._asked.put(None)
+        self._thread.join()
+        for stream in (self._process.stdin, self._process.stdout):
+            assert stream is not None
+            stream.close()
         self._end()
         self._errors.close()

@@ -197,7 +197,7 @@ class BrokenConversations(FolderTest):
         self.assertEqual((raised.exception.status, raised.exception.said), (4, "cannot read model"))
 
     def test_an_interrupt_leaves_the_session_usable(self) -> None:
-        """It comes while half of a reply has been read."""
+        """It comes while half of the second reply has been read."""
         session = self.open("slow")
 
         def interrupt(number: int, frame: Any) -> None:
@@ -205,13 +205,44 @@ class BrokenConversations(FolderTest):
 
         before = signal.signal(signal.SIGALRM, interrupt)
         self.addCleanup(signal.signal, signal.SIGALRM, before)
-        signal.setitimer(signal.ITIMER_REAL, 0.7)
+
+        def begin(made: int, allowed: int) -> None:
+            signal.setitimer(signal.ITIMER_REAL, 0.2)
+
         with self.assertRaises(KeyboardInterrupt):
-            session.in_slices("diagnose", 1, 1000, lambda made, allowed: None)
+            session.in_slices("diagnose", 1, 1000, begin)
         self.assertEqual(session.states().states[0].modes, {"p": "m"})
         reply = session.more(1)
         assert isinstance(reply, Diagnosis)
         self.assertEqual(reply.trials, 3)
+
+    def test_interrupts_at_any_moment(self) -> None:
+        """Whenever they come, the lines behind them get the replies that are theirs."""
+
+        def interrupt(number: int, frame: Any) -> None:
+            raise KeyboardInterrupt
+
+        session = Model(VALVE).session()
+        self.addCleanup(session.close)
+        before = signal.signal(signal.SIGALRM, interrupt)
+        self.addCleanup(signal.signal, signal.SIGALRM, before)
+        for moment in range(1, 60):
+            try:
+                signal.setitimer(signal.ITIMER_REAL, moment * 0.00005)
+                for _ in range(20):
+                    session.diagnose()
+                    session.states()
+                signal.setitimer(signal.ITIMER_REAL, 0)
+            except KeyboardInterrupt:
+                pass
+            self.assertEqual(session.states().states[0].modes, {"v": "closed"})
+
+    def test_closing_in_the_middle(self) -> None:
+        session = self.open("slow")
+        session.close()
+        session.close()
+        with self.assertRaises(SessionEnded):
+            session.states()
 
     def test_no_program(self) -> None:
         with self.assertRaises(ProgramNotFound):
