@@ -21,7 +21,7 @@ class Origin:
 
 
 class Booleans:
-    """The numbers of booleans, from 1: that a variable has a value before or after the step, that a part makes a move."""
+    """The numbers of booleans, from 1: a variable has a value before or after the step, a part makes a move."""
 
     def __init__(self, plant: Plant) -> None:
         self.plant = plant

@@ -3,6 +3,7 @@
 from __future__ import annotations
 
 import argparse
+import io
 import os
 import sys
 from pathlib import Path
@@ -37,6 +38,10 @@ def build_parser() -> argparse.ArgumentParser:
 def main(words: Optional[List[str]] = None) -> int:
     sys.setrecursionlimit(max(sys.getrecursionlimit(), 5000))
     arguments = build_parser().parse_args(words)
+    # What a file or a log holds may be no text: it is read as it is, and shown so that a terminal takes it.
+    for stream, errors in ((sys.stdin, "surrogateescape"), (sys.stdout, "backslashreplace")):
+        if isinstance(stream, io.TextIOWrapper):
+            stream.reconfigure(errors=errors)
     try:
         status: int = arguments.run(arguments)
         sys.stdout.flush()

@@ -1,8 +1,9 @@
-"""A minimal set of laws, mode formulas and observations that can't be true together, found by deletion over the engine.
+"""A minimal set of laws, mode formulas and observations that can't be true together, found by deletion over the
+engine.
 
-The question of a diagnosis that lists nothing is asked anew over a model of one's own, in which each formula of each part
-is a law of the system, so that it can be left out by itself. What was observed before the step becomes a law too: an
-added part tells the time, as it is in its first mode before the step and in its second after it.
+The question of a diagnosis that lists nothing is asked anew over a model of one's own, in which each formula of
+each part is a law of the system, so that it can be left out by itself. What was observed before the step becomes a
+law too: an added part tells the time, as it is in its first mode before the step and in its second after it.
 """
 
 from __future__ import annotations

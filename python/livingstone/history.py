@@ -8,7 +8,7 @@ from typing import Dict
 from .formula import text_of
 from .replies import Accepted, Committed, Reply
 from .session_lines import read_line
-from .text import tokens
+from .text import tokens, without_end
 
 
 @dataclass(frozen=True)
@@ -42,7 +42,7 @@ class Held:
             self._accept(number, line)
 
     def _accept(self, number: int, line: bytes) -> None:
-        statement = read_line(tokens(line[:-1] if line.endswith(b"\r") else line))
+        statement = read_line(tokens(without_end(line)))
         words = [name.text for name in statement.names]
         if statement.word == "command":
             self.commands[f"{words[0]}.{words[1]}"] = words[2]

@@ -131,7 +131,8 @@ def dear_repairs(plant: Plant) -> Iterator[Finding]:
             prices = [price for price in (_price_back(plant, part, move) for move in backs) if price is not None]
             if prices and min(prices) > fault.cost:
                 message = f"the fault costs {fault.cost}, and the way back from {fault.target} costs {min(prices)}"
-                yield Finding(fault.line, "dear-repair", message, f"of part {part.name}; are the numbers the right way round?", "cost")
+                hint = f"of part {part.name}; are the numbers the right way round?"
+                yield Finding(fault.line, "dear-repair", message, hint, "cost")
 
 
 def _price_back(plant: Plant, part: Part, move: Move) -> Optional[int]:

@@ -1,7 +1,7 @@
 """Gate-level netlists in the ISCAS bench format, as models and sessions.
 
-A gate is a part with the modes ok, stuck0 and stuck1; an input is a part that can't fail. Its value is observed, as are
-the values of the outputs, so that a test vector is a step: what was put in and what came out.
+A gate is a part with the modes ok, stuck0 and stuck1; an input is a part that can't fail. Its value is observed, as
+are the values of the outputs, so that a test vector is a step: what was put in and what came out.
 """
 
 from __future__ import annotations

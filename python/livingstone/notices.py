@@ -36,8 +36,7 @@ class Notice:
 
 
 def shown(text: str) -> str:
-    """A line as a terminal may show it: what can't be printed is shown as a question mark, and its end left out where it
-    is very long."""
+    """A line as a terminal may show it: with a question mark for what can't be printed, and cut where it is long."""
     safe = "".join(character if character.isprintable() or character == "\t" else "?" for character in text)
     return safe if len(safe) <= 200 else safe[:200] + " .."
 

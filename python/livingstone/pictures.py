@@ -141,15 +141,16 @@ def _joint(frames: Dict[str, _Frame], parts: FrozenSet[str], laws: Sequence[str]
 
 
 def _curve(left: _Frame, right: _Frame) -> str:
-    """From the right side of one box to the left side of the other; in one column straight down to the next box, or round
-    the side to one farther away."""
+    """From the right side of one box to the left side of the other; in one column straight down to the next box, or
+    round the side to one farther away."""
     start_x, start_y = left.x + left.width, left.middle[1]
     end_y = right.middle[1]
     if abs(left.x - right.x) < 1 and right.y - left.y - left.height < 3 * _GAP_Y:
         return f"M {left.middle[0]:.1f} {left.y + left.height:.1f} L {left.middle[0]:.1f} {right.y:.1f}"
     if abs(left.x - right.x) < 1:
         side = start_x + _GAP_X * 0.6
-        return f"M {start_x:.1f} {start_y:.1f} C {side:.1f} {start_y:.1f} {side:.1f} {end_y:.1f} {start_x:.1f} {end_y:.1f}"
+        bow = f"C {side:.1f} {start_y:.1f} {side:.1f} {end_y:.1f} {start_x:.1f} {end_y:.1f}"
+        return f"M {start_x:.1f} {start_y:.1f} {bow}"
     end_x = right.x
     bend = max(30.0, (end_x - start_x) / 2)
     return (

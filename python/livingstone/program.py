@@ -16,8 +16,8 @@ _BUILT = Path("crates/livingstone_cli/out/livingstone_cli")
 
 
 def find_program(given: Optional[str] = None) -> str:
-    """The program: the one given, that of the variable LIVINGSTONE, `livingstone` on the path, or the one that was built
-    in the repository in which this package or the current folder lies."""
+    """The program: the one given, that of the variable LIVINGSTONE, `livingstone` on the path, or the one that was
+    built in the repository in which this package or the current folder lies."""
     for source, name in (("the argument", given), ("LIVINGSTONE", os.environ.get("LIVINGSTONE"))):
         if name:
             found = shutil.which(name)
@@ -34,6 +34,11 @@ def find_program(given: Optional[str] = None) -> str:
     raise ProgramNotFound(
         "no livingstone program: build the repository (./build), or name one with --program or the variable LIVINGSTONE"
     )
+
+
+def file_name(path: str) -> str:
+    """A file's name as the program takes it: to the program, `stdin` is standard input."""
+    return "./stdin" if path == "stdin" else path
 
 
 @dataclass(frozen=True)

@@ -1,7 +1,8 @@
 """Conversations in files: a record of each line when it is sent and of each reply when it has come.
 
 A log is lines of JSON. The first has the model's text, so that a log stands for itself; then come {"line": ..} and
-{"reply": ..} by turns. A log that ends behind a line, or in the middle of a record, shows where a conversation stopped.
+{"reply": ..} by turns. A log that ends behind a line, or in the middle of a record, shows where a conversation
+stopped.
 """
 
 from __future__ import annotations

@@ -12,7 +12,7 @@ from typing import Callable, Optional, Type, TypeVar, Union
 from .declarations import read_plant
 from .errors import BadReply, Refused, SessionEnded
 from .plant import Plant
-from .program import check_certificate, find_program, print_model
+from .program import check_certificate, file_name, find_program, print_model
 from .replies import (
     Accepted,
     Certificate,
@@ -42,8 +42,7 @@ class Model:
 
     def __init__(self, path: str, program: Optional[str] = None) -> None:
         self.program = find_program(program)
-        # To the program, the name `stdin` stands for standard input.
-        self.path = "./stdin" if path == "stdin" else path
+        self.path = file_name(path)
         self.canonical = print_model(self.program, self.path)
         self._plant: Optional[Plant] = None
 
@@ -169,11 +168,14 @@ class Session:
             raise BadReply(f"more {trials}", reply.text)
         return reply
 
-    def in_slices(self, word: str, slice_: int, budget: int, progress: Progress) -> Union[Diagnosis, Recovery, Refusal]:
+    def in_slices(
+        self, word: str, slice_: int, budget: int, progress: Progress
+    ) -> Union[Diagnosis, Recovery, Refusal]:
         """A `diagnose`, a `recover` or, with `more`, the current query, in slices of so many trials up to a budget.
 
         Behind each slice `progress` is told the trials made and those allowed. An interrupt between slices or in one
-        leaves the session usable, with the query as far as it came. The session's own budget is that of a slice afterwards.
+        leaves the session usable, with the query as far as it came. The session's own budget is that of a slice
+        afterwards.
         """
         self.budget(min(slice_, budget))
         first = f"more {min(slice_, budget)}" if word == "more" else word

@@ -7,7 +7,7 @@ from typing import Dict, List, Optional, Tuple
 from .formula import Equation, FormFault, Formula, Reader, leaves, nesting_fault
 from .plant import MODE, Plant
 from .syntax import Statement, place_of, read_item
-from .text import BadByte, LongLine, MAX_LINE, Token, tokens
+from .text import BadByte, LongLine, MAX_LINE, Token, tokens, without_end
 
 _PATH = ("word", ".", "word")
 
@@ -37,7 +37,7 @@ FORMS: Dict[str, Tuple[str, ...]] = {
 def fault_column(plant: Optional[Plant], line: bytes, code: str) -> int:
     """The column from 1 of what a refused line was refused for, as far as the code and the model tell it."""
     try:
-        found = tokens(line)
+        found = tokens(without_end(line))
     except LongLine:
         return MAX_LINE + 1
     except BadByte as fault:

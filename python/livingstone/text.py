@@ -37,10 +37,20 @@ class BadByte(Exception):
 
 def cut_lines(data: bytes) -> List[bytes]:
     """The lines of a text, without their line feeds and one carriage return before each end."""
+    return [without_end(line) for line in cut_session(data)]
+
+
+def cut_session(data: bytes) -> List[bytes]:
+    """The lines of a session as they are sent, without their line feeds alone."""
     lines = data.split(b"\n")
     if not lines[-1]:
         lines.pop()
-    return [line[:-1] if line.endswith(b"\r") else line for line in lines]
+    return lines
+
+
+def without_end(line: bytes) -> bytes:
+    """A line without the one carriage return that belongs to its end."""
+    return line[:-1] if line.endswith(b"\r") else line
 
 
 def tokens(line: bytes) -> List[Token]:
@@ -71,6 +81,5 @@ def first_word(line: bytes) -> str:
 
 def is_silent(line: bytes) -> bool:
     """Whether a session line, without its line feed, gets no reply: it is blank or a comment."""
-    if line.endswith(b"\r"):
-        line = line[:-1]
+    line = without_end(line)
     return len(line) <= MAX_LINE and not line.split(b"#", 1)[0].strip(b" \t")

@@ -1,8 +1,9 @@
 #!/usr/bin/env python3
 """A program that breaks off as the model's file says, for tests of what no proved program does.
 
-The model's first word says what comes: `die` ends at the first line, `cut` in the middle of a reply, `babble` replies in
-no known form, `slow` takes a while for each diagnosis, `refuse` ends before any line with a line on standard error.
+The model's first word says what comes: `die` ends at the first line, `cut` in the middle of a reply, `babble`
+replies in no known form, `slow` takes a while for each diagnosis, `refuse` ends before any line with a line on
+standard error.
 """
 
 import os

@@ -24,7 +24,7 @@ def lv(*words: str, given: str = "") -> Ended:
     """Runs the command in a process of its own: its status, its output, its errors."""
     environment = {**os.environ, "PYTHONPATH": str(PACKAGE)}
     ended = subprocess.run(
-        [sys.executable, "-m", "livingstone", *words], input=given.encode(), capture_output=True, env=environment
+        [sys.executable, "-m", "livingstone", *words], input=given.encode("utf-8", "surrogateescape"), capture_output=True, env=environment
     )
     return ended.returncode, ended.stdout.decode(), ended.stderr.decode()
 

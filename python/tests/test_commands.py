@@ -93,6 +93,13 @@ class Explain(FolderTest):
         [told] = json.loads(out)
         self.assertEqual((told["line"], told["column"], told["source"]), (5, 10, "part p t n"))
 
+    def test_carriage_returns(self) -> None:
+        """One belongs to the end of a line; a second is a byte that isn't allowed, and the lines behind keep theirs."""
+        path = self.folder / "returns.ses"
+        path.write_bytes(b"states\r\n\r\n\r\r\ntrack 0\r\n")
+        told = json.loads(lv("explain", "--run", "--json", VALVE, str(path))[1])
+        self.assertEqual([(one["line"], one["column"], one["code"]) for one in told], [(3, 1, "S16"), (4, 7, "S09")])
+
     def test_nothing_refused(self) -> None:
         self.assertEqual(lv("explain", "--run", VALVE, FIRST)[0], 0)
 
@@ -158,15 +165,17 @@ class Why(FolderTest):
 
     def test_behind_a_commit(self) -> None:
         """A valve that was found stuck closed lets nothing through."""
-        told = self.why("command v.cmd = open\nobserve a v.out = zero\ndiagnose\ncommit\nobserve b v.out = some\ndiagnose\n")
+        told = self.why("command v.cmd = open\nobserve a v.out = zero\ndiagnose\ncommit\n"
+                        "observe b v.out = some\ndiagnose\n")
         self.assertEqual(told["states"], [{"v": "stuck_closed"}])
         found = [(one["kind"], one["line"]) for one in told["contradiction"]]
         self.assertEqual(found, [("mode formula", 14), ("observation", 5)])
 
     def test_a_present_observation(self) -> None:
         """Without faults and steps the part stays, and a law ties what is seen to what was seen before."""
-        model = self.write("fixed.lv", "domain bit off on\ntype t\nobservable x bit\nmode on_\nmode off_\nin on_ x = on\n"
-                                       "in off_ x = off\nfault on_ -> on_ cost 1\nend\npart p t on_\npart q t off_\n")
+        model = self.write("fixed.lv", "domain bit off on\ntype t\nobservable x bit\nmode on_\nmode off_\n"
+                                       "in on_ x = on\nin off_ x = off\nfault on_ -> on_ cost 1\nend\n"
+                                       "part p t on_\npart q t off_\n")
         told = self.why("observe a p.x = on\ndiagnose\ncommit\nobserve b p.x = off\ndiagnose\n", model)
         found = [(one["kind"], one["line"], one["part"]) for one in told["contradiction"]]
         self.assertEqual(found, [("mode formula", 6, "p"), ("observation", 4, "p")])
@@ -219,8 +228,8 @@ class Values(FolderTest):
 
     def test_no_recovery(self) -> None:
         """Without its law a valve that is told to open meets the goal in one step and misses it in another."""
-        text = "\n".join(line for line in (EXAMPLES / "valve.lv").read_text().splitlines() if line != "law v.inn = some")
-        model = self.write("loose.lv", text + "\n")
+        text = (EXAMPLES / "valve.lv").read_text()
+        model = self.write("loose.lv", text.replace("law v.inn = some\n", ""))
         with Model(model).session() as session:
             session.goal("g", "v.out = some")
             session.recover()
@@ -266,14 +275,15 @@ class Plot(FolderTest):
         self.assertIn("stuck_closed", self.texts(f"{prefix}-2.svg"))
 
     def test_texts_are_escaped(self) -> None:
-        path = self.write("escaped.lv", "domain bit off on\ntype t\nvariable x bit\nmode m\nend\npart p t m\npart q t m\n"
-                                        "law p.x = on & q.x = on <=> p.x = q.x\n")
+        path = self.write("escaped.lv", "domain bit off on\ntype t\nvariable x bit\nmode m\nend\npart p t m\n"
+                                        "part q t m\nlaw p.x = on & q.x = on <=> p.x = q.x\n")
         prefix = str(self.folder / "escaped")
         self.assertEqual(lv("plot", path, "--out", prefix)[0], 0)
         titles = [element.text for element in ElementTree.parse(f"{prefix}.svg").iter(f"{self.svg}title")]
         self.assertIn("p.x=on&q.x=on<=>p.x=q.x", titles)
         plant = Model(path).plant
-        svg = draw(plant, Scene("<&\"'>", {"p": Box(["<script>"]), "q": Box(["m"])}, [("<&>", frozenset({"p"}))], "<b>"))
+        boxes = {"p": Box(["<script>"]), "q": Box(["m"])}
+        svg = draw(plant, Scene("<&\"'>", boxes, [("<&>", frozenset({"p"}))], "<b>"))
         self.assertIn("<&\"'>", [element.text for element in ElementTree.fromstring(svg).iter(f"{self.svg}text")])
         self.assertNotIn("<script>", svg)
 
@@ -386,6 +396,11 @@ class Console(FolderTest):
         self.assertTrue(lines[0].startswith("S13"))
         self.assertEqual(lines[4], "recovery cost 1: v.cmd=open")
         self.assertTrue(lines[5].startswith("S09"))
+
+    def test_bytes_that_are_no_text(self) -> None:
+        status, out, err = lv("console", VALVE, given="track \udcff\n\udcfe\nstates\n")
+        self.assertEqual((status, err), (0, ""))
+        self.assertEqual([line.split(":")[0] for line in out.splitlines()], ["S16", "S16", "time 0 tracked 1", "1 cost 0"])
 
     def test_completion(self) -> None:
         completer = Completer(Model(VALVE).plant)

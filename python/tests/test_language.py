@@ -157,7 +157,8 @@ class Clauses(unittest.TestCase):
 
     def test_how_many_others_have(self) -> None:
         """Counts that a reference program apart from this repository came to."""
-        for name, count in (("propulsion.lv", 1798), ("../tests/sessions/series.lv", 230), ("../tests/sessions/split.lv", 34)):
+        others = {"propulsion.lv": 1798, "../tests/sessions/series.lv": 230, "../tests/sessions/split.lv": 34}
+        for name, count in others.items():
             self.assertEqual(len(ModelClauses(Model(str(EXAMPLES / name)).plant).clauses), count)
 
 

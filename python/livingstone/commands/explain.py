@@ -1,6 +1,7 @@
-"""A filter behind the program: passes on what it wrote, and says of each refusal where it is, what it means and what may
-help. For a session: livingstone run MODEL SESSION 2>&1 | lv explain MODEL SESSION. For a model alone: livingstone print
-MODEL 2>&1 >/dev/null | lv explain MODEL. With --run it calls the program itself. Status 1 where there was a refusal."""
+"""A filter behind the program: passes on what it wrote, and says of each refusal where it is, what it means and
+what may help. For a session: livingstone run MODEL SESSION 2>&1 | lv explain MODEL SESSION. For a model alone:
+livingstone print MODEL 2>&1 >/dev/null | lv explain MODEL. With --run it calls the program itself. Status 1 where
+there was a refusal."""
 
 from __future__ import annotations
 
@@ -14,10 +15,10 @@ from typing import Iterable, Iterator, List, Optional, Union
 from ..declarations import read_plant
 from ..notices import Notice, model_refusal, session_refusal
 from ..plant import Plant
-from ..program import find_program, run_program
+from ..program import file_name, find_program, run_program
 from ..replies import lines_behind
 from ..syntax import ModelFault
-from ..text import cut_lines, first_word, is_silent
+from ..text import cut_lines, cut_session, first_word, is_silent
 
 HELP = "say where refusals are, and what they mean"
 
@@ -31,7 +32,7 @@ def add_arguments(parser: argparse.ArgumentParser) -> None:
 
 def run(arguments: argparse.Namespace) -> int:
     data = Path(arguments.model).read_bytes()
-    lines = cut_lines(Path(arguments.session).read_bytes()) if arguments.session else []
+    lines = cut_session(Path(arguments.session).read_bytes()) if arguments.session else []
     given = _called(arguments) if arguments.call else (line.rstrip(b"\n") for line in sys.stdin.buffer)
     notices = []
     for item in explained(given, arguments.model, data, arguments.session or "", lines):
@@ -46,7 +47,8 @@ def run(arguments: argparse.Namespace) -> int:
 
 def _called(arguments: argparse.Namespace) -> List[bytes]:
     program = find_program(arguments.program)
-    words = ["run", "--", arguments.model, arguments.session] if arguments.session else ["print", "--", arguments.model]
+    words = ["run" if arguments.session else "print", "--", file_name(arguments.model)]
+    words += [file_name(arguments.session)] if arguments.session else []
     ended = run_program(program, words)
     out = cut_lines(ended.out) if arguments.session else []
     return out + ended.said.encode().splitlines()

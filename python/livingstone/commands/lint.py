@@ -1,6 +1,6 @@
-"""Says what a model has that is accepted and likely wrong: laws that read controls, modes that no move leads to, guards
-that no value meets, steps behind others, variables never read, faults cheaper than their repair, formulas near the limit
-of clauses. Status 1 where something was found."""
+"""Says what a model has that is accepted and likely wrong: laws that read controls, modes that no move leads to,
+guards that no value meets, steps behind others, variables never read, faults cheaper than their repair, formulas
+near the limit of clauses. Status 1 where something was found."""
 
 from __future__ import annotations
 

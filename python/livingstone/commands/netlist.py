@@ -1,6 +1,7 @@
-"""Writes an ISCAS bench netlist as a model, each gate with the modes ok, stuck0 and stuck1, and with --vector a session in
-which test vectors were put in. A vector is INPUTS or INPUTS:OUTPUTS in zeros and ones, in the order of the file; outputs
-left out are those of the circuit with the gates stuck that --stuck names. Status 1 where the netlist is refused."""
+"""Writes an ISCAS bench netlist as a model, each gate with the modes ok, stuck0 and stuck1, and with --vector a
+session in which test vectors were put in. A vector is INPUTS or INPUTS:OUTPUTS in zeros and ones, in the order of
+the file; outputs left out are those of the circuit with the gates stuck that --stuck names. Status 1 where the
+netlist is refused."""
 
 from __future__ import annotations
 

@@ -1,6 +1,7 @@
-"""Draws a model as SVG: parts as boxes in their modes, joined by the laws that speak of them. With a session there is one
-picture for each of its cycles, which end with a commit: what the last diagnosis or recovery changes is coloured, and the
-parts of the conflicts have outlines. The files are PREFIX.svg, or PREFIX-1.svg and so on, and their names are written."""
+"""Draws a model as SVG: parts as boxes in their modes, joined by the laws that speak of them. With a session there
+is one picture for each of its cycles, which end with a commit: what the last diagnosis or recovery changes is
+coloured, and the parts of the conflicts have outlines. The files are PREFIX.svg, or PREFIX-1.svg and so on, and
+their names are written."""
 
 from __future__ import annotations
 
@@ -16,7 +17,7 @@ from ..pictures import Box, Scene, draw
 from ..plant import Plant
 from ..replies import Candidate, Committed, Conflicts, Diagnosis, Move, Recovery, Reply, State
 from ..session import Model, Session
-from ..text import cut_lines, first_word
+from ..text import cut_session, first_word
 
 HELP = "draw a model, or the cycles of a session"
 
@@ -36,7 +37,7 @@ def run(arguments: argparse.Namespace) -> int:
     model = Model(arguments.model, arguments.program)
     prefix = arguments.out or str(Path(arguments.model).with_suffix(""))
     if arguments.session:
-        lines = cut_lines(Path(arguments.session).read_bytes())
+        lines = cut_session(Path(arguments.session).read_bytes())
         scenes = [scene_of(model.plant, cycle, arguments.candidate) for cycle in cycles(model, lines)]
         names = [f"{prefix}-{number}.svg" for number in range(1, len(scenes) + 1)]
     else:
@@ -87,7 +88,8 @@ def _look(session: Session, held: Held, answer: Optional[Reply]) -> Cycle:
     conflicts = session.ask("conflicts", refusals=False)
     copy = Held(dict(held.commands), dict(held.observations), dict(held.goals))
     # Where a later line took the query away, the answer is still what the cycle came to.
-    return Cycle(states.time, list(states.states), copy, answer, conflicts if isinstance(conflicts, Conflicts) else None)
+    known = conflicts if isinstance(conflicts, Conflicts) else None
+    return Cycle(states.time, list(states.states), copy, answer, known)
 
 
 def start_scene(plant: Plant) -> Scene:

@@ -1,6 +1,7 @@
-"""Serves a recorded conversation again, to where it stopped: each line of the log is asked anew, and its reply compared
-with the one recorded. The model is the log's own, or the one given. Status 1 where a reply differs. With --go-on the
-session then takes lines from standard input, and with --show the conversation is written without the program."""
+"""Serves a recorded conversation again, to where it stopped: each line of the log is asked anew, and its reply
+compared with the one recorded. The model is the log's own, or the one given. Status 1 where a reply differs. With
+--go-on the session then takes lines from standard input, and with --show the conversation is written without the
+program."""
 
 from __future__ import annotations
 

@@ -1,6 +1,6 @@
-"""Tells a certificate in names: what was asked, why each listed answer is possible (values before and after the step),
-what excludes the rest and from which tracked state, and which statements each refutation rests on. The program checks it
-first; of one that isn't valid the first bad line is told, with status 9."""
+"""Tells a certificate in names: what was asked, why each listed answer is possible (values before and after the
+step), what excludes the rest and from which tracked state, and which statements each refutation rests on. The
+program checks it first; of one that isn't valid the first bad line is told, with status 9."""
 
 from __future__ import annotations
 

@@ -1,6 +1,7 @@
-"""Says why a diagnosis of a session lists nothing: a minimal set of laws, mode formulas and observations that contradict
-each other, given the tracked states and the values that are commanded. Any of them left out, the rest does not. It is
-found by deletion: the engine is asked again and again. Status 1 where no diagnosis of the session is `settled 0`."""
+"""Says why a diagnosis of a session lists nothing: a minimal set of laws, mode formulas and observations that
+contradict each other, given the tracked states and the values that are commanded. Any of them left out, the rest
+does not. It is found by deletion: the engine is asked again and again. Status 1 where no diagnosis of the session
+is `settled 0`."""
 
 from __future__ import annotations
 
@@ -15,7 +16,7 @@ from ..history import Held
 from ..origins import Origins
 from ..replies import Diagnosis
 from ..session import Model
-from ..text import cut_lines, first_word
+from ..text import cut_session, first_word
 
 HELP = "say why a diagnosis lists nothing"
 
@@ -29,7 +30,7 @@ def add_arguments(parser: argparse.ArgumentParser) -> None:
 
 def run(arguments: argparse.Namespace) -> int:
     model = Model(arguments.model, arguments.program)
-    lines = cut_lines(Path(arguments.session).read_bytes())
+    lines = cut_session(Path(arguments.session).read_bytes())
     found = question_of(model, lines, arguments.line)
     if found is None:
         print("no diagnosis of the session is settled 0: there is nothing to explain", file=sys.stderr)
