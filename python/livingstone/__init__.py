@@ -1,0 +1,50 @@
+"""Talk to the Livingstone engine.
+
+    from livingstone import Model
+
+    with Model("valve.lv").session() as session:
+        session.command("v.cmd", "open")
+        session.observe("o", "v.out", "zero")
+        for candidate in session.diagnose().candidates:
+            print(candidate.cost, [str(move) for move in candidate.moves])
+
+The engine is a program of its own, which is proved; this package is tested, and not proved.
+"""
+
+from .errors import (
+    BadReply,
+    LivingstoneError,
+    ModelRefused,
+    ProgramFailed,
+    ProgramNotFound,
+    Refused,
+    ReplyCut,
+    SessionEnded,
+)
+from .replies import (
+    Accepted,
+    Candidate,
+    Certificate,
+    Committed,
+    Conflicts,
+    Diagnosis,
+    Label,
+    Labels,
+    Move,
+    Recovery,
+    Refusal,
+    Reply,
+    Setting,
+    Silence,
+    State,
+    States,
+)
+from .session import Model, Session
+from .transport import PipeTransport, Transport
+
+__all__ = [
+    "Accepted", "BadReply", "Candidate", "Certificate", "Committed", "Conflicts", "Diagnosis", "Label", "Labels",
+    "LivingstoneError", "Model", "ModelRefused", "Move", "PipeTransport", "ProgramFailed", "ProgramNotFound",
+    "Recovery", "Refusal", "Refused", "Reply", "ReplyCut", "Session", "SessionEnded", "Setting", "Silence", "State",
+    "States", "Transport",
+]
