@@ -400,7 +400,8 @@ class Console(FolderTest):
     def test_bytes_that_are_no_text(self) -> None:
         status, out, err = lv("console", VALVE, given="track \udcff\n\udcfe\nstates\n")
         self.assertEqual((status, err), (0, ""))
-        self.assertEqual([line.split(":")[0] for line in out.splitlines()], ["S16", "S16", "time 0 tracked 1", "1 cost 0"])
+        heads = [line.split(":")[0] for line in out.splitlines()]
+        self.assertEqual(heads, ["S16", "S16", "time 0 tracked 1", "1 cost 0"])
 
     def test_completion(self) -> None:
         completer = Completer(Model(VALVE).plant)
