@@ -1,4 +1,4 @@
-"""Certificates that the program writes, in names: each refutation follows over the clauses as they are numbered here."""
+"""Certificates that the program writes: each refutation follows over the clauses as they are numbered here."""
 
 from __future__ import annotations
 
@@ -70,7 +70,7 @@ class Certificates(unittest.TestCase):
         self.assertFalse(follows(clauses, [3], [1, 2, 3]))
 
     def test_what_zones_leave(self) -> None:
-        """A certificate that lists as many as were asked for leaves the rest behind them; the worked one leaves none."""
+        """One that lists as many as were asked for leaves the rest behind them; the worked one leaves none."""
         worked = read_certificate((EXAMPLES / "valve.cert").read_text())
         zones, split = zones_of(Namer(Model(VALVE).plant, worked))
         self.assertEqual([(zone, source) for zone, (source, _) in split], [(1, 1), (2, 1), (3, 1), (4, 1)])
