@@ -321,6 +321,16 @@ class Netlists(FolderTest):
             self.assertEqual(status, 1)
             self.assertIn(said, err)
 
+    def test_names(self) -> None:
+        """Nets whose names are no words of the model language, or come to the same, or are too long."""
+        long = "x" * 70
+        path = self.write("names.bench", f"INPUT(mode)\nINPUT(a[0])\nINPUT(na_0_)\nINPUT({long}1)\nINPUT({long}2)\n"
+                                         f"z = AND(mode, a[0], na_0_, {long}1, {long}2)\n")
+        status, out, _ = lv("netlist", path)
+        self.assertEqual(status, 0)
+        parts = list(Model.from_text(out).plant.parts)
+        self.assertEqual(parts, ["nmode", "na_0_", "na_0__2", "x" * 60, "x" * 60 + "_2", "z"])
+
     def test_each_gate(self) -> None:
         """A gate's model allows just the outputs of the gate: where it is sound, one value is contradicted."""
         for kind, ones in (("AND", "11"), ("NAND", "00 01 10"), ("OR", "01 10 11"), ("NOR", "00"), ("XOR", "01 10"),
