@@ -297,8 +297,8 @@ class Netlists(FolderTest):
         """The stored models and sessions, made by the words of examples/netlists/README.md."""
         for name, words in (
             ("c17", ["--stuck", "16=0", "--vector", "10110", "--vector", "00010"]),
-            ("adder", ["--stuck", "f1_c=0", "--vector", "110011000", "--vector", "111110000"]),
-            ("multiplier", ["--stuck", "m1_1_c=1", "--vector", "111111", "--vector", "101011"]),
+            ("adder", ["--stuck", "f1_c=0", "--vector", "110011000", "--vector", "111110000", "--track", "3"]),
+            ("multiplier", ["--stuck", "m1_1_c=1", "--vector", "101011", "--track", "5"]),
         ):
             made = [str(self.folder / f"{name}.{end}") for end in ("lv", "ses")]
             bench = str(self.nets / f"{name}.bench")
