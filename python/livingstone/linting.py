@@ -3,6 +3,7 @@
 from __future__ import annotations
 
 import itertools
+import math
 from dataclasses import dataclass
 from typing import Callable, Dict, Iterator, List, Optional, Set, Tuple
 
@@ -13,8 +14,8 @@ from .search import satisfiable
 
 # A formula is near the limit of clauses from three quarters of it on.
 NEAR = 3, 4
-# So many settings of a guard's controls are looked at for the price of a repair.
-MOST_SETTINGS = 10_000
+# A repair whose guard reads controls with more settings than this is passed over.
+MOST_SETTINGS = 1_000
 
 
 @dataclass(frozen=True)
@@ -136,16 +137,17 @@ def dear_repairs(plant: Plant) -> Iterator[Finding]:
 
 
 def _price_back(plant: Plant, part: Part, move: Move) -> Optional[int]:
-    """What a move costs: a fault its number, a step the least price of controls' values that meet its guard."""
+    """What a move costs: a fault its number, a step the least price of controls' values that may meet its guard."""
     if move.kind == "fault":
         return move.cost
     guard = move.guard
     assert guard is not None
     kind = part.type
     controls = [name for name in variables_of(guard) if name != MODE and kind.variables[name].kind == "control"]
-    settings = itertools.product(*(kind.values(name) for name in controls))
+    if math.prod(len(kind.values(name)) for name in controls) > MOST_SETTINGS:
+        return None
     least: Optional[int] = None
-    for values in itertools.islice(settings, MOST_SETTINGS):
+    for values in itertools.product(*(kind.values(name) for name in controls)):
         given = dict(zip(controls, values))
         price = sum(plant.price(f"{part.name}.{name}", value) for name, value in given.items())
         met = truth(guard, {**given, MODE: move.source})

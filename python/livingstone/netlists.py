@@ -103,9 +103,12 @@ def part_names(netlist: Netlist) -> Dict[str, str]:
     for net in [*netlist.inputs, *netlist.gates]:
         fits = re.fullmatch(r"[A-Za-z_][A-Za-z0-9_]*", net) and net not in ("true", "false", "mode")
         name = net if fits else "n" + re.sub(r"[^A-Za-z0-9_]", "_", net)
-        name = name[:60]
+        # Two names that came to the same, or were cut to it, are told apart by a number.
+        stem, number = name[:60], 1
+        name = stem
         while name in taken:
-            name += "_"
+            number += 1
+            name = f"{stem}_{number}"
         taken.add(name)
         names[net] = name
     return names

@@ -7,10 +7,14 @@ from typing import Callable, Dict, List, Optional, Sequence
 from .formula import Formula, truth, variables_of
 
 LIMIT = 20_000
+MOST_VARIABLES = 200
 
 
 def satisfiable(formulas: Sequence[Formula], values: Callable[[str], List[str]], limit: int = LIMIT) -> Optional[bool]:
-    """Whether some values make all formulas true; None where that isn't known after so many tries."""
+    """Whether some values make all formulas true; None where that isn't known after so many tries, or where there are
+    more than 200 variables."""
+    if len({name for formula in formulas for name in variables_of(formula)}) > MOST_VARIABLES:
+        return None
     return _Search(formulas, values, limit).run({})
 
 

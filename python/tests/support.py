@@ -23,8 +23,9 @@ Ended = Tuple[int, str, str]
 def lv(*words: str, given: str = "") -> Ended:
     """Runs the command in a process of its own: its status, its output, its errors."""
     environment = {**os.environ, "PYTHONPATH": str(PACKAGE)}
+    command = [sys.executable, "-m", "livingstone", *words]
     ended = subprocess.run(
-        [sys.executable, "-m", "livingstone", *words], input=given.encode("utf-8", "surrogateescape"), capture_output=True, env=environment
+        command, input=given.encode("utf-8", "surrogateescape"), capture_output=True, env=environment
     )
     return ended.returncode, ended.stdout.decode(), ended.stderr.decode()
 

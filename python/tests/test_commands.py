@@ -297,8 +297,8 @@ class Netlists(FolderTest):
         """The stored models and sessions, made by the words of examples/netlists/README.md."""
         for name, words in (
             ("c17", ["--stuck", "16=0", "--vector", "10110", "--vector", "00010"]),
-            ("adder", ["--stuck", "f1_c=0", "--vector", "110011000", "--vector", "111110000"]),
-            ("multiplier", ["--stuck", "m1_1_c=1", "--vector", "111111", "--vector", "101011"]),
+            ("adder", ["--stuck", "f1_c=0", "--vector", "110011000", "--vector", "111110000", "--track", "3"]),
+            ("multiplier", ["--stuck", "m1_1_c=1", "--vector", "101011", "--track", "5"]),
         ):
             made = [str(self.folder / f"{name}.{end}") for end in ("lv", "ses")]
             bench = str(self.nets / f"{name}.bench")
@@ -320,6 +320,16 @@ class Netlists(FolderTest):
             status, _, err = lv("netlist", self.write("wrong.bench", text))
             self.assertEqual(status, 1)
             self.assertIn(said, err)
+
+    def test_names(self) -> None:
+        """Nets whose names are no words of the model language, or come to the same, or are too long."""
+        long = "x" * 70
+        path = self.write("names.bench", f"INPUT(mode)\nINPUT(a[0])\nINPUT(na_0_)\nINPUT({long}1)\nINPUT({long}2)\n"
+                                         f"z = AND(mode, a[0], na_0_, {long}1, {long}2)\n")
+        status, out, _ = lv("netlist", path)
+        self.assertEqual(status, 0)
+        parts = list(Model.from_text(out).plant.parts)
+        self.assertEqual(parts, ["nmode", "na_0_", "na_0__2", "x" * 60, "x" * 60 + "_2", "z"])
 
     def test_each_gate(self) -> None:
         """A gate's model allows just the outputs of the gate: where it is sound, one value is contradicted."""
@@ -400,7 +410,8 @@ class Console(FolderTest):
     def test_bytes_that_are_no_text(self) -> None:
         status, out, err = lv("console", VALVE, given="track \udcff\n\udcfe\nstates\n")
         self.assertEqual((status, err), (0, ""))
-        self.assertEqual([line.split(":")[0] for line in out.splitlines()], ["S16", "S16", "time 0 tracked 1", "1 cost 0"])
+        heads = [line.split(":")[0] for line in out.splitlines()]
+        self.assertEqual(heads, ["S16", "S16", "time 0 tracked 1", "1 cost 0"])
 
     def test_completion(self) -> None:
         completer = Completer(Model(VALVE).plant)
