@@ -1,7 +1,8 @@
 #!/usr/bin/env python3
 """printed.py PROGRAM FOLDER..: certificates that sessions print.
 
-For each pair NN.lv and NN.ses of the folders that a reference program answered with NN.out: behind each line `diagnose`,
+For each pair NN.lv and NN.ses of the folders that a reference program answered with NN.out, and for each NAME.ses with
+NAME.out that asks for no certificate itself, over the model that its name begins with or else the valve: behind each line `diagnose`,
 `recover` and `more N` the line `certificate` is put in. Of what the program then writes each reply to such a line must be
 `error S10` or the lines of a certificate; what is left must be NN.out; a certificate must be of the last diagnosis or
 recovery that was told, with as many candidates listed, or a command set exactly where one was told; and `check` must find
@@ -80,10 +81,10 @@ def is_valid(command, model, text):
     return done.returncode == 0 and done.stdout == b"valid\n"
 
 
-def judged(program, model):
-    """What is wrong of a pair, or None, and how many certificates were checked."""
-    wanted = model.with_suffix(".out").read_bytes()
-    session, count = with_certificates(model.with_suffix(".ses").read_bytes())
+def judged(program, model, lines):
+    """What is wrong of a session over a model, or None, and how many certificates were checked."""
+    wanted = lines.with_suffix(".out").read_bytes()
+    session, count = with_certificates(lines.read_bytes())
     done = subprocess.run([program, "run", model, "stdin"], input=session, capture_output=True, timeout=600)
     blocks, others, whole = parted(done.stdout)
     if done.returncode != 0 or not whole:
@@ -102,20 +103,29 @@ def judged(program, model):
     return None, len(blocks)
 
 
+def model_of(session):
+    """The model of a session: of its own number, or of the name that it begins with, here or in examples/; else the valve."""
+    examples = session.parent.parent.parent / "examples"
+    name = re.match(r"[0-9]+|[^0-9_]+", session.stem)[0]
+    found = (session.with_suffix(".lv"), session.with_name(f"{name}.lv"), examples / f"{name}.lv", examples / "valve.lv")
+    return next(model for model in found if model.exists())
+
+
 def main():
     program, folders = sys.argv[1], sys.argv[2:]
     passed = failed = certificates = 0
     for folder in folders:
-        for model in sorted(Path(folder).glob("[0-9]*.lv")):
-            if model.with_suffix(".err").exists():
+        for session in sorted(Path(folder).glob("*.ses")):
+            is_refused = session.with_suffix(".err").exists()
+            if is_refused or not session.with_suffix(".out").exists() or b"certificate" in session.read_bytes():
                 continue
-            fault, checked = judged(program, model)
+            fault, checked = judged(program, model_of(session), session)
             certificates += checked
             if fault is None:
                 passed += 1
             else:
                 failed += 1
-                print(f"FAILED: {model.parent.name}/{model.stem}: {fault}")
+                print(f"FAILED: {session.parent.name}/{session.stem}: {fault}")
     print(f"{certificates} certificates checked")
     print(f"{passed} passed, {failed} failed")
     return 0 if passed and certificates and not failed else 1
