@@ -13,6 +13,7 @@ pub mod SupportAllLemmas
 pub mod SystemLemmas
 pub mod AddLemmas
 pub mod ShakenLemmas
+pub mod StayLemmas
 pub mod DropLemmas
 pub mod AssumeLemmas
 pub mod CoreLemmas

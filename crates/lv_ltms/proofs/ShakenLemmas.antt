@@ -133,7 +133,7 @@ has_unset marks v l e = by_var (cases_eq l.var.0 v) (cases_lt v (length marks))
     by_var (inl same) (inr past) = ap (λ (m : Marks). is_marked m l) (sym (set_past marks v None past)) ∙ e
     by_var (inr differs) within = ap (λ (o : Option Bool). mark_is o l.sign) (sym (get_or-set_other marks v l.var.0 None None differs)) ∙ e
 
-unset_other : (marks : Marks) (v : ℕ) (l : Lit) → (l.var.0 ≡ v → ⊥) → is_marked marks l ≡ true → is_marked (set marks v None) l ≡ true
+pub unset_other : (marks : Marks) (v : ℕ) (l : Lit) → (l.var.0 ≡ v → ⊥) → is_marked marks l ≡ true → is_marked (set marks v None) l ≡ true
 unset_other marks v l differs e = ap (λ (o : Option Bool). mark_is o l.sign) (get_or-set_other marks v l.var.0 None None differs) ∙ e
 
 apart_from : (a b : ℕ) → nat_eq a b ≡ false → a ≡ b → ⊥

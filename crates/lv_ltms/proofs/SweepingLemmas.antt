@@ -70,25 +70,25 @@ module _ (assumed : Lit → Bool) (bools : ℕ) (rows : Rows) (old : Labelled) w
   module _ (clauses : Slots) (at kept : ℕ) (now : Counted) (labels : Labelled) (fallen : List Lit) (link d : Link) (index : IsIndex rows clauses) (backed : IsBacked clauses old.trail)
       (once : Agrees old.marks old.supports old.trail) (within : at < length labels.trail) (is_link : get_or labels.trail at d ≡ link)
       (is : IsSweeping assumed bools clauses old at kept now labels fallen) where
-    behind : drop at labels.trail ≡ link ∷ drop (at + 1) labels.trail
+    pub behind : drop at labels.trail ≡ link ∷ drop (at + 1) labels.trail
     behind = drop_more labels.trail at d within ∙ ap (λ (k : Link). k ∷ drop (at + 1) labels.trail) is_link
 
     pub here : standing_trail labels.trail kept at ≡ take kept labels.trail ++ link ∷ drop (at + 1) labels.trail
     here = ap (λ (t : List Link). take kept labels.trail ++ t) behind
 
-    agrees_here : Agrees labels.marks labels.supports (take kept labels.trail ++ link ∷ drop (at + 1) labels.trail)
+    pub agrees_here : Agrees labels.marks labels.supports (take kept labels.trail ++ link ∷ drop (at + 1) labels.trail)
     agrees_here = subst (λ (t : List Link). Agrees labels.marks labels.supports t) here is.agrees
 
-    counted_here : IsCounted now (trail_has (take kept labels.trail ++ link ∷ drop (at + 1) labels.trail)) []
+    pub counted_here : IsCounted now (trail_has (take kept labels.trail ++ link ∷ drop (at + 1) labels.trail)) []
     counted_here = subst (λ (t : List Link). IsCounted now (trail_has t) []) here is.counted
 
     settled_here : IsSettled clauses (trail_has (take kept labels.trail ++ link ∷ drop (at + 1) labels.trail)) labels.marks [] (is_fallen fallen)
     settled_here = subst (λ (t : List Link). IsSettled clauses (trail_has t) labels.marks [] (is_fallen fallen)) here is.settled
 
-    old_within : at < length old.trail
+    pub old_within : at < length old.trail
     old_within = omega (arith, within, is.len)
 
-    old_link : get_or old.trail at d ≡ link
+    pub old_link : get_or old.trail at d ≡ link
     old_link = sym (ap (λ (t : List Link). get_or t 0 d) (sym (drop_more labels.trail at d within) ∙ is.rest ∙ drop_more old.trail at d old_within)) ∙ is_link
 
     rest_next : drop (at + 1) labels.trail ≡ drop (at + 1) old.trail

@@ -171,3 +171,8 @@ module _ (marks : Marks) (supports : List Reason) (trail : List Link) (agrees : 
       by_free : (b : Bool) → is_free marks l ≡ b → support_if_marked marks supports l ≡ reason_in trail l
       by_free true e = ap (λ (b : Bool). cond b None (Some (support_at supports l))) e ∙ sym (reason_unknown e)
       by_free false e = ap (λ (b : Bool). cond b None (Some (support_at supports l))) e ∙ sym (reason_known e)
+
+-- the reason of a link is that of its literal
+pub reason_of : (marks : Marks) (supports : List Reason) (trail : List Link) → Agrees marks supports trail → (k : Link) → Contains trail k → reason_in trail k.lit ≡ Some k.reason
+reason_of marks supports trail agrees k h =
+    reason_known marks supports trail agrees k.lit (has_not_free marks k.lit (agrees.same k.lit ∙ contained_has trail k h)) ∙ ap Some (agrees.backed k h)

@@ -5,6 +5,7 @@ pub mod Arena
 pub mod Labelled
 pub mod Propagating
 pub mod Revising
+pub mod Reaching
 pub mod Marked
 pub mod System
 pub mod Told

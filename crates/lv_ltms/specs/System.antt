@@ -1,5 +1,5 @@
 -- A truth maintenance system as contracts see it, and what its answers tell.
-use Rattle.std.specs.Prelude.{◌≡◌, ◌≢◌, ℕ, ◌≤◌, Bool, true, List, length, Option}
+use Rattle.std.specs.Prelude.{◌≡◌, ◌≢◌, ℕ, ◌≤◌, Bool, true, List, length, Option, None, slice_set}
 use Rattle.std.specs.List.{list_any}
 use Rattle.lv_base.specs.declared.ids.Lit.{Lit}
 use Rattle.lv_clauses.specs.Literals.{distinct}
@@ -9,7 +9,8 @@ use Rattle.lv_clauses.specs.Marks.{Marks, is_marked}
 use Rattle.lv_ltms.specs.declared.labels.Link.{Link}
 use Rattle.lv_ltms.specs.declared.ltms.Status.{Status}
 use Rattle.lv_ltms.specs.declared.ltms.Status.TheVariants.{Consistent, Contradiction}
-use Rattle.lv_ltms.specs.Trail.{same_lit, trail_has, IsDerivation}
+use Rattle.lv_ltms.specs.Trail.{same_lit, trail_has, reason_in, IsDerivation}
+use Rattle.lv_ltms.specs.Reaching.{Reaches}
 use Rattle.lv_ltms.specs.Occurrences.{Rows}
 use Rattle.lv_ltms.specs.Counters.{Counted}
 use Rattle.lv_ltms.specs.Labelled.{Labelled}
@@ -43,6 +44,19 @@ pub record PutsAssumed (old new : System) (assumed : Marks) : Type 0 where
   pub bools : new.bools ≡ old.bools
   pub clauses : new.clauses ≡ old.clauses
   pub changed : new.assumed ≡ assumed
+
+-- each literal that was true and didn't reach this one is true still, for the same reason
+pub record KeepsReasons (old new : System) (l : Lit) : Type 0 where
+  pub true_still : (m : Lit) → trail_has old.trail m ≡ true → ¬ Reaches old.clauses old.trail l m → trail_has new.trail m ≡ true
+  pub same_reason : (m : Lit) → trail_has old.trail m ≡ true → ¬ Reaches old.clauses old.trail l m → reason_in new.trail m ≡ reason_in old.trail m
+
+-- the new system is without the assumption of the literal, the clauses are as before; and where the old one is consistent,
+-- what didn't rest on the literal is as it was
+pub record Retracts (old new : System) (l : Lit) : Type 0 where
+  pub bools : new.bools ≡ old.bools
+  pub clauses : new.clauses ≡ old.clauses
+  pub changed : new.assumed ≡ slice_set old.assumed l.var.0 None
+  pub reasons : ¬ IsRefuted old → KeepsReasons old new l
 
 abbrev pub TellsStatus : System → Status → Type 0
 TellsStatus s Consistent = ¬ IsRefuted s

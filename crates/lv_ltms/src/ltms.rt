@@ -54,7 +54,7 @@ impl Model for Ltms {
 }
 
 impl Ltms {
-    ghost use Rattle.lv_ltms.specs.System.{System, PutsClause, PutsAssumed, IsRefuted, TellsStatus, IsWholeTrail, IsCore};
+    ghost use Rattle.lv_ltms.specs.System.{System, PutsClause, PutsAssumed, Retracts, IsRefuted, TellsStatus, IsWholeTrail, IsCore};
     ghost use Rattle.lv_ltms.specs.Told.{TellsLabel};
 
     /// The system of no clauses and no assumptions over so many booleans.
@@ -121,10 +121,10 @@ impl Ltms {
         self.network.propagate(from);
     }
 
-    /// Takes back an assumption.
+    /// Takes back an assumption. From a consistent system each true literal that didn't rest on it keeps its reason.
     pub fn retract(&mut self, lit: Lit)
         requires { IsTrue (is_marked self.old.assumed lit) }
-        ensures { PutsAssumed self.old self.new (slice_set self.old.assumed lit.var.0 None) }
+        ensures { Retracts self.old self.new lit }
     {
         unmark(&mut self.assumed, lit);
         let from = self.network.labels.place_of(lit);

@@ -8,6 +8,7 @@ ghost use Rattle.lv_ltms.specs.declared.labels.Reason.TheVariants.{Assumed};
 ghost use Rattle.lv_ltms.specs.Labelled.{GoesOn};
 ghost use Rattle.lv_ltms.specs.Propagating.{IsPropagating, none_excused};
 ghost use Rattle.lv_ltms.specs.Revising.{IsShaken, AreFixed, AreMarked};
+ghost use Rattle.lv_ltms.specs.Reaching.{IsWithout, StaysOn};
 ghost use Rattle.lv_ltms.specs.Trail.{IsDerivation};
 
 use super::arena::Arena;
@@ -69,6 +70,8 @@ impl Network {
         ensures state { IsPropagating (length self.old.labels.marks) self.new.occurrences self.new.arena self.new.labels (length self.new.labels.trail) none_excused }
         ensures derivation { IsDerivation self.old.arena.clauses (is_marked assumed.now) self.new.labels.trail }
         ensures marked { AreMarked (is_marked assumed.now) self.new.labels }
+        ensures stays { (l : Lit) → IsWithout (is_marked assumed.now) self.old.arena.clauses self.old.labels.trail l
+            → StaysOn self.old.arena.clauses self.old.labels.trail l self.old.labels.trail self.new.labels.trail }
         ensures room { vec_capacity self.new.fallen ≡ vec_capacity self.old.fallen }
     {
         self.fallen.clear();

@@ -10,9 +10,10 @@ ghost use Rattle.std.specs.List.{list_all};
 ghost use Rattle.lv_clauses.specs.Literals.{neg, in_range};
 ghost use Rattle.lv_clauses.specs.Marks.{is_marked};
 ghost use Rattle.lv_ltms.specs.Occurrences.{row_of};
-ghost use Rattle.lv_ltms.specs.Labelled.{Agrees};
+ghost use Rattle.lv_ltms.specs.Labelled.{Agrees, Grows};
 ghost use Rattle.lv_ltms.specs.Propagating.{IsPropagating, none_excused};
 ghost use Rattle.lv_ltms.specs.Revising.{IsShaken, IsSwept, AreMarked, AreMarkedOrWait, NoneAgainst, IsOneSided, GetsSupport, CanRaise, IsRaised, is_fallen, reason_stands, reason_found, is_unit_at};
+ghost use Rattle.lv_ltms.specs.Reaching.{IsWithout, StaysOn};
 ghost use Rattle.lv_ltms.specs.Trail.{IsDerivation};
 
 use super::arena::Arena;
@@ -39,6 +40,8 @@ pub fn sweep(
     ensures state { IsPropagating (length labels.old.marks) index.now arena.new labels.new (length labels.new.trail) (is_fallen fallen.new.items) }
     ensures range { IsTrue (list_all (in_range (length labels.old.marks)) fallen.new.items) }
     ensures swept { IsSwept (is_marked assumed.now) arena.old.clauses labels.old labels.new fallen.new.items }
+    ensures stays { (l : Lit) → IsWithout (is_marked assumed.now) arena.old.clauses labels.old.trail l
+        → StaysOn arena.old.clauses labels.old.trail l labels.old.trail labels.new.trail }
     ensures room { vec_capacity fallen.new ≡ vec_capacity fallen.old }
 {
     let mut kept = from;
@@ -94,6 +97,7 @@ pub fn support_all(
     ensures state { IsPropagating (length labels.old.marks) index.now arena.now labels.new (length labels.old.trail) none_excused }
     ensures derivation { IsDerivation arena.now.clauses (is_marked assumed.now) labels.old.trail → IsDerivation arena.now.clauses (is_marked assumed.now) labels.new.trail }
     ensures marked { AreMarked (is_marked assumed.now) labels.new }
+    ensures grows { Grows labels.old labels.new }
 {
     for lit in fallen {
         support(*lit, assumed, index, arena, labels);
