@@ -10,6 +10,7 @@
 //! | what a false clause teaches | `analysis` |
 //! | what to choose next | `order` |
 //! | when to begin anew | `pace` |
+//! | what an analysis saw | `notes` |
 //! | with which clauses to look at | `guide` |
 //! | what clauses force | `propagation` |
 //! | the assumptions on the trail | `front` |
@@ -21,6 +22,7 @@ pub mod answer;
 pub mod effort;
 mod front;
 mod guide;
+mod notes;
 mod order;
 mod pace;
 mod propagation;
