@@ -1,5 +1,5 @@
 //! Each public call once with ample memory.
-use super::expected::{MODEL, SESSION};
+use crate::expected_texts::{MODEL, SESSION};
 use lv_gen::{Generator, make_model, make_session, valves};
 use std::test::Fail;
 
