@@ -10,7 +10,7 @@ ghost use Rattle.lv_sat.specs.Front.{assumed, AreLevels, Assumes, IsFront, IsKep
 
 use super::analysis::refute;
 use super::guide::{Guide, take_back};
-use super::notes::Notes;
+use super::order::Order;
 use super::propagation::{propagate, visit_all};
 use super::trail::{Entry, Trail};
 use lv_base::Lit;
@@ -55,8 +55,7 @@ pub fn stand(
             alloc,
             set,
             log,
-            &mut guide.notes,
-            &mut guide.seen,
+            &mut guide.order,
             front.trail.entries(),
             hint,
         )?;
@@ -174,8 +173,7 @@ fn assume(
             alloc,
             set,
             log,
-            &mut guide.notes,
-            &mut guide.seen,
+            &mut guide.order,
             front.trail.entries(),
             lit,
         )?;
@@ -187,8 +185,7 @@ fn assume(
                 alloc,
                 set,
                 log,
-                &mut guide.notes,
-                &mut guide.seen,
+                &mut guide.order,
                 front.trail.entries(),
                 hint,
             )?;
@@ -225,8 +222,7 @@ fn contradict(
     alloc: Global,
     set: &ClauseSet,
     log: &mut Log,
-    notes: &mut Notes,
-    seen: &mut Vec<bool>,
+    order: &mut Order,
     entries: &[Entry],
     lit: Lit,
 ) -> Result<(), AllocError>
@@ -240,7 +236,7 @@ fn contradict(
         return Ok(());
     };
     let instead = put_instead(alloc, &entries[..place], lit)?;
-    refute(alloc, set, log, notes, seen, instead.as_slice(), hint)
+    refute(alloc, set, log, order, instead.as_slice(), hint)
 }
 
 /// The entries and the assumption behind them.

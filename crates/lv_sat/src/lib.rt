@@ -10,7 +10,6 @@
 //! | what a false clause teaches | `analysis` |
 //! | what to choose next | `order` |
 //! | when to begin anew | `pace` |
-//! | what an analysis saw | `notes` |
 //! | with which clauses to look at | `guide` |
 //! | what clauses force | `propagation` |
 //! | the assumptions on the trail | `front` |
@@ -22,7 +21,6 @@ pub mod answer;
 pub mod effort;
 mod front;
 mod guide;
-mod notes;
 mod order;
 mod pace;
 mod propagation;

@@ -10,7 +10,7 @@ use super::answer::Answer;
 use super::effort::Effort;
 use super::front::{Front, forget};
 use super::guide::{FIRST_ROOM, Guide};
-use super::notes::Notes;
+use super::order::Order;
 use super::search::search;
 use super::trail::Trail;
 use lv_base::{ClauseId, Lit};
@@ -53,8 +53,7 @@ impl Solver {
             guide: Guide {
                 watches: Watches::new(alloc, set)?,
                 room: FIRST_ROOM,
-                notes: Notes::new(alloc, set.bools())?,
-                seen: Vec::new(alloc),
+                order: Order::new(alloc, set.bools())?,
                 effort: Effort::new(),
             },
             front: Front {
