@@ -4,3 +4,5 @@ pub mod Faults
 pub mod Kept
 pub mod Unfinished
 pub mod Pieces
+pub mod Served
+pub mod Serving
