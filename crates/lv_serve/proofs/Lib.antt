@@ -5,3 +5,4 @@ pub mod ConversationLemmas
 pub mod StandingLemmas
 pub mod PieceLemmas
 pub mod ReadLemmas
+pub mod ToldLemmas

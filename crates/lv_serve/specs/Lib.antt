@@ -6,3 +6,4 @@ pub mod Unfinished
 pub mod Pieces
 pub mod Served
 pub mod Serving
+pub mod Told

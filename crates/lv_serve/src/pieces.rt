@@ -1,12 +1,13 @@
 //! A session read of a shelf, piece by piece.
 #![tactic(auto)]
 
-ghost use Rattle.std.specs.Prelude.{◌≡◌, ◌≢◌, ◌<◌, ◌≤◌, ℕ, List, Option, [], Ok, Err, OnErr, IfOk, IsTrue, true, false, length, vec_len};
+ghost use Rattle.std.specs.Prelude.{◌≡◌, ◌≢◌, ◌<◌, ◌≤◌, ℕ, List, Option, [], Ok, Err, OnErr, IfOk, Some, IsTrue, true, false, length, vec_len};
 ghost use Rattle.lv_io.specs.declared.Role.{Role};
 ghost use Rattle.lv_io.specs.declared.Slot.{Slot};
 ghost use Rattle.lv_serve.specs.Faults.{HasShelfCause, HasSinkCause, IsFlushed};
 ghost use Rattle.lv_serve.specs.Pieces.{Came};
 ghost use Rattle.lv_serve.specs.Served.{Serves};
+ghost use Rattle.lv_serve.specs.Told.{ServesText};
 ghost use Rattle.lv_serve.specs.Unfinished.{kept_of};
 
 use crate::fault::ServeFault;
@@ -32,8 +33,10 @@ pub fn serve<L: Responder + Drop, F: Shelf, O: Sink>(
     requires known { IsTrue (F.knows shelf.old slot) }
     requires goes_on { L.has_ended responder ≡ false }
 
-    // What was read and written.
+    // What was read and written; and the same where the shelf tells the session.
     ensures serves { Serves L.next L.says L.has_ended responder (F.rest shelf.old slot) (F.rest shelf.new slot) (O.text out.old) (O.text out.new) result }
+    ensures told { (session : List ℕ) → F.rest shelf.old slot ≡ Some session
+        → ServesText L.next L.says L.has_ended responder session (O.text out.old) (O.text out.new) result }
     ensures flushed { O.is_flushed out.old ≡ true → IsFlushed result (O.is_flushed out.new ≡ true) }
 
     // What stays.
