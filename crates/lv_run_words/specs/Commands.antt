@@ -6,7 +6,7 @@ use Rattle.lv_run_words.specs.declared.commands.Command.TheVariants.{Run, Check,
 
 -- what the command says
 abbrev pub said_by : Command → Said
-said_by (Run model session) = runs (string_bytes model) (string_bytes session)
+said_by (Run service model session) = runs service (string_bytes model) (string_bytes session)
 said_by (Check model cert) = checks (string_bytes model) (string_bytes cert)
 said_by (Print model) = prints (string_bytes model)
 said_by (Generate kind number) = generates kind number

@@ -14,8 +14,10 @@ use std::alloc::Global;
 /// What the program is asked to do.
 #[derive(Drop, Debug)]
 pub enum Command {
-    /// A session over a model.
+    /// A session, or sessions in lanes, over a model.
     Run {
+        /// What serves the session's lines.
+        service: Service,
         /// The name of the model's file.
         model: String,
         /// The name of the session's file.
@@ -42,6 +44,15 @@ pub enum Command {
     Drive {
         number: u32,
     },
+}
+
+/// What serves a file of lines over a model.
+#[derive(Clone, Copy, Debug, PartialEq, Eq)]
+pub enum Service {
+    /// One session.
+    Single,
+    /// Sessions side by side, each in a lane of its own.
+    Lanes,
 }
 
 /// Which of the texts that a number stands for.
@@ -74,9 +85,10 @@ fn command_of_two(
     ensures refused { result ≡ Err WordsFault.Refused → said_of_two command.now first.now second.now ≡ None }
 {
     match command {
-        "run" => run_command(alloc, first, second),
+        "run" => run_command(alloc, Service::Single, first, second),
         "check" => check_command(alloc, first, second),
         "generate" => generate_command(alloc, first, second),
+        "lanes" => run_command(alloc, Service::Lanes, first, second),
         _ => Err(WordsFault::Refused),
     }
 }
@@ -93,13 +105,22 @@ fn command_of_one(alloc: Global, command: &str, first: &str) -> Result<Command, 
     }
 }
 
-/// The command `run` over two files.
-fn run_command(alloc: Global, model: &str, session: &str) -> Result<Command, WordsFault>
-    ensures ok { IfOk result (λ given. said_by given ≡ runs model.now session.now) }
+/// The command `run` or `lanes` over two files.
+fn run_command(
+    alloc: Global,
+    service: Service,
+    model: &str,
+    session: &str,
+) -> Result<Command, WordsFault>
+    ensures ok { IfOk result (λ given. said_by given ≡ runs service model.now session.now) }
     ensures refused { result ≢ Err WordsFault.Refused }
 {
     let (model, session) = two_values(alloc, model, session)?;
-    Ok(Command::Run { model, session })
+    Ok(Command::Run {
+        service,
+        model,
+        session,
+    })
 }
 
 /// The command `check` over two files.

@@ -21,7 +21,7 @@ mod numbers;
 mod values;
 
 use commands::command_of_names;
-pub use commands::{Command, Kind};
+pub use commands::{Command, Kind, Service};
 use names::names;
 use std::alloc::{AllocError, AllocFailed, Global};
 use thiserror::Error;

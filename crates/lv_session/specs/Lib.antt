@@ -5,6 +5,7 @@ pub mod Current
 pub mod Certificates
 pub mod Transcript
 pub mod Answering
+pub mod LongLines
 pub mod Laws
 pub mod Answers
 pub use Rattle.lv_model_names.specs.lv_formula_text as lv_formula_text

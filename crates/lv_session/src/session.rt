@@ -122,10 +122,11 @@ impl<'a> Session<'a> {
     pub fn is_unsettled(&self) -> bool
         ensures { result ≡ (not self.now.is_out_of_memory && is_unsettled self.now.plant self.now.state) }
     {
+        let compiled = self.compiled;
         !self.is_out_of_memory
             && self
                 .state
-                .is_unsettled(self.compiled.model, &self.workings.running)
+                .is_unsettled(compiled.model, &self.workings.running)
     }
 
     /// What the last diagnosis did, in counts that no clause speaks of: for measuring. None where no diagnosis is kept. Takes
@@ -140,9 +141,10 @@ impl<'a> Session<'a> {
         requires { IsDue self.now.plant self.now.state reply.now }
         ensures { IfOk result (λ text. IsTextOf self.now.plant self.now.state reply.now text.items) }
     {
+        let compiled = self.compiled;
         match reply {
             Reply::Certificate => self.certificate_text(),
-            _ => reply_text(self.alloc, self.compiled.model, reply),
+            _ => reply_text(self.alloc, compiled.model, reply),
         }
     }
 
@@ -155,10 +157,11 @@ impl<'a> Session<'a> {
         if self.is_out_of_memory {
             return Err(AllocError);
         }
+        let compiled = self.compiled;
         self.state.certificate_text(
             self.alloc,
-            self.compiled.model,
-            &self.compiled.system,
+            compiled.model,
+            &compiled.system,
             &self.workings.running,
         )
     }
@@ -166,7 +169,7 @@ impl<'a> Session<'a> {
 
 impl Responder for Session<'_> {
     ghost use Rattle.lv_session.specs.Answering.{next_at, SaysAt, has_quit};
-    ghost use Rattle.lv_session.proofs.Answering.{long_next, long_says, quit_stays, quit_silent};
+    ghost use Rattle.lv_session.specs.LongLines.{long_next, long_says, quit_stays, quit_silent};
 
     ghost next = { next_at };
 
