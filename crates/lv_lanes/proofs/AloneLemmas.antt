@@ -68,9 +68,9 @@ module _ {S : Type 0} (next : S → List ℕ → S) (says : S → List ℕ → L
         by false rs others are = others rs are
         by true rs others (one_more {reply} {replies} named said later) =
             let rest = others replies later in
-            let no = (absent_later name l ls none).0 in (
-              ap (λ (b : Bool). cond b (line ∷ lines_to name (errands_to_open is_open line ls)) (lines_to name (errands_to_open is_open line ls))) no ∙ rest.0,
-              ap (λ (b : Bool). cond b (reply.text ++ text_in name replies) (text_in name replies)) (ap (is_named name) named ∙ no) ∙ rest.1,
+            let apart = (absent_later name l ls none).0 in (
+              ap (λ (b : Bool). cond b (line ∷ lines_to name (errands_to_open is_open line ls)) (lines_to name (errands_to_open is_open line ls))) apart ∙ rest.0,
+              ap (λ (b : Bool). cond b (reply.text ++ text_in name replies) (text_in name replies)) (ap (is_named name) named ∙ apart) ∙ rest.1,
             )
 
     in_turn : (name line : List ℕ) (begin : S) (ls : List (Named S)) (rs : List LaneText) → NamedOnce ls
@@ -105,19 +105,19 @@ module _ {S : Type 0} (next : S → List ℕ → S) (says : S → List ℕ → L
         → OwnPart (lane_of name begin ls) (line ∷ []) (lane_of name begin (handed next name line begin ls)) (text ++ [])
     for_own name line begin ls text said = record { is_conversation = goes_on said ends refl; leads = sym (own_goes next name line begin ls) }
 
-    for_one : (name to line : List ℕ) (begin : S) (ls : List (Named S)) (rs : List LaneText)
-        → AreReplies says (record { name = to; lane = lane_of to begin ls; line = line } ∷ []) rs
-        → OwnPart (lane_of name begin ls) (lines_to name (record { name = to; lane = lane_of to begin ls; line = line } ∷ []))
-            (lane_of name begin (handed next to line begin ls)) (text_in name rs)
-    for_one name to line begin ls rs (one_more {reply} named said no_errands) =
-        subst (λ (n : List ℕ). OwnPart (lane_of name begin ls) (cond (is_named name to) (line ∷ []) []) (lane_of name begin (handed next to line begin ls))
-            (cond (is_named name n) (reply.text ++ []) [])) (sym named) (by (is_named name to) refl)
+    for_one : (name other line : List ℕ) (begin : S) (ls : List (Named S)) (rs : List LaneText)
+        → AreReplies says (record { name = other; lane = lane_of other begin ls; line = line } ∷ []) rs
+        → OwnPart (lane_of name begin ls) (lines_to name (record { name = other; lane = lane_of other begin ls; line = line } ∷ []))
+            (lane_of name begin (handed next other line begin ls)) (text_in name rs)
+    for_one name other line begin ls rs (one_more {reply} named said no_errands) =
+        subst (λ (n : List ℕ). OwnPart (lane_of name begin ls) (cond (is_named name other) (line ∷ []) []) (lane_of name begin (handed next other line begin ls))
+            (cond (is_named name n) (reply.text ++ []) [])) (sym named) (by (is_named name other) refl)
       where
-        by : (b : Bool) → is_named name to ≡ b
-            → OwnPart (lane_of name begin ls) (cond b (line ∷ []) []) (lane_of name begin (handed next to line begin ls)) (cond b (reply.text ++ []) [])
-        by false other = record { is_conversation = ends; leads = sym (other_stays next name to line begin ls other) }
+        by : (b : Bool) → is_named name other ≡ b
+            → OwnPart (lane_of name begin ls) (cond b (line ∷ []) []) (lane_of name begin (handed next other line begin ls)) (cond b (reply.text ++ []) [])
+        by false apart = record { is_conversation = ends; leads = sym (other_stays next name other line begin ls apart) }
         by true own =
-            let same = same_text to name (sym own) in
+            let same = same_text other name (sym own) in
             subst (λ (n : List ℕ). OwnPart (lane_of name begin ls) (line ∷ []) (lane_of name begin (handed next n line begin ls)) (reply.text ++ [])) (sym same)
             (for_own name line begin ls reply.text (subst (λ (n : List ℕ). says (lane_of n begin ls) line reply.text) same said))
 
@@ -129,15 +129,15 @@ module _ {S : Type 0} (next : S → List ℕ → S) (says : S → List ℕ → L
     of_line name first ls nothing (Replied rs) once no_errands = nothing_said (lane_of name (start first) ls)
     of_line name first ls (refused fault) (Refused told) once may = nothing_said (lane_of name (start first) ls)
     of_line name first ls (refused fault) (Replied rs) once may = absurd may
-    of_line name first ls (for_lane to line) reply once may = by (has_place to ls) reply may
+    of_line name first ls (for_lane other line) reply once may = by (has_place other ls) reply may
       where
         by : (b : Bool) (reply : LaneReply)
-            → MayReply says (cond b (errands (record { name = to; lane = lane_of to (start first) ls; line = line } ∷ [])) (is_refused NoLane)) reply
+            → MayReply says (cond b (errands (record { name = other; lane = lane_of other (start first) ls; line = line } ∷ [])) (is_refused NoLane)) reply
             → OwnPart (lane_of name (start first) ls)
-                (handed_to name (cond b (errands (record { name = to; lane = lane_of to (start first) ls; line = line } ∷ [])) (is_refused NoLane)))
-                (lane_of name (start first) (cond b (handed next to line (start first) ls) ls)) (text_of name reply)
+                (handed_to name (cond b (errands (record { name = other; lane = lane_of other (start first) ls; line = line } ∷ [])) (is_refused NoLane)))
+                (lane_of name (start first) (cond b (handed next other line (start first) ls) ls)) (text_of name reply)
         by true (Refused told) may = absurd may
-        by true (Replied rs) may = for_one name to line (start first) ls rs may
+        by true (Replied rs) may = for_one name other line (start first) ls rs may
         by false (Refused told) may = nothing_said (lane_of name (start first) ls)
         by false (Replied rs) may = absurd may
     of_line name first ls (turn trials) (Refused told) once may = absurd may

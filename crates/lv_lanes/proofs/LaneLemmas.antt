@@ -81,8 +81,8 @@ module _ {S : Type 0} (next : S → List ℕ → S) where
       by : (b : Bool) → is_lane name l ≡ b → lane_of other start (handed next name line start ls) ≡ lane_of other start ls
           → lane_of other start (cond b (gone_on next line l ∷ ls) (l ∷ handed next name line start ls)) ≡ cond (is_lane other l) l.lane (lane_of other start ls)
       by true is later =
-          let no : is_lane other l ≡ false = other_way other l.name ∙ sym (named_alike name l.name other is) ∙ other_way name other ∙ apart in
-          ap (λ (b : Bool). cond b (next l.lane line) (lane_of other start ls)) no ∙ sym (ap (λ (b : Bool). cond b l.lane (lane_of other start ls)) no)
+          let differs : is_lane other l ≡ false = other_way other l.name ∙ sym (named_alike name l.name other is) ∙ other_way name other ∙ apart in
+          ap (λ (b : Bool). cond b (next l.lane line) (lane_of other start ls)) differs ∙ sym (ap (λ (b : Bool). cond b l.lane (lane_of other start ls)) differs)
       by false is later = ap (λ (s : S). cond (is_lane other l) l.lane s) later
 
   none_made : (other name line : List ℕ) (start : S) (ls : List (Named S)) → is_named other name ≡ false → list_any (is_lane other) ls ≡ false

@@ -1,13 +1,15 @@
 -- Lanes gone through one after another.
-use Rattle.std.proofs.Common.{◌≡◌, ℕ, zero, suc, ◌+◌, Bool, true, false, cond, ◌||◌, List, [], ◌∷◌, ◌++◌, map, filter, take, drop, set, slice_get, Option, Some, None, IfSome, refl, sym, ◌∙◌, ap, ap₂, subst, arith}
+use Rattle.std.proofs.Common.{◌≡◌, ℕ, zero, suc, ◌+◌, Bool, true, false, cond, ◌||◌, List, [], ◌∷◌, ◌++◌, map, filter, take, drop, set, slice_get, Option, Some, None, IfSome, Result, Ok, IfOk, length, nat_lt, refl, sym, ◌∙◌, ap, ap₂, subst, arith}
 use Rattle.std.specs.List.{list_any}
-use Rattle.std.proofs.lemmas.List.{map-append, append-nil}
+use Rattle.std.proofs.lemmas.List.{map-append, append-nil, drop_all, take_all}
 use Rattle.std.proofs.lemmas.List.Elements.{filter-append}
 use Rattle.lv_lanes.specs.declared.named.Named.{Named}
+use Rattle.lv_lanes.specs.declared.named.TheConstants.{LANES}
 use Rattle.lv_lanes.specs.declared.reply.LaneText.{LaneText}
-use Rattle.lv_lanes.specs.Standing.{Errand, is_lane, lane_of, gone_on, handed, is_open_lane, errand_to, errands_to_open, turned}
+use Rattle.lv_lanes.specs.Standing.{Errand, is_lane, lane_of, has_place, gone_on, handed, is_open_lane, errand_to, errands_to_open, turned}
 use Rattle.lv_lanes.specs.Replies.{AreReplies, no_errands, one_more, IsHandedOn}
-use Rattle.lv_lanes.proofs.LaneLemmas.{absent_later}
+use Rattle.lv_base.specs.Names.{is_named}
+use Rattle.lv_lanes.proofs.LaneLemmas.{absent_later, same_name, handed_fresh, lane_of_fresh}
 
 one_further : (i : ℕ) → i + 1 ≡ suc i
 one_further i = omega arith
@@ -116,3 +118,64 @@ module _ {S : Type 0} (says : S → List ℕ → List ℕ → Type 0) where
         (subst (λ (es : List (Errand S)). AreReplies says es rs)
           (sym (errands_further is_open line ls i l has ∙ ap (λ (es : List (Errand S)). errands_to_open is_open line (take i ls) ++ es) none ∙ append-nil (errands_to_open is_open line (take i ls))))
           so_far)
+
+module _ {S : Type 0} (next : S → List ℕ → S) (says : S → List ℕ → List ℕ → Type 0) where
+  -- the first lane of a name was handed a line
+  pub answered_at : (name line : List ℕ) (start : S) (all ls : List (Named S)) (i : ℕ) (l here : Named S) (after : S) (text told : List ℕ)
+      → slice_get all i ≡ Some l → here ≡ l → all ≡ ls → list_any (is_lane name) (take i ls) ≡ false → is_lane name here ≡ true
+      → after ≡ next here.lane line → says here.lane line text → told ≡ text
+      → (list_any (is_lane name) ls ≡ true) × (set all i (record { name = here.name; lane = after }) ≡ handed next name line start ls) × says (lane_of name start ls) line told
+  answered_at name line start all ls i l here after text told read same alike none is goes said told_is =
+      let has : slice_get ls i ≡ Some l = ap (λ (xs : List (Named S)). slice_get xs i) (sym alike) ∙ read in
+      let found = found_at next name line start ls i l has none (ap (is_lane name) (sym same) ∙ is) in (
+        found.2,
+        ap (λ (s : S). set all i (record { name = here.name; lane = s })) goes
+            ∙ ap (λ (n : Named S). set all i (gone_on next line n)) same
+            ∙ ap (λ (xs : List (Named S)). set xs i (gone_on next line l)) alike
+            ∙ sym found.0,
+        subst (λ (s : S). says s line told) (ap (λ (n : Named S). n.lane) same ∙ sym found.1)
+            (subst (λ (t : List ℕ). says here.lane line t) (sym told_is) said),
+      )
+
+  found_fresh : (name : List ℕ) (l : Named S) (ls : List (Named S)) → l.name ≡ name → list_any (is_lane name) (ls ++ l ∷ []) ≡ true
+  found_fresh name l [] named = ap (λ (b : Bool). b || false) (ap (is_named name) named ∙ same_name name)
+  found_fresh name l (m ∷ ls) named = ap (λ (b : Bool). is_lane name m || b) (found_fresh name l ls named) ∙ by (is_lane name m)
+    where
+      by : (b : Bool) → (b || true) ≡ true
+      by true = refl
+      by false = refl
+
+  -- a line was handed on to a lane that was made for it
+  pub handed_to_fresh : (name line : List ℕ) (start : S) (l : Named S) (old before new : List (Named S)) (found : Option (List ℕ))
+      → l.name ≡ name → l.lane ≡ start → list_any (is_lane name) old ≡ false → has_place name old ≡ true → before ≡ old ++ l ∷ []
+      → IsHandedOn says next (list_any (is_lane name) before) name line start before new found
+      → IsHandedOn says next (has_place name old) name line start old new found
+  handed_to_fresh name line start l old before new None named begins none room added told =
+      absurd (cc (sym (ap (list_any (is_lane name)) added ∙ found_fresh name l old named) ∙ told.0))
+  handed_to_fresh name line start l old before new (Some text) named begins none room added told = (
+    room,
+    told.1 ∙ ap (handed next name line start) added ∙ handed_fresh next name line start l old named begins none,
+    subst (λ (s : S). says s line text) (ap (lane_of name start) added ∙ lane_of_fresh name start l old named begins) told.2,
+  )
+
+  module _ {E : Type 0} (name line : List ℕ) (start : S) (old after new : List (Named S)) (r : Result (Option (List ℕ)) E) (found : Option (List ℕ))
+      (told : IfOk r (IsHandedOn says next (list_any (is_lane name) old) name line start old after)) (went : r ≡ Ok found) where
+    went_so : IsHandedOn says next (list_any (is_lane name) old) name line start old after found
+    went_so = subst (λ (x : Result (Option (List ℕ)) E). IfOk x (IsHandedOn says next (list_any (is_lane name) old) name line start old after)) went told
+
+    pub none_there : found ≡ None → (list_any (is_lane name) old ≡ false) × (after ≡ old)
+    none_there is = subst (λ (x : Option (List ℕ)). IsHandedOn says next (list_any (is_lane name) old) name line start old after x) is went_so
+
+    pub handed_to_known : (text : List ℕ) → found ≡ Some text → new ≡ after → IsHandedOn says next (has_place name old) name line start old new (Some text)
+    handed_to_known text is kept =
+        let so = subst (λ (x : Option (List ℕ)). IsHandedOn says next (list_any (is_lane name) old) name line start old after x) is went_so in
+        (ap (λ (b : Bool). b || nat_lt (length old) LANES) so.0, kept ∙ so.1, so.2)
+
+    pub handed_to_none : found ≡ None → nat_lt (length old) LANES ≡ false → new ≡ after → (has_place name old ≡ false) × (new ≡ old)
+    handed_to_none is full kept = let so = none_there is in (ap₂ (λ (p q : Bool). p || q) so.0 full, kept ∙ so.1)
+
+-- a list whose whole front was written
+pub whole_written : {X : Type 0} (n : ℕ) (new old : List X) → length old ≡ n → length new ≡ length old → take n (new ++ drop (length new) old) ≡ new
+whole_written n new old long same =
+    let none = drop_all (length new) old (omega (arith, same)) in
+    ap (λ rest. take n (new ++ rest)) none ∙ ap (take n) (append-nil new) ∙ take_all n new (omega (arith, long, same))
