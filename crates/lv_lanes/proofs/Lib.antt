@@ -1,0 +1,3 @@
+mod AloneLemmas
+mod LaneLemmas
+mod LoopLemmas

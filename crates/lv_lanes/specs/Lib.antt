@@ -1,0 +1,5 @@
+pub mod Forms
+pub mod Laws
+pub mod LongLines
+pub mod Replies
+pub mod Standing
