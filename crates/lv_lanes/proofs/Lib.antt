@@ -1,3 +1,3 @@
-mod AloneLemmas
-mod LaneLemmas
-mod LoopLemmas
+pub mod AloneLemmas
+pub mod LaneLemmas
+pub mod LoopLemmas

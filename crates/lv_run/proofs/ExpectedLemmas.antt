@@ -5,8 +5,9 @@ use Rattle.std.specs.Io.KnownBytes.{append_known}
 use Rattle.lv_base.specs.declared.limits.TheConstants.{CERTIFICATE_BYTES}
 use Rattle.lv_model.specs.declared.plant.Plant.{Plant}
 use Rattle.lv_serve.specs.Served.{within_limit}
-use Rattle.lv_session.specs.Answering.{fits}
-use Rattle.lv_session.proofs.Answering.{no_transcript}
+use Rattle.lv_run.specs.Services.{fits}
+use Rattle.lv_run_words.specs.declared.commands.Service.{Service}
+use Rattle.lv_run.proofs.ServiceLemmas.{no_replies}
 use Rattle.lv_gen.specs.Series.{model_text}
 use Rattle.lv_run_drive.specs.Drives.{drive_text}
 use Rattle.lv_run_words.specs.declared.commands.Kind.{Kind}
@@ -50,8 +51,8 @@ err_handed_on (Err e) fault handed = ap status_of handed
 
 -- nothing is a front of whatever was expected
 pub adds_none : (e : Expected) (text : Option (List ℕ)) → AddsSome e text text
-adds_none (serves plant session) text = no_transcript plant session text
-adds_none (overruns plant session) text = no_transcript plant (within_limit session) text
+adds_none (serves service plant session) text = no_replies service plant session text
+adds_none (overruns service plant session) text = no_replies service plant (within_limit session) text
 adds_none (judges verdict) text = no_front (verdict_line verdict) text
 adds_none exceeds text = refl
 adds_none (shows shown) text = no_front shown text
@@ -59,7 +60,7 @@ adds_none (fails fault) text = refl
 
 -- the command speaks of a model
 abbrev pub SpeaksOfModel : Said → Type 0
-SpeaksOfModel (runs model session) = Unit {0}
+SpeaksOfModel (runs service model session) = Unit {0}
 SpeaksOfModel (checks model cert) = Unit {0}
 SpeaksOfModel (prints model) = Unit {0}
 SpeaksOfModel (generates kind n) = ⊥
@@ -88,19 +89,19 @@ module _ (P : Expected → Type 0) (file : List ℕ → Option (List ℕ)) where
   of_refused command code line speaks has given e (session_driven {n} {plant} verdict) = not_both (model_text n) plant code line verdict has
 
   -- of a run whose model is accepted
-  of_run : (model session : List ℕ) (plant : Plant)
+  of_run : (service : Service) (model session : List ℕ) (plant : Plant)
       → IfSome (file model) (λ text. IsVerdict text (accepted plant))
-      → ((served : List ℕ) → file session ≡ Some served → fits plant served ≡ true → P (serves plant served))
-      → ((long : List ℕ) → file session ≡ Some long → fits plant long ≡ false → P (overruns plant long))
-      → (e : Expected) → Expects file (Some (runs model session)) e → P e
-  of_run model session plant has short long e (model_refused {code} {line} text told verdict) =
+      → ((served : List ℕ) → file session ≡ Some served → fits service plant served ≡ true → P (serves service plant served))
+      → ((long : List ℕ) → file session ≡ Some long → fits service plant long ≡ false → P (overruns service plant long))
+      → (e : Expected) → Expects file (Some (runs service model session)) e → P e
+  of_run service model session plant has short long e (model_refused {code} {line} text told verdict) =
       not_both text plant code line (of_told _ (file model) text told has) verdict
-  of_run model session plant has short long e (session_served {served} {plant = p} text told verdict session_told within) =
+  of_run service model session plant has short long e (session_served {served} {plant = p} text told verdict session_told within) =
       let one : plant ≡ p = same_plant text plant p (of_told _ (file model) text told has) verdict in
-      subst (λ (q : Plant). P (serves q served)) one (short served session_told (ap (λ (q : Plant). fits q served) one ∙ within))
-  of_run model session plant has short long e (session_too_long {long = beyond_it} {plant = p} text told verdict session_told beyond) =
+      subst (λ (q : Plant). P (serves service q served)) one (short served session_told (ap (λ (q : Plant). fits service q served) one ∙ within))
+  of_run service model session plant has short long e (session_too_long {long = beyond_it} {plant = p} text told verdict session_told beyond) =
       let one : plant ≡ p = same_plant text plant p (of_told _ (file model) text told has) verdict in
-      subst (λ (q : Plant). P (overruns q beyond_it)) one (long beyond_it session_told (ap (λ (q : Plant). fits q beyond_it) one ∙ beyond))
+      subst (λ (q : Plant). P (overruns service q beyond_it)) one (long beyond_it session_told (ap (λ (q : Plant). fits service q beyond_it) one ∙ beyond))
 
   -- of a certificate over an accepted model
   of_check : (model cert : List ℕ) (plant : Plant)
@@ -243,47 +244,47 @@ whole_verdict verdict before after ended other same ends written =
     (written_verdict verdict before after (written ∙ ap (λ (v : Verdict). append_known before (verdict_line v)) same))
 
 -- where a session was served, or was not
-served_short : (plant : Plant) (text : List ℕ) (before after : Option (List ℕ)) (result : Result Ended RunFault)
-    → fits plant text ≡ true
-    → ServesTold plant text before after result
-    → Meets (serves plant text) before after (ended_status result)
-served_short plant text before after (Ok AllDone) short told = (refl, told.1)
-served_short plant text before after (Ok NotValid) short told = absurd told
-served_short plant text before after (Err BadWords) short told = absurd told
-served_short plant text before after (Err (BadModel code line)) short told = absurd told
-served_short plant text before after (Err NoModel) short told = absurd told
-served_short plant text before after (Err NoSession) short told = told
-served_short plant text before after (Err NoCertificate) short told = absurd told
-served_short plant text before after (Err NoOutput) short told = told.of_all short
-served_short plant text before after (Err LongSession) short told = let clash : true ≡ false = sym short ∙ told.0 in absurd (cc clash)
-served_short plant text before after (Err LongCertificate) short told = absurd told
-served_short plant text before after (Err NoMemory) short told = told.of_all short
+served_short : (service : Service) (plant : Plant) (text : List ℕ) (before after : Option (List ℕ)) (result : Result Ended RunFault)
+    → fits service plant text ≡ true
+    → ServesTold service plant text before after result
+    → Meets (serves service plant text) before after (ended_status result)
+served_short service plant text before after (Ok AllDone) short told = (refl, told.1)
+served_short service plant text before after (Ok NotValid) short told = absurd told
+served_short service plant text before after (Err BadWords) short told = absurd told
+served_short service plant text before after (Err (BadModel code line)) short told = absurd told
+served_short service plant text before after (Err NoModel) short told = absurd told
+served_short service plant text before after (Err NoSession) short told = told
+served_short service plant text before after (Err NoCertificate) short told = absurd told
+served_short service plant text before after (Err NoOutput) short told = told.of_all short
+served_short service plant text before after (Err LongSession) short told = let clash : true ≡ false = sym short ∙ told.0 in absurd (cc clash)
+served_short service plant text before after (Err LongCertificate) short told = absurd told
+served_short service plant text before after (Err NoMemory) short told = told.of_all short
 
-served_long : (plant : Plant) (text : List ℕ) (before after : Option (List ℕ)) (result : Result Ended RunFault)
-    → fits plant text ≡ false
-    → ServesTold plant text before after result
-    → Meets (overruns plant text) before after (ended_status result)
-served_long plant text before after (Ok AllDone) long told = let clash : true ≡ false = sym told.0 ∙ long in absurd (cc clash)
-served_long plant text before after (Ok NotValid) long told = absurd told
-served_long plant text before after (Err BadWords) long told = absurd told
-served_long plant text before after (Err (BadModel code line)) long told = absurd told
-served_long plant text before after (Err NoModel) long told = absurd told
-served_long plant text before after (Err NoSession) long told = told
-served_long plant text before after (Err NoCertificate) long told = absurd told
-served_long plant text before after (Err NoOutput) long told = told.of_lines long
-served_long plant text before after (Err LongSession) long told = (refl, told.1)
-served_long plant text before after (Err LongCertificate) long told = absurd told
-served_long plant text before after (Err NoMemory) long told = told.of_lines long
+served_long : (service : Service) (plant : Plant) (text : List ℕ) (before after : Option (List ℕ)) (result : Result Ended RunFault)
+    → fits service plant text ≡ false
+    → ServesTold service plant text before after result
+    → Meets (overruns service plant text) before after (ended_status result)
+served_long service plant text before after (Ok AllDone) long told = let clash : true ≡ false = sym told.0 ∙ long in absurd (cc clash)
+served_long service plant text before after (Ok NotValid) long told = absurd told
+served_long service plant text before after (Err BadWords) long told = absurd told
+served_long service plant text before after (Err (BadModel code line)) long told = absurd told
+served_long service plant text before after (Err NoModel) long told = absurd told
+served_long service plant text before after (Err NoSession) long told = told
+served_long service plant text before after (Err NoCertificate) long told = absurd told
+served_long service plant text before after (Err NoOutput) long told = told.of_lines long
+served_long service plant text before after (Err LongSession) long told = (refl, told.1)
+served_long service plant text before after (Err LongCertificate) long told = absurd told
+served_long service plant text before after (Err NoMemory) long told = told.of_lines long
 
-pub served_meets : (file later : List ℕ → Option (List ℕ)) (model session : List ℕ) (plant : Plant) (before after : Option (List ℕ)) (result : Result Ended RunFault)
+pub served_meets : (service : Service) (file later : List ℕ → Option (List ℕ)) (model session : List ℕ) (plant : Plant) (before after : Option (List ℕ)) (result : Result Ended RunFault)
     → later ≡ file
     → IfSome (file model) (λ text. IsVerdict text (accepted plant))
-    → ((text : List ℕ) → later session ≡ Some text → ServesTold plant text before after result)
-    → (e : Expected) → Expects file (Some (runs model session)) e → Meets e before after (ended_status result)
-served_meets file later model session plant before after result same has told e expects =
-    of_run (λ d. Meets d before after (ended_status result)) file model session plant has
-    (λ text is short. served_short plant text before after result short (told text (ap (λ (f : List ℕ → Option (List ℕ)). f session) same ∙ is)))
-    (λ text is long. served_long plant text before after result long (told text (ap (λ (f : List ℕ → Option (List ℕ)). f session) same ∙ is)))
+    → ((text : List ℕ) → later session ≡ Some text → ServesTold service plant text before after result)
+    → (e : Expected) → Expects file (Some (runs service model session)) e → Meets e before after (ended_status result)
+served_meets service file later model session plant before after result same has told e expects =
+    of_run (λ d. Meets d before after (ended_status result)) file service model session plant has
+    (λ text is short. served_short service plant text before after result short (told text (ap (λ (f : List ℕ → Option (List ℕ)). f session) same ∙ is)))
+    (λ text is long. served_long service plant text before after result long (told text (ap (λ (f : List ℕ → Option (List ℕ)). f session) same ∙ is)))
     e expects
 
 pub is_accepted : (file : List ℕ → Option (List ℕ)) (command : Said) (plant : Plant)
@@ -326,28 +327,28 @@ never_invalid (Ok AllDone) done is = absurd (cc)
 never_invalid (Ok NotValid) done is = absurd (cc)
 never_invalid (Err fault) done is = absurd (cc)
 
-pub served_follows : (file : List ℕ → Option (List ℕ)) (model session : List ℕ) (plant : Plant) (result : Result Ended RunFault)
+pub served_follows : (service : Service) (file : List ℕ → Option (List ℕ)) (model session : List ℕ) (plant : Plant) (result : Result Ended RunFault)
     → IfSome (file model) (λ text. IsVerdict text (accepted plant))
     → IfOk result (λ ended. ended ≡ AllDone)
     → IfErr result EndsSession
-    → Follows file (Some (runs model session)) (ended_status result)
-served_follows file model session plant result has done ends =
-    second_follows file (Some (runs model session)) result (is_accepted file (runs model session) plant has) (never_invalid result done) (session_ends result ends)
+    → Follows file (Some (runs service model session)) (ended_status result)
+served_follows service file model session plant result has done ends =
+    second_follows file (Some (runs service model session)) result (is_accepted file (runs service model session) plant has) (never_invalid result done) (session_ends result ends)
 
-pub served_verdict : (file : List ℕ → Option (List ℕ)) (model session : List ℕ) (result : Result Ended RunFault)
+pub served_verdict : (service : Service) (file : List ℕ → Option (List ℕ)) (model session : List ℕ) (result : Result Ended RunFault)
     → IfOk result (λ ended. ended ≡ AllDone)
     → IfErr result EndsSession
-    → TellsVerdict file (Some (runs model session)) result
-served_verdict file model session (Ok x) done ends = record { command = runs model session; asked = refl; is = done }
-served_verdict file model session (Err BadWords) done ends = absurd ends
-served_verdict file model session (Err (BadModel code line)) done ends = absurd ends
-served_verdict file model session (Err NoModel) done ends = absurd ends
-served_verdict file model session (Err NoSession) done ends = refl
-served_verdict file model session (Err NoCertificate) done ends = absurd ends
-served_verdict file model session (Err NoOutput) done ends = tt
-served_verdict file model session (Err LongSession) done ends = refl
-served_verdict file model session (Err LongCertificate) done ends = absurd ends
-served_verdict file model session (Err NoMemory) done ends = tt
+    → TellsVerdict file (Some (runs service model session)) result
+served_verdict service file model session (Ok x) done ends = record { command = runs service model session; asked = refl; is = done }
+served_verdict service file model session (Err BadWords) done ends = absurd ends
+served_verdict service file model session (Err (BadModel code line)) done ends = absurd ends
+served_verdict service file model session (Err NoModel) done ends = absurd ends
+served_verdict service file model session (Err NoSession) done ends = refl
+served_verdict service file model session (Err NoCertificate) done ends = absurd ends
+served_verdict service file model session (Err NoOutput) done ends = tt
+served_verdict service file model session (Err LongSession) done ends = refl
+served_verdict service file model session (Err LongCertificate) done ends = absurd ends
+served_verdict service file model session (Err NoMemory) done ends = tt
 
 -- where the second file is dealt with no status says that nothing was written, but those of a certificate that was not read
 pub second_silent : (said : Option Said) (result : Result Ended RunFault) (before after : Option (List ℕ))
@@ -369,12 +370,12 @@ second_silent said (Err LongCertificate) before after ends unread long quiet = l
 second_silent said (Err NoMemory) before after ends unread long quiet = absurd (cc)
 
 -- of a run, none
-pub served_silent : (model session : List ℕ) (result : Result Ended RunFault) (before after : Option (List ℕ))
+pub served_silent : (service : Service) (model session : List ℕ) (result : Result Ended RunFault) (before after : Option (List ℕ))
     → IfErr result EndsSession
-    → IsTrue (is_silent (Some (runs model session)) (ended_status result))
+    → IsTrue (is_silent (Some (runs service model session)) (ended_status result))
     → after ≡ before
-served_silent model session result before after ends quiet =
-    second_silent (Some (runs model session)) result before after (session_ends result ends) (λ no_check is. absurd (cc)) (λ no_check is. absurd (cc)) quiet
+served_silent service model session result before after ends quiet =
+    second_silent (Some (runs service model session)) result before after (session_ends result ends) (λ no_check is. absurd (cc)) (λ no_check is. absurd (cc)) quiet
 
 pub second_no_model : (result : Result Ended RunFault) → IfErr result EndsSecond → ended_status result ≢ ModelUnread
 second_no_model (Ok AllDone) ends = λ e. cc

@@ -6,4 +6,5 @@ pub mod OpenLemmas
 pub mod TopLemmas
 pub mod NameLemmas
 pub mod PrintedLemmas
+pub mod ServiceLemmas
 pub mod ServedLemmas

@@ -8,11 +8,12 @@ use Rattle.lv_io.specs.declared.Role.TheVariants.{Model, Second}
 use Rattle.lv_model.specs.declared.plant.Plant.{Plant}
 use Rattle.std.proofs.lemmas.List.{take-append-drop, take-take}
 use Rattle.lv_base.specs.declared.limits.TheConstants.{SESSION_BYTES}
-use Rattle.lv_session.specs.Transcript.{AddsTranscript, AddsFrontOfTranscript}
 use Rattle.lv_serve.proofs.Writing.{whole_front}
 use Rattle.lv_serve.specs.Ends.{ended}
 use Rattle.lv_serve.specs.Served.{within_limit}
-use Rattle.lv_session.proofs.Answering.{transcript_front, transcript_of_longer, transcript_of_more}
+use Rattle.lv_run_words.specs.declared.commands.Service.{Service}
+use Rattle.lv_run.specs.Services.{AddsFrontOfReplies}
+use Rattle.lv_run.proofs.ServiceLemmas.{whole_replies, front_of_longer, front_of_more}
 use Rattle.lv_run_words.specs.Words.{Said, checks, command_of}
 use Rattle.lv_certcheck.specs.Verdicts.{IsVerdictOn}
 use Rattle.lv_certcheck.specs.declared.check.Verdict.{Verdict}
@@ -37,8 +38,8 @@ silent_front : (e : Expected) (before after : Option (List ℕ)) → after ≡ b
 silent_front e before after same = subst (AddsSome e before) (sym same) (adds_none e before)
 
 all_front : (e : Expected) (before after : Option (List ℕ)) → AddsAll e before after → AddsSome e before after
-all_front (serves plant session) before after all = transcript_front plant session before after all
-all_front (overruns plant session) before after all = transcript_front plant (within_limit session) before after all
+all_front (serves service plant session) before after all = whole_replies service plant session before after all
+all_front (overruns service plant session) before after all = whole_replies service plant (within_limit session) before after all
 all_front (judges verdict) before after added = whole_front (verdict_line verdict) before after added
 all_front exceeds before after same = same
 all_front (shows text) before after added = whole_front text before after added
@@ -46,16 +47,16 @@ all_front (fails fault) before after same = same
 
 -- the lines of what was read are a front of those due
 read_front : (e : Expected) (before after : Option (List ℕ)) → AddsRead e before after → AddsSome e before after
-read_front (serves plant session) before after lines =
-    subst (λ (l : List ℕ). AddsFrontOfTranscript plant l before after) (take-append-drop lines.count session)
-    (transcript_of_more plant (take lines.count session) (drop lines.count session) before after
-    (transcript_front plant (ended (take lines.count session)) before after lines.written))
-read_front (overruns plant session) before after lines =
+read_front (serves service plant session) before after lines =
+    subst (λ (l : List ℕ). AddsFrontOfReplies service plant l before after) (take-append-drop lines.count session)
+    (front_of_more service plant (take lines.count session) (drop lines.count session) before after
+    (whole_replies service plant (ended (take lines.count session)) before after lines.written))
+read_front (overruns service plant session) before after lines =
     let inside : take lines.count (take SESSION_BYTES session) ≡ take lines.count session = take-take lines.count SESSION_BYTES session lines.within in
-    subst (λ (l : List ℕ). AddsFrontOfTranscript plant (ended l) before after)
+    subst (λ (l : List ℕ). AddsFrontOfReplies service plant (ended l) before after)
     (ap (λ (l : List ℕ). l ++ drop lines.count (take SESSION_BYTES session)) (sym inside) ∙ take-append-drop lines.count (take SESSION_BYTES session))
-    (transcript_of_longer plant (take lines.count session) (drop lines.count (take SESSION_BYTES session)) before after
-    (transcript_front plant (ended (take lines.count session)) before after lines.written))
+    (front_of_longer service plant (take lines.count session) (drop lines.count (take SESSION_BYTES session)) before after
+    (whole_replies service plant (ended (take lines.count session)) before after lines.written))
 read_front (judges verdict) before after same = silent_front (judges verdict) before after same
 read_front exceeds before after same = same
 read_front (shows text) before after lines = absurd lines
@@ -63,8 +64,8 @@ read_front (fails fault) before after lines = absurd lines
 
 -- only a second file that was opened is read
 read_not_refused : (e : Expected) (before after : Option (List ℕ)) → AddsRead e before after → status_expected e ≡ ModelRefused → ⊥
-read_not_refused (serves plant session) before after lines e = absurd (cc)
-read_not_refused (overruns plant session) before after lines e = absurd (cc)
+read_not_refused (serves service plant session) before after lines e = absurd (cc)
+read_not_refused (overruns service plant session) before after lines e = absurd (cc)
 read_not_refused (judges IsValid) before after same e = absurd (cc)
 read_not_refused (judges (IsInvalid line)) before after same e = absurd (cc)
 read_not_refused exceeds before after same e = absurd (cc)
@@ -145,11 +146,11 @@ refusal_due old new d before after OutOfMemory model meets is none output memory
 refusal_due old new d before after Invalid model meets is none output memory = sym meets.0 ∙ is
 
 -- what is expected of a run that is asked for, and of a text
-pub expected_run : (file : List ℕ → Option (List ℕ)) (words : List (List ℕ)) (plant : Plant) (session : List ℕ)
-    → Asks file words plant session
-    → Expects file (command_of words) (serves plant session)
-expected_run file words plant session asks =
-    subst (λ (o : Option Said). Expects file o (serves plant session)) (sym asks.asked)
+pub expected_run : (service : Service) (file : List ℕ → Option (List ℕ)) (words : List (List ℕ)) (plant : Plant) (session : List ℕ)
+    → Asks service file words plant session
+    → Expects file (command_of words) (serves service plant session)
+expected_run service file words plant session asks =
+    subst (λ (o : Option Said). Expects file o (serves service plant session)) (sym asks.asked)
     (session_served asks.text asks.model_told asks.verdict asks.session_told asks.within)
 
 pub expected_check : (file : List ℕ → Option (List ℕ)) (words : List (List ℕ)) (plant : Plant) (certificate : List ℕ) (verdict : Verdict)

@@ -9,12 +9,10 @@ use Rattle.lv_reader.specs.declared.code.ModelCode.{ModelCode}
 use Rattle.lv_checker.specs.Verdicts.{Verdict as ModelVerdict, accepted, refused, IsVerdict}
 use Rattle.lv_certcheck.specs.Verdicts.{IsVerdictOn}
 use Rattle.lv_certcheck.specs.declared.check.Verdict.{Verdict}
-use Rattle.lv_session.specs.Transcript.{AddsTranscript, AddsFrontOfTranscript}
 use Rattle.lv_serve.specs.Ends.{ended}
 use Rattle.lv_serve.specs.Served.{within_limit}
-use Rattle.lv_serve.specs.Told.{ServesText}
-use Rattle.lv_serve.specs.declared.fault.ServeFault.{ServeFault}
-use Rattle.lv_session.specs.Answering.{begun, next_at, SaysAt, has_quit, quits, fits}
+use Rattle.lv_run.specs.Services.{quits, fits, AddsReplies, AddsFrontOfReplies}
+use Rattle.lv_run_words.specs.declared.commands.Service.{Service}
 use Rattle.lv_gen.specs.Series.{model_text}
 use Rattle.lv_run_drive.specs.Drives.{drive_text}
 use Rattle.lv_run_words.specs.Words.{Said, runs, checks, prints, generates, drives}
@@ -32,8 +30,8 @@ use Rattle.lv_run.specs.declared.fault.RunFault.TheVariants.{WordsRefused as Bad
 -- a session over an accepted model is served; of one too long the lines that end within the limit are; a certificate gets its
 -- verdict for such a model, or is too long for one; a text is shown; or the call ends with a fault before that
 pub data Expected : Type 0 where
-  serves : Plant → List ℕ → Expected
-  overruns : Plant → List ℕ → Expected
+  serves : Service → Plant → List ℕ → Expected
+  overruns : Service → Plant → List ℕ → Expected
   judges : Verdict → Expected
   exceeds : Expected
   shows : List ℕ → Expected
@@ -45,12 +43,12 @@ pub data Expects (file : List ℕ → Option (List ℕ)) : Option Said → Expec
   model_refused : {command : Said} {code : ModelCode} {line : ℕ} → (text : List ℕ)
       → model_told file command ≡ Some text → IsVerdict text (refused code line)
       → Expects file (Some command) (fails (BadModel code line))
-  session_served : {model session served : List ℕ} {plant : Plant} → (text : List ℕ)
-      → file model ≡ Some text → IsVerdict text (accepted plant) → file session ≡ Some served → fits plant served ≡ true
-      → Expects file (Some (runs model session)) (serves plant served)
-  session_too_long : {model session long : List ℕ} {plant : Plant} → (text : List ℕ)
-      → file model ≡ Some text → IsVerdict text (accepted plant) → file session ≡ Some long → fits plant long ≡ false
-      → Expects file (Some (runs model session)) (overruns plant long)
+  session_served : {service : Service} {model session served : List ℕ} {plant : Plant} → (text : List ℕ)
+      → file model ≡ Some text → IsVerdict text (accepted plant) → file session ≡ Some served → fits service plant served ≡ true
+      → Expects file (Some (runs service model session)) (serves service plant served)
+  session_too_long : {service : Service} {model session long : List ℕ} {plant : Plant} → (text : List ℕ)
+      → file model ≡ Some text → IsVerdict text (accepted plant) → file session ≡ Some long → fits service plant long ≡ false
+      → Expects file (Some (runs service model session)) (overruns service plant long)
   certificate_judged : {model cert certificate : List ℕ} {plant : Plant} {verdict : Verdict} → (text : List ℕ)
       → file model ≡ Some text → IsVerdict text (accepted plant) → file cert ≡ Some certificate → length certificate ≤ CERTIFICATE_BYTES
       → IsVerdictOn plant certificate verdict
@@ -67,8 +65,8 @@ pub data Expects (file : List ℕ → Option (List ℕ)) : Option Said → Expec
 
 -- the status of a call in which nothing fails
 abbrev pub status_expected : Expected → Status
-status_expected (serves plant session) = Done
-status_expected (overruns plant session) = SecondTooLong
+status_expected (serves service plant session) = Done
+status_expected (overruns service plant session) = SecondTooLong
 status_expected (judges verdict) = verdict_status verdict
 status_expected exceeds = SecondTooLong
 status_expected (shows text) = Done
@@ -76,8 +74,8 @@ status_expected (fails fault) = status_of fault
 
 -- the transcript due, the verdict or the text was added to the output, or nothing
 abbrev pub AddsAll : Expected → Option (List ℕ) → Option (List ℕ) → Type 0
-AddsAll (serves plant session) before after = AddsTranscript plant session before after
-AddsAll (overruns plant session) before after = AddsTranscript plant (within_limit session) before after
+AddsAll (serves service plant session) before after = AddsReplies service plant session before after
+AddsAll (overruns service plant session) before after = AddsReplies service plant (within_limit session) before after
 AddsAll (judges verdict) before after = after ≡ append_known before (verdict_line verdict)
 AddsAll exceeds before after = after ≡ before
 AddsAll (shows text) before after = after ≡ append_known before text
@@ -85,8 +83,8 @@ AddsAll (fails fault) before after = after ≡ before
 
 -- a front of it was
 abbrev pub AddsSome : Expected → Option (List ℕ) → Option (List ℕ) → Type 0
-AddsSome (serves plant session) before after = AddsFrontOfTranscript plant session before after
-AddsSome (overruns plant session) before after = AddsFrontOfTranscript plant (within_limit session) before after
+AddsSome (serves service plant session) before after = AddsFrontOfReplies service plant session before after
+AddsSome (overruns service plant session) before after = AddsFrontOfReplies service plant (within_limit session) before after
 AddsSome (judges verdict) before after = AddsFront (verdict_line verdict) before after
 AddsSome exceeds before after = after ≡ before
 AddsSome (shows text) before after = AddsFront text before after
@@ -94,44 +92,40 @@ AddsSome (fails fault) before after = after ≡ before
 
 -- so many bytes of the session were read, no `quit` was accepted among the lines that ended in them, and the transcript of these was
 -- added
-pub record AddsLines (plant : Plant) (session : List ℕ) (before after : Option (List ℕ)) : Type 0 where
+pub record AddsLines (service : Service) (plant : Plant) (session : List ℕ) (before after : Option (List ℕ)) : Type 0 where
   pub count : ℕ
   pub within : count ≤ SESSION_BYTES
-  pub goes_on : quits plant (take count session) ≡ false
-  pub written : AddsTranscript plant (ended (take count session)) before after
+  pub goes_on : quits service plant (take count session) ≡ false
+  pub written : AddsReplies service plant (ended (take count session)) before after
 
 -- a front was added of the transcript that is due, of the session or of its lines that end within the limit
-pub record AddsDueFront (plant : Plant) (session : List ℕ) (before after : Option (List ℕ)) : Type 0 where
-  pub of_all : fits plant session ≡ true → AddsFrontOfTranscript plant session before after
-  pub of_lines : fits plant session ≡ false → AddsFrontOfTranscript plant (within_limit session) before after
+pub record AddsDueFront (service : Service) (plant : Plant) (session : List ℕ) (before after : Option (List ℕ)) : Type 0 where
+  pub of_all : fits service plant session ≡ true → AddsFrontOfReplies service plant session before after
+  pub of_lines : fits service plant session ≡ false → AddsFrontOfReplies service plant (within_limit session) before after
 
 -- what was added where the second file was not read to its end: of a session the transcript of the lines that ended in what was
 -- read, of a check nothing
 abbrev pub AddsRead : Expected → Option (List ℕ) → Option (List ℕ) → Type 0
-AddsRead (serves plant session) before after = AddsLines plant session before after
-AddsRead (overruns plant session) before after = AddsLines plant session before after
+AddsRead (serves service plant session) before after = AddsLines service plant session before after
+AddsRead (overruns service plant session) before after = AddsLines service plant session before after
 AddsRead (judges verdict) before after = after ≡ before
 AddsRead exceeds before after = after ≡ before
 AddsRead (shows text) before after = ⊥
 AddsRead (fails fault) before after = ⊥
 
--- what serving a session whose text is told came to, in the words of serving
-abbrev pub ServesSession : Plant → List ℕ → Option (List ℕ) → Option (List ℕ) → {T : Type 0} → Result T ServeFault → Type 0
-ServesSession plant session before after result = ServesText next_at SaysAt has_quit (begun plant) session before after result
-
--- and in those of a transcript
-abbrev pub ServesTold : Plant → List ℕ → Option (List ℕ) → Option (List ℕ) → Result Ended RunFault → Type 0
-ServesTold plant session before after (Ok AllDone) = (fits plant session ≡ true) × AddsTranscript plant session before after
-ServesTold plant session before after (Ok NotValid) = ⊥
-ServesTold plant session before after (Err BadWords) = ⊥
-ServesTold plant session before after (Err (BadModel code line)) = ⊥
-ServesTold plant session before after (Err NoModel) = ⊥
-ServesTold plant session before after (Err NoSession) = AddsLines plant session before after
-ServesTold plant session before after (Err NoCertificate) = ⊥
-ServesTold plant session before after (Err NoOutput) = AddsDueFront plant session before after
-ServesTold plant session before after (Err LongSession) = (fits plant session ≡ false) × AddsTranscript plant (within_limit session) before after
-ServesTold plant session before after (Err LongCertificate) = ⊥
-ServesTold plant session before after (Err NoMemory) = AddsDueFront plant session before after
+-- what serving a text that is told came to
+abbrev pub ServesTold : Service → Plant → List ℕ → Option (List ℕ) → Option (List ℕ) → Result Ended RunFault → Type 0
+ServesTold service plant session before after (Ok AllDone) = (fits service plant session ≡ true) × AddsReplies service plant session before after
+ServesTold service plant session before after (Ok NotValid) = ⊥
+ServesTold service plant session before after (Err BadWords) = ⊥
+ServesTold service plant session before after (Err (BadModel code line)) = ⊥
+ServesTold service plant session before after (Err NoModel) = ⊥
+ServesTold service plant session before after (Err NoSession) = AddsLines service plant session before after
+ServesTold service plant session before after (Err NoCertificate) = ⊥
+ServesTold service plant session before after (Err NoOutput) = AddsDueFront service plant session before after
+ServesTold service plant session before after (Err LongSession) = (fits service plant session ≡ false) × AddsReplies service plant (within_limit session) before after
+ServesTold service plant session before after (Err LongCertificate) = ⊥
+ServesTold service plant session before after (Err NoMemory) = AddsDueFront service plant session before after
 
 -- a call that ended with this status kept to what was expected: with a status that no fault of shelf or sink brings, it is
 -- the one expected; the words are judged before the model is opened, and the model before the second file; where a session was not
@@ -180,7 +174,7 @@ pub record IsJudged (text certificate : List ℕ) (ended : Ended) : Type 0 where
 -- a command may end so without a fault: a check by the verdict on its certificate, where the shelf tells that and the model,
 -- and any other as done
 abbrev pub EndsSo : (List ℕ → Option (List ℕ)) → Said → Ended → Type 0
-EndsSo file (runs model session) ended = ended ≡ AllDone
+EndsSo file (runs service model session) ended = ended ≡ AllDone
 EndsSo file (checks model cert) ended = IfSome (file model) (λ text. IfSome (file cert) (λ certificate. IsJudged text certificate ended))
 EndsSo file (prints model) ended = ended ≡ AllDone
 EndsSo file (generates kind n) ended = ended ≡ AllDone
@@ -195,7 +189,7 @@ pub record HasEnded (file : List ℕ → Option (List ℕ)) (said : Option Said)
 -- the words say a check
 abbrev pub is_check : Option Said → Bool
 is_check None = false
-is_check (Some (runs model session)) = false
+is_check (Some (runs service model session)) = false
 is_check (Some (checks model cert)) = true
 is_check (Some (prints model)) = false
 is_check (Some (generates kind n)) = false
@@ -204,7 +198,7 @@ is_check (Some (drives n)) = false
 -- the words say a run
 abbrev pub is_run : Option Said → Bool
 is_run None = false
-is_run (Some (runs model session)) = true
+is_run (Some (runs service model session)) = true
 is_run (Some (checks model cert)) = false
 is_run (Some (prints model)) = false
 is_run (Some (generates kind n)) = false

@@ -18,7 +18,7 @@ use Rattle.lv_run_words.specs.declared.commands.Kind.TheVariants.{Model, Session
 -- the text of the model that a command speaks of, over files by their names: that of a file, or the one made for a number;
 -- a text that is made alone speaks of none
 abbrev pub model_told : (List ℕ → Option (List ℕ)) → Said → Option (List ℕ)
-model_told file (runs model session) = file model
+model_told file (runs service model session) = file model
 model_told file (checks model cert) = file model
 model_told file (prints model) = file model
 model_told file (generates kind n) = None
@@ -50,7 +50,7 @@ second_open name = record { role = OfSecond; name = name }
 
 -- the opens that a command asks for, in order
 abbrev pub command_opens : Said → List Opened
-command_opens (runs model session) = model_open model ∷ second_open session ∷ []
+command_opens (runs service model session) = model_open model ∷ second_open session ∷ []
 command_opens (checks model cert) = model_open model ∷ second_open cert ∷ []
 command_opens (prints model) = model_open model ∷ []
 command_opens (generates kind n) = []

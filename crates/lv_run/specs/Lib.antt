@@ -2,8 +2,10 @@ pub mod Expected
 pub mod Faults
 pub mod Inputs
 pub mod Judged
+pub mod OfLanes
 pub mod Opens
 pub mod Printed
+pub mod Services
 pub mod Statuses
 pub mod Telling
 pub mod Top

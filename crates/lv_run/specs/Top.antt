@@ -4,7 +4,7 @@ use Rattle.std.specs.Io.KnownBytes.{append_known}
 use Rattle.lv_base.specs.declared.limits.TheConstants.{CERTIFICATE_BYTES}
 use Rattle.lv_io.specs.Outside.{Rose}
 use Rattle.lv_io.specs.declared.Role.{Role}
-use Rattle.lv_session.specs.Answering.{fits}
+use Rattle.lv_run.specs.Services.{fits}
 use Rattle.lv_model.specs.declared.plant.Plant.{Plant}
 use Rattle.lv_checker.specs.Verdicts.{IsVerdict, accepted}
 use Rattle.lv_certcheck.specs.Verdicts.{IsVerdictOn, ProvesItsAnswer}
@@ -14,6 +14,7 @@ use Rattle.lv_gen.specs.Series.{model_text}
 use Rattle.lv_run_drive.specs.Drives.{drive_text}
 use Rattle.lv_run_words.specs.Words.{Said, runs, checks, prints, generates, drives, command_of}
 use Rattle.lv_run_words.specs.declared.commands.Kind.{Kind}
+use Rattle.lv_run_words.specs.declared.commands.Service.{Service}
 use Rattle.lv_run.specs.Expected.{Expected, Expects, Meets, TellsVerdict}
 use Rattle.lv_run.specs.Inputs.{IsCanonical, made_text}
 use Rattle.lv_run.specs.Faults.{ended_status}
@@ -23,17 +24,17 @@ use Rattle.lv_run.specs.declared.status.Ended.{Ended}
 use Rattle.lv_run.specs.declared.fault.RunFault.{RunFault}
 use Rattle.lv_run.specs.declared.status.Status.{Status}
 
--- the words ask for a run of this session over this model, both of which the files hold: the model's text is accepted,
--- and the session is no longer than its limit, or a `quit` that is accepted ends within it
-pub record Asks (file : List ℕ → Option (List ℕ)) (words : List (List ℕ)) (plant : Plant) (session : List ℕ) : Type 0 where
+-- the words ask for a run of this session, or of sessions in lanes, over this model, both of which the files hold: the model's text is
+-- accepted, and the session is no longer than its limit, or a `quit` that is accepted, where it is one session, ends within it
+pub record Asks (service : Service) (file : List ℕ → Option (List ℕ)) (words : List (List ℕ)) (plant : Plant) (session : List ℕ) : Type 0 where
   pub model_name : List ℕ
   pub session_name : List ℕ
   pub text : List ℕ
-  pub asked : command_of words ≡ Some (runs model_name session_name)
+  pub asked : command_of words ≡ Some (runs service model_name session_name)
   pub model_told : file model_name ≡ Some text
   pub verdict : IsVerdict text (accepted plant)
   pub session_told : file session_name ≡ Some session
-  pub within : fits plant session ≡ true
+  pub within : fits service plant session ≡ true
 
 -- the words ask for a text: the canonical text of a model that the files hold, a text made for a number, or the summary of the
 -- session made for a number over the model made for it; the model's text is accepted

@@ -18,26 +18,27 @@ use crate::session::serve_session;
 use crate::status::{Ended, Status};
 use crate::writing::write_text;
 use lv_io::{Shelf, Sink};
-use lv_run_words::Kind;
+use lv_run_words::{Kind, Service};
 use std::alloc::Global;
 
-/// Reads a model, then serves a session over it.
+/// Reads a model, then serves a session, or sessions in lanes, over it.
 pub fn run<F: Shelf, O: Sink>(
     alloc: Global,
+    service: Service,
     model: &str,
     session: &str,
     shelf: &mut F,
     out: &mut O,
 ) -> Result<Ended, RunFault>
     // What is expected.
-    ensures meets { (e : Expected) → Expects (F.file shelf.old) (Some (runs model.now session.now)) e → Meets e (O.text out.old) (O.text out.new) (ended_status result) }
-    ensures follows { Follows (F.file shelf.old) (Some (runs model.now session.now)) (ended_status result) }
-    ensures verdict { TellsVerdict (F.file shelf.old) (Some (runs model.now session.now)) result }
-    ensures silent { IsTrue (is_silent (Some (runs model.now session.now)) (ended_status result)) → O.text out.new ≡ O.text out.old }
+    ensures meets { (e : Expected) → Expects (F.file shelf.old) (Some (runs service model.now session.now)) e → Meets e (O.text out.old) (O.text out.new) (ended_status result) }
+    ensures follows { Follows (F.file shelf.old) (Some (runs service model.now session.now)) (ended_status result) }
+    ensures verdict { TellsVerdict (F.file shelf.old) (Some (runs service model.now session.now)) result }
+    ensures silent { IsTrue (is_silent (Some (runs service model.now session.now)) (ended_status result)) → O.text out.new ≡ O.text out.old }
     ensures flushed { ended_status result ≢ Status.OutputFailed → ended_status result ≢ Status.OutOfMemory → O.is_flushed out.old ≡ true → O.is_flushed out.new ≡ true }
 
     // What is recorded.
-    ensures opens { HasOpened (opens_of (Some (runs model.now session.now))) (F.opens shelf.old) (F.opens shelf.new) (ended_status result) }
+    ensures opens { HasOpened (opens_of (Some (runs service model.now session.now))) (F.opens shelf.old) (F.opens shelf.new) (ended_status result) }
 
     // Whose fault it was.
     ensures model_unread { ended_status result ≡ Status.ModelUnread → Rose (F.faults shelf.old OfModel) (F.faults shelf.new OfModel) }
@@ -47,7 +48,7 @@ pub fn run<F: Shelf, O: Sink>(
     ensures out_as_before { ended_status result ≢ Status.OutputFailed → O.faults out.new ≡ O.faults out.old }
 {
     let model = load_model(alloc, shelf, model)?;
-    serve_session(alloc, &model, session, shelf, out)
+    serve_session(alloc, service, &model, session, shelf, out)
 }
 
 /// Reads a model, then judges a certificate over it, and writes the verdict.

@@ -5,14 +5,18 @@ ghost use Rattle.lv_io.specs.Outside.{Rose};
 ghost use Rattle.lv_io.specs.declared.Role.{Role};
 ghost use Rattle.lv_io.specs.declared.Role.TheVariants.{Second as OfSecond};
 ghost use Rattle.lv_serve.specs.Faults.{HasShelfCause, HasSinkCause, IsFlushed};
-ghost use Rattle.lv_run.specs.Expected.{ServesSession, ServesTold};
+ghost use Rattle.lv_run_words.specs.declared.commands.Service.TheVariants.{Single, Lanes as LanesService};
+ghost use Rattle.lv_run.specs.Services.{Serves};
+ghost use Rattle.lv_run.specs.Expected.{ServesTold};
 ghost use Rattle.lv_run.specs.Inputs.{second_open, AddsOpens};
 ghost use Rattle.lv_run.specs.Faults.{EndsOpening, EndsSession, ended_status};
 
 use crate::fault::RunFault;
 use crate::status::{Ended, Status};
 use lv_io::{IoFault, Role, Shelf, Sink, Slot};
+use lv_lanes::Lanes;
 use lv_model::Model;
+use lv_run_words::Service;
 use lv_serve::{ServeFault, serve};
 use lv_session::{CompiledModel, Session};
 use std::alloc::Global;
@@ -20,13 +24,14 @@ use std::alloc::Global;
 /// Opens the session's file and serves it over a model.
 pub fn serve_session<F: Shelf, O: Sink>(
     alloc: Global,
+    service: Service,
     model: &Model,
     session: &str,
     shelf: &mut F,
     out: &mut O,
 ) -> Result<Ended, RunFault>
     // What was written, and flushed.
-    ensures told { (text : List ℕ) → F.file shelf.old session.now ≡ Some text → ServesTold model.now text (O.text out.old) (O.text out.new) result }
+    ensures told { (text : List ℕ) → F.file shelf.old session.now ≡ Some text → ServesTold service model.now text (O.text out.old) (O.text out.new) result }
     ensures done { IfOk result (λ ended. ended ≡ Ended.Done) }
     ensures ends { IfErr result EndsSession }
     ensures flushed { ended_status result ≢ Status.OutputFailed → ended_status result ≢ Status.OutOfMemory → O.is_flushed out.old ≡ true → O.is_flushed out.new ≡ true }
@@ -42,20 +47,21 @@ pub fn serve_session<F: Shelf, O: Sink>(
     ensures out_as_before { ended_status result ≢ Status.OutputFailed → O.faults out.new ≡ O.faults out.old }
 {
     let slot = open_session(shelf, session)?;
-    serve_opened(alloc, model, shelf, slot, out)?;
+    serve_opened(alloc, service, model, shelf, slot, out)?;
     Ok(Ended::Done)
 }
 
 /// Serves the session that is left of a slot over a model, which is compiled before anything is read.
 fn serve_opened<F: Shelf, O: Sink>(
     alloc: Global,
+    service: Service,
     model: &Model,
     shelf: &mut F,
     slot: Slot,
     out: &mut O,
 ) -> Result<(), ServeFault>
     requires known { IsTrue (F.knows shelf.old slot) }
-    ensures told { (text : List ℕ) → F.rest shelf.old slot ≡ Some text → ServesSession model.now text (O.text out.old) (O.text out.new) result }
+    ensures told { (text : List ℕ) → F.rest shelf.old slot ≡ Some text → Serves service model.now text (O.text out.old) (O.text out.new) result }
     ensures flushed { O.is_flushed out.old ≡ true → IsFlushed result (O.is_flushed out.new ≡ true) }
     ensures opens { F.opens shelf.new ≡ F.opens shelf.old }
     ensures shelf_cause { HasShelfCause (F.faults shelf.old slot.role) (F.faults shelf.new slot.role) result }
@@ -63,11 +69,14 @@ fn serve_opened<F: Shelf, O: Sink>(
     ensures sink_cause { HasSinkCause (O.faults out.old) (O.faults out.new) result }
 {
     let compiled = CompiledModel::new(alloc, model)?;
-    serve_compiled(alloc, &compiled, shelf, slot, out)
+    match service {
+        Service::Single => serve_alone(alloc, &compiled, shelf, slot, out),
+        Service::Lanes => serve_lanes(alloc, &compiled, shelf, slot, out),
+    }
 }
 
-/// The same over a model that is compiled.
-fn serve_compiled<F: Shelf, O: Sink>(
+/// One session serves all lines.
+fn serve_alone<F: Shelf, O: Sink>(
     alloc: Global,
     compiled: &CompiledModel<'_>,
     shelf: &mut F,
@@ -75,7 +84,7 @@ fn serve_compiled<F: Shelf, O: Sink>(
     out: &mut O,
 ) -> Result<(), ServeFault>
     requires known { IsTrue (F.knows shelf.old slot) }
-    ensures told { (text : List ℕ) → F.rest shelf.old slot ≡ Some text → ServesSession compiled.now text (O.text out.old) (O.text out.new) result }
+    ensures told { (text : List ℕ) → F.rest shelf.old slot ≡ Some text → Serves Single compiled.now text (O.text out.old) (O.text out.new) result }
     ensures flushed { O.is_flushed out.old ≡ true → IsFlushed result (O.is_flushed out.new ≡ true) }
     ensures opens { F.opens shelf.new ≡ F.opens shelf.old }
     ensures shelf_cause { HasShelfCause (F.faults shelf.old slot.role) (F.faults shelf.new slot.role) result }
@@ -84,6 +93,26 @@ fn serve_compiled<F: Shelf, O: Sink>(
 {
     let session = Session::new(alloc, compiled)?;
     serve(alloc, session, shelf, slot, out)
+}
+
+/// Each line is served by the session of its lane.
+fn serve_lanes<F: Shelf, O: Sink>(
+    alloc: Global,
+    compiled: &CompiledModel<'_>,
+    shelf: &mut F,
+    slot: Slot,
+    out: &mut O,
+) -> Result<(), ServeFault>
+    requires known { IsTrue (F.knows shelf.old slot) }
+    ensures told { (text : List ℕ) → F.rest shelf.old slot ≡ Some text → Serves LanesService compiled.now text (O.text out.old) (O.text out.new) result }
+    ensures flushed { O.is_flushed out.old ≡ true → IsFlushed result (O.is_flushed out.new ≡ true) }
+    ensures opens { F.opens shelf.new ≡ F.opens shelf.old }
+    ensures shelf_cause { HasShelfCause (F.faults shelf.old slot.role) (F.faults shelf.new slot.role) result }
+    ensures others { (r : Role) → r ≢ slot.role → F.faults shelf.new r ≡ F.faults shelf.old r }
+    ensures sink_cause { HasSinkCause (O.faults out.old) (O.faults out.new) result }
+{
+    let first = Session::new(alloc, compiled)?;
+    serve(alloc, Lanes::new(alloc, first), shelf, slot, out)
 }
 
 /// Opens the session's file.

@@ -6,6 +6,8 @@ ghost use Rattle.lv_io.specs.Outside.{Rose};
 ghost use Rattle.lv_io.specs.declared.Role.{Role};
 ghost use Rattle.lv_io.specs.declared.Role.TheVariants.{Model as OfModel, Second as OfSecond};
 ghost use Rattle.lv_run_words.specs.Words.{command_of};
+ghost use Rattle.lv_run_words.specs.declared.commands.Service.TheVariants.{Single, Lanes};
+ghost use Rattle.lv_run.specs.OfLanes.{AddsLanes};
 ghost use Rattle.lv_run.specs.Faults.{ended_status};
 ghost use Rattle.lv_run.specs.Inputs.{opens_of};
 ghost use Rattle.lv_run.specs.Expected.{Expected, Expects, status_expected, Meets, Follows, TellsVerdict, is_silent, keeps_shelf};
@@ -41,17 +43,25 @@ pub fn livingstone<F: Shelf, O: Sink, E: Sink>(
     // first k, by cost and then written order, of the transitions from the tracked states that some assignment allows
     // with commands and observations; each settled recovery is the first command set that takes every tracked state
     // nominally to the goals, or 'no recovery' exactly where none does.
-    ensures headline { (plant : Plant) (session : List ℕ) → Asks (F.file shelf.old) (map string_bytes words.items) plant session → result ≡ Status.Done
+    ensures headline { (plant : Plant) (session : List ℕ) → Asks Single (F.file shelf.old) (map string_bytes words.items) plant session → result ≡ Status.Done
         → AddsTranscript plant session (O.text out.old) (O.text out.new) × (E.text err.new ≡ E.text err.old) }
     // The same in the words of the definitions: in what is written each settled diagnosis is the first k candidates of the
     // tracked states that are possible under the facts, each recovery the first command set that recovers, and 'no
     // recovery' stands exactly where none does (`lv_session::laws::settled_answers_are_first`).
-    ensures answers { (plant : Plant) (session : List ℕ) → Asks (F.file shelf.old) (map string_bytes words.items) plant session → result ≡ Status.Done
+    ensures answers { (plant : Plant) (session : List ℕ) → Asks Single (F.file shelf.old) (map string_bytes words.items) plant session → result ≡ Status.Done
         → AddsTrueTranscript plant session (O.text out.old) (O.text out.new) }
     // Each certificate among the replies is valid for the model, so that a check over it calls it valid.
-    ensures certified { (plant : Plant) (session : List ℕ) → Asks (F.file shelf.old) (map string_bytes words.items) plant session → result ≡ Status.Done
+    ensures certified { (plant : Plant) (session : List ℕ) → Asks Single (F.file shelf.old) (map string_bytes words.items) plant session → result ≡ Status.Done
         → AddsCertified plant session (O.text out.old) (O.text out.new) }
-    ensures complete { (plant : Plant) (session : List ℕ) → Asks (F.file shelf.old) (map string_bytes words.items) plant session
+    ensures complete { (plant : Plant) (session : List ℕ) → Asks Single (F.file shelf.old) (map string_bytes words.items) plant session
+        → HasNoFault (F.faults shelf.old) (F.faults shelf.new) (O.faults out.old) (O.faults out.new) (E.faults err.old) (E.faults err.new)
+        → (result ≡ Status.Done) ⊎ (result ≡ Status.OutOfMemory) }
+
+    // Of sessions in lanes what is written is the text of the reply to each line, in order; and for every interleaving what
+    // belongs to each lane is the transcript of the lane's own session over its own lines.
+    ensures lanes { (plant : Plant) (lines : List ℕ) → Asks Lanes (F.file shelf.old) (map string_bytes words.items) plant lines → result ≡ Status.Done
+        → AddsLanes plant lines (O.text out.old) (O.text out.new) × (E.text err.new ≡ E.text err.old) }
+    ensures lanes_complete { (plant : Plant) (lines : List ℕ) → Asks Lanes (F.file shelf.old) (map string_bytes words.items) plant lines
         → HasNoFault (F.faults shelf.old) (F.faults shelf.new) (O.faults out.old) (O.faults out.new) (E.faults err.old) (E.faults err.new)
         → (result ≡ Status.Done) ⊎ (result ≡ Status.OutOfMemory) }
 
@@ -153,9 +163,11 @@ fn carry_out<F: Shelf, O: Sink>(
     ensures out_as_before { ended_status result ≢ Status.OutputFailed → O.faults out.new ≡ O.faults out.old }
 {
     match read_words(alloc, words)? {
-        Command::Run { model, session } => {
-            run(alloc, model.as_str(), session.as_str(), shelf, out)
-        }
+        Command::Run {
+            service,
+            model,
+            session,
+        } => run(alloc, service, model.as_str(), session.as_str(), shelf, out)
         Command::Check { model, cert } => check(alloc, model.as_str(), cert.as_str(), shelf, out),
         Command::Print { model } => print(alloc, model.as_str(), shelf, out),
         Command::Generate { kind, number } => generate(alloc, kind, number, out),

@@ -33,6 +33,14 @@ is_asked (Recovery sum) = true
 abbrev pub is_unsettled : Plant → SessionState → Bool
 is_unsettled plant state = not state.is_ended && is_asked state.query && not (is_settled state.query plant state)
 
+-- another session over the same plant, at its start
+abbrev pub begun_again : RunningSession → RunningSession
+begun_again s = begun s.plant
+
+-- its query is unsettled, and memory sufficed so far
+abbrev pub is_open : RunningSession → Bool
+is_open s = not s.is_out_of_memory && is_unsettled s.plant s.state
+
 -- a `quit` is accepted among the lines of a text that have ended
 abbrev pub quits : Plant → List ℕ → Bool
 quits plant text = quits_at next_at has_quit (begun plant) text

@@ -1,9 +1,9 @@
 //! A session over a model: its state, and what each line does.
 #![tactic(auto)]
 
-ghost use Rattle.std.specs.Prelude.{◌≡◌, IfOk, OnOk, OnErr, IsErr, true, false, not, ◌&&◌};
+ghost use Rattle.std.specs.Prelude.{◌≡◌, IfOk, OnOk, OnErr, IsErr, true, false};
 ghost use Rattle.lv_session.specs.Session.{stepped, is_settled};
-ghost use Rattle.lv_session.specs.Answering.{begun, next_at, SaysAt, is_unsettled};
+ghost use Rattle.lv_session.specs.Answering.{begun, next_at, SaysAt, is_open};
 ghost use Rattle.lv_session.specs.Current.{IsSession};
 ghost use Rattle.lv_session.specs.Certificates.{Certifies, IsTextOf, IsDue};
 
@@ -12,6 +12,7 @@ use crate::state::State;
 use crate::workings::{Workings, answer};
 use lv_ident::QueryEffort;
 use lv_reply::{Reply, reply_text};
+use lv_lanes::Lane;
 use lv_serve::Responder;
 use std::alloc::{AllocError, Global};
 use std::marker;
@@ -120,7 +121,7 @@ impl<'a> Session<'a> {
     /// Whether a query is current that `more` goes on with. Once memory was wanting, nothing is known of the query. Takes
     /// no memory.
     pub fn is_unsettled(&self) -> bool
-        ensures { result ≡ (not self.now.is_out_of_memory && is_unsettled self.now.plant self.now.state) }
+        ensures { result ≡ is_open self.now }
     {
         let compiled = self.compiled;
         !self.is_out_of_memory
@@ -191,5 +192,21 @@ impl Responder for Session<'_> {
 
     fn is_ended(&self) -> bool {
         self.ended()
+    }
+}
+
+impl<'a> Lane for Session<'a> {
+    ghost use Rattle.lv_session.specs.Answering.{begun_again, is_open};
+
+    ghost start = { begun_again };
+
+    ghost is_open = { is_open };
+
+    fn fresh(&self) -> Result<Session<'a>, AllocError> {
+        Session::new(self.alloc, self.compiled)
+    }
+
+    fn is_unsettled(&self) -> bool {
+        Session::is_unsettled(self)
     }
 }

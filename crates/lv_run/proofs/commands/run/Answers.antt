@@ -10,12 +10,12 @@ use Rattle.lv_run.proofs.commands.run.Goals as goal
 
 pub returns-in_err-model-clause-meets : goal.returns-in_err-model-clause-meets
 returns-in_err-model-clause-meets g c =
-    ended_at_model (g.F.Shelf.file c.args.shelf.now) (runs c.args.model.now c.args.session.now) c.in_err-model.field-0.0 _ _ tt
+    ended_at_model (g.F.Shelf.file c.args.shelf.now) (runs c.args.service c.args.model.now c.args.session.now) c.in_err-model.field-0.0 _ _ tt
     c.in_err-model.ensures.ends c.in_err-model.ensures.refused c.from_residual.ensures.1
 
 pub returns-in_err-model-clause-follows : goal.returns-in_err-model-clause-follows
 returns-in_err-model-clause-follows g c =
-    follows_at_model (g.F.Shelf.file c.args.shelf.now) (runs c.args.model.now c.args.session.now) c.in_err-model.field-0.0 _
+    follows_at_model (g.F.Shelf.file c.args.shelf.now) (runs c.args.service c.args.model.now c.args.session.now) c.in_err-model.field-0.0 _
     c.in_err-model.ensures.ends c.in_err-model.ensures.refused c.from_residual.ensures.1
 
 pub returns-in_err-model-clause-opens : goal.returns-in_err-model-clause-opens
@@ -26,20 +26,20 @@ returns-in_err-model-clause-opens g c =
 
 pub returns-clause-meets : goal.returns-clause-meets
 returns-clause-meets g c =
-    served_meets _ _ _ _ _ _ _ c.serve_session.result c.load_model.ensures.files c.in_ok-model.ensures.model c.serve_session.ensures.told
+    served_meets _ _ _ _ _ _ _ _ c.serve_session.result c.load_model.ensures.files c.in_ok-model.ensures.model c.serve_session.ensures.told
 
 pub returns-clause-follows : goal.returns-clause-follows
 returns-clause-follows g c =
-    served_follows (g.F.Shelf.file c.args.shelf.now) c.args.model.now c.args.session.now _ c.serve_session.result c.in_ok-model.ensures.model
+    served_follows c.args.service (g.F.Shelf.file c.args.shelf.now) c.args.model.now c.args.session.now _ c.serve_session.result c.in_ok-model.ensures.model
     c.serve_session.ensures.done c.serve_session.ensures.ends
 
 pub returns-clause-verdict : goal.returns-clause-verdict
 returns-clause-verdict g c =
-    served_verdict (g.F.Shelf.file c.args.shelf.now) c.args.model.now c.args.session.now c.serve_session.result c.serve_session.ensures.done c.serve_session.ensures.ends
+    served_verdict c.args.service (g.F.Shelf.file c.args.shelf.now) c.args.model.now c.args.session.now c.serve_session.result c.serve_session.ensures.done c.serve_session.ensures.ends
 
 pub returns-clause-silent : goal.returns-clause-silent
 returns-clause-silent g c =
-    served_silent c.args.model.now c.args.session.now c.serve_session.result _ _ c.serve_session.ensures.ends
+    served_silent c.args.service c.args.model.now c.args.session.now c.serve_session.result _ _ c.serve_session.ensures.ends
 
 pub returns-clause-opens : goal.returns-clause-opens
 returns-clause-opens g c =

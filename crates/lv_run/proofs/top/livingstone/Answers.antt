@@ -6,6 +6,8 @@ use Rattle.lv_run.specs.Inputs.{opens_of}
 use Rattle.lv_run.specs.Expected.{Meets, serves, judges, shows}
 use Rattle.lv_run.specs.Faults.{ended_status}
 use Rattle.lv_run.specs.declared.status.Status.{Status}
+use Rattle.lv_run_words.specs.declared.commands.Service.TheVariants.{Single, Lanes}
+use Rattle.lv_run.proofs.ServiceLemmas.{adds_lanes}
 use Rattle.lv_run.proofs.TopLemmas.{reported_meets, status_due, expected_run, expected_check, expected_text, told_verdict, ended_done, output_cause}
 use Rattle.lv_run.proofs.OpenLemmas.{all_opened}
 use Rattle.lv_session.proofs.TrueAnswers.{adds_true}
@@ -39,10 +41,24 @@ returns-clause-opens g c =
 pub returns-clause-headline : goal.returns-clause-headline
 returns-clause-headline g c =
     λ plant session asks done. (
-      (subst (λ (s : Status). Meets (serves plant session) (g.O.Sink.text c.args.out.now) (g.O.Sink.text c.carry_out-ended.new.out) s) done
-          (returns-clause-meets g c (serves plant session) (expected_run (g.F.Shelf.file c.args.shelf.now) (map (string_bytes {Z = Global}) c.args.words.items) plant session asks))).1,
+      (subst (λ (s : Status). Meets (serves Single plant session) (g.O.Sink.text c.args.out.now) (g.O.Sink.text c.carry_out-ended.new.out) s) done
+          (returns-clause-meets g c (serves Single plant session) (expected_run Single (g.F.Shelf.file c.args.shelf.now) (map (string_bytes {Z = Global}) c.args.words.items) plant session asks))).1,
       ended_done c.carry_out-ended.result _ _ c.tell_end.result c.tell_end.ensures.status c.tell_end.ensures.told done,
     )
+
+pub returns-clause-lanes : goal.returns-clause-lanes
+returns-clause-lanes g c =
+    λ plant lines asks done. (
+      adds_lanes plant lines (g.O.Sink.text c.args.out.now) (g.O.Sink.text c.carry_out-ended.new.out)
+          (subst (λ (s : Status). Meets (serves Lanes plant lines) (g.O.Sink.text c.args.out.now) (g.O.Sink.text c.carry_out-ended.new.out) s) done
+          (returns-clause-meets g c (serves Lanes plant lines) (expected_run Lanes (g.F.Shelf.file c.args.shelf.now) (map (string_bytes {Z = Global}) c.args.words.items) plant lines asks))).1,
+      ended_done c.carry_out-ended.result _ _ c.tell_end.result c.tell_end.ensures.status c.tell_end.ensures.told done,
+    )
+
+pub returns-clause-lanes_complete : goal.returns-clause-lanes_complete
+returns-clause-lanes_complete g c =
+    λ plant lines asks none. returns-clause-exact g c (serves Lanes plant lines)
+    (expected_run Lanes (g.F.Shelf.file c.args.shelf.now) (map (string_bytes {Z = Global}) c.args.words.items) plant lines asks) none
 
 pub returns-clause-answers : goal.returns-clause-answers
 returns-clause-answers g c =
@@ -63,8 +79,8 @@ returns-clause-written g c =
 
 pub returns-clause-complete : goal.returns-clause-complete
 returns-clause-complete g c =
-    λ plant session asks none. returns-clause-exact g c (serves plant session)
-    (expected_run (g.F.Shelf.file c.args.shelf.now) (map (string_bytes {Z = Global}) c.args.words.items) plant session asks) none
+    λ plant session asks none. returns-clause-exact g c (serves Single plant session)
+    (expected_run Single (g.F.Shelf.file c.args.shelf.now) (map (string_bytes {Z = Global}) c.args.words.items) plant session asks) none
 
 pub returns-clause-writes : goal.returns-clause-writes
 returns-clause-writes g c =

@@ -1,0 +1,23 @@
+-- What is written of sessions in lanes, and what of it belongs to each lane.
+use Rattle.std.specs.Prelude.{◌≡◌, ℕ, List, Option}
+use Rattle.std.specs.Io.KnownBytes.{append_known}
+use Rattle.lv_run_words.specs.lv_text.Lines.{lines_of}
+use Rattle.lv_model.specs.declared.plant.Plant.{Plant}
+use Rattle.lv_lanes.specs.declared.reply.LaneReply.{LaneReply}
+use Rattle.lv_lanes.specs.Laws.{MayReplyInOrder, own_lines, own_text, all_text}
+use Rattle.lv_session.specs.Session.{start}
+use Rattle.lv_session.specs.Transcript.{IsTranscriptFrom}
+use Rattle.lv_session.specs.Answering.{next_at, SaysAt, begun_again, is_open}
+use Rattle.lv_run.specs.Services.{lanes_begun}
+
+-- a lane's own lines: those that are handed to it, and `more` for each turn at which its query was unsettled
+abbrev pub lines_of_lane : Plant → List ℕ → List ℕ → List (List ℕ)
+lines_of_lane plant name text = own_lines next_at begun_again is_open name (lanes_begun plant) (lines_of text)
+
+-- the texts of replies to the lines, one to each in order, were added; and what belongs to each lane, its names taken off, is the transcript
+-- of the lane's own session over its own lines
+pub record AddsLanes (plant : Plant) (text : List ℕ) (before after : Option (List ℕ)) : Type 0 where
+  pub replies : List LaneReply
+  pub in_order : MayReplyInOrder next_at SaysAt begun_again is_open (lanes_begun plant) (lines_of text) replies
+  pub alone : (name : List ℕ) → IsTranscriptFrom plant (start plant) (lines_of_lane plant name text) (own_text name replies)
+  pub added : after ≡ append_known before (all_text replies)
