@@ -10,9 +10,9 @@ use Rattle.lv_lanes.specs.declared.reply.LaneReply.{LaneReply}
 use Rattle.lv_lanes.specs.declared.reply.LaneReply.TheVariants.{Refused, Replied}
 use Rattle.lv_lanes.specs.Forms.{Asked, nothing, refused, for_lane, turn, asked_by}
 use Rattle.lv_lanes.specs.declared.fault.LaneFault.TheVariants.{NoLane}
-use Rattle.lv_lanes.specs.Standing.{Errand, Work, is_refused, errands, Standing, is_lane, lane_of, has_place, gone_on, handed, is_open_lane, errand_to, errands_to_open, turned, more_line, work_by, work_of, lanes_by, stepped}
+use Rattle.lv_lanes.specs.Standing.{is_refused, errands, Standing, is_lane, lane_of, has_place, gone_on, handed, is_open_lane, errand_to, errands_to_open, turned, more_line, work_by, work_of, lanes_by, stepped}
 use Rattle.lv_lanes.specs.Replies.{AreReplies, no_errands, one_more, MayReply, MayWrite}
-use Rattle.lv_lanes.specs.Laws.{at_start, lines_to, handed_to, text_in, text_of, own_text, all_text, own_lines, MayReplyInOrder, all_replied, first_replied, EachIsAlone, IsOfLanes, WrittenIsOfLanes}
+use Rattle.lv_lanes.specs.Laws.{at_start, lines_to, handed_to, text_in, text_of, own_text, all_text, own_lines, MayReplyInOrder, all_replied, first_replied, EachIsAlone, WrittenIsOfLanes}
 use Rattle.lv_lanes.proofs.LaneLemmas.{NamedOnce, absent_later, no_other, own_goes, other_stays, once_handed, once_turned}
 
 module _ {S : Type 0} (next : S → List ℕ → S) (says : S → List ℕ → List ℕ → Type 0) where
@@ -82,24 +82,24 @@ module _ {S : Type 0} (next : S → List ℕ → S) (says : S → List ℕ → L
       where
         by : (b : Bool) (rs : List LaneText)
             → ((later : List LaneText) → AreReplies says (errands_to_open is_open line ls) later
-              → OwnPart (lane_of name begin ls) (lines_to name (errands_to_open is_open line ls)) (lane_of name begin (map (turned next is_open line) ls)) (text_in name later))
+            → OwnPart (lane_of name begin ls) (lines_to name (errands_to_open is_open line ls)) (lane_of name begin (map (turned next is_open line) ls)) (text_in name later))
             → AreReplies says (map (errand_to line) (cond b (l ∷ filter (is_open_lane is_open) ls) (filter (is_open_lane is_open) ls))) rs
             → OwnPart (cond (is_lane name l) l.lane (lane_of name begin ls))
-                (lines_to name (map (errand_to line) (cond b (l ∷ filter (is_open_lane is_open) ls) (filter (is_open_lane is_open) ls))))
-                (lane_of name begin (cond b (gone_on next line l) l ∷ map (turned next is_open line) ls))
-                (text_in name rs)
+            (lines_to name (map (errand_to line) (cond b (l ∷ filter (is_open_lane is_open) ls) (filter (is_open_lane is_open) ls))))
+            (lane_of name begin (cond b (gone_on next line l) l ∷ map (turned next is_open line) ls))
+            (text_in name rs)
         by false rs others are =
             shut_first (is_lane name l) l.lane (lane_of name begin ls) (lane_of name begin (map (turned next is_open line) ls))
-              (lines_to name (errands_to_open is_open line ls)) (text_in name rs)
-              (λ is. turn_without name line ls rs (no_other name l ls is once.0) are) (others rs are)
+            (lines_to name (errands_to_open is_open line ls)) (text_in name rs)
+            (λ is. turn_without name line ls rs (no_other name l ls is once.0) are) (others rs are)
         by true rs others (one_more {reply} {replies} named said later) =
             let behind = lines_to name (errands_to_open is_open line ls) in
             subst (λ (n : List ℕ). OwnPart (cond (is_lane name l) l.lane (lane_of name begin ls)) (cond (is_lane name l) (line ∷ behind) behind)
-                (cond (is_lane name l) (next l.lane line) (lane_of name begin (map (turned next is_open line) ls)))
-                (cond (is_named name n) (reply.text ++ text_in name replies) (text_in name replies))) (sym named)
+            (cond (is_lane name l) (next l.lane line) (lane_of name begin (map (turned next is_open line) ls)))
+            (cond (is_named name n) (reply.text ++ text_in name replies) (text_in name replies))) (sym named)
             (open_first (is_lane name l) l.lane (lane_of name begin ls) (lane_of name begin (map (turned next is_open line) ls)) line
-              behind reply.text (text_in name replies) said
-              (λ is. turn_without name line ls replies (no_other name l ls is once.0) later) (others replies later))
+            behind reply.text (text_in name replies) said
+            (λ is. turn_without name line ls replies (no_other name l ls is once.0) later) (others replies later))
 
     for_own : (name line : List ℕ) (begin : S) (ls : List (Named S)) (text : List ℕ) → says (lane_of name begin ls) line text
         → OwnPart (lane_of name begin ls) (line ∷ []) (lane_of name begin (handed next name line begin ls)) (text ++ [])
@@ -108,10 +108,10 @@ module _ {S : Type 0} (next : S → List ℕ → S) (says : S → List ℕ → L
     for_one : (name other line : List ℕ) (begin : S) (ls : List (Named S)) (rs : List LaneText)
         → AreReplies says (record { name = other; lane = lane_of other begin ls; line = line } ∷ []) rs
         → OwnPart (lane_of name begin ls) (lines_to name (record { name = other; lane = lane_of other begin ls; line = line } ∷ []))
-            (lane_of name begin (handed next other line begin ls)) (text_in name rs)
+        (lane_of name begin (handed next other line begin ls)) (text_in name rs)
     for_one name other line begin ls rs (one_more {reply} named said no_errands) =
         subst (λ (n : List ℕ). OwnPart (lane_of name begin ls) (cond (is_named name other) (line ∷ []) []) (lane_of name begin (handed next other line begin ls))
-            (cond (is_named name n) (reply.text ++ []) [])) (sym named) (by (is_named name other) refl)
+        (cond (is_named name n) (reply.text ++ []) [])) (sym named) (by (is_named name other) refl)
       where
         by : (b : Bool) → is_named name other ≡ b
             → OwnPart (lane_of name begin ls) (cond b (line ∷ []) []) (lane_of name begin (handed next other line begin ls)) (cond b (reply.text ++ []) [])
@@ -124,7 +124,7 @@ module _ {S : Type 0} (next : S → List ℕ → S) (says : S → List ℕ → L
     of_line : (name : List ℕ) (first : S) (ls : List (Named S)) (asked : Asked) (reply : LaneReply) → NamedOnce ls
         → MayReply says (work_by start is_open first ls asked) reply
         → OwnPart (lane_of name (start first) ls) (handed_to name (work_by start is_open first ls asked))
-            (lane_of name (start first) (lanes_by next start is_open first ls asked)) (text_of name reply)
+        (lane_of name (start first) (lanes_by next start is_open first ls asked)) (text_of name reply)
     of_line name first ls nothing (Refused told) once may = absurd may
     of_line name first ls nothing (Replied rs) once no_errands = nothing_said (lane_of name (start first) ls)
     of_line name first ls (refused fault) (Refused told) once may = nothing_said (lane_of name (start first) ls)
@@ -134,8 +134,8 @@ module _ {S : Type 0} (next : S → List ℕ → S) (says : S → List ℕ → L
         by : (b : Bool) (reply : LaneReply)
             → MayReply says (cond b (errands (record { name = other; lane = lane_of other (start first) ls; line = line } ∷ [])) (is_refused NoLane)) reply
             → OwnPart (lane_of name (start first) ls)
-                (handed_to name (cond b (errands (record { name = other; lane = lane_of other (start first) ls; line = line } ∷ [])) (is_refused NoLane)))
-                (lane_of name (start first) (cond b (handed next other line (start first) ls) ls)) (text_of name reply)
+            (handed_to name (cond b (errands (record { name = other; lane = lane_of other (start first) ls; line = line } ∷ [])) (is_refused NoLane)))
+            (lane_of name (start first) (cond b (handed next other line (start first) ls) ls)) (text_of name reply)
         by true (Refused told) may = absurd may
         by true (Replied rs) may = for_one name other line (start first) ls rs may
         by false (Refused told) may = nothing_said (lane_of name (start first) ls)
@@ -157,13 +157,13 @@ module _ {S : Type 0} (next : S → List ℕ → S) (says : S → List ℕ → L
         → MayReplyInOrder next says start is_open s lines replies
         → IsConversation next says (lane_of name (start s.first) s.lanes) (own_lines next start is_open name s lines) (own_text name replies)
     alone name s [] replies once all_replied = ends
-    alone name s (line ∷ lines) replies once (first_replied {reply} {replies} may later) =
+    alone name s (line ∷ lines) all once (first_replied {reply} {replies} may later) =
         let part = of_line name s.first s.lanes (asked_by line) reply once may in
         joined (lane_of name (start s.first) s.lanes) (handed_to name (work_of start is_open s line))
-          (own_lines next start is_open name (stepped next start is_open s line) lines) (text_of name reply) (own_text name replies)
-          part.is_conversation
-          (subst (λ (end : S). IsConversation next says end (own_lines next start is_open name (stepped next start is_open s line) lines) (own_text name replies)) (sym part.leads)
-          (alone name (stepped next start is_open s line) lines replies (once_by s.first s.lanes (asked_by line) once) later))
+        (own_lines next start is_open name (stepped next start is_open s line) lines) (text_of name reply) (own_text name replies)
+        part.is_conversation
+        (subst (λ (end : S). IsConversation next says end (own_lines next start is_open name (stepped next start is_open s line) lines) (own_text name replies)) (sym part.leads)
+        (alone name (stepped next start is_open s line) lines replies (once_by s.first s.lanes (asked_by line) once) later))
 
     pub each_is_alone : EachIsAlone next says start is_open
     each_is_alone name first lines replies are = alone name (at_start first) lines replies (tt {0}) are

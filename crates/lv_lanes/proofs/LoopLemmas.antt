@@ -6,8 +6,12 @@ use Rattle.std.proofs.lemmas.List.Elements.{filter-append}
 use Rattle.lv_lanes.specs.declared.named.Named.{Named}
 use Rattle.lv_lanes.specs.declared.named.TheConstants.{LANES}
 use Rattle.lv_lanes.specs.declared.reply.LaneText.{LaneText}
-use Rattle.lv_lanes.specs.Standing.{Errand, is_lane, lane_of, has_place, gone_on, handed, is_open_lane, errand_to, errands_to_open, turned}
-use Rattle.lv_lanes.specs.Replies.{AreReplies, no_errands, one_more, IsHandedOn}
+use Rattle.lv_lanes.specs.declared.reply.LaneReply.{LaneReply}
+use Rattle.lv_lanes.specs.declared.reply.LaneReply.TheVariants.{Replied}
+use Rattle.lv_lanes.specs.declared.fault.LaneFault.TheVariants.{NoLane}
+use Rattle.lv_lanes.specs.Forms.{Asked, nothing, asked_by}
+use Rattle.lv_lanes.specs.Standing.{Errand, is_refused, errands, Standing, is_lane, lane_of, has_place, gone_on, handed, is_open_lane, errand_to, errands_to_open, turned, work_by, work_of, lanes_by, stepped}
+use Rattle.lv_lanes.specs.Replies.{AreReplies, no_errands, one_more, IsHandedOn, MayReply}
 use Rattle.lv_base.specs.Names.{is_named}
 use Rattle.lv_lanes.proofs.LaneLemmas.{absent_later, same_name, handed_fresh, lane_of_fresh}
 
@@ -103,7 +107,7 @@ module _ {S : Type 0} (says : S → List ℕ → List ℕ → Type 0) where
         → AreReplies says (errands_to_open is_open line (take (i + 1) ls)) new
     some_further answered reply rs new is some so_far added =
         let one : AreReplies says (errands_to_open is_open line (here ∷ [])) (reply ∷ []) =
-          subst (λ (o : Option LaneText). IfSome o (λ (r : LaneText). AreReplies says (errands_to_open is_open line (here ∷ [])) (r ∷ []))) is some in
+        subst (λ (o : Option LaneText). IfSome o (λ (r : LaneText). AreReplies says (errands_to_open is_open line (here ∷ [])) (r ∷ []))) is some in
         let own = subst (λ (n : Named S). AreReplies says (errands_to_open is_open line (n ∷ [])) (reply ∷ [])) same one in
         subst (λ (ts : List LaneText). AreReplies says (errands_to_open is_open line (take (i + 1) ls)) ts) (sym added)
         (subst (λ (es : List (Errand S)). AreReplies says es (rs ++ reply ∷ [])) (sym (errands_further is_open line ls i l has))
@@ -116,8 +120,8 @@ module _ {S : Type 0} (says : S → List ℕ → List ℕ → Type 0) where
         let none = no_errand is_open line l (subst (λ (n : Named S). is_open n.lane ≡ false) same (shut is)) in
         subst (λ (ts : List LaneText). AreReplies says (errands_to_open is_open line (take (i + 1) ls)) ts) (sym kept)
         (subst (λ (es : List (Errand S)). AreReplies says es rs)
-          (sym (errands_further is_open line ls i l has ∙ ap (λ (es : List (Errand S)). errands_to_open is_open line (take i ls) ++ es) none ∙ append-nil (errands_to_open is_open line (take i ls))))
-          so_far)
+        (sym (errands_further is_open line ls i l has ∙ ap (λ (es : List (Errand S)). errands_to_open is_open line (take i ls) ++ es) none ∙ append-nil (errands_to_open is_open line (take i ls))))
+        so_far)
 
 module _ {S : Type 0} (next : S → List ℕ → S) (says : S → List ℕ → List ℕ → Type 0) where
   -- the first lane of a name was handed a line
@@ -158,10 +162,12 @@ module _ {S : Type 0} (next : S → List ℕ → S) (says : S → List ℕ → L
     subst (λ (s : S). says s line text) (ap (lane_of name start) added ∙ lane_of_fresh name start l old named begins) told.2,
   )
 
-  module _ {E : Type 0} (name line : List ℕ) (start : S) (old after new : List (Named S)) (r : Result (Option (List ℕ)) E) (found : Option (List ℕ))
-      (told : IfOk r (IsHandedOn says next (list_any (is_lane name) old) name line start old after)) (went : r ≡ Ok found) where
+  module _ {E : Type 0} (name line : List ℕ) (start : S) (slice old after new : List (Named S)) (r : Result (Option (List ℕ)) E) (found : Option (List ℕ))
+      (told : IfOk r (IsHandedOn says next (list_any (is_lane name) slice) name line start slice after)) (alike : slice ≡ old) (went : r ≡ Ok found) where
     went_so : IsHandedOn says next (list_any (is_lane name) old) name line start old after found
-    went_so = subst (λ (x : Result (Option (List ℕ)) E). IfOk x (IsHandedOn says next (list_any (is_lane name) old) name line start old after)) went told
+    went_so =
+        subst (λ (x : Result (Option (List ℕ)) E). IfOk x (IsHandedOn says next (list_any (is_lane name) old) name line start old after)) went
+        (subst (λ (xs : List (Named S)). IfOk r (IsHandedOn says next (list_any (is_lane name) xs) name line start xs after)) alike told)
 
     pub none_there : found ≡ None → (list_any (is_lane name) old ≡ false) × (after ≡ old)
     none_there is = subst (λ (x : Option (List ℕ)). IsHandedOn says next (list_any (is_lane name) old) name line start old after x) is went_so
@@ -174,8 +180,47 @@ module _ {S : Type 0} (next : S → List ℕ → S) (says : S → List ℕ → L
     pub handed_to_none : found ≡ None → nat_lt (length old) LANES ≡ false → new ≡ after → (has_place name old ≡ false) × (new ≡ old)
     handed_to_none is full kept = let so = none_there is in (ap₂ (λ (p q : Bool). p || q) so.0 full, kept ∙ so.1)
 
+  -- the list that a lane was put last of
+  pub put_last : (l : Named S) (slice before middle old : List (Named S)) → slice ≡ before → before ≡ middle ++ l ∷ [] → middle ≡ old → slice ≡ old ++ l ∷ []
+  put_last l slice before middle old alike added same = alike ∙ added ∙ ap (λ (xs : List (Named S)). xs ++ l ∷ []) same
+
+  -- what a lane replied to a line for it is the reply
+  pub replied_by_lane : (there : Bool) (name line : List ℕ) (start : S) (old new : List (Named S)) (found : Option (List ℕ)) (text : List ℕ) (reply : LaneText) (before replies : List LaneText)
+      → IsHandedOn says next there name line start old new found → found ≡ Some text → reply.name ≡ name → reply.text ≡ text → before ≡ [] → replies ≡ before ++ reply ∷ []
+      → MayReply says (cond there (errands (record { name = name; lane = lane_of name start old; line = line } ∷ [])) (is_refused NoLane)) (Replied replies)
+  replied_by_lane there name line start old new found text reply before replies told is named texted begins added =
+      let so = subst (λ (x : Option (List ℕ)). IsHandedOn says next there name line start old new x) is told in
+      let said : says (lane_of name start old) line reply.text = subst (λ (t : List ℕ). says (lane_of name start old) line t) (sym texted) so.2 in
+      let all : replies ≡ reply ∷ [] = added ∙ ap (λ (rs : List LaneText). rs ++ reply ∷ []) begins in
+      subst (λ (b : Bool). MayReply says (cond b (errands (record { name = name; lane = lane_of name start old; line = line } ∷ [])) (is_refused NoLane)) (Replied replies)) (sym so.0)
+      (subst (λ (rs : List LaneText). AreReplies says (record { name = name; lane = lane_of name start old; line = line } ∷ []) rs) (sym all) (one_more named said no_errands))
+
 -- a list whose whole front was written
 pub whole_written : {X : Type 0} (n : ℕ) (new old : List X) → length old ≡ n → length new ≡ length old → take n (new ++ drop (length new) old) ≡ new
 whole_written n new old long same =
     let none = drop_all (length new) old (omega (arith, same)) in
     ap (λ rest. take n (new ++ rest)) none ∙ ap (take n) (append-nil new) ∙ take_all n new (omega (arith, long, same))
+
+module _ {S : Type 0} (next : S → List ℕ → S) (is_open : S → Bool) where
+  pub all_turned : (n : ℕ) (line more : List ℕ) (slice old new : List (Named S)) → length old ≡ n → length new ≡ length old → line ≡ more → slice ≡ old
+      → new ≡ map (turned next is_open line) slice → take n (new ++ drop (length new) old) ≡ map (turned next is_open more) old
+  all_turned n line more slice old new long same lines alike is =
+      whole_written n new old long same ∙ is ∙ ap₂ (λ (l : List ℕ) (xs : List (Named S)). map (turned next is_open l) xs) lines alike
+
+module _ {S : Type 0} (says : S → List ℕ → List ℕ → Type 0) (start : S → S) (is_open : S → Bool) where
+  pub nothing_replied : (first : S) (ls : List (Named S)) (asked : Asked) (replies : List LaneText) → asked ≡ nothing → replies ≡ []
+      → MayReply says (work_by start is_open first ls asked) (Replied replies)
+  nothing_replied first ls asked replies is none =
+      subst (λ (a : Asked). MayReply says (work_by start is_open first ls a) (Replied replies)) (sym is)
+      (subst (λ (rs : List LaneText). AreReplies says [] rs) (sym none) no_errands)
+
+  -- between the fields of lanes and their value
+  pub goes_so : (next : S → List ℕ → S) (view s : Standing S) (line : List ℕ) (ls : List (Named S)) → view ≡ s
+      → ls ≡ lanes_by next start is_open view.first view.lanes (asked_by line)
+      → record view { lanes = ls } ≡ stepped next start is_open s line
+  goes_so next view s line ls same is =
+      ap (λ (xs : List (Named S)). record view { lanes = xs }) is ∙ ap (λ (t : Standing S). stepped next start is_open t line) same
+
+  pub replies_so : (view s : Standing S) (line : List ℕ) (reply : LaneReply) → view ≡ s
+      → MayReply says (work_of start is_open view line) reply → MayReply says (work_of start is_open s line) reply
+  replies_so view s line reply same may = subst (λ (t : Standing S). MayReply says (work_of start is_open t line) reply) same may

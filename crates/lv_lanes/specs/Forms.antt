@@ -1,5 +1,5 @@
 -- What a line of lanes asks for, whatever lanes there are.
-use Rattle.std.specs.Prelude.{ℕ, ◌+◌, ◌≡◌, List, [], ◌∷◌, Bool, true, false, not, ◌&&◌, ◌||◌, length, take, drop, nat_eq, nat_le, nat_lt, slice_index, codes, if◌then◌else◌}
+use Rattle.std.specs.Prelude.{ℕ, ◌+◌, ◌≡◌, List, [], ◌∷◌, Bool, false, ◌&&◌, ◌||◌, length, take, drop, nat_eq, nat_le, nat_lt, slice_index, codes, if◌then◌else◌}
 use Rattle.std.specs.List.{prefix_len}
 use Rattle.std.specs.Option.{option_map_or}
 use Rattle.lv_base.specs.declared.limits.TheConstants.{LINE_BYTES, NAME_BYTES, BUDGET}
@@ -28,8 +28,8 @@ abbrev pub addressed : List ℕ → Asked
 addressed rest =
     let end = prefix_len is_word_byte rest in
     if is_address rest
-      then (if nat_lt NAME_BYTES end then refused NoLane else for_lane (take end rest) (drop (end + 1) rest))
-      else refused NoForm
+    then (if nat_lt NAME_BYTES end then refused NoLane else for_lane (take end rest) (drop (end + 1) rest))
+    else refused NoForm
 
 -- the word `turn` and a number
 abbrev pub is_turn : List Lexeme → Bool

@@ -72,8 +72,8 @@ module _ {S : Type 0} (start : S → S) (is_open : S → Bool) where
   work_by first ls (refused fault) = is_refused fault
   work_by first ls (for_lane name line) =
       if has_place name ls
-        then errands (record { name = name; lane = lane_of name (start first) ls; line = line } ∷ [])
-        else is_refused NoLane
+      then errands (record { name = name; lane = lane_of name (start first) ls; line = line } ∷ [])
+      else is_refused NoLane
   work_by first ls (turn trials) = errands (errands_to_open is_open (more_line trials) ls)
 
   -- what is to be done for a line

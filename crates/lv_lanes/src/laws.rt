@@ -10,11 +10,9 @@ use crate::lane::Lane;
 /// unsettled. This is so for each order of lines.
 pub fn each_lane_is_alone<L: Lane>()
     ensures { EachIsAlone L.next L.says L.start L.is_open }
-{
-}
+{}
 
 /// All that is written is the text of the reply to each line, in order, of replies in which each lane is alone.
 pub fn what_is_written_is_of_lanes<L: Lane>()
     ensures { WrittenIsOfLanes L.next L.says L.start L.is_open }
-{
-}
+{}

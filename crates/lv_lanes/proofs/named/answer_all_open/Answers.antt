@@ -28,13 +28,13 @@ loop-lane-preserved g c =
           ap (λ x. set c.loop-lane.lanes i x) c.in_ok-reply.ensures.goes ∙ ap (λ x. set c.loop-lane.lanes i (f x)) same
           ∙ ap (λ xs. set xs i (f l)) c.loop-lane.invariant.lanes ∙ mapped_one f ls i l has;
       replies = elim c.match-branch-2.branch [
-        in-Some+in_ok-push w ↦
-          some_further g.L.Responder.says g.L.Lane.is_open line ls i l here has same c.in_ok-reply.field-0 w.in-Some.reply
-          c.loop-lane.replies.items c.match-branch-2.replies.items w.in-Some.is c.in_ok-reply.ensures.some c.loop-lane.invariant.replies
-          (ap (λ v. v.items) w.replies-is ∙ w.in_ok-push.ensures.items)
+        | in-Some+in_ok-push w ↦
+            some_further g.L.Responder.says g.L.Lane.is_open line ls i l here has same c.in_ok-reply.field-0 w.in-Some.reply
+            c.loop-lane.replies.items c.match-branch-2.replies.items w.in-Some.is c.in_ok-reply.ensures.some c.loop-lane.invariant.replies
+            (ap (λ v. v.items) w.replies-is ∙ w.in_ok-push.ensures.items)
         | in_default w ↦
-          none_further g.L.Responder.says g.L.Lane.is_open line ls i l here has same c.in_ok-reply.field-0
-          c.loop-lane.replies.items c.match-branch-2.replies.items w.in_default.is c.in_ok-reply.ensures.none c.loop-lane.invariant.replies
-          (ap (λ v. v.items) w.replies-is)
+            none_further g.L.Responder.says g.L.Lane.is_open line ls i l here has same c.in_ok-reply.field-0
+            c.loop-lane.replies.items c.match-branch-2.replies.items w.in_default.is c.in_ok-reply.ensures.none c.loop-lane.invariant.replies
+            (ap (λ v. v.items) w.replies-is)
       ];
     }
