@@ -167,7 +167,7 @@ fn carry_out<F: Shelf, O: Sink>(
             service,
             model,
             session,
-        } => run(alloc, service, model.as_str(), session.as_str(), shelf, out)
+        } => run(alloc, service, model.as_str(), session.as_str(), shelf, out),
         Command::Check { model, cert } => check(alloc, model.as_str(), cert.as_str(), shelf, out),
         Command::Print { model } => print(alloc, model.as_str(), shelf, out),
         Command::Generate { kind, number } => generate(alloc, kind, number, out),

@@ -15,4 +15,6 @@ mod failures;
 #[cfg(test)]
 mod generated;
 #[cfg(test)]
+mod lanes;
+#[cfg(test)]
 mod whole_calls;
