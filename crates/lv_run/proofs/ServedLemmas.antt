@@ -1,7 +1,8 @@
 -- A session that the shelf tells, from how its serving ended.
-use Rattle.std.proofs.Common.{◌≡◌, ℕ, List, Option, Result, Ok, Err, sym, subst, arith}
+use Rattle.std.proofs.Common.{◌≡◌, ℕ, List, take, Option, Result, Ok, Err, sym, subst, arith}
 use Rattle.std.specs.Prelude.{true, IfErr, IsErrAnd}
 use Rattle.lv_model.specs.declared.plant.Plant.{Plant}
+use Rattle.lv_serve.specs.Ends.{ended}
 use Rattle.lv_serve.specs.Served.{within_limit}
 use Rattle.lv_serve.specs.declared.fault.ServeFault.{ServeFault}
 use Rattle.lv_serve.specs.declared.fault.ServeFault.TheVariants.{Read, Write, TooLong, Memory}
@@ -31,7 +32,7 @@ told_ended Single plant text out out_after Read served = record {
   count = served.count;
   within = served.within;
   goes_on = served.goes_on;
-  written = adds_transcript plant _ out out_after served.written;
+  written = adds_transcript plant (ended (take served.count text)) out out_after served.written;
 }
 told_ended Single plant text out out_after Write served = record {
   of_all = λ fit. adds_front plant text out out_after (served.of_all fit);

@@ -11,8 +11,8 @@ use crate::compiled::CompiledModel;
 use crate::state::State;
 use crate::workings::{Workings, answer};
 use lv_ident::QueryEffort;
-use lv_reply::{Reply, reply_text};
 use lv_lanes::Lane;
+use lv_reply::{Reply, reply_text};
 use lv_serve::Responder;
 use std::alloc::{AllocError, Global};
 use std::marker;
@@ -63,10 +63,7 @@ fn of_kept<'a>(
 
 impl<'a> Session<'a> {
     /// A session at its start.
-    pub fn new(
-        alloc: Global,
-        compiled: &'a CompiledModel<'a>,
-    ) -> Result<Session<'a>, AllocError>
+    pub fn new(alloc: Global, compiled: &'a CompiledModel<'a>) -> Result<Session<'a>, AllocError>
         ensures { IfOk result (λ session. session ≡ begun compiled.now) }
     {
         let _plant = compiled.model.plant();

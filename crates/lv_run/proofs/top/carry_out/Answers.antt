@@ -7,9 +7,9 @@ use Rattle.lv_run.specs.Faults.{ended_status}
 use Rattle.lv_run.proofs.ExpectedLemmas.{ended_at_words}
 use Rattle.lv_run.proofs.top.carry_out.Goals as goal
 
-pub returns-in_err-model-clause-meets : goal.returns-in_err-model-clause-meets
-returns-in_err-model-clause-meets g c =
-    ended_at_words _ _ c.in_err-model.field-0.0 _ _ c.in_err-model.ensures.refused c.from_residual.ensures.1
+pub returns-in_err-service-clause-meets : goal.returns-in_err-service-clause-meets
+returns-in_err-service-clause-meets g c =
+    ended_at_words _ _ c.in_err-service.field-0.0 _ _ c.in_err-service.ensures.refused c.from_residual.ensures.1
 
 pub returns-in-Generate-clause-follows : goal.returns-in-Generate-clause-follows
 returns-in-Generate-clause-follows g c =
