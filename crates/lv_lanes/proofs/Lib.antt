@@ -1,3 +1,5 @@
 mod AloneLemmas
+mod ByteLaws
+mod ByteLemmas
 mod LaneLemmas
 mod LoopLemmas
