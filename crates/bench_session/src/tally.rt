@@ -5,7 +5,7 @@ use lv_base::{Pair, Seq};
 use lv_ident::QueryEffort;
 use lv_model::Model;
 use lv_reply::Reply;
-use lv_session::Session;
+use lv_session::{CompiledModel, Session};
 use lv_text::lines::next_line;
 use std::alloc::{AllocError, Global};
 use std::fmt::{self, Formatter, Write};
@@ -61,7 +61,16 @@ fn count_choices(conflicts: &[Seq<Pair>]) -> u64 {
 
 /// Runs a session over a model.
 pub fn tally_of(alloc: Global, model: &Model, text: &[u8]) -> Result<Tally, AllocError> {
-    let mut session = Session::new(alloc, model)?;
+    let compiled = CompiledModel::new(alloc, model)?;
+    tally_over(alloc, &compiled, text)
+}
+
+fn tally_over(
+    alloc: Global,
+    compiled: &CompiledModel<'_>,
+    text: &[u8],
+) -> Result<Tally, AllocError> {
+    let mut session = Session::new(alloc, compiled)?;
     let mut tally = Tally::none();
     let mut rest = text;
     while let Some(line) = next_line(rest) {

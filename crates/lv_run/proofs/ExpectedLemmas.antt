@@ -4,14 +4,13 @@ use Rattle.std.specs.Prelude.{IfSome, IfOk, IfErr, IsTrue, IsErrAnd, Result, Ok,
 use Rattle.std.specs.Io.KnownBytes.{append_known}
 use Rattle.lv_base.specs.declared.limits.TheConstants.{CERTIFICATE_BYTES}
 use Rattle.lv_model.specs.declared.plant.Plant.{Plant}
-use Rattle.lv_run_words.specs.lv_text.Lines.{lines_of}
-use Rattle.lv_serve.specs.lv_session.Session.{start}
-use Rattle.lv_serve.specs.Served.{fits, within_limit}
-use Rattle.lv_serve.proofs.TranscriptLemmas.{none_of_front}
+use Rattle.lv_serve.specs.Served.{within_limit}
+use Rattle.lv_session.specs.Answering.{fits}
+use Rattle.lv_session.proofs.Answering.{no_transcript}
 use Rattle.lv_gen.specs.Series.{model_text}
 use Rattle.lv_run_drive.specs.Drives.{drive_text}
 use Rattle.lv_run_words.specs.declared.commands.Kind.{Kind}
-use Rattle.lv_serve.proofs.lv_session.Writing.{no_front}
+use Rattle.lv_serve.proofs.Writing.{no_front}
 use Rattle.lv_reader.specs.declared.code.ModelCode.{ModelCode}
 use Rattle.lv_checker.specs.Verdicts.{IsVerdict, accepted, refused}
 use Rattle.lv_certcheck.specs.Verdicts.{IsVerdictOn}
@@ -51,8 +50,8 @@ err_handed_on (Err e) fault handed = ap status_of handed
 
 -- nothing is a front of whatever was expected
 pub adds_none : (e : Expected) (text : Option (List ℕ)) → AddsSome e text text
-adds_none (serves plant session) text = none_of_front plant (start plant) (lines_of session) text
-adds_none (overruns plant session) text = none_of_front plant (start plant) (lines_of (within_limit session)) text
+adds_none (serves plant session) text = no_transcript plant session text
+adds_none (overruns plant session) text = no_transcript plant (within_limit session) text
 adds_none (judges verdict) text = no_front (verdict_line verdict) text
 adds_none exceeds text = refl
 adds_none (shows shown) text = no_front shown text

@@ -6,7 +6,7 @@ use Rattle.lv_io.specs.Whole.{AddsFront, IsLonger}
 use Rattle.lv_io.specs.declared.IoFault.{IoFault}
 use Rattle.lv_io.specs.declared.IoFault.TheVariants.{Failed, Memory}
 use Rattle.lv_model.specs.declared.plant.Plant.{Plant}
-use Rattle.lv_serve.proofs.lv_session.Writing.{no_front}
+use Rattle.lv_serve.proofs.Writing.{no_front}
 use Rattle.lv_certcheck.specs.Verdicts.{IsVerdictOn}
 use Rattle.lv_certcheck.specs.declared.check.Verdict.{Verdict}
 use Rattle.lv_run.specs.Judged.{verdict_line, AddsVerdictFront, JudgesTold}

@@ -8,14 +8,11 @@ use Rattle.lv_io.specs.declared.Role.TheVariants.{Model, Second}
 use Rattle.lv_model.specs.declared.plant.Plant.{Plant}
 use Rattle.std.proofs.lemmas.List.{take-append-drop, take-take}
 use Rattle.lv_base.specs.declared.limits.TheConstants.{SESSION_BYTES}
-use Rattle.lv_run_words.specs.lv_text.Lines.{lines_of}
-use Rattle.lv_serve.specs.lv_session.Session.{start}
-use Rattle.lv_serve.specs.lv_session.Transcript.{AddsTranscript, AddsFrontOfTranscript}
-use Rattle.lv_serve.proofs.lv_session.Writing.{whole_front}
+use Rattle.lv_session.specs.Transcript.{AddsTranscript, AddsFrontOfTranscript}
+use Rattle.lv_serve.proofs.Writing.{whole_front}
 use Rattle.lv_serve.specs.Ends.{ended}
 use Rattle.lv_serve.specs.Served.{within_limit}
-use Rattle.lv_serve.proofs.TranscriptLemmas.{front_of_lines}
-use Rattle.lv_serve.proofs.PieceLemmas.{front_of_all, front_of_longer}
+use Rattle.lv_session.proofs.Answering.{transcript_front, transcript_of_longer, transcript_of_more}
 use Rattle.lv_run_words.specs.Words.{Said, checks, command_of}
 use Rattle.lv_certcheck.specs.Verdicts.{IsVerdictOn}
 use Rattle.lv_certcheck.specs.declared.check.Verdict.{Verdict}
@@ -39,11 +36,6 @@ use Rattle.lv_run.proofs.ExpectedLemmas.{adds_none, of_told}
 silent_front : (e : Expected) (before after : Option (List ℕ)) → after ≡ before → AddsSome e before after
 silent_front e before after same = subst (AddsSome e before) (sym same) (adds_none e before)
 
--- all is a front of itself
-transcript_front : (plant : Plant) (text : List ℕ) (before after : Option (List ℕ)) → AddsTranscript plant text before after → AddsFrontOfTranscript plant text before after
-transcript_front plant text before after all =
-    front_of_lines plant (start plant) (lines_of text) all.written before after all.is_transcript (whole_front all.written before after all.added)
-
 all_front : (e : Expected) (before after : Option (List ℕ)) → AddsAll e before after → AddsSome e before after
 all_front (serves plant session) before after all = transcript_front plant session before after all
 all_front (overruns plant session) before after all = transcript_front plant (within_limit session) before after all
@@ -56,13 +48,13 @@ all_front (fails fault) before after same = same
 read_front : (e : Expected) (before after : Option (List ℕ)) → AddsRead e before after → AddsSome e before after
 read_front (serves plant session) before after lines =
     subst (λ (l : List ℕ). AddsFrontOfTranscript plant l before after) (take-append-drop lines.count session)
-    (front_of_all plant (take lines.count session) (drop lines.count session) before after
+    (transcript_of_more plant (take lines.count session) (drop lines.count session) before after
     (transcript_front plant (ended (take lines.count session)) before after lines.written))
 read_front (overruns plant session) before after lines =
     let inside : take lines.count (take SESSION_BYTES session) ≡ take lines.count session = take-take lines.count SESSION_BYTES session lines.within in
     subst (λ (l : List ℕ). AddsFrontOfTranscript plant (ended l) before after)
     (ap (λ (l : List ℕ). l ++ drop lines.count (take SESSION_BYTES session)) (sym inside) ∙ take-append-drop lines.count (take SESSION_BYTES session))
-    (front_of_longer plant (take lines.count session) (drop lines.count (take SESSION_BYTES session)) before after
+    (transcript_of_longer plant (take lines.count session) (drop lines.count (take SESSION_BYTES session)) before after
     (transcript_front plant (ended (take lines.count session)) before after lines.written))
 read_front (judges verdict) before after same = silent_front (judges verdict) before after same
 read_front exceeds before after same = same

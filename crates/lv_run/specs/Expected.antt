@@ -9,9 +9,12 @@ use Rattle.lv_reader.specs.declared.code.ModelCode.{ModelCode}
 use Rattle.lv_checker.specs.Verdicts.{Verdict as ModelVerdict, accepted, refused, IsVerdict}
 use Rattle.lv_certcheck.specs.Verdicts.{IsVerdictOn}
 use Rattle.lv_certcheck.specs.declared.check.Verdict.{Verdict}
-use Rattle.lv_serve.specs.lv_session.Transcript.{AddsTranscript, AddsFrontOfTranscript}
+use Rattle.lv_session.specs.Transcript.{AddsTranscript, AddsFrontOfTranscript}
 use Rattle.lv_serve.specs.Ends.{ended}
-use Rattle.lv_serve.specs.Served.{fits, within_limit}
+use Rattle.lv_serve.specs.Served.{within_limit}
+use Rattle.lv_serve.specs.Told.{ServesText}
+use Rattle.lv_serve.specs.declared.fault.ServeFault.{ServeFault}
+use Rattle.lv_session.specs.Answering.{begun, next_at, SaysAt, has_quit, quits, fits}
 use Rattle.lv_gen.specs.Series.{model_text}
 use Rattle.lv_run_drive.specs.Drives.{drive_text}
 use Rattle.lv_run_words.specs.Words.{Said, runs, checks, prints, generates, drives}
@@ -89,10 +92,12 @@ AddsSome exceeds before after = after ≡ before
 AddsSome (shows text) before after = AddsFront text before after
 AddsSome (fails fault) before after = after ≡ before
 
--- so many bytes of the session were read, and the transcript of the lines that ended in them was added
+-- so many bytes of the session were read, no `quit` was accepted among the lines that ended in them, and the transcript of these was
+-- added
 pub record AddsLines (plant : Plant) (session : List ℕ) (before after : Option (List ℕ)) : Type 0 where
   pub count : ℕ
   pub within : count ≤ SESSION_BYTES
+  pub goes_on : quits plant (take count session) ≡ false
   pub written : AddsTranscript plant (ended (take count session)) before after
 
 -- a front was added of the transcript that is due, of the session or of its lines that end within the limit
@@ -110,7 +115,11 @@ AddsRead exceeds before after = after ≡ before
 AddsRead (shows text) before after = ⊥
 AddsRead (fails fault) before after = ⊥
 
--- what serving a session whose text is told came to
+-- what serving a session whose text is told came to, in the words of serving
+abbrev pub ServesSession : Plant → List ℕ → Option (List ℕ) → Option (List ℕ) → {T : Type 0} → Result T ServeFault → Type 0
+ServesSession plant session before after result = ServesText next_at SaysAt has_quit (begun plant) session before after result
+
+-- and in those of a transcript
 abbrev pub ServesTold : Plant → List ℕ → Option (List ℕ) → Option (List ℕ) → Result Ended RunFault → Type 0
 ServesTold plant session before after (Ok AllDone) = (fits plant session ≡ true) × AddsTranscript plant session before after
 ServesTold plant session before after (Ok NotValid) = ⊥

@@ -4,7 +4,7 @@ use Rattle.std.specs.Io.KnownBytes.{append_known}
 use Rattle.lv_base.specs.declared.limits.TheConstants.{CERTIFICATE_BYTES}
 use Rattle.lv_io.specs.Outside.{Rose}
 use Rattle.lv_io.specs.declared.Role.{Role}
-use Rattle.lv_serve.specs.Served.{fits}
+use Rattle.lv_session.specs.Answering.{fits}
 use Rattle.lv_model.specs.declared.plant.Plant.{Plant}
 use Rattle.lv_checker.specs.Verdicts.{IsVerdict, accepted}
 use Rattle.lv_certcheck.specs.Verdicts.{IsVerdictOn, ProvesItsAnswer}

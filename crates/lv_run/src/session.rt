@@ -4,7 +4,8 @@ ghost use Rattle.std.specs.Prelude.{◌≡◌, ◌≢◌, ◌++◌, ◌∷◌, [
 ghost use Rattle.lv_io.specs.Outside.{Rose};
 ghost use Rattle.lv_io.specs.declared.Role.{Role};
 ghost use Rattle.lv_io.specs.declared.Role.TheVariants.{Second as OfSecond};
-ghost use Rattle.lv_run.specs.Expected.{ServesTold};
+ghost use Rattle.lv_serve.specs.Faults.{HasShelfCause, HasSinkCause, IsFlushed};
+ghost use Rattle.lv_run.specs.Expected.{ServesSession, ServesTold};
 ghost use Rattle.lv_run.specs.Inputs.{second_open, AddsOpens};
 ghost use Rattle.lv_run.specs.Faults.{EndsOpening, EndsSession, ended_status};
 
@@ -12,7 +13,8 @@ use crate::fault::RunFault;
 use crate::status::{Ended, Status};
 use lv_io::{IoFault, Role, Shelf, Sink, Slot};
 use lv_model::Model;
-use lv_serve::serve;
+use lv_serve::{ServeFault, serve};
+use lv_session::{CompiledModel, Session};
 use std::alloc::Global;
 
 /// Opens the session's file and serves it over a model.
@@ -40,8 +42,48 @@ pub fn serve_session<F: Shelf, O: Sink>(
     ensures out_as_before { ended_status result ≢ Status.OutputFailed → O.faults out.new ≡ O.faults out.old }
 {
     let slot = open_session(shelf, session)?;
-    serve(alloc, model, shelf, slot, out)?;
+    serve_opened(alloc, model, shelf, slot, out)?;
     Ok(Ended::Done)
+}
+
+/// Serves the session that is left of a slot over a model, which is compiled before anything is read.
+fn serve_opened<F: Shelf, O: Sink>(
+    alloc: Global,
+    model: &Model,
+    shelf: &mut F,
+    slot: Slot,
+    out: &mut O,
+) -> Result<(), ServeFault>
+    requires known { IsTrue (F.knows shelf.old slot) }
+    ensures told { (text : List ℕ) → F.rest shelf.old slot ≡ Some text → ServesSession model.now text (O.text out.old) (O.text out.new) result }
+    ensures flushed { O.is_flushed out.old ≡ true → IsFlushed result (O.is_flushed out.new ≡ true) }
+    ensures opens { F.opens shelf.new ≡ F.opens shelf.old }
+    ensures shelf_cause { HasShelfCause (F.faults shelf.old slot.role) (F.faults shelf.new slot.role) result }
+    ensures others { (r : Role) → r ≢ slot.role → F.faults shelf.new r ≡ F.faults shelf.old r }
+    ensures sink_cause { HasSinkCause (O.faults out.old) (O.faults out.new) result }
+{
+    let compiled = CompiledModel::new(alloc, model)?;
+    serve_compiled(alloc, &compiled, shelf, slot, out)
+}
+
+/// The same over a model that is compiled.
+fn serve_compiled<F: Shelf, O: Sink>(
+    alloc: Global,
+    compiled: &CompiledModel<'_>,
+    shelf: &mut F,
+    slot: Slot,
+    out: &mut O,
+) -> Result<(), ServeFault>
+    requires known { IsTrue (F.knows shelf.old slot) }
+    ensures told { (text : List ℕ) → F.rest shelf.old slot ≡ Some text → ServesSession compiled.now text (O.text out.old) (O.text out.new) result }
+    ensures flushed { O.is_flushed out.old ≡ true → IsFlushed result (O.is_flushed out.new ≡ true) }
+    ensures opens { F.opens shelf.new ≡ F.opens shelf.old }
+    ensures shelf_cause { HasShelfCause (F.faults shelf.old slot.role) (F.faults shelf.new slot.role) result }
+    ensures others { (r : Role) → r ≢ slot.role → F.faults shelf.new r ≡ F.faults shelf.old r }
+    ensures sink_cause { HasSinkCause (O.faults out.old) (O.faults out.new) result }
+{
+    let session = Session::new(alloc, compiled)?;
+    serve(alloc, session, shelf, slot, out)
 }
 
 /// Opens the session's file.

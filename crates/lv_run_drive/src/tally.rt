@@ -3,12 +3,12 @@
 
 ghost use Rattle.std.specs.Prelude.{◌≡◌, ◌<◌, ◌≤◌, ◌^◌, ◌-◌, ◌+◌, false, IfOk};
 ghost use Rattle.lv_run_drive.specs.Tallies.{none_counted, replied, counted, IsSmall};
-ghost use Rattle.lv_session.specs.Session.{start};
+ghost use Rattle.lv_session.specs.Answering.{begun};
 ghost use Rattle.lv_run_drive.specs.Drives.{tally_of};
 
 use lv_model::Model;
 use lv_reply::Reply;
-use lv_session::Session;
+use lv_session::{CompiledModel, Session};
 use lv_text::lines::next_line;
 use std::alloc::{AllocError, Global};
 
@@ -90,9 +90,13 @@ impl Tally {
 }
 
 /// Counts the replies to a text's lines, in a session at its start.
-fn tally_lines(model: &Model, session: &mut Session<'_>, text: &[u8]) -> Result<Tally, AllocError>
-    requires { session.old ≡ record { plant = model.now; state = start model.now; is_out_of_memory = false } }
-    ensures { IfOk result (λ tally. tally ≡ tally_of model.now text.now) }
+fn tally_lines(
+    compiled: &CompiledModel<'_>,
+    session: &mut Session<'_>,
+    text: &[u8],
+) -> Result<Tally, AllocError>
+    requires { session.old ≡ begun compiled.now }
+    ensures { IfOk result (λ tally. tally ≡ tally_of compiled.now text.now) }
 {
     let mut tally = Tally::none();
     let mut rest = text;
@@ -108,6 +112,18 @@ fn tally_lines(model: &Model, session: &mut Session<'_>, text: &[u8]) -> Result<
 pub fn tally_session(alloc: Global, model: &Model, text: &[u8]) -> Result<Tally, AllocError>
     ensures { IfOk result (λ tally. tally ≡ tally_of model.now text.now) }
 {
-    let mut session = Session::new(alloc, model)?;
-    tally_lines(model, &mut session, text)
+    let compiled = CompiledModel::new(alloc, model)?;
+    tally_compiled(alloc, &compiled, text)
+}
+
+/// Runs a session over a compiled model and counts its replies.
+fn tally_compiled(
+    alloc: Global,
+    compiled: &CompiledModel<'_>,
+    text: &[u8],
+) -> Result<Tally, AllocError>
+    ensures { IfOk result (λ tally. tally ≡ tally_of compiled.now text.now) }
+{
+    let mut session = Session::new(alloc, compiled)?;
+    tally_lines(compiled, &mut session, text)
 }

@@ -4,3 +4,6 @@ pub mod Faults
 pub mod Kept
 pub mod Unfinished
 pub mod Pieces
+pub mod Served
+pub mod Serving
+pub mod Told

@@ -12,8 +12,12 @@
 #![tactic(auto)]
 
 pub mod fault;
+pub mod pieces;
 pub mod responder;
+mod serving;
 mod unfinished;
+mod waiting;
 
 pub use fault::ServeFault;
+pub use pieces::serve;
 pub use responder::Responder;

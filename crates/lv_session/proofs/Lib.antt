@@ -1,9 +1,9 @@
 pub mod Transcripts
-pub mod Writing
 pub mod Listed
 pub mod Fitting
 pub mod Keeping
 pub mod StepLaws
+pub mod Answering
 pub mod TrueAnswers
 pub mod Asking
 pub mod Recovering
@@ -11,4 +11,5 @@ pub mod Labelling
 pub mod CurrentLemmas
 pub mod Certifying
 pub use Rattle.lv_io.proofs as lv_io
+pub use Rattle.lv_serve.proofs as lv_serve
 pub use Rattle.lv_session_request.proofs as lv_session_request

@@ -11,7 +11,7 @@ use Rattle.lv_session.specs.Session.{SessionState, stepped}
 use Rattle.lv_session.specs.Certificates.{IsTextOf}
 use Rattle.lv_session.specs.Transcript.{SessionStep, IsTranscriptFrom, ends, goes_on}
 use Rattle.lv_session.specs.Laws.{is_certificate, replies_to, replies}
-use Rattle.lv_session.proofs.Writing.{longer_front}
+use Rattle.lv_serve.proofs.Writing.{longer_front}
 
 -- a reply that is no certificate has its own text, and no other
 one_text : (plant : Plant) (state : SessionState) (reply : Reply) (text : List ℕ) → is_certificate reply ≡ false → IsTextOf plant state reply text → text ≡ reply_text plant reply

@@ -2,8 +2,6 @@
 use Rattle.std.specs.Prelude.{◌≡◌, ◌≤◌, ℕ, Bool, false, length, Option, IfSome}
 use Rattle.lv_model.specs.declared.plant.Plant.{Plant}
 use Rattle.lv_search_walk.specs.Walk.{Walked}
-use Rattle.lv_model_names.specs.Lists.{lists_of}
-use Rattle.lv_system.specs.System.{IsSystemOf}
 use Rattle.lv_ident.specs.Query.{IsQueryOf}
 use Rattle.lv_session_request.specs.declared.request.Request.{Request}
 use Rattle.lv_reconf.specs.Query.{IsQuery as IsRecoveryQuery}
@@ -66,10 +64,8 @@ IsCaredFor request plant next before after = after ≡ before
 abbrev pub IsLabellerOf : Plant → Option Plant → Type 0
 IsLabellerOf plant held = IfSome held (λ (of : Plant). of ≡ plant)
 
--- the state is one of the plant, whose lists and clauses are kept; as long as memory sufficed, so is its current query
+-- the state is one of the plant; as long as memory sufficed, its current query is kept
 pub record IsSession (plant : Plant) (w : Workings) (now : SessionState) (is_out_of_memory : Bool) : Type 0 where
-  pub lists_are : w.lists ≡ lists_of plant
-  pub system_is : IsSystemOf plant w.system
   pub labeller_is : IsLabellerOf plant w.labeller
   pub is_state : IsStateOf plant now
   pub current : is_out_of_memory ≡ false → IsCurrent plant now w.running

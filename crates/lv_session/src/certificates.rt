@@ -9,6 +9,7 @@ ghost use Rattle.lv_cert_diagnosis.specs.lv_cert_meaning.Certifying.{CertifiesDi
 ghost use Rattle.lv_session.specs.Session.{facts_of, aim_of, is_settled_by, is_settled, certificate};
 ghost use Rattle.lv_session.specs.States.{IsStateOf};
 ghost use Rattle.lv_session.specs.Current.{IsDiagnosisAt, IsRecoveryAt, IsCurrent};
+ghost use Rattle.lv_session.specs.Answering.{is_asked, is_unsettled};
 ghost use Rattle.lv_session.specs.Certificates.{CertifiesWalked, CertifiesRecovered, Certifies};
 
 use crate::goals::texts_of;
@@ -34,6 +35,13 @@ fn is_settled_by(outcome: Outcome) -> bool
     }
 }
 
+/// Whether a query is current.
+fn is_asked(query: Query) -> bool
+    ensures { result ≡ is_asked query }
+{
+    !matches!(query, Query::Absent)
+}
+
 impl State {
     /// Whether the current query is settled, where this is kept of it.
     fn is_settled(&self, model: &Model, running: &Running<'_>) -> bool
@@ -53,6 +61,14 @@ impl State {
                 Running::Nothing => unreachable!(),
             },
         }
+    }
+
+    /// Whether a query is current that `more` goes on with, where this is kept of it.
+    pub(crate) fn is_unsettled(&self, model: &Model, running: &Running<'_>) -> bool
+        requires { IsCurrent model.now self.now running.now }
+        ensures { result ≡ is_unsettled model.now self.now }
+    {
+        !self.is_ended && is_asked(self.query) && !self.is_settled(model, running)
     }
 
     /// The reply to `certificate`.

@@ -4,6 +4,7 @@
 //! | file | what it is |
 //! |---|---|
 //! | `session` | a session: its state and what a line does |
+//! | `compiled` | what all sessions over a model share |
 //! | `workings` | what is kept beside the state |
 //! | `state` | the state, and what a request does to it |
 //! | `observations` | the observations held, by their names |
@@ -22,6 +23,7 @@
 #![tactic(auto)]
 
 mod certificates;
+pub mod compiled;
 mod diagnoses;
 mod goals;
 mod labels;
@@ -35,6 +37,7 @@ pub mod session;
 pub mod state;
 pub mod workings;
 
+pub use compiled::CompiledModel;
 pub use query::Query;
 pub use session::Session;
 pub use state::State;

@@ -6,6 +6,7 @@ use lv_checker::model_of;
 use lv_io::{MemShelf, MemSink, Role, Shelf};
 use lv_model::Model;
 use lv_serve::{ServeFault, serve};
+use lv_session::{CompiledModel, Session};
 use std::alloc::{AllocError, Global};
 
 /// A valve that follows its command or is stuck, with its inflow present.
@@ -211,25 +212,26 @@ fn is_written(out: &MemSink, case: &Case) -> bool {
 
 fn is_served_to(
     alloc: Global,
-    model: &Model,
+    session: Session<'_>,
     shelf: &mut MemShelf,
     out: &mut MemSink,
     case: &Case,
 ) -> bool {
     match shelf.open(Role::Second, "a.ses") {
-        Ok(slot) => serve(alloc, model, shelf, slot, out) == case.outside.result,
+        Ok(slot) => serve(alloc, session, shelf, slot, out) == case.outside.result,
         Err(_) => false,
     }
 }
 
 fn is_served_from(
     alloc: Global,
-    model: &Model,
+    compiled: &CompiledModel<'_>,
     shelf: &mut MemShelf,
     case: &Case,
 ) -> Result<bool, AllocError> {
     let mut out = sink_of(alloc, case)?;
-    Ok(is_served_to(alloc, model, shelf, &mut out, case) && is_written(&out, case))
+    let session = Session::new(alloc, compiled)?;
+    Ok(is_served_to(alloc, session, shelf, &mut out, case) && is_written(&out, case))
 }
 
 fn is_served_over(
@@ -238,8 +240,9 @@ fn is_served_over(
     case: &Case,
     piece: usize,
 ) -> Result<bool, AllocError> {
+    let compiled = CompiledModel::new(alloc, model)?;
     let mut shelf = shelf_of(alloc, case, piece)?;
-    is_served_from(alloc, model, &mut shelf, case)
+    is_served_from(alloc, &compiled, &mut shelf, case)
 }
 
 /// Whether a session of which at most so many bytes come at a time is served so.

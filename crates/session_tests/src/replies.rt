@@ -4,7 +4,7 @@
 
 use lv_checker::model_of;
 use lv_model::Model;
-use lv_session::Session;
+use lv_session::{CompiledModel, Session};
 use std::alloc::{AllocError, Global};
 
 /// A valve that follows its command or is stuck, with its inflow present.
@@ -74,11 +74,22 @@ fn all_reply(
     Ok(lines.len() == wanted.len())
 }
 
+/// Whether the lines of a new session get these replies.
+fn replies_over(
+    alloc: Global,
+    compiled: &CompiledModel<'_>,
+    lines: &[&str],
+    wanted: &[&str],
+) -> Result<bool, AllocError> {
+    let mut session = Session::new(alloc, compiled)?;
+    all_reply(&mut session, lines, wanted)
+}
+
 /// Whether the lines of a new session over the valve get these replies.
 fn session_replies(alloc: Global, lines: &[&str], wanted: &[&str]) -> Result<bool, AllocError> {
     let model = valve(alloc)?;
-    let mut session = Session::new(alloc, &model)?;
-    all_reply(&mut session, lines, wanted)
+    let compiled = CompiledModel::new(alloc, &model)?;
+    replies_over(alloc, &compiled, lines, wanted)
 }
 
 #[test]

@@ -10,14 +10,14 @@ returns-in_err-slot-clause-told g c =
 pub returns-in_err-slot-clause-ends : goal.returns-in_err-slot-clause-ends
 returns-in_err-slot-clause-ends g c = handed_ends _ c.in_err-slot.field-0.0 c.from_residual.ensures.1 c.in_err-slot.ensures.ends
 
-pub returns-in_err-serve-clause-told : goal.returns-in_err-serve-clause-told
-returns-in_err-serve-clause-told g c =
-    λ text told. handed_told c.args.model.now text _ _ _ _ c.from_residual-in_err-serve.ensures.1
-    (told_ended c.args.model.now text _ _ _ _ c.in_err-serve.field-0.0 (c.in_ok-slot.ensures.bytes ∙ told) c.in_err-serve.ensures.serves)
+pub returns-in_err-serve_opened-clause-told : goal.returns-in_err-serve_opened-clause-told
+returns-in_err-serve_opened-clause-told g c =
+    λ text told. handed_told c.args.model.now text _ _ _ _ c.from_residual-in_err-serve_opened.ensures.1
+    (told_ended c.args.model.now text _ _ c.in_err-serve_opened.field-0.0 (c.in_err-serve_opened.ensures.told text (c.in_ok-slot.ensures.bytes ∙ told)))
 
-pub returns-in_err-serve-clause-ends : goal.returns-in_err-serve-clause-ends
-returns-in_err-serve-clause-ends g c = served_ends _ c.in_err-serve.field-0.0 c.from_residual-in_err-serve.ensures.1
+pub returns-in_err-serve_opened-clause-ends : goal.returns-in_err-serve_opened-clause-ends
+returns-in_err-serve_opened-clause-ends g c = served_ends _ c.in_err-serve_opened.field-0.0 c.from_residual-in_err-serve_opened.ensures.1
 
 pub returns-clause-told : goal.returns-clause-told
 returns-clause-told g c =
-    λ text told. told_done c.args.model.now text _ _ _ _ (c.in_ok-slot.ensures.bytes ∙ told) c.in_ok-serve.ensures.serves
+    λ text told. told_done c.args.model.now text _ _ (c.in_ok-serve_opened.ensures.told text (c.in_ok-slot.ensures.bytes ∙ told))

@@ -8,7 +8,7 @@ use Rattle.lv_run.specs.Faults.{ended_status}
 use Rattle.lv_run.specs.declared.status.Status.{Status}
 use Rattle.lv_run.proofs.TopLemmas.{reported_meets, status_due, expected_run, expected_check, expected_text, told_verdict, ended_done, output_cause}
 use Rattle.lv_run.proofs.OpenLemmas.{all_opened}
-use Rattle.lv_serve.proofs.lv_session.TrueAnswers.{adds_true}
+use Rattle.lv_session.proofs.TrueAnswers.{adds_true}
 use Rattle.lv_run.proofs.PrintedLemmas.{adds_certified}
 use Rattle.lv_run.proofs.top.livingstone.Goals as goal
 

@@ -5,7 +5,7 @@ use Rattle.lv_run_drive.proofs.tally.tally_lines.Given as goal
 
 abbrev pub invariant-loop-line : goal.invariant-loop-line
 invariant-loop-line l = record {
-  tallied : Tallied l.model l.text l.session l.rest l.tally;
+  tallied : Tallied l.compiled l.text l.session l.rest l.tally;
 }
 
 abbrev pub decreases-loop-line : goal.decreases-loop-line

@@ -8,10 +8,10 @@ use Rattle.lv_session.proofs.workings.answer.Goals as goal
 
 pub returns-in-Ok-clause-kept : goal.returns-in-Ok-clause-kept
 returns-in-Ok-clause-kept c =
-    let well : is_well_formed c.args.model.now ≡ true = subst (λ (p : Plant). is_well_formed p ≡ true) c.plant-plant.ensures.plant c.plant-plant.ensures.well_formed in
-    state_kept c.args.model.now c.args.state.now c.carry_out.new.self c.in-Ok.request c.carry_out.result well c.requires.state c.in-Ok.ensures.within c.carry_out.ensures.ok c.carry_out.ensures.err
+    let well : is_well_formed c.args.compiled.now ≡ true = subst (λ (p : Plant). is_well_formed p ≡ true) c.plant-plant.ensures.plant c.plant-plant.ensures.well_formed in
+    state_kept c.args.compiled.now c.args.state.now c.carry_out.new.self c.in-Ok.request c.carry_out.result well c.requires.state c.in-Ok.ensures.within c.carry_out.ensures.ok c.carry_out.ensures.err
 
 pub returns-in-Ok-clause-running : goal.returns-in-Ok-clause-running
 returns-in-Ok-clause-running c =
-    current_kept c.args.model.now c.args.state.now c.carry_out.new.self c.args.workings.now.running c.carry_out.new.running c.in-Ok.request c.carry_out.result c.requires.running
+    current_kept c.args.compiled.now c.args.state.now c.carry_out.new.self c.args.workings.now.running c.carry_out.new.running c.in-Ok.request c.carry_out.result c.requires.running
     c.carry_out.ensures.ok c.carry_out.ensures.running

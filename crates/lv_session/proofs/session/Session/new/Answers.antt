@@ -4,17 +4,15 @@ use Rattle.lv_model.specs.declared.plant.Plant.{Plant}
 use Rattle.lv_model.specs.WellFormed.{is_well_formed}
 use Rattle.lv_session.specs.Session.{SessionState}
 use Rattle.lv_session.specs.States.{IsStateOf}
-use Rattle.lv_session.specs.Current.{IsCurrent}
+use Rattle.lv_session.specs.Current.{IsCurrent, IsLabellerOf}
 use Rattle.lv_session.proofs.Keeping.{start_kept}
 use Rattle.lv_session.proofs.session.Session.new.Goals as goal
 
 pub of_kept-requires : goal.of_kept-requires
 of_kept-requires c =
-    let well : is_well_formed c.args.model.now ≡ true = subst (λ (p : Plant). is_well_formed p ≡ true) c.plant-plant.ensures.plant c.plant-plant.ensures.well_formed in
+    let well : is_well_formed c.args.compiled.now ≡ true = subst (λ (p : Plant). is_well_formed p ≡ true) c.plant-plant.ensures.plant c.plant-plant.ensures.well_formed in
     record {
-      lists_are = c.in_ok-workings.ensures.lists;
-      system_is = c.in_ok-workings.ensures.system;
-      labeller_is = c.in_ok-workings.ensures.labeller;
-      is_state = subst (IsStateOf c.args.model.now) (sym c.in_ok-state.ensures) (start_kept c.args.model.now well);
-      current = λ _. subst (λ (s : SessionState). IsCurrent c.args.model.now s c.in_ok-workings.workings.value.running) (sym c.in_ok-state.ensures) tt;
+      labeller_is = subst (IsLabellerOf c.args.compiled.now) (sym c.in_ok-workings.ensures.labeller) tt;
+      is_state = subst (IsStateOf c.args.compiled.now) (sym c.in_ok-state.ensures) (start_kept c.args.compiled.now well);
+      current = λ _. subst (λ (s : SessionState). IsCurrent c.args.compiled.now s c.in_ok-workings.workings.value.running) (sym c.in_ok-state.ensures) tt;
     }

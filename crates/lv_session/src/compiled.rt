@@ -1,0 +1,49 @@
+//! What all sessions over a model share.
+#![tactic(auto)]
+
+ghost use Rattle.std.specs.Prelude.{◌≡◌, IfOk};
+
+use lv_model::Model;
+use lv_model_names::Lists;
+use lv_system::{StepSystem, compile};
+use std::alloc::{AllocError, Global};
+use std::marker;
+
+/// A model with its clauses and the lists by which names are looked up, made once for all sessions over it. Contracts
+/// see the model's plant.
+#[derive(Drop)]
+pub struct CompiledModel<'a> {
+    pub(crate) model: &'a Model,
+    pub(crate) lists: Lists,
+    pub(crate) system: StepSystem,
+}
+
+impl<'a> marker::Model for CompiledModel<'a> {
+    ghost use Rattle.lv_model.specs.declared.plant.Plant.{Plant};
+    ghost use Rattle.lv_session.specs.Compiled.{IsCompiled};
+    ghost use Rattle.std.specs.Coded.{codes};
+    ghost use Rattle.lv_formula.specs.contracts.Condition as condition;
+
+    ghost Value = { Plant };
+
+    ghost coded = { Prim.hlevel (codes, condition.the_row.coded) };
+
+    ghost view = { λ c. c.model.now };
+
+    ghost invariant = { λ c. IsCompiled c.model.now c.lists c.system };
+}
+
+impl<'a> CompiledModel<'a> {
+    /// Compiles a model.
+    pub fn new(alloc: Global, model: &'a Model) -> Result<CompiledModel<'a>, AllocError>
+        ensures { IfOk result (λ compiled. compiled ≡ model.now) }
+    {
+        let lists = Lists::of(alloc, model)?;
+        let system = compile(alloc, model)?;
+        Ok(CompiledModel {
+            model,
+            lists,
+            system,
+        })
+    }
+}
