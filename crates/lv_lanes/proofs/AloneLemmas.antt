@@ -168,7 +168,7 @@ module _ {S : Type 0} (next : S → List ℕ → S) (says : S → List ℕ → L
     pub each_is_alone : EachIsAlone next says start is_open
     each_is_alone name first lines replies are = alone name (at_start first) lines replies (tt {0}) are
 
-    written : (s : Standing S) (lines : List (List ℕ)) (text : List ℕ)
+    pub written : (s : Standing S) (lines : List (List ℕ)) (text : List ℕ)
         → IsConversation (stepped next start is_open) (MayWrite says start is_open) s lines text
         → (replies : List LaneReply) × MayReplyInOrder next says start is_open s lines replies × (text ≡ all_text replies)
     written s [] text ends = ([], all_replied, refl)

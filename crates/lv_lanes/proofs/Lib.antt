@@ -1,3 +1,5 @@
 pub mod AloneLemmas
+pub mod ByteLaws
+pub mod ByteLemmas
 pub mod LaneLemmas
 pub mod LoopLemmas

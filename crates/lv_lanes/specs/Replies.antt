@@ -43,9 +43,12 @@ abbrev pub fronted : List ℕ → Bool → List ℕ → List ℕ
 fronted front begins [] = []
 fronted front begins (b ∷ text) = (if begins then front else []) ++ b ∷ fronted front (nat_eq b 10) text
 
--- each line of a lane's text with `@NAME ` before it
+-- what stands before each line of a lane's text
+abbrev pub lane_front : List ℕ → List ℕ
+lane_front name = codes "@" ++ name ++ codes " "
+
 abbrev pub lane_text : LaneText → List ℕ
-lane_text reply = fronted (codes "@" ++ reply.name ++ codes " ") true reply.text
+lane_text reply = fronted (lane_front reply.name) true reply.text
 
 abbrev pub lane_texts : List LaneText → List ℕ
 lane_texts [] = []
