@@ -212,14 +212,17 @@ fn is_written(out: &MemSink, case: &Case) -> bool {
 
 fn is_served_to(
     alloc: Global,
-    session: Session<'_>,
+    compiled: &CompiledModel<'_>,
     shelf: &mut MemShelf,
     out: &mut MemSink,
     case: &Case,
-) -> bool {
+) -> Result<bool, AllocError> {
     match shelf.open(Role::Second, "a.ses") {
-        Ok(slot) => serve(alloc, session, shelf, slot, out) == case.outside.result,
-        Err(_) => false,
+        Ok(slot) => {
+            let session = Session::new(alloc, compiled)?;
+            Ok(serve(alloc, session, shelf, slot, out) == case.outside.result)
+        }
+        Err(_) => Ok(false),
     }
 }
 
@@ -230,8 +233,7 @@ fn is_served_from(
     case: &Case,
 ) -> Result<bool, AllocError> {
     let mut out = sink_of(alloc, case)?;
-    let session = Session::new(alloc, compiled)?;
-    Ok(is_served_to(alloc, session, shelf, &mut out, case) && is_written(&out, case))
+    Ok(is_served_to(alloc, compiled, shelf, &mut out, case)? && is_written(&out, case))
 }
 
 fn is_served_over(
