@@ -332,11 +332,11 @@ module _ (cs : ClauseMap) (start : List Entry) (log : List Step) where
       turn_falls = search_falls marks old entries left new flip d here.trail here.front turning is
 
 -- what all choices are taken back to
-pub search_back : (cs : ClauseMap) (start : List Entry) (log : List Step) (marks now : Marks) (entries left : List Entry) (floor : ℕ) → length start ≡ floor → left ≡ take floor entries
+pub search_back : (cs : ClauseMap) (start : List Entry) (log : List Step) (marks now : Marks) (entries left : List Entry) (place : ℕ) → length start ≤ place → left ≡ take place entries
     → (IsTrail cs log marks entries → IsTrail cs log now left) → IsSearch cs start log marks entries → IsSearch cs start log now left
-search_back cs start log marks now entries left floor size is cut here =
+search_back cs start log marks now entries left place before is cut here =
     record {
       trail = cut here.trail;
-      begins = ap (take (length start)) (is ∙ ap (λ k. take k entries) (sym size)) ∙ take-take (length start) (length start) entries (omega arith) ∙ here.begins;
+      begins = ap (take (length start)) is ∙ take-take (length start) place entries before ∙ here.begins;
       valid = here.valid;
     }

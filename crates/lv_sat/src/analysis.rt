@@ -10,7 +10,7 @@ ghost use Rattle.lv_sat.specs.Trail.{IsChain, IsFalse, lits_of, unforced};
 ghost use Rattle.lv_sat.specs.Analysis as Analysis;
 ghost use Rattle.lv_sat.specs.Analysis.{denial, seen_all, seen_by, GoesPast, HasReason, IsForcedIfSeen, IsApart, IsChoiceOr, IsCut, Derives, IsDerived, IsPending, Replaces, StopsAt};
 
-use super::order::Order;
+use super::notes::Notes;
 use super::trail::Entry;
 use lv_base::Lit;
 use lv_clauses::{ClauseSet, negation};
@@ -31,7 +31,8 @@ pub fn derive(
     alloc: Global,
     set: &ClauseSet,
     log: &mut Log,
-    order: &mut Order,
+    notes: &mut Notes,
+    seen: &mut Vec<bool>,
     entries: &[Entry],
     floor: usize,
     hint: Hint,
@@ -41,25 +42,20 @@ pub fn derive(
     requires refuted { IsFalse set.now.slots log.old (lits_of entries.now) hint }
     ensures { IfOk result (λ flip. Derives set.now log.old log.new floor entries.now flip) }
 {
-    let mut seen = vec![in alloc; false; set.bools() as usize]?;
+    fit(seen, set.bools() as usize)?;
     let mut hints = Vec::new(alloc);
-    take_reason(set, log, order, hint, &mut seen, &mut hints)?;
-    match walk(set, log, order, entries, floor, &mut seen, &mut hints)? {
+    take_reason(set, log, notes, hint, seen, &mut hints)?;
+    match walk(set, log, notes, entries, floor, seen, &mut hints)? {
         Some(flip) => {
             let clause = negate_seen(alloc, seen.as_slice(), &entries[..flip.place + 1])?;
             add_step(log, clause.as_slice(), &mut hints)?;
+            notes.score_all();
+            unsee_all(notes, seen);
             Ok(Some(flip))
         }
         None => {
-            settle(
-                alloc,
-                set,
-                log,
-                order,
-                &entries[..floor],
-                &mut seen,
-                &mut hints,
-            )?;
+            settle(alloc, set, log, notes, &entries[..floor], seen, &mut hints)?;
+            unsee_all(notes, seen);
             Ok(None)
         }
     }
@@ -70,7 +66,8 @@ pub fn refute(
     alloc: Global,
     set: &ClauseSet,
     log: &mut Log,
-    order: &mut Order,
+    notes: &mut Notes,
+    seen: &mut Vec<bool>,
     entries: &[Entry],
     hint: Hint,
 ) -> Result<(), AllocError>
@@ -78,10 +75,31 @@ pub fn refute(
     requires refuted { IsFalse set.now.slots log.old (lits_of entries.now) hint }
     ensures { OnOk result (IsDerived set.now log.old log.new (unforced entries.now)) }
 {
-    let mut seen = vec![in alloc; false; set.bools() as usize]?;
+    fit(seen, set.bools() as usize)?;
     let mut hints = Vec::new(alloc);
-    take_reason(set, log, order, hint, &mut seen, &mut hints)?;
-    settle(alloc, set, log, order, entries, &mut seen, &mut hints)
+    take_reason(set, log, notes, hint, seen, &mut hints)?;
+    settle(alloc, set, log, notes, entries, seen, &mut hints)?;
+    unsee_all(notes, seen);
+    Ok(())
+}
+
+/// Has a place for each boolean.
+fn fit(seen: &mut Vec<bool>, bools: usize) -> Result<(), AllocError>
+    ensures { OnOk result (length seen.new.items ≡ bools) }
+{
+    if seen.len() != bools {
+        seen.clear();
+        seen.resize(bools, false)?;
+    }
+    Ok(())
+}
+
+/// Takes the marks of all booleans seen back.
+fn unsee_all(notes: &mut Notes, seen: &mut Vec<bool>) {
+    for lit in notes.noted() {
+        unsee(*lit, seen);
+    }
+    notes.clear();
 }
 
 /// Goes back through all entries, and adds the step of those needed that have no reason.
@@ -89,7 +107,7 @@ fn settle(
     alloc: Global,
     set: &ClauseSet,
     log: &mut Log,
-    order: &mut Order,
+    notes: &mut Notes,
     entries: &[Entry],
     seen: &mut Vec<bool>,
     hints: &mut Vec<Hint>,
@@ -98,7 +116,7 @@ fn settle(
     requires pending { IsPending set.now log.old entries.now (lits_of entries.now) seen.old.items hints.old.items }
     ensures { OnOk result (IsDerived set.now log.old log.new (unforced entries.now)) }
 {
-    go_back(set, log, order, entries, seen, hints)?;
+    go_back(set, log, notes, entries, seen, hints)?;
     let clause = negate_unforced(alloc, seen.as_slice(), entries)?;
     add_step(log, clause.as_slice(), hints)
 }
@@ -116,7 +134,7 @@ fn add_step(log: &mut Log, clause: &[Lit], hints: &mut Vec<Hint>) -> Result<(), 
 fn go_back(
     set: &ClauseSet,
     log: &Log,
-    order: &mut Order,
+    notes: &mut Notes,
     entries: &[Entry],
     seen: &mut Vec<bool>,
     hints: &mut Vec<Hint>,
@@ -128,7 +146,7 @@ fn go_back(
     let mut at = entries.len();
     while at > 0 {
         at -= 1;
-        pass(set, log, order, entries[at], seen, hints)?;
+        pass(set, log, notes, entries[at], seen, hints)?;
     }
     Ok(())
 }
@@ -138,7 +156,7 @@ fn go_back(
 fn walk(
     set: &ClauseSet,
     log: &Log,
-    order: &mut Order,
+    notes: &mut Notes,
     entries: &[Entry],
     floor: usize,
     seen: &mut Vec<bool>,
@@ -152,10 +170,10 @@ fn walk(
     let mut at = entries.len();
     while at > floor {
         at -= 1;
-        if let Some(cut) = cut_at(set, log, order, entries, floor, at, seen, hints)? {
+        if let Some(cut) = cut_at(set, log, notes, entries, floor, at, seen, hints)? {
             return Ok(Some(Flip { place: at, cut }));
         }
-        pass(set, log, order, entries[at], seen, hints)?;
+        pass(set, log, notes, entries[at], seen, hints)?;
     }
     Ok(None)
 }
@@ -165,7 +183,7 @@ fn walk(
 fn cut_at(
     set: &ClauseSet,
     log: &Log,
-    order: &mut Order,
+    notes: &mut Notes,
     entries: &[Entry],
     floor: usize,
     at: usize,
@@ -181,7 +199,7 @@ fn cut_at(
     ensures forced { IfOk result (λ found. IfNone found (IsForcedIfSeen seen.new.items entries.now at)) }
 {
     if find_cut(seen.as_slice(), entries, floor, at).is_some() {
-        shorten(set, log, order, entries, at, seen, hints)?;
+        shorten(set, log, notes, entries, at, seen, hints)?;
     }
     Ok(find_cut(seen.as_slice(), entries, floor, at))
 }
@@ -190,7 +208,7 @@ fn cut_at(
 fn shorten(
     set: &ClauseSet,
     log: &Log,
-    order: &mut Order,
+    notes: &mut Notes,
     entries: &[Entry],
     place: usize,
     seen: &mut Vec<bool>,
@@ -201,23 +219,15 @@ fn shorten(
     requires pending { IsPending set.now log.now entries.now (lits_of (take (place + 1) entries.now)) seen.old.items hints.old.items }
     ensures { OnOk result (IsPending set.now log.now entries.now (lits_of (take (place + 1) entries.now)) seen.new.items hints.new.items) }
 {
-    let base = count_base(entries);
     let mut at = place;
-    while at > 0 {
+    while at > 0 && notes.is_ahead() {
         at -= 1;
-        if is_spare(set, log, entries[at], at < base, seen.as_slice()) {
-            replace(set, log, order, entries[at], seen, hints)?;
+        notes.come_to(sees(seen.as_slice(), entries[at].lit));
+        if is_spare(set, log, entries[at], at < notes.base, seen.as_slice()) {
+            replace(set, log, notes, entries[at], seen, hints)?;
         }
     }
     Ok(())
-}
-
-/// How many entries are before the first one without a reason.
-fn count_base(entries: &[Entry]) -> usize {
-    entries
-        .iter()
-        .position(|entry| entry.reason.is_none())
-        .unwrap_or(entries.len())
 }
 
 /// Whether an entry was seen, and so were all that forced it, or nothing that was assumed or chosen did.
@@ -242,7 +252,7 @@ fn are_seen(clause: Option<&[Lit]>, lit: Lit, seen: &[bool]) -> bool {
 fn replace(
     set: &ClauseSet,
     log: &Log,
-    order: &mut Order,
+    notes: &mut Notes,
     entry: Entry,
     seen: &mut Vec<bool>,
     hints: &mut Vec<Hint>,
@@ -252,7 +262,7 @@ fn replace(
     match entry.reason {
         None => Ok(()),
         Some(hint) => {
-            take_reason(set, log, order, hint, seen, hints)?;
+            take_reason(set, log, notes, hint, seen, hints)?;
             unsee(entry.lit, seen);
             Ok(())
         }
@@ -317,7 +327,7 @@ fn choice_at(entries: &[Entry], at: usize, other: Option<usize>) -> Option<usize
 fn pass(
     set: &ClauseSet,
     log: &Log,
-    order: &mut Order,
+    notes: &mut Notes,
     entry: Entry,
     seen: &mut Vec<bool>,
     hints: &mut Vec<Hint>,
@@ -327,9 +337,10 @@ fn pass(
     if !sees(seen.as_slice(), entry.lit) {
         return Ok(());
     }
+    notes.come_to(true);
     match entry.reason {
         None => Ok(()),
-        Some(hint) => take_reason(set, log, order, hint, seen, hints),
+        Some(hint) => take_reason(set, log, notes, hint, seen, hints),
     }
 }
 
@@ -337,7 +348,7 @@ fn pass(
 fn take_reason(
     set: &ClauseSet,
     log: &Log,
-    order: &mut Order,
+    notes: &mut Notes,
     hint: Hint,
     seen: &mut Vec<bool>,
     hints: &mut Vec<Hint>,
@@ -346,36 +357,36 @@ fn take_reason(
     ensures seen { OnOk result (seen.new.items ≡ seen_by set.now.slots log.now hint seen.old.items) }
 {
     hints.push(hint)?;
-    see_clause(find_clause(set, log, hint), order, seen);
+    see_clause(find_clause(set, log, hint), notes, seen);
     Ok(())
 }
 
 /// Sees the booleans of a clause, if there is one.
-fn see_clause(clause: Option<&[Lit]>, order: &mut Order, seen: &mut Vec<bool>)
+fn see_clause(clause: Option<&[Lit]>, notes: &mut Notes, seen: &mut Vec<bool>)
     ensures { seen.new.items ≡ seen_all seen.old.items (unwrap_or (option_map (λ lits. lits.now) clause.entry) []) }
 {
     match clause {
-        Some(lits) => see_all(lits, order, seen),
+        Some(lits) => see_all(lits, notes, seen),
         None => {}
     }
 }
 
-fn see_all(lits: &[Lit], order: &mut Order, seen: &mut Vec<bool>)
+fn see_all(lits: &[Lit], notes: &mut Notes, seen: &mut Vec<bool>)
     ensures { seen.new.items ≡ seen_all seen.old.items lits.now }
 {
     for lit in lits {
-        see(*lit, order, seen);
+        see(*lit, notes, seen);
     }
 }
 
-/// Sees a literal's boolean, which is touched where it wasn't seen before.
-fn see(lit: Lit, order: &mut Order, seen: &mut Vec<bool>)
+/// Sees a literal's boolean, which is noted where it wasn't seen before.
+fn see(lit: Lit, notes: &mut Notes, seen: &mut Vec<bool>)
     ensures { seen.new.items ≡ slice_set seen.old.items lit.var.0 true }
 {
     let index = lit.var.0 as usize;
     if index < seen.len() {
         if !seen[index] {
-            order.touch(lit.var);
+            notes.note(lit);
         }
         seen[index] = true;
     }

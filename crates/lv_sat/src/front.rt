@@ -10,7 +10,7 @@ ghost use Rattle.lv_sat.specs.Front.{assumed, AreLevels, Assumes, IsFront, IsKep
 
 use super::analysis::refute;
 use super::guide::{Guide, take_back};
-use super::order::Order;
+use super::notes::Notes;
 use super::propagation::{propagate, visit_all};
 use super::trail::{Entry, Trail};
 use lv_base::Lit;
@@ -55,7 +55,8 @@ pub fn stand(
             alloc,
             set,
             log,
-            &mut guide.order,
+            &mut guide.notes,
+            &mut guide.seen,
             front.trail.entries(),
             hint,
         )?;
@@ -173,7 +174,8 @@ fn assume(
             alloc,
             set,
             log,
-            &mut guide.order,
+            &mut guide.notes,
+            &mut guide.seen,
             front.trail.entries(),
             lit,
         )?;
@@ -185,7 +187,8 @@ fn assume(
                 alloc,
                 set,
                 log,
-                &mut guide.order,
+                &mut guide.notes,
+                &mut guide.seen,
                 front.trail.entries(),
                 hint,
             )?;
@@ -222,7 +225,8 @@ fn contradict(
     alloc: Global,
     set: &ClauseSet,
     log: &mut Log,
-    order: &mut Order,
+    notes: &mut Notes,
+    seen: &mut Vec<bool>,
     entries: &[Entry],
     lit: Lit,
 ) -> Result<(), AllocError>
@@ -236,7 +240,7 @@ fn contradict(
         return Ok(());
     };
     let instead = put_instead(alloc, &entries[..place], lit)?;
-    refute(alloc, set, log, order, instead.as_slice(), hint)
+    refute(alloc, set, log, notes, seen, instead.as_slice(), hint)
 }
 
 /// The entries and the assumption behind them.

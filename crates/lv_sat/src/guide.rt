@@ -7,6 +7,7 @@ ghost use Rattle.lv_reflog.specs.declared.log.Step.{Step};
 ghost use Rattle.lv_sat.specs.Trail.{IsTrail};
 
 use super::effort::Effort;
+use super::notes::{Notes, count_base};
 use super::order::Order;
 use super::trail::{Entry, Trail};
 use lv_base::Lit;
@@ -19,12 +20,14 @@ pub const FIRST_ROOM: usize = 2000;
 /// For how many more, each time that half of them were let go of.
 const MORE_ROOM: usize = 300;
 
-/// Which clauses to look at, how many of those learned, what to choose, and what was done.
+/// Which clauses to look at, how many of those learned, what to choose, what an analysis sees, and what was done.
 #[derive(Drop)]
 pub struct Guide {
     pub watches: Watches,
     pub room: usize,
-    pub order: Order,
+    pub notes: Notes,
+    /// The booleans that an analysis saw: none between two of them.
+    pub seen: Vec<bool>,
     pub effort: Effort,
 }
 
@@ -33,6 +36,14 @@ pub fn note_call(guide: &mut Guide) {
     guide.effort = guide.effort.with_call();
     guide.watches.clear_learned();
     guide.room = FIRST_ROOM;
+    guide.notes.order.begin();
+    guide.notes.clear();
+    guide.seen.clear();
+}
+
+/// Notes up to which entry nothing rests on what was assumed or chosen.
+pub fn note_base(guide: &mut Guide, trail: &Trail) {
+    guide.notes.base = count_base(trail.entries());
 }
 
 /// Notes a clause learned, and that the entries from a place on are taken back.
@@ -46,8 +57,8 @@ pub fn learn(
     requires { cut ≤ length entries.now }
 {
     guide.effort = guide.effort.with(&entries[cut..]).with_conflict();
-    guide.order.age();
-    put_back_all(&mut guide.order, &entries[cut..]);
+    guide.notes.order.touch_all(clause);
+    put_back_all(&mut guide.notes.order, &entries[cut..]);
     if guide.watches.learned() > guide.room {
         guide.room = guide.room.saturating_add(MORE_ROOM);
         guide.watches.reduce()?;
@@ -69,7 +80,7 @@ pub fn take_back(guide: &mut Guide, trail: &mut Trail, len: usize)
 /// Notes that entries are taken back.
 fn note_back(guide: &mut Guide, entries: &[Entry]) {
     guide.effort = guide.effort.with(entries);
-    put_back_all(&mut guide.order, entries);
+    put_back_all(&mut guide.notes.order, entries);
 }
 
 fn put_back_all(order: &mut Order, entries: &[Entry]) {

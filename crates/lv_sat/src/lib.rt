@@ -8,8 +8,9 @@
 //! | what it did | `Effort` |
 //! | literals taken as true | `trail` |
 //! | what a false clause teaches | `analysis` |
-//! | what to choose next | `order` |
+//! | what to choose next | `order`, `queue`, `scores` |
 //! | when to begin anew | `pace` |
+//! | what an analysis saw | `notes` |
 //! | with which clauses to look at | `guide` |
 //! | what clauses force | `propagation` |
 //! | the assumptions on the trail | `front` |
@@ -21,9 +22,12 @@ pub mod answer;
 pub mod effort;
 mod front;
 mod guide;
+mod notes;
 mod order;
 mod pace;
 mod propagation;
+mod queue;
+mod scores;
 mod search;
 pub mod solver;
 mod trail;

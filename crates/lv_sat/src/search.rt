@@ -17,7 +17,7 @@ ghost use Rattle.lv_sat.specs.Trail.{is_open, IsSearch, IsTrail, IsReached, IsFa
 use super::analysis::derive;
 use super::answer::Answer;
 use super::front::{Front, forget, stand};
-use super::guide::{Guide, learn, note_call, take_back};
+use super::guide::{Guide, learn, note_base, note_call, take_back};
 use super::order::Order;
 use super::pace::Pace;
 use super::propagation::propagate;
@@ -127,14 +127,15 @@ fn seek(
 {
     let floor = trail.entries().len();
     let mut pace = Pace::new();
+    note_base(guide, trail);
     let mut from = floor;
     'conflicts: loop {
         from = rest(guide, trail, floor, from, &mut pace);
         match extend(alloc, set, log, guide, from, trail)? {
             Reached::Values(values) => return Ok(Some(values)),
             Reached::False(hint) => {
-                let order = &mut guide.order;
-                match derive(alloc, set, log, order, trail.entries(), floor, hint)? {
+                let (notes, seen) = (&mut guide.notes, &mut guide.seen);
+                match derive(alloc, set, log, notes, seen, trail.entries(), floor, hint)? {
                     None => return Ok(None),
                     Some(flip) => {
                         let last = log.len() - 1;
@@ -160,8 +161,25 @@ fn rest(guide: &mut Guide, trail: &mut Trail, floor: usize, from: usize, pace: &
     if !pace.is_due() {
         return from;
     }
-    take_back(guide, trail, floor);
-    floor
+    let place = first_chosen(trail.entries(), floor);
+    take_back(guide, trail, place);
+    guide.notes.order.harden();
+    note_base(guide, trail);
+    from.min(place)
+}
+
+/// The first place from this one on at which a choice stands; the end where there is none. What comes before it was learned
+/// without any choice.
+fn first_chosen(entries: &[Entry], floor: usize) -> usize
+    requires { floor ≤ length entries.now }
+    ensures from { floor ≤ result }
+    ensures within { result ≤ length entries.now }
+{
+    let mut place = floor;
+    while place < entries.len() && entries[place].reason.is_some() {
+        place += 1;
+    }
+    place
 }
 
 /// Adds choices to the trail, and what clauses force, until each boolean is marked or a clause is false. The entries from
@@ -183,7 +201,7 @@ fn extend(
             return Ok(Reached::False(hint));
         }
         from = trail.entries().len();
-        match choose(&mut guide.order, trail, set.bools()) {
+        match choose(&mut guide.notes.order, trail, set.bools()) {
             Some(lit) => trail.push(Entry { lit, reason: None })?,
             None => return judge(alloc, set, log, trail),
         }

@@ -10,7 +10,7 @@ use super::answer::Answer;
 use super::effort::Effort;
 use super::front::{Front, forget};
 use super::guide::{FIRST_ROOM, Guide};
-use super::order::Order;
+use super::notes::Notes;
 use super::search::search;
 use super::trail::Trail;
 use lv_base::{ClauseId, Lit};
@@ -53,7 +53,8 @@ impl Solver {
             guide: Guide {
                 watches: Watches::new(alloc, set)?,
                 room: FIRST_ROOM,
-                order: Order::new(alloc, set.bools())?,
+                notes: Notes::new(alloc, set.bools())?,
+                seen: Vec::new(alloc),
                 effort: Effort::new(),
             },
             front: Front {

@@ -50,6 +50,16 @@ impl Arena {
         }
     }
 
+    /// With room for clauses of numbers below this one, of so many literals in all.
+    pub fn with_room(alloc: Global, bound: usize, lits: usize) -> Result<Arena, AllocError> {
+        Ok(Arena {
+            alloc,
+            lits: Vec::with_capacity(alloc, lits)?,
+            spans: Vec::with_capacity(alloc, bound)?,
+            lost: 0,
+        })
+    }
+
     /// Puts a clause at a number at which none is.
     pub fn put(&mut self, lits: &[Lit], number: usize) -> Result<(), AllocError> {
         if self.lost > self.lits.len() / 2 {

@@ -65,7 +65,7 @@ impl Watches {
             alloc,
             of_true: rows_for(alloc, counts.of_true.as_slice())?,
             of_false: rows_for(alloc, counts.of_false.as_slice())?,
-            given: Arena::new(alloc),
+            given: Arena::with_room(alloc, set.bound(), counts.lits)?,
             learned: Arena::new(alloc),
             steps: Vec::new(alloc),
             short: Vec::new(alloc),
@@ -121,11 +121,14 @@ impl Watches {
 
     /// Takes all learned clauses out. Takes no memory.
     pub fn clear_learned(&mut self) {
-        if !self.steps.is_empty() {
-            self.unwatch_learned();
-            self.learned.clear();
-            self.steps.clear();
+        for number in 0..self.steps.len() {
+            if let Some((first, second)) = self.learned.watched(number) {
+                self.unwatch(first, Kind::Learned, number);
+                self.unwatch(second, Kind::Learned, number);
+            }
         }
+        self.learned.clear();
+        self.steps.clear();
     }
 
     /// How many learned clauses there are.
@@ -155,6 +158,7 @@ impl Watches {
 
     /// What becomes of a watch of a literal that is false: where the clause isn't true, it watches another literal that isn't
     /// false, if there is one.
+    #[inline(always)]
     pub fn meet(
         &mut self,
         marks: &[Option<bool>],
@@ -164,6 +168,16 @@ impl Watches {
         if is_marked(marks, watch.other) {
             return Ok(Fate::Stays(watch));
         }
+        self.move_on(marks, watch, turned)
+    }
+
+    /// The same, where the other literal isn't true.
+    fn move_on(
+        &mut self,
+        marks: &[Option<bool>],
+        watch: Watch,
+        turned: Lit,
+    ) -> Result<Fate, AllocError> {
         if watch.is_pair {
             return Ok(self.asks(watch));
         }
@@ -276,9 +290,10 @@ fn keep_given(rows: &mut Vec<Row>) {
     }
 }
 
-/// How many clauses watch each literal, true and false.
+/// How many clauses watch each literal, true and false, and how many literals these clauses have in all.
 #[derive(Drop)]
 struct Counts {
+    lits: usize,
     of_true: Vec<usize>,
     of_false: Vec<usize>,
 }
@@ -287,11 +302,15 @@ impl Counts {
     /// Of all clauses present.
     fn of(alloc: Global, set: &ClauseSet) -> Result<Counts, AllocError> {
         let mut counts = Counts {
+            lits: 0,
             of_true: vec![in alloc; 0; set.bools() as usize]?,
             of_false: vec![in alloc; 0; set.bools() as usize]?,
         };
         for key in 0..set.bound() {
-            if let Some([first, second, ..]) = set.find(ClauseId(key)) {
+            if let Some(lits) = set.find(ClauseId(key))
+                && let [first, second, ..] = lits
+            {
+                counts.lits = counts.lits.wrapping_add(lits.len());
                 counts.raise(*first);
                 counts.raise(*second);
             }

@@ -1,5 +1,5 @@
 -- the trail is as it was, or begins anew one time less
-use Rattle.std.proofs.Common.{◌≡◌, true, rules}
+use Rattle.std.proofs.Common.{◌≡◌, true, rules, arith}
 use Rattle.lv_sat.proofs.SearchLemmas.{search_back}
 use Rattle.lv_sat.proofs.MeasureLemmas.{fewer_times}
 use Rattle.lv_sat.proofs.search.rest.Goals as goal
@@ -7,7 +7,7 @@ use Rattle.lv_sat.proofs.search.rest.Goals as goal
 pub returns-clause-search : goal.returns-clause-search
 returns-clause-search c =
     λ cs start log size here.
-    search_back cs start log c.args.trail.now.marks.items c.take_back.new.trail.marks.items c.args.trail.now.entries.items c.take_back.new.trail.entries.items c.args.floor size c.take_back.ensures.entries (c.take_back.ensures.trail cs log) here
+    search_back cs start log c.args.trail.now.marks.items c.take_back.new.trail.marks.items c.args.trail.now.entries.items c.take_back.new.trail.entries.items c.first_chosen-place.result (omega (arith, size, c.first_chosen-place.ensures.from)) c.take_back.ensures.entries (c.take_back.ensures.trail cs log) here
 
 pub returns-clause-fewer : goal.returns-clause-fewer
 returns-clause-fewer c =

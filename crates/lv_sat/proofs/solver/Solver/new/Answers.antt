@@ -3,4 +3,4 @@ use Rattle.lv_sat.proofs.FrontLemmas.{kept_nothing}
 use Rattle.lv_sat.proofs.solver.Solver.new.Goals as goal
 
 pub invariant_of-result : goal.invariant_of-result
-invariant_of-result c = kept_nothing c.in_ok-copy.field-0 c.new-5.result.items c.in_ok-new-3.field-0.marks.items c.in_ok-new-3.field-0.entries.items c.new-5.ensures.items c.in_ok-new-3.ensures.entries
+invariant_of-result c = kept_nothing c.in_ok-copy.field-0 c.new-6.result.items c.in_ok-new-3.field-0.marks.items c.in_ok-new-3.field-0.entries.items c.new-6.ensures.items c.in_ok-new-3.ensures.entries
