@@ -60,8 +60,10 @@ impl Scores {
 
     /// Takes all booleans out of the heap.
     pub fn clear(&mut self) {
-        while let Some(var) = self.heap.pop() {
-            self.set_place(var, None);
+        for _ in 0..self.heap.len() {
+            if let Some(var) = self.heap.pop() {
+                self.set_place(var, None);
+            }
         }
     }
 
