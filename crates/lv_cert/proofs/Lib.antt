@@ -7,3 +7,4 @@ pub mod BackLemmas
 pub mod TextLemmas
 pub mod TakingLemmas
 pub mod AgreeLemmas
+pub mod WholeLemmas

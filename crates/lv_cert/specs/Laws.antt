@@ -23,3 +23,12 @@ FaultIsOne = (bytes : List ℕ) (n m : ℕ) → IsFaultAt bytes n → IsFaultAt 
 -- bytes that have one are no certificate
 abbrev pub FaultIsNoCertificate : Type 0
 FaultIsNoCertificate = (bytes : List ℕ) (lines : List Line) (n : ℕ) → IsCertificate bytes lines → ¬ IsFaultAt bytes n
+
+-- what reading bytes comes to: the lines of a certificate, or the first line out of form or order
+pub data IsRead (bytes : List ℕ) : Type 0 where
+  as_lines : (lines : List Line) → IsCertificate bytes lines → IsRead bytes
+  with_fault : (n : ℕ) → IsFaultAt bytes n → IsRead bytes
+
+-- whatever the bytes
+abbrev pub EveryTextIsRead : Type 0
+EveryTextIsRead = (bytes : List ℕ) → IsRead bytes

@@ -3,7 +3,7 @@
 //! each as its own lines, and tells the one fault of all other bytes.
 #![tactic(auto)]
 
-ghost use Rattle.lv_cert.specs.Laws.{LineReadsBack, CertificateIsOne, FaultIsOne, FaultIsNoCertificate};
+ghost use Rattle.lv_cert.specs.Laws.{LineReadsBack, CertificateIsOne, FaultIsOne, FaultIsNoCertificate, EveryTextIsRead};
 
 /// A line in its form, written and read, is that line.
 pub fn line_reads_back()
@@ -23,4 +23,9 @@ pub fn fault_is_one()
 /// Bytes that have a line out of form or order are no certificate.
 pub fn fault_is_no_certificate()
     ensures { FaultIsNoCertificate }
+{}
+
+/// Bytes are a certificate, or have a first line out of form or order.
+pub fn every_text_is_read()
+    ensures { EveryTextIsRead }
 {}

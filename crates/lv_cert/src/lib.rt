@@ -3,6 +3,7 @@
 //! writes such texts and reads them back; whether what a certificate says is right is judged elsewhere.
 //!
 //! - `line`: the lines of a certificate as values.
+//! - `cert`: a certificate, lines in order.
 //! - `writing`: their text.
 //! - `numbers`, `words`, `reading`: the line that bytes are.
 //! - `order`: which line may come where.
@@ -10,6 +11,7 @@
 //! - `laws`: what holds of certificates whatever their text.
 #![tactic(auto)]
 
+pub mod cert;
 pub mod laws;
 pub mod line;
 pub mod numbers;
@@ -19,6 +21,7 @@ pub mod whole;
 pub mod words;
 pub mod writing;
 
-pub use line::{Cert, Evidence, Head, Line, Literal, Moment, Question};
+pub use cert::Cert;
+pub use line::{Evidence, Head, Line, Literal, Moment, Question};
 pub use whole::{CertFault, read_cert};
 pub use writing::write_cert;

@@ -81,9 +81,3 @@ pub enum Line {
     /// The last.
     End,
 }
-
-/// A certificate: its lines in order.
-#[derive(Debug, Drop)]
-pub struct Cert {
-    pub lines: Seq<Line>,
-}

@@ -10,7 +10,8 @@ ghost use Rattle.lv_cert.specs.Reading.{line_of};
 ghost use Rattle.lv_cert.specs.Form.{IsCertificate, has_ended};
 ghost use Rattle.lv_cert.specs.Taking.{Takes, Tells};
 
-use crate::line::{Cert, Line};
+use crate::cert::Cert;
+use crate::line::Line;
 use crate::order::{Place, place_after};
 use crate::reading::line_of;
 use crate::words::words;
@@ -72,7 +73,7 @@ pub fn read_cert(alloc: Global, bytes: &[u8]) -> Result<Cert, CertFault>
             None => return Err(CertFault::Form(lines.len() as u64 + 1)),
         }
     }
-    Ok(Cert { lines })
+    Ok(Cert::new(lines))
 }
 
 /// Whether the certificate has ended, and the text with it.

@@ -4,7 +4,8 @@
 ghost use Rattle.std.specs.Prelude.{◌≡◌, ◌++◌, ◌∷◌, [], IfOk, map, decimal, codes};
 ghost use Rattle.lv_cert.specs.Texts.{question_word, moment_word, head_word, literal_word, evidence_words, words_of, spaced, joined, line_text, text_of};
 
-use crate::line::{Cert, Evidence, Head, Line, Literal, Moment, Question};
+use crate::cert::Cert;
+use crate::line::{Evidence, Head, Line, Literal, Moment, Question};
 use itoa::Buffer;
 use std::alloc::{AllocError, Global};
 
@@ -13,7 +14,7 @@ pub fn write_cert(alloc: Global, cert: &Cert) -> Result<Vec<u8>, AllocError>
     ensures { IfOk result (λ out. out.items ≡ text_of cert.now.lines) }
 {
     let mut out = Vec::new(alloc);
-    push_lines(&mut out, cert.lines.as_slice())?;
+    push_lines(&mut out, cert.lines())?;
     Ok(out)
 }
 
