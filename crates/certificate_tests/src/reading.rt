@@ -1,8 +1,9 @@
 //! Each public call with ample memory, and the first line out of form of small texts.
 use super::texts::{DIAGNOSIS, RECOVERY};
-use lv_base::Seq;
-use lv_cert::laws::{certificate_is_one, fault_is_no_certificate, fault_is_one, line_reads_back};
-use lv_cert::{Cert, CertFault, Head, Line, Literal, read_cert, write_cert};
+use lv_cert::laws::{
+    certificate_is_one, every_text_is_read, fault_is_no_certificate, fault_is_one, line_reads_back,
+};
+use lv_cert::{CertFault, Head, Line, Literal, read_cert, write_cert};
 use std::alloc::Global;
 use std::test::Fail;
 
@@ -38,25 +39,34 @@ fn certificates_are_read_and_written(rt: HostRuntime) -> Result<(), Fail> {
     certificate_is_one();
     fault_is_one();
     fault_is_no_certificate();
+    every_text_is_read();
     assert!(rt; stays(rt.alloc(), DIAGNOSIS)?);
     assert!(rt; stays(rt.alloc(), RECOVERY)?);
     Ok(())
 }
 
-#[test]
-fn lines_are_values(rt: HostRuntime) -> Result<(), Fail> {
-    let mut lines = Seq::new(rt.alloc());
+/// Whether the line is a limit of 4.
+fn is_limit(line: &Line) -> bool {
+    matches!(line, Line::Numbers(Head::Limit, numbers) if numbers.as_slice() == [4].as_slice())
+}
+
+/// Whether the line is the clause of the literal -3, by the hints 1 and 2.
+fn is_clause(line: &Line) -> bool {
     let literal = Literal {
         negated: true,
         number: 3,
     };
-    lines.push(Line::Numbers(Head::Limit, Seq::from_slice(rt.alloc(), &[4])?))?;
-    lines.push(Line::Clause(
-        Seq::from_slice(rt.alloc(), &[literal])?,
-        Seq::from_slice(rt.alloc(), &[1, 2])?,
-    ))?;
-    let text = write_cert(rt.alloc(), &Cert { lines })?;
-    assert!(rt; text.as_slice() == b"k 4\nclause -3 0 1 2 0\n".as_slice());
+    matches!(line, Line::Clause(literals, hints) if literals.as_slice() == [literal].as_slice() && hints.as_slice() == [1, 2].as_slice())
+}
+
+#[test]
+fn lines_are_values(rt: HostRuntime) -> Result<(), Fail> {
+    let text =
+        b"certificate diagnosis\nmodel v\nk 4\nstate 0\ncontrol\nconflict\nclause -3 0 1 2 0\nend\n";
+    let cert = read_cert(rt.alloc(), text)?;
+    assert_eq!(rt; cert.lines().len(), 8);
+    assert!(rt; cert.lines().get(2).is_some_and(is_limit));
+    assert!(rt; cert.lines().get(6).is_some_and(is_clause));
     Ok(())
 }
 

@@ -106,7 +106,5 @@ pub fn certify_diagnosis(
     let made = splits_of(alloc, model, tracked, facts, k, answer)?;
     push_splits(&mut lines, made.as_slice())?;
     lines.push(Line::End)?;
-    Ok(Cert {
-        lines: Seq::from_vec(lines),
-    })
+    Ok(Cert::new(Seq::from_vec(lines)))
 }

@@ -19,4 +19,7 @@ pub mod RecoveryStages
 pub mod RecoveryLines
 pub mod RecoveryPlaces
 pub mod RecoveryWhole
+pub mod Contents
+pub mod Right
+pub mod LeastRanks
 pub use Rattle.lv_cert_meaning.proofs.lv_cert_blocks as lv_cert_blocks

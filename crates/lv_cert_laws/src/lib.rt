@@ -2,7 +2,7 @@
 //! callers above cite by calling them.
 #![tactic(auto)]
 
-ghost use Rattle.lv_cert_meaning.specs.Laws.{ValidDiagnosisProvesItsAnswer, ValidRecoveryProvesItsAnswer, ValidCertificateProvesItsAnswer};
+ghost use Rattle.lv_cert_meaning.specs.Laws.{ValidDiagnosisProvesItsAnswer, ValidRecoveryProvesItsAnswer, ValidCertificateProvesItsAnswer, JudgedIsReadOff, ValidLinesAnswerRight, LeastRankIsOfLeastMember};
 
 /// What a valid certificate of a diagnosis lists are the first candidates that are possible.
 pub fn valid_diagnosis_proves_its_answer()
@@ -17,4 +17,19 @@ pub fn valid_recovery_proves_its_answer()
 /// Both, so what a valid certificate gives is the answer, whoever wrote it.
 pub fn valid_certificate_proves_its_answer()
     ensures { ValidCertificateProvesItsAnswer }
+{}
+
+/// What was judged of good lines states and answers what can be read off them.
+pub fn judged_is_read_off()
+    ensures { JudgedIsReadOff }
+{}
+
+/// So what a valid certificate proves can be told of its lines alone, and nobody need know how they are judged.
+pub fn valid_lines_answer_right()
+    ensures { ValidLinesAnswerRight }
+{}
+
+/// What has to rank behind the answer at the end of a certificate is the least member of each open zone.
+pub fn least_rank_is_of_least_member()
+    ensures { LeastRankIsOfLeastMember }
 {}

@@ -1,17 +1,23 @@
 -- What a valid certificate proves.
-use Rattle.std.specs.Prelude.{◌≡◌, ℕ, true, List, [], ◌∷◌, take, filter, Some}
+use Rattle.std.specs.Prelude.{◌≡◌, ℕ, true, false, List, [], ◌∷◌, take, filter, Some, None}
+use Rattle.lv_model_names.specs.lv_base.declared.ids.Cost.{Cost}
 use Rattle.lv_model_names.specs.lv_base.declared.rank.Rank.{Rank}
+use Rattle.lv_model_names.specs.lv_base.declared.search.Candidate.{Candidate}
 use Rattle.lv_model_names.specs.lv_model.declared.plant.Plant.{Plant}
 use Rattle.lv_model_names.specs.lv_model.WellFormed.{is_well_formed}
 use Rattle.lv_search_zones.specs.lv_meaning.Candidates.{first_possible}
 use Rattle.lv_search_zones.specs.lv_meaning.declared.aim.Aim.{Aim}
 use Rattle.lv_search_zones.specs.lv_meaning.Commands.{command_sets}
 use Rattle.lv_search_zones.specs.lv_meaning.Recovery.{rank_recovers}
+use Rattle.lv_search_zones.specs.lv_boxes.Members.{ZoneValue, is_member}
+use Rattle.lv_search_zones.specs.lv_boxes.RankedMembers.{IsLeastRank}
 use Rattle.lv_cert_blocks.specs.lv_cert.declared.line.Question.TheVariants.{Diagnosis, Recovery}
 use Rattle.lv_cert_blocks.specs.lv_cert.declared.line.Line.{Line}
 use Rattle.lv_cert_blocks.specs.lv_cert.declared.order.Place.TheVariants.{Start, Done}
 use Rattle.lv_cert_blocks.specs.lv_cert.Order.{place_behind}
 use Rattle.lv_cert_meaning.specs.Stated.{Stated}
+use Rattle.lv_cert_meaning.specs.Space.{least_rank}
+use Rattle.lv_cert_meaning.specs.Contents.{limit_of, states_of, facts_of, aim_in, answer_of}
 use Rattle.lv_cert_meaning.specs.Judging.{Judged, comes_to, question_of, judgement}
 
 -- what a recovery is asked to do
@@ -41,3 +47,29 @@ ValidRecoveryProvesItsAnswer =
 pub record ValidCertificateProvesItsAnswer : Type 0 where
   pub diagnosis : ValidDiagnosisProvesItsAnswer
   pub recovery : ValidRecoveryProvesItsAnswer
+
+-- what was judged of lines states and answers what they do
+pub record IsReadOff (plant : Plant) (lines : List Line) (j : Judged) : Type 0 where
+  pub limit : question_of lines ≡ Diagnosis → j.stated.k ≡ limit_of lines
+  pub facts : j.stated.facts ≡ facts_of lines
+  pub aim : aim_of j.stated ≡ aim_in plant lines
+  pub answer : j.listed ≡ answer_of plant lines
+
+-- whatever their order
+abbrev pub JudgedIsReadOff : Type 0
+JudgedIsReadOff = (plant : Plant) (lines : List Line) (j : Judged) → judgement plant lines ≡ comes_to j → IsReadOff plant lines j
+
+-- what the lines answer is right, for what they state: of a diagnosis the first candidates that are possible, as many as its limit
+-- says; of a recovery the first command set that recovers, or nothing exactly where none does
+pub record AnswersRight (plant : Plant) (lines : List Line) : Type 0 where
+  pub diagnosis : question_of lines ≡ Diagnosis → answer_of plant lines ≡ first_possible (limit_of lines) plant (facts_of lines) (states_of lines)
+  pub recovery : question_of lines ≡ Recovery → answer_of plant lines ≡ take 1 (filter (rank_recovers plant (aim_in plant lines)) (command_sets plant))
+
+-- in words of the lines alone
+abbrev pub ValidLinesAnswerRight : Type 0
+ValidLinesAnswerRight = (plant : Plant) → is_well_formed plant ≡ true → (lines : List Line) (j : Judged) → IsValid plant lines j → AnswersRight plant lines
+
+-- the least rank of a zone is that of its least member, and there is one exactly where the zone has members
+pub record LeastRankIsOfLeastMember : Type 0 where
+  pub least : (slots : List (List Cost)) (zone : ZoneValue) (r : Rank) → least_rank slots zone ≡ Some r → IsLeastRank slots zone r
+  pub empty : (slots : List (List Cost)) (zone : ZoneValue) → least_rank slots zone ≡ None → (candidate : Candidate) → is_member slots zone candidate ≡ false

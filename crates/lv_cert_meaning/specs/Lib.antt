@@ -3,6 +3,7 @@ pub mod Stated
 pub mod Space
 pub mod Units
 pub mod Judging
+pub mod Contents
 pub mod Laws
 pub mod Certifying
 pub use Rattle.lv_model_names.specs.lv_base as lv_base

@@ -109,7 +109,5 @@ pub fn certify_recovery(
     let made = splits_of(alloc, model, aim, answer)?;
     push_splits(&mut lines, made.as_slice())?;
     lines.push(Line::End)?;
-    Ok(Cert {
-        lines: Seq::from_vec(lines),
-    })
+    Ok(Cert::new(Seq::from_vec(lines)))
 }

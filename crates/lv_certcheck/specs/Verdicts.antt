@@ -1,14 +1,10 @@
 -- The verdict on a certificate, and on bytes.
-use Rattle.std.specs.Prelude.{◌≡◌, ℕ, Bool, true, false, List, Option, Some, None, take, filter}
+use Rattle.std.specs.Prelude.{◌≡◌, ℕ, Bool, true, false, List, Option, Some, None}
 use Rattle.lv_model.specs.declared.plant.Plant.{Plant}
-use Rattle.lv_meaning.specs.Candidates.{first_possible}
-use Rattle.lv_meaning.specs.Commands.{command_sets}
-use Rattle.lv_meaning.specs.Recovery.{rank_recovers}
-use Rattle.lv_cert.specs.declared.line.Question.TheVariants.{Diagnosis, Recovery}
 use Rattle.lv_cert.specs.declared.line.Line.{Line}
 use Rattle.lv_cert.specs.Form.{IsCertificate, IsFaultAt}
-use Rattle.lv_cert_laws.specs.lv_cert_meaning.Judging.{Judged as AllJudged, Judgement, comes_to, is_bad_at, question_of, judgement}
-use Rattle.lv_cert_laws.specs.lv_cert_meaning.Laws.{aim_of}
+use Rattle.lv_cert_laws.specs.lv_cert_meaning.Judging.{Judged as AllJudged, Judgement, comes_to, is_bad_at, judgement}
+use Rattle.lv_cert_laws.specs.lv_cert_meaning.Laws.{AnswersRight}
 use Rattle.lv_certcheck.specs.declared.check.Verdict.{Verdict}
 use Rattle.lv_certcheck.specs.declared.check.Verdict.TheVariants.{Valid, Invalid}
 use Rattle.lv_certcheck.specs.declared.judged.Judged.{Judged}
@@ -35,13 +31,23 @@ pub data IsVerdictOn (plant : Plant) (bytes : List ℕ) (v : Verdict) : Type 0 w
   of_lines : (lines : List Line) → IsCertificate bytes lines → v ≡ verdict plant lines → IsVerdictOn plant bytes v
   of_form : (n : ℕ) → IsFaultAt bytes n → v ≡ Invalid n → IsVerdictOn plant bytes v
 
--- the lines of the text come to what they list: of a diagnosis the first candidates that are possible, as many as its limit says, for the
--- states and the facts that it states; of a recovery the first command set that recovers, for the states, the facts and the goals that it
--- states, or nothing exactly where none does
+-- the text is that of lines which answer rightly what they state: a diagnosis lists the first candidates that are possible, as many as
+-- its limit says, for its states and facts; a recovery gives the first command set that recovers, for its states, facts and goals, or
+-- nothing exactly where none does
 pub record ProvesItsAnswer (plant : Plant) (bytes : List ℕ) : Type 0 where
   pub lines : List Line
   pub text : IsCertificate bytes lines
-  pub judged : AllJudged
-  pub good : judgement plant lines ≡ comes_to judged
-  pub diagnosis : question_of lines ≡ Diagnosis → judged.listed ≡ first_possible judged.stated.k plant judged.stated.facts judged.stated.tracked
-  pub recovery : question_of lines ≡ Recovery → judged.listed ≡ take 1 (filter (rank_recovers plant (aim_of judged.stated)) (command_sets plant))
+  pub right : AnswersRight plant lines
+
+-- what the verdict on some bytes is
+pub record HasVerdictOn (plant : Plant) (bytes : List ℕ) : Type 0 where
+  pub verdict : Verdict
+  pub is : IsVerdictOn plant bytes verdict
+
+-- every bytes have a verdict
+abbrev pub VerdictExists : Type 0
+VerdictExists = (plant : Plant) (bytes : List ℕ) → HasVerdictOn plant bytes
+
+-- and just one
+abbrev pub VerdictIsOne : Type 0
+VerdictIsOne = (plant : Plant) (bytes : List ℕ) (v w : Verdict) → IsVerdictOn plant bytes v → IsVerdictOn plant bytes w → v ≡ w

@@ -3,6 +3,7 @@
 
 ghost use Rattle.std.specs.Prelude.{◌≡◌, IfOk};
 ghost use Rattle.lv_cert_laws.specs.lv_cert_meaning.Judging as Judging;
+ghost use Rattle.lv_cert_laws.specs.lv_cert_meaning.Laws.{AnswersRight};
 ghost use Rattle.lv_certcheck.specs.Settings.{IsSetting, plant_of};
 ghost use Rattle.lv_certcheck.specs.Giving.{Fits};
 ghost use Rattle.lv_certcheck.specs.Verdicts.{judged_of, verdict, IsVerdictOn, ProvesItsAnswer};
@@ -112,13 +113,22 @@ fn judge_lines(judge: &Judge<'_>, lines: &[Line]) -> Result<Verdict, AllocError>
     judge_on(judge, &mut judged, lines)
 }
 
-/// The verdict on a certificate in its form.
+/// The verdict on a certificate, whoever put it together: what is valid answers rightly what it states.
 pub fn check_cert(alloc: Global, model: &Model, cert: &Cert) -> Result<Verdict, AllocError>
-    ensures { IfOk result (λ v. v ≡ verdict model.now cert.now.lines) }
+    ensures verdict { IfOk result (λ v. v ≡ verdict model.now cert.now.lines) }
+    ensures proves { IfOk result (λ v. v ≡ Verdict.Valid → AnswersRight model.now cert.now.lines) }
+{
+    let _plant = model.plant();
+    let verdict = check_lines(alloc, model, cert.lines())?;
+    Ok(verdict)
+}
+
+/// The verdict on lines.
+fn check_lines(alloc: Global, model: &Model, lines: &[Line]) -> Result<Verdict, AllocError>
+    ensures { IfOk result (λ v. v ≡ verdict model.now lines.now) }
 {
     let lists = Lists::of(alloc, model)?;
     let counts = Counts::of(alloc, model)?;
-    let lines = cert.lines.as_slice();
     // What is large comes last, so that no exit lets go of it.
     let system = compile(alloc, model)?;
     let setting = Setting {
@@ -147,7 +157,7 @@ fn verdict_on(alloc: Global, model: &Model, bytes: &[u8]) -> Result<Verdict, All
 }
 
 /// The verdict on bytes, whoever wrote them: the first line out of form or order comes before every bad one, and what is
-/// valid proves its answer.
+/// valid proves its answer, in words of its lines alone.
 pub fn check_text(alloc: Global, model: &Model, bytes: &[u8]) -> Result<Verdict, AllocError>
     ensures verdict { IfOk result (λ v. IsVerdictOn model.now bytes.now v) }
     ensures proves { IfOk result (λ v. v ≡ Verdict.Valid → ProvesItsAnswer model.now bytes.now) }

@@ -16,6 +16,7 @@ mod blocks;
 pub mod check;
 mod judge;
 pub mod judged;
+pub mod laws;
 pub mod setting;
 mod shown;
 pub mod stated;
