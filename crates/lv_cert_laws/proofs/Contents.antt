@@ -38,8 +38,7 @@ use Rattle.lv_cert_meaning.specs.lv_cert.declared.line.Line.TheVariants as line
 use Rattle.lv_cert_meaning.specs.Counting.{is_one_of, are_of, places_of, values_of, at_number, mode_counts, pairs_of_numbers}
 use Rattle.lv_cert_meaning.specs.Stated.{Stated, state_of, with_state, with_controls, observation_of, with_observation, goal_of, with_goal, rank_from, candidate_of_numbers}
 use Rattle.lv_cert_meaning.specs.Space.{open_zone, with_split, all_passed}
-use Rattle.lv_cert_meaning.specs.Judging
-use Rattle.lv_cert_meaning.specs.Judging.{Judged, unjudged, last_of, full_to, with_listed, shows, ends_empty, with_conflict, clauses_of_choices, values_refuted, clauses_of_goals, answer_values, with_proof, clauses_of_miss, with_counter, choices_of, judge_numbers, judge_conflict, judge_line, judge_lines, comes_to, question_of}
+use Rattle.lv_cert_meaning.specs.Judging.{Judged, unjudged, judge_limit, judge_state, judge_control, judge_listed, judge_recovery, judge_good, judge_proof, judge_counter, last_of, full_to, with_listed, shows, ends_empty, with_conflict, clauses_of_choices, values_refuted, clauses_of_goals, answer_values, with_proof, clauses_of_miss, with_counter, choices_of, judge_numbers, judge_conflict, judge_line, judge_lines, comes_to, question_of}
 use Rattle.lv_cert_meaning.specs.Contents.{last_from, limits_in, limit_of, states_in, states_of, controls_in, seen, present_in, next_in, facts_of, one_or_none, goals_in, aim_in, cost_at, candidate_in, answers_in, answer_of}
 use Rattle.lv_cert_meaning.specs.Laws.{aim_of, IsReadOff, JudgedIsReadOff}
 use Rattle.lv_cert_laws.proofs.Options.{ComesFrom, mapped, anded, when_true, numbered_at}
@@ -202,13 +201,13 @@ candidate_is plant all so_far more n moves r is h =
     same ∙ both.1
 
 module _ (plant : Plant) (tracked : List TrackedState) (rest : List Line) (j k : Judged) where
-  limit_adds : (ns : List ℕ) → Judging.judge_limit j ns ≡ Some k → AddsLine plant tracked (line.Numbers head.Limit ns) j k
+  limit_adds : (ns : List ℕ) → judge_limit j ns ≡ Some k → AddsLine plant tracked (line.Numbers head.Limit ns) j k
   limit_adds [] h = absurd (cc h)
   limit_adds (m ∷ []) h =
       subst (λ (y : Judged). Adds j y (m ∷ []) [] [] [] [] [] []) (cond_some (is_one_of 64 m) (record j { stated = record j.stated { k = m } }) k h).1 (limit_one plant j m)
   limit_adds (m ∷ n ∷ ns) h = absurd (cc h)
 
-  state_adds : (ns : List ℕ) → Judging.judge_state plant j ns ≡ Some k → AddsLine plant tracked (line.Numbers head.State ns) j k
+  state_adds : (ns : List ℕ) → judge_state plant j ns ≡ Some k → AddsLine plant tracked (line.Numbers head.State ns) j k
   state_adds ns h = by ns (mapped (λ (s : TrackedState). record j { stated = with_state j.stated s }) (state_of plant ns) k (when_true (nat_lt (length j.stated.tracked) TRACKED) _ k h))
     where
       by : (ms : List ℕ) → ComesFrom (λ (s : TrackedState). record j { stated = with_state j.stated s }) (state_of plant ms) k → AddsLine plant tracked (line.Numbers head.State ms) j k
@@ -218,13 +217,13 @@ module _ (plant : Plant) (tracked : List TrackedState) (rest : List Line) (j k :
           let same : s ≡ from.source = (cond_some (nat_le cost TRACKED_COST && are_of (mode_counts plant) modes) s from.source from.at).1 in
           subst (λ (y : Judged). Adds j y [] (s ∷ []) [] [] [] [] []) (ap (λ (t : TrackedState). record j { stated = with_state j.stated t }) same ∙ from.made) (state_one plant j s)
 
-  control_adds : (ns : List ℕ) → Judging.judge_control plant j ns ≡ Some k → AddsLine plant tracked (line.Numbers head.Control ns) j k
+  control_adds : (ns : List ℕ) → judge_control plant j ns ≡ Some k → AddsLine plant tracked (line.Numbers head.Control ns) j k
   control_adds ns h =
       subst (λ (y : Judged). Adds j y [] [] (values_of ns ∷ []) [] [] [] [])
       (cond_some (are_of (control_sizes plant) ns) (record j { stated = with_controls plant j.stated ns; space = record j.space { zones = map Some (zones_from plant 0 j.stated.tracked) } }) k h).1
       (controls_one plant j ns)
 
-  listed_adds : (more : List TrackedState) → tracked ≡ j.stated.tracked ++ more → (ns : List ℕ) → Judging.judge_listed plant j ns ≡ Some k → AddsLine plant tracked (line.Numbers head.Listed ns) j k
+  listed_adds : (more : List TrackedState) → tracked ≡ j.stated.tracked ++ more → (ns : List ℕ) → judge_listed plant j ns ≡ Some k → AddsLine plant tracked (line.Numbers head.Listed ns) j k
   listed_adds more is ns h = by ns (anded (with_listed j) (candidate_of_numbers plant j.stated.tracked ns) k h)
     where
       by : (ms : List ℕ) → (r : Rank) × (candidate_of_numbers plant j.stated.tracked ms ≡ Some r) × (with_listed j r ≡ Some k) → AddsLine plant tracked (line.Numbers head.Listed ms) j k
@@ -235,7 +234,7 @@ module _ (plant : Plant) (tracked : List TrackedState) (rest : List Line) (j k :
           let made = (cond_some (option_map_or (λ last. ranks_before last found.0) (last_of j.listed) true) (record j { listed = j.listed ++ found.0 ∷ [] }) k found.2).1 in
           subst (λ (y : Judged). Adds j y [] [] [] [] [] [] (r ∷ [])) (ap (λ (q : Rank). record j { listed = j.listed ++ q ∷ [] }) same ∙ made) (listed_one plant j r)
 
-  recovery_adds : (ns : List ℕ) → Judging.judge_recovery plant j ns ≡ Some k → AddsLine plant tracked (line.Numbers head.Recovery ns) j k
+  recovery_adds : (ns : List ℕ) → judge_recovery plant j ns ≡ Some k → AddsLine plant tracked (line.Numbers head.Recovery ns) j k
   recovery_adds ns h =
       subst (λ (y : Judged). Adds j y [] [] [] [] [] [] (command_rank plant (places_of ns) ∷ []))
       (cond_some (are_of (control_sizes plant) ns) (record j { listed = j.listed ++ command_rank plant (places_of ns) ∷ [] }) k h).1 (listed_one plant j (command_rank plant (places_of ns)))
@@ -255,14 +254,14 @@ module _ (plant : Plant) (tracked : List TrackedState) (rest : List Line) (j k :
       let found = anded (λ pairs. with_conflict j pairs (clauses_of_goals plant j pairs from.0) rest) (pairs_of_numbers (control_sizes plant) ns) k from.2 in
       conflict_keeps found.0 (clauses_of_goals plant j found.0 from.0) found.2
 
-  good_adds : (ns : List ℕ) → Judging.judge_good j ns ≡ Some k → Adds j k [] [] [] [] [] [] []
+  good_adds : (ns : List ℕ) → judge_good j ns ≡ Some k → Adds j k [] [] [] [] [] [] []
   good_adds [] h = absurd (cc h)
   good_adds (s ∷ []) h =
       let x : Judged = record j { aimed = Some (record { place = s - 1; values = answer_values j; reaches = true }) } in
       kept j x k (cond_some (is_one_of (length j.stated.tracked) s) x k h).1 (record { stated = refl; listed = refl })
   good_adds (s ∷ t ∷ ts) h = absurd (cc h)
 
-  proof_adds : (ns : List ℕ) → Judging.judge_proof plant j ns rest ≡ Some k → Adds j k [] [] [] [] [] [] []
+  proof_adds : (ns : List ℕ) → judge_proof plant j ns rest ≡ Some k → Adds j k [] [] [] [] [] [] []
   proof_adds [] h = absurd (cc h)
   proof_adds (s ∷ []) h = absurd (cc h)
   proof_adds (s ∷ g ∷ []) h =
@@ -272,7 +271,7 @@ module _ (plant : Plant) (tracked : List TrackedState) (rest : List Line) (j k :
       kept j x k (cond_some _ x k from.2).1 (record { stated = refl; listed = refl })
   proof_adds (s ∷ g ∷ t ∷ ts) h = absurd (cc h)
 
-  counter_adds : (ns : List ℕ) → Judging.judge_counter plant j ns ≡ Some k → Adds j k [] [] [] [] [] [] []
+  counter_adds : (ns : List ℕ) → judge_counter plant j ns ≡ Some k → Adds j k [] [] [] [] [] [] []
   counter_adds [] h = absurd (cc h)
   counter_adds (s ∷ ns) h =
       kept j (with_counter j (s - 1) (places_of ns)) k (cond_some (is_one_of (length j.stated.tracked) s && are_of (control_sizes plant) ns) (with_counter j (s - 1) (places_of ns)) k h).1
@@ -340,15 +339,25 @@ lines_add plant question tracked (l ∷ rest) n j final is good =
     (lines_add plant question tracked rest (n + 1) judged.behind final
     (is ∙ sym (append_assoc j.stated.tracked (states_in l) (flat_map states_in rest)) ∙ ap (λ (ss : List TrackedState). ss ++ flat_map states_in rest) (sym one.tracked)) judged.later)
 
+abbrev made_facts : List ValId → List Observation → List Observation → Facts
+made_facts vs ps ns = record { controls = vs; present = ps; next = ns }
+
 same_facts : (f g : Facts) → f.controls ≡ g.controls → f.present ≡ g.present → f.next ≡ g.next → f ≡ g
 same_facts f g a b c =
-    ap (λ (vs : List ValId). record { controls = vs; present = f.present; next = f.next }) a
-    ∙ ap (λ (os : List Observation). record { controls = g.controls; present = os; next = f.next }) b ∙ ap (λ (os : List Observation). record { controls = g.controls; present = g.present; next = os }) c
+    let one : f ≡ made_facts g.controls f.present f.next = ap (λ (vs : List ValId). made_facts vs f.present f.next) a in
+    let two : made_facts g.controls f.present f.next ≡ made_facts g.controls g.present f.next = ap (λ (os : List Observation). made_facts g.controls os f.next) b in
+    let three : made_facts g.controls g.present f.next ≡ g = ap (λ (os : List Observation). made_facts g.controls g.present os) c in
+    one ∙ two ∙ three
+
+abbrev made_aim : List TrackedState → List Observation → List Tree → Aim
+made_aim ts ps gs = record { tracked = ts; present = ps; goals = gs }
 
 same_aim : (a b : Aim) → a.tracked ≡ b.tracked → a.present ≡ b.present → a.goals ≡ b.goals → a ≡ b
 same_aim a b t p g =
-    ap (λ (ss : List TrackedState). record { tracked = ss; present = a.present; goals = a.goals }) t
-    ∙ ap (λ (os : List Observation). record { tracked = b.tracked; present = os; goals = a.goals }) p ∙ ap (λ (gs : List Tree). record { tracked = b.tracked; present = b.present; goals = gs }) g
+    let one : a ≡ made_aim b.tracked a.present a.goals = ap (λ (ss : List TrackedState). made_aim ss a.present a.goals) t in
+    let two : made_aim b.tracked a.present a.goals ≡ made_aim b.tracked b.present a.goals = ap (λ (os : List Observation). made_aim b.tracked os a.goals) p in
+    let three : made_aim b.tracked b.present a.goals ≡ b = ap (λ (gs : List Tree). made_aim b.tracked b.present gs) g in
+    one ∙ two ∙ three
 
 -- from the start
 started : (plant : Plant) (question : Question) (lines : List Line) (j : Judged) → question_of lines ≡ question → judge_lines question plant 1 (unjudged plant question) lines ≡ comes_to j → IsReadOff plant lines j
