@@ -1,5 +1,5 @@
 -- What was judged of good lines can be read off them.
-use Rattle.std.proofs.Common.{◌≡◌, ℕ, zero, suc, ◌+◌, ◌-◌, Bool, true, false, ◌&&◌, nat_lt, nat_le, List, [], ◌∷◌, ◌++◌, length, Option, Some, None, slice_get, slice_index_or, refl, sym, subst, ◌∙◌, ap}
+use Rattle.std.proofs.Common.{◌≡◌, ℕ, zero, suc, ◌+◌, ◌-◌, true, false, ◌&&◌, nat_eq, nat_lt, nat_le, List, [], ◌∷◌, ◌++◌, length, Option, Some, slice_get, slice_index_or, refl, sym, subst, ◌∙◌, ap}
 use Rattle.std.specs.Prelude.{map}
 use Rattle.std.specs.List.{list_all, flat_map}
 use Rattle.std.specs.Option.{option_map, option_map_or, option_and_then}
@@ -16,7 +16,6 @@ use Rattle.lv_cert_meaning.specs.lv_model.declared.plant.Plant.{Plant}
 use Rattle.lv_cert_meaning.specs.lv_model.declared.state.TrackedState.{TrackedState}
 use Rattle.lv_cert_meaning.specs.lv_model.Lists.{sizes, move_counts}
 use Rattle.lv_cert_meaning.specs.lv_model_names.Names.{classes, is_observable}
-use Rattle.lv_cert_meaning.specs.lv_boxes.Members.{ZoneValue}
 use Rattle.lv_cert_meaning.specs.lv_meaning.declared.facts.Observation.{Observation}
 use Rattle.lv_cert_meaning.specs.lv_meaning.declared.facts.Facts.{Facts}
 use Rattle.lv_cert_meaning.specs.lv_meaning.declared.aim.Aim.{Aim}
@@ -39,7 +38,7 @@ use Rattle.lv_cert_meaning.specs.Counting.{is_one_of, are_of, places_of, values_
 use Rattle.lv_cert_meaning.specs.Stated.{Stated, state_of, with_state, with_controls, observation_of, with_observation, goal_of, with_goal, rank_from, candidate_of_numbers}
 use Rattle.lv_cert_meaning.specs.Space.{open_zone, with_split, all_passed}
 use Rattle.lv_cert_meaning.specs.Judging.{Judged, unjudged, judge_limit, judge_state, judge_control, judge_listed, judge_recovery, judge_good, judge_proof, judge_counter, last_of, full_to, with_listed, shows, ends_empty, with_conflict, clauses_of_choices, values_refuted, clauses_of_goals, answer_values, with_proof, clauses_of_miss, with_counter, choices_of, judge_numbers, judge_conflict, judge_line, judge_lines, comes_to, question_of}
-use Rattle.lv_cert_meaning.specs.Contents.{last_from, limits_in, limit_of, states_in, states_of, controls_in, seen, present_in, next_in, facts_of, one_or_none, goals_in, aim_in, cost_at, candidate_in, answers_in, answer_of}
+use Rattle.lv_cert_meaning.specs.Contents.{last_from, limits_in, states_in, states_of, controls_in, seen, present_in, next_in, facts_of, one_or_none, goals_in, aim_in, cost_at, candidate_in, answers_in}
 use Rattle.lv_cert_meaning.specs.Laws.{aim_of, IsReadOff, JudgedIsReadOff}
 use Rattle.lv_cert_laws.proofs.Options.{ComesFrom, mapped, anded, when_true, numbered_at}
 use Rattle.lv_cert_laws.proofs.Refuting.{IsJudged, first_judged}

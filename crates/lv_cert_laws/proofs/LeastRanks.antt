@@ -10,7 +10,7 @@ use Rattle.lv_cert_meaning.specs.lv_boxes.RankedMembers.{IsLeastRank}
 use Rattle.lv_cert_meaning.proofs.lv_boxes.LeastLemmas.{sum_none, written_is_least, lacks_choice-none}
 use Rattle.lv_cert_meaning.specs.Space.{least_rank}
 use Rattle.lv_cert_meaning.specs.Laws.{LeastRankIsOfLeastMember}
-use Rattle.lv_cert_laws.proofs.Options.{ComesFrom, mapped}
+use Rattle.lv_cert_laws.proofs.Options.{mapped}
 
 least_is : (slots : List (List Cost)) (zone : ZoneValue) (r : Rank) → least_rank slots zone ≡ Some r → IsLeastRank slots zone r
 least_is slots zone r h =

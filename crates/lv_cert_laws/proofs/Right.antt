@@ -1,5 +1,5 @@
 -- Valid lines answer what they state rightly.
-use Rattle.std.proofs.Common.{◌≡◌, ℕ, true, List, take, sym, ◌∙◌, ap}
+use Rattle.std.proofs.Common.{ℕ, take, sym, ◌∙◌, ap}
 use Rattle.std.specs.Prelude.{filter}
 use Rattle.lv_cert_meaning.specs.lv_meaning.Candidates.{first_possible}
 use Rattle.lv_cert_meaning.specs.lv_meaning.declared.facts.Facts.{Facts}
@@ -7,7 +7,7 @@ use Rattle.lv_cert_meaning.specs.lv_meaning.declared.aim.Aim.{Aim}
 use Rattle.lv_cert_meaning.specs.lv_meaning.Commands.{command_sets}
 use Rattle.lv_cert_meaning.specs.lv_meaning.Recovery.{rank_recovers}
 use Rattle.lv_cert_meaning.specs.Contents.{limit_of, facts_of}
-use Rattle.lv_cert_meaning.specs.Laws.{IsReadOff, AnswersRight, ValidLinesAnswerRight}
+use Rattle.lv_cert_meaning.specs.Laws.{IsReadOff, ValidLinesAnswerRight}
 use Rattle.lv_cert_laws.proofs.Contents.{read_off}
 use Rattle.lv_cert_laws.proofs.DiagnosisWhole.{diagnosis_answers}
 use Rattle.lv_cert_laws.proofs.RecoveryWhole.{recovery_answers}
