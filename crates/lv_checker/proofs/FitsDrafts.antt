@@ -27,7 +27,7 @@ use Rattle.lv_model.proofs.Reading.{length-plant_ranges}
 use Rattle.lv_reader.specs.declared.code.ModelCode.{ModelCode}
 use Rattle.lv_reader.specs.declared.code.ModelCode.TheVariants.{UnknownName, NoFit, Misplaced, LimitPassed, NotEnded, NoPart}
 use Rattle.lv_reader.specs.declared.statement.Statement.{Statement}
-use Rattle.lv_reader.specs.declared.statement.Statement.TheVariants.{ModelLine, DomainLine, TypeLine, VariableLine, ModeLine, LawLine, InLine, StepLine, FaultLine, EndLine, PartLine, PriceLine}
+use Rattle.lv_reader.specs.declared.statement.Statement.TheVariants.{ModelLine, DomainLine, TypeLine, VariableLine, ModeLine, LawLine, InLine, StepLine, FaultLine, FaultsLine, RepairLine, EndLine, PartLine, PriceLine, VersionLine}
 use Rattle.lv_reader.specs.declared.statement.NumberedStatement.{NumberedStatement}
 use Rattle.lv_reader.specs.declared.statement.ModelText.{ModelText}
 use Rattle.lv_reader.specs.Statements.{number_fits}
@@ -35,7 +35,7 @@ use Rattle.lv_reader.specs.Texts.{ReadsAs}
 use Rattle.lv_checker.specs.declared.draft.Draft.{Draft}
 use Rattle.lv_checker.specs.declared.draft.TypeDraft.{TypeDraft}
 use Rattle.lv_checker.specs.declared.draft.Entry.{Entry}
-use Rattle.lv_checker.specs.declared.draft.Entry.TheVariants.{Named, NewDomain, TypeBegins, NewVariable, NewMode, TypeLaw, ModeLaw, NewMove, TypeEnds, NewPart, SystemLaw, NewPrice}
+use Rattle.lv_checker.specs.declared.draft.Entry.TheVariants.{Named, NewDomain, TypeBegins, NewVariable, NewMode, TypeLaw, ModeLaws, NewMoves, TypeEnds, NewPart, SystemLaw, NewPrice}
 use Rattle.lv_checker.specs.Places.{placed, variable_numbered, variable_place, part_of_name, type_place, mode_of_type, mode_place}
 use Rattle.lv_checker.specs.Scopes.{variable_of_part, value_of_system}
 use Rattle.lv_checker.specs.Entries.{system_formula, own_variable, is_control_of, has_control, priced_entry, outside_entry, entry_where}
@@ -47,7 +47,7 @@ use Rattle.lv_checker.proofs.FitsLists.{chained, mapped, passed, placed_is}
 use Rattle.lv_checker.proofs.FitsNames.{is_spelled, has_names, is_sound, statements_sound}
 use Rattle.lv_checker.proofs.FitsScopes.{place_below, is_sized, parts_sized, system_value, system_formula_fits}
 use Rattle.lv_checker.proofs.FitsTypes.{TypeFits, FitsInside, begun_fits, type_kept, ended_fits, ended_counts}
-use Rattle.lv_checker.proofs.FitsEntries.{known_parts, ok_parts, done, same_ok, NoFault, no_fault, name_from, inside_fits, judged_parts}
+use Rattle.lv_checker.proofs.FitsEntries.{known_parts, ok_parts, if_ok, done, same_ok, NoFault, no_fault, name_from, inside_fits, judged_parts}
 use Rattle.lv_checker.proofs.FitsPlants.{PlantFits, well_formed, ranges_same, sizes_same, count_same, same_with_type, domain_same, shares_same, domain_added, type_added}
 use Rattle.lv_checker.proofs.FitsParts.{name_given, ranges_more, sizes_more, count_more, part_added, law_added, law_count_more, price_added, control_among, among_parts}
 
@@ -239,8 +239,8 @@ module _ (d : Draft) (fact : DraftFits d) where
   outside_kept (NewVariable v) none h = fact
   outside_kept (NewMode name n) none h = fact
   outside_kept (TypeLaw f) none h = fact
-  outside_kept (ModeLaw f) none h = fact
-  outside_kept (NewMove m) none h = fact
+  outside_kept (ModeLaws fs) none h = fact
+  outside_kept (NewMoves line ms) none h = fact
   outside_kept TypeEnds none h = fact
 
   inside_kept : (t : TypeDraft) → TypeFits d.plant.domains t → (e : Entry) → FitsInside d.plant.domains t e → DraftFits (with_inside d t e)
@@ -251,15 +251,11 @@ module _ (d : Draft) (fact : DraftFits d) where
   inside_kept t own (NewVariable v) h = going (type_with d.plant.domains t (NewVariable v)) (type_kept d.plant.domains t own (NewVariable v) h)
   inside_kept t own (NewMode name n) h = going (type_with d.plant.domains t (NewMode name n)) (type_kept d.plant.domains t own (NewMode name n) h)
   inside_kept t own (TypeLaw f) h = going (type_with d.plant.domains t (TypeLaw f)) (type_kept d.plant.domains t own (TypeLaw f) h)
-  inside_kept t own (ModeLaw f) h = going (type_with d.plant.domains t (ModeLaw f)) (type_kept d.plant.domains t own (ModeLaw f) h)
-  inside_kept t own (NewMove m) h = going (type_with d.plant.domains t (NewMove m)) (type_kept d.plant.domains t own (NewMove m) h)
+  inside_kept t own (ModeLaws fs) h = going (type_with d.plant.domains t (ModeLaws fs)) (type_kept d.plant.domains t own (ModeLaws fs) h)
+  inside_kept t own (NewMoves line ms) h = going (type_with d.plant.domains t (NewMoves line ms)) (type_kept d.plant.domains t own (NewMoves line ms) h)
   inside_kept t own (NewPart p) h = going t own
   inside_kept t own (SystemLaw f) h = going t own
   inside_kept t own (NewPrice x) h = going t own
-
-if_ok : {A : Type 0} (b : Bool) (r : Result A ModelCode) (code : ModelCode) (y : A) → (if b then r else Err code) ≡ Ok y → (b ≡ true) × (r ≡ Ok y)
-if_ok true r code y h = (refl, h)
-if_ok false r code y h = absurd (cc)
 
 numbered_is : (n : ℕ) (x : VarId) → variable_numbered n ≡ Some x → x.0 ≡ n
 numbered_is n x h = let one = mapped (λ k. record { 0 = k }) (placed n) x h in ap (λ (y : VarId). y.0) (sym one.2) ∙ sym (placed_is n one.0 one.1)
@@ -376,7 +372,10 @@ module _ (d : Draft) (fact : DraftFits d) where
   outside_fits (InLine mode f) e h named number = absurd (cc)
   outside_fits (StepLine source target f) e h named number = absurd (cc)
   outside_fits (FaultLine source target cost guard) e h named number = absurd (cc)
+  outside_fits (FaultsLine target cost guard) e h named number = absurd (cc)
+  outside_fits (RepairLine source target cost repair guard) e h named number = absurd (cc)
   outside_fits EndLine e h named number = absurd (cc)
+  outside_fits (VersionLine n) e h named number = absurd (cc)
 
   where_kept : (o : Option TypeDraft) → d.current ≡ o → (s : Statement) (e : Entry) → entry_where d o s ≡ Ok e → fault_where d o e ≡ None → has_names s ≡ true → number_fits s ≡ true
       → DraftFits (with_where (record d { has_begun = true }) o e)
@@ -394,8 +393,8 @@ module _ (d : Draft) (fact : DraftFits d) where
       same_facts (NewVariable v) h = h
       same_facts (NewMode name n) h = h
       same_facts (TypeLaw f) h = h
-      same_facts (ModeLaw f) h = h
-      same_facts (NewMove m) h = h
+      same_facts (ModeLaws fs) h = h
+      same_facts (NewMoves line ms) h = h
       same_facts TypeEnds h = h
   where_kept (Some t) is s e h none named number =
       inside_kept (record d { has_begun = true }) (begun_draft d fact) t (subst (λ (o : Option TypeDraft). CurrentFits d.plant.domains o) is fact.current_fits) e

@@ -1,33 +1,38 @@
 -- What a statement adds to a type that has not ended is known to fit.
-use Rattle.std.proofs.Common.{◌≡◌, ◌<◌, ◌≤◌, ℕ, zero, suc, Bool, true, false, not, ◌&&◌, ◌||◌, nat_eq, nat_lt, nat_le, List, [], length, position, Option, Some, None, Result, Ok, Err, if◌then◌else◌, refl, sym, ap, subst, ◌∙◌, arith}
+use Rattle.std.proofs.Common.{◌≡◌, ◌<◌, ◌≤◌, ℕ, zero, suc, Bool, true, false, not, ◌&&◌, ◌||◌, nat_eq, nat_lt, nat_le, ◌+◌, List, [], ◌∷◌, ◌++◌, length, map, position, Option, Some, None, Result, Ok, Err, if◌then◌else◌, refl, sym, ap, subst, ◌∙◌, arith}
+use Rattle.std.specs.List.{list_all}
 use Rattle.std.specs.Option.{option_map_or}
-use Rattle.std.proofs.lemmas.Bool.{and_from, lt-ltb, le-leb, ltb-true, ltb-false, eqb-false, or_parts, not-false}
+use Rattle.std.proofs.lemmas.Bool.{and_from, and_parts, lt-ltb, le-leb, ltb-true, ltb-false, eqb-false, or_parts, not-false}
 use Rattle.std.proofs.lemmas.List.Quantifiers.{position-Some}
 use Rattle.lv_base.specs.declared.limits.TheConstants.{MODES, MOVES, NAME_BYTES, LEAST_FAULT_COST, FAULT_COST}
 use Rattle.lv_base.specs.declared.ids.ValId.{ValId}
-use Rattle.lv_formula.specs.Tree.{Tree}
+use Rattle.lv_formula.specs.Tree.{Tree, is}
+use Rattle.lv_formula.specs.declared.path.Path.TheVariants.{Own}
 use Rattle.lv_formula.specs.Fits.{fits}
 use Rattle.lv_model.specs.declared.plant.Domain.{Domain}
+use Rattle.lv_model.specs.declared.plant.Move.{Move}
 use Rattle.lv_model.specs.Names.{domain_named}
-use Rattle.lv_model.specs.Counts.{has_count, guard_has_counts}
-use Rattle.lv_model.specs.WellFormed.{name_fits, move_fits}
+use Rattle.lv_model.specs.Counts.{has_count, mode_formula_has_count, guard_has_counts}
+use Rattle.lv_model.specs.WellFormed.{name_fits, mode_formula_fits, move_fits}
 use Rattle.lv_formula_text.specs.PhraseTree.{PhraseTree}
 use Rattle.lv_reader.specs.declared.code.ModelCode.{ModelCode}
-use Rattle.lv_reader.specs.declared.code.ModelCode.TheVariants.{UnknownName, LimitPassed, NotEnded}
+use Rattle.lv_reader.specs.declared.code.ModelCode.TheVariants.{UnknownName, NoFit, LimitPassed, NotEnded, TooManyClauses}
+use Rattle.lv_reader.specs.declared.statement.Repair.{Repair}
 use Rattle.lv_reader.specs.declared.statement.Statement.{Statement}
-use Rattle.lv_reader.specs.declared.statement.Statement.TheVariants.{ModelLine, DomainLine, TypeLine, VariableLine, ModeLine, LawLine, InLine, StepLine, FaultLine, EndLine, PartLine, PriceLine}
+use Rattle.lv_reader.specs.declared.statement.Statement.TheVariants.{ModelLine, DomainLine, TypeLine, VariableLine, ModeLine, LawLine, InLine, StepLine, FaultLine, FaultsLine, RepairLine, EndLine, PartLine, PriceLine, VersionLine}
 use Rattle.lv_reader.specs.Statements.{number_fits}
 use Rattle.lv_checker.specs.declared.draft.Draft.{Draft}
 use Rattle.lv_checker.specs.declared.draft.TypeDraft.{TypeDraft}
 use Rattle.lv_checker.specs.declared.draft.Entry.{Entry}
-use Rattle.lv_checker.specs.declared.draft.Entry.TheVariants.{NewMode, TypeLaw, ModeLaw, NewMove, TypeEnds}
+use Rattle.lv_checker.specs.declared.draft.Entry.TheVariants.{NewMode, TypeLaw, ModeLaws, NewMoves, TypeEnds}
 use Rattle.lv_checker.specs.Places.{placed, domain_place, mode_place}
-use Rattle.lv_checker.specs.Entries.{known, on_ok, type_formula, step_of, fault_of, line_number, guard_in, inside_entry, entry_of}
+use Rattle.lv_checker.specs.Scopes.{variable_of_type, value_of_type}
+use Rattle.lv_checker.specs.Entries.{known, on_ok, type_formula, mode_places, law_in, step_of, fault_of, faults_to, is_short, line_number, guard_in, is_control_of, repair_in, inside_entry, entry_of}
 use Rattle.lv_checker.specs.Faults.{first_of, fault_where, fault_of_entry, unless_faulty, judged, in_use_inside, is_too_long_inside, passes_inside, is_long_name}
-use Rattle.lv_checker.proofs.FitsLists.{chained, placed_is}
+use Rattle.lv_checker.proofs.FitsLists.{all_behind, chained, placed_is}
 use Rattle.lv_checker.proofs.FitsNames.{is_spelled, has_names}
-use Rattle.lv_checker.proofs.FitsScopes.{place_below, type_formula_fits}
-use Rattle.lv_checker.proofs.FitsTypes.{own_ranges, FitsInside}
+use Rattle.lv_checker.proofs.FitsScopes.{place_below, own_value, type_formula_fits}
+use Rattle.lv_checker.proofs.FitsTypes.{own_ranges, is_no_stay, FitsInside}
 
 pub known_parts : {A B : Type 0} (o : Option A) (code : ModelCode) (next : A → Result B ModelCode) (y : B) → known o code next ≡ Ok y → (x : A) × (o ≡ Some x) × (next x ≡ Ok y)
 known_parts None code next y h = absurd (cc)
@@ -62,6 +67,21 @@ name_from name h k =
     let few : length name ≤ NAME_BYTES = ltb-false NAME_BYTES (length name) k in
     and_from (nat_le 1 (length name)) (nat_le (length name) NAME_BYTES) (le-leb 1 (length name) (omega (arith, some))) (le-leb (length name) NAME_BYTES few)
 
+pub if_ok : {A : Type 0} (b : Bool) (r : Result A ModelCode) (code : ModelCode) (y : A) → (if b then r else Err code) ≡ Ok y → (b ≡ true) × (r ≡ Ok y)
+if_ok true r code y h = (refl, h)
+if_ok false r code y h = absurd (cc)
+
+-- what holds of a fault from each of so many modes holds of all of them
+each_fault : (p : Move → Bool) (target : ValId) (cost : ℕ) (guard : Option Tree) (line modes : ℕ)
+    → ((a : ℕ) → a < modes → p (fault_of (record { 0 = a }) target cost guard line) ≡ true) → list_all p (faults_to target cost guard line modes) ≡ true
+each_fault p target cost guard line zero each = refl
+each_fault p target cost guard line (suc modes) each =
+    all_behind p (faults_to target cost guard line modes) _ (each_fault p target cost guard line modes (λ a less. each a (omega (arith, less)))) (by (nat_eq modes target.0))
+  where
+    by : (b : Bool) → list_all p (if b then [] else fault_of (record { 0 = modes }) target cost guard line ∷ []) ≡ true
+    by true = refl
+    by false = and_from (p (fault_of (record { 0 = modes }) target cost guard line)) true (each modes (omega arith)) refl
+
 module _ (domains : List Domain) (t : TypeDraft) where
   -- where nothing speaks against it, an entry fits
   abbrev Fitting : Entry → Type 0
@@ -95,6 +115,28 @@ module _ (domains : List Domain) (t : TypeDraft) where
       let one = ok_parts (type_formula domains t.lists f) (λ x. Ok (Some x)) g h in
       let e : Some one.0 ≡ g = cc one.2 in
       subst (λ (x : Option Tree). option_map_or (fits (own_ranges domains t)) x true ≡ true) e (type_formula_fits domains t.lists f one.0 one.1)
+
+  modes_below : (names : List (List ℕ)) (ms : List ValId) → mode_places t.lists names ≡ Ok ms → list_all (λ (m : ValId). nat_lt m.0 (length t.lists.modes)) ms ≡ true
+  modes_below [] ms h = let e : [] ≡ ms = cc h in subst (λ (xs : List ValId). list_all (λ (m : ValId). nat_lt m.0 (length t.lists.modes)) xs ≡ true) e refl
+  modes_below (n ∷ ns) ms h =
+      let one = known_parts (mode_place t.lists n) UnknownName _ ms h in
+      let two = ok_parts (mode_places t.lists ns) (λ xs. Ok (one.0 ∷ xs)) ms one.2 in
+      subst (λ (xs : List ValId). list_all (λ (m : ValId). nat_lt m.0 (length t.lists.modes)) xs ≡ true) (same_ok (one.0 ∷ two.0) ms two.2)
+      (and_from (nat_lt one.0.0 (length t.lists.modes)) _ (mode_below n one.0 one.1) (modes_below ns two.0 two.1))
+
+  laws_fit : (g : Tree) (ms : List ValId) → fits (own_ranges domains t) g ≡ true → list_all (λ (m : ValId). nat_lt m.0 (length t.lists.modes)) ms ≡ true
+      → list_all (mode_formula_fits (own_ranges domains t) (length t.lists.modes)) (map (law_in g) ms) ≡ true
+  laws_fit g [] fit below = refl
+  laws_fit g (m ∷ ms) fit below =
+      let two = and_parts (nat_lt m.0 (length t.lists.modes)) (list_all (λ (x : ValId). nat_lt x.0 (length t.lists.modes)) ms) below in
+      and_from (nat_lt m.0 (length t.lists.modes) && fits (own_ranges domains t) g) _ (and_from (nat_lt m.0 (length t.lists.modes)) (fits (own_ranges domains t) g) two.0 fit) (laws_fit g ms fit two.1)
+
+  repair_found : (r : Repair) (g : Tree) → repair_in domains t.lists r ≡ Ok g → fits (own_ranges domains t) g ≡ true
+  repair_found r g h =
+      let one = known_parts (variable_of_type t.lists (Own r.control)) UnknownName _ g h in
+      let two = if_ok (is_control_of t.lists r.control) _ NoFit g one.2 in
+      let three = known_parts (value_of_type domains t.lists one.0 r.value) NoFit (λ v. Ok (is one.0.0 v.0)) g two.1 in
+      subst (λ (x : Tree). fits (own_ranges domains t) x ≡ true) (same_ok (is one.0.0 three.0.0) g three.2) (own_value domains t.lists one.0 r.value three.0 three.1)
 
   few_from : (n limit : ℕ) → not (nat_lt n limit) ≡ false → n < limit
   few_from n limit h = ltb-true n limit (not-false (nat_lt n limit) h)
@@ -132,40 +174,75 @@ module _ (domains : List Domain) (t : TypeDraft) where
       let one = ok_parts (type_formula domains t.lists f) (λ g. Ok (TypeLaw g)) e h in
       subst (λ (x : Entry). Fitting x) (same_ok _ e one.2)
       (λ free. record { fit = type_formula_fits domains t.lists f one.0 one.1; counts = not-false (has_count t.sizes true one.0) free.short })
-  inside_fits (InLine mode f) e h named number =
-      let one = known_parts (mode_place t.lists mode) UnknownName _ e h in
-      let two = ok_parts (type_formula domains t.lists f) (λ g. Ok (ModeLaw (record { mode = one.0; condition = g }))) e one.2 in
+  inside_fits (InLine modes f) e h named number =
+      let one = ok_parts (mode_places t.lists modes) _ e h in
+      let two = ok_parts (type_formula domains t.lists f) (λ g. Ok (ModeLaws (map (law_in g) one.0))) e one.2 in
       subst (λ (x : Entry). Fitting x) (same_ok _ e two.2)
       (λ free.
       record {
-        fit = and_from (nat_lt one.0.0 (length t.lists.modes)) _ (mode_below mode one.0 one.1) (type_formula_fits domains t.lists f two.0 two.1);
-        counts = not-false (has_count t.sizes true two.0) free.short;
+        fit = laws_fit two.0 one.0 (type_formula_fits domains t.lists f two.0 two.1) (modes_below modes one.0 one.1);
+        counts = not-false (list_all (mode_formula_has_count t.sizes) (map (law_in two.0) one.0)) free.short;
       })
   inside_fits (StepLine source target f) e h named number =
       let one = known_parts (mode_place t.lists source) UnknownName _ e h in
       let two = known_parts (mode_place t.lists target) UnknownName _ e one.2 in
       let three = ok_parts (type_formula domains t.lists f) _ e two.2 in
-      let four = known_parts (line_number t.lists) LimitPassed (λ n. Ok (NewMove (step_of one.0 two.0 three.0 n))) e three.2 in
+      let four = known_parts (line_number t) LimitPassed (λ n. Ok (NewMoves n (step_of one.0 two.0 three.0 n ∷ []))) e three.2 in
       subst (λ (x : Entry). Fitting x) (same_ok _ e four.2)
       (λ free.
       record {
-        fit = step_from one.0 two.0 three.0 four.0 (mode_below source one.0 one.1) (mode_below target two.0 two.1) (type_formula_fits domains t.lists f three.0 three.1);
-        counts = not-false (guard_has_counts t.sizes (step_of one.0 two.0 three.0 four.0)) free.short;
+        fit = and_from (move_fits (own_ranges domains t) (length t.lists.modes) (step_of one.0 two.0 three.0 four.0)) true
+            (step_from one.0 two.0 three.0 four.0 (mode_below source one.0 one.1) (mode_below target two.0 two.1) (type_formula_fits domains t.lists f three.0 three.1)) refl;
+        counts = not-false (list_all (guard_has_counts t.sizes) (step_of one.0 two.0 three.0 four.0 ∷ [])) free.short;
         no_stay = refl;
-        few_moves = few_from (length t.lists.moves) MOVES free.within;
+        few_moves = ltb-false MOVES (length t.lists.moves + 1) free.within;
       })
   inside_fits (FaultLine source target cost guard) e h named number =
       let one = known_parts (mode_place t.lists source) UnknownName _ e h in
       let two = known_parts (mode_place t.lists target) UnknownName _ e one.2 in
       let three = ok_parts (guard_in domains t.lists guard) _ e two.2 in
-      let four = known_parts (line_number t.lists) LimitPassed (λ n. Ok (NewMove (fault_of one.0 two.0 cost three.0 n))) e three.2 in
+      let four = known_parts (line_number t) LimitPassed (λ n. Ok (NewMoves n (fault_of one.0 two.0 cost three.0 n ∷ []))) e three.2 in
       subst (λ (x : Entry). Fitting x) (same_ok _ e four.2)
       (λ free.
       record {
-        fit = move_from one.0 two.0 cost three.0 four.0 (mode_below source one.0 one.1) (mode_below target two.0 two.1) number (guard_found guard three.0 three.1);
-        counts = not-false (guard_has_counts t.sizes (fault_of one.0 two.0 cost three.0 four.0)) free.short;
+        fit = and_from (move_fits (own_ranges domains t) (length t.lists.modes) (fault_of one.0 two.0 cost three.0 four.0)) true
+            (move_from one.0 two.0 cost three.0 four.0 (mode_below source one.0 one.1) (mode_below target two.0 two.1) number (guard_found guard three.0 three.1)) refl;
+        counts = not-false (list_all (guard_has_counts t.sizes) (fault_of one.0 two.0 cost three.0 four.0 ∷ [])) free.short;
         no_stay = refl;
-        few_moves = few_from (length t.lists.moves) MOVES free.within;
+        few_moves = ltb-false MOVES (length t.lists.moves + 1) free.within;
+      })
+  inside_fits (FaultsLine target cost guard) e h named number =
+      let one = known_parts (mode_place t.lists target) UnknownName _ e h in
+      let two = ok_parts (guard_in domains t.lists guard) _ e one.2 in
+      let short = if_ok (is_short t two.0) _ TooManyClauses e two.2 in
+      let three = known_parts (line_number t) LimitPassed _ e short.1 in
+      let four = known_parts (placed (length t.lists.modes)) LimitPassed (λ modes. Ok (NewMoves three.0 (faults_to one.0 cost two.0 three.0 modes))) e three.2 in
+      let count : length t.lists.modes ≡ four.0 = placed_is (length t.lists.modes) four.0 four.1 in
+      subst (λ (x : Entry). Fitting x) (same_ok _ e four.2)
+      (λ free.
+      record {
+        fit = each_fault (move_fits (own_ranges domains t) (length t.lists.modes)) one.0 cost two.0 three.0 four.0
+            (λ a less. move_from (record { 0 = a }) one.0 cost two.0 three.0 (lt-ltb a (length t.lists.modes) (omega (arith, less, count))) (mode_below target one.0 one.1) number (guard_found guard two.0 two.1));
+        counts = not-false (list_all (guard_has_counts t.sizes) (faults_to one.0 cost two.0 three.0 four.0)) free.short;
+        no_stay = each_fault is_no_stay one.0 cost two.0 three.0 four.0 (λ a less. refl);
+        few_moves = ltb-false MOVES (length t.lists.moves + length (faults_to one.0 cost two.0 three.0 four.0)) free.within;
+      })
+  inside_fits (RepairLine source target cost repair guard) e h named number =
+      let one = known_parts (mode_place t.lists source) UnknownName _ e h in
+      let two = known_parts (mode_place t.lists target) UnknownName _ e one.2 in
+      let back = ok_parts (repair_in domains t.lists repair) _ e two.2 in
+      let three = ok_parts (guard_in domains t.lists guard) _ e back.2 in
+      let four = known_parts (line_number t) LimitPassed (λ n. Ok (NewMoves n (fault_of one.0 two.0 cost three.0 n ∷ step_of two.0 one.0 back.0 n ∷ []))) e three.2 in
+      subst (λ (x : Entry). Fitting x) (same_ok _ e four.2)
+      (λ free.
+      record {
+        fit = and_from (move_fits (own_ranges domains t) (length t.lists.modes) (fault_of one.0 two.0 cost three.0 four.0)) _
+            (move_from one.0 two.0 cost three.0 four.0 (mode_below source one.0 one.1) (mode_below target two.0 two.1) number (guard_found guard three.0 three.1))
+            (and_from (move_fits (own_ranges domains t) (length t.lists.modes) (step_of two.0 one.0 back.0 four.0)) true
+            (step_from two.0 one.0 back.0 four.0 (mode_below target two.0 two.1) (mode_below source one.0 one.1) (repair_found repair back.0 back.1)) refl);
+        counts = not-false (list_all (guard_has_counts t.sizes) (fault_of one.0 two.0 cost three.0 four.0 ∷ step_of two.0 one.0 back.0 four.0 ∷ [])) free.short;
+        no_stay = refl;
+        few_moves = ltb-false MOVES (length t.lists.moves + 2) free.within;
       })
   inside_fits EndLine e h named number = ended (nat_eq (length t.lists.modes) 0) e refl h
   inside_fits (ModelLine name) e h named number = absurd (cc)
@@ -173,6 +250,7 @@ module _ (domains : List Domain) (t : TypeDraft) where
   inside_fits (TypeLine name) e h named number = absurd (cc)
   inside_fits (PartLine name kind start) e h named number = absurd (cc)
   inside_fits (PriceLine part control value cost) e h named number = absurd (cc)
+  inside_fits (VersionLine n) e h named number = absurd (cc)
 
 -- an entry that is judged is what its statement adds, and nothing speaks against it
 pub judged_parts : (d : Draft) (s : Statement) (e : Entry) → judged d s ≡ Ok e → (entry_of d s ≡ Ok e) × (fault_where d d.current e ≡ None)

@@ -10,6 +10,10 @@ pub all_more : {X : Type 0} (p : X → Bool) (xs : List X) (x : X) → list_all 
 all_more p [] x h e = and_from (p x) true e refl
 all_more p (y ∷ ys) x h e = let two = and_parts (p y) (list_all p ys) h in and_from (p y) (list_all p (ys ++ x ∷ [])) two.0 (all_more p ys x two.1 e)
 
+pub all_behind : {X : Type 0} (p : X → Bool) (xs ys : List X) → list_all p xs ≡ true → list_all p ys ≡ true → list_all p (xs ++ ys) ≡ true
+all_behind p [] ys h e = e
+all_behind p (x ∷ xs) ys h e = let two = and_parts (p x) (list_all p xs) h in and_from (p x) (list_all p (xs ++ ys)) two.0 (all_behind p xs ys two.1 e)
+
 pub all_kept : {X : Type 0} (p q : X → Bool) (xs : List X) → ((x : X) → p x ≡ true → q x ≡ true) → list_all p xs ≡ true → list_all q xs ≡ true
 all_kept p q [] f h = refl
 all_kept p q (x ∷ xs) f h = let two = and_parts (p x) (list_all p xs) h in and_from (q x) (list_all q xs) (f x two.0) (all_kept p q xs f two.1)

@@ -13,13 +13,15 @@ use Rattle.lv_formula_text.specs.lv_text.declared.lexer.TokenKind.TheVariants.{W
 use Rattle.lv_formula_text.proofs.lv_text.ReadBack.{lexemes_have}
 use Rattle.lv_model.proofs.Reading.{All-at}
 use Rattle.lv_reader.specs.declared.statement.Statement.{Statement}
-use Rattle.lv_reader.specs.declared.statement.Statement.TheVariants.{ModelLine, DomainLine, TypeLine, VariableLine, ModeLine, LawLine, InLine, StepLine, FaultLine, EndLine, PartLine, PriceLine}
+use Rattle.lv_reader.specs.declared.statement.Statement.TheVariants.{ModelLine, DomainLine, TypeLine, VariableLine, ModeLine, LawLine, InLine, StepLine, FaultLine, FaultsLine, RepairLine, EndLine, PartLine, PriceLine, VersionLine}
 use Rattle.lv_reader.specs.declared.statement.NumberedStatement.{NumberedStatement}
 use Rattle.lv_reader.specs.declared.words.NameAndNames.{NameAndNames}
 use Rattle.lv_reader.specs.declared.words.TwoNames.{TwoNames}
 use Rattle.lv_reader.specs.declared.words.ThreeNames.{ThreeNames}
 use Rattle.lv_reader.specs.Words.{words_of, is_reserved, free_word_at, only_name, name_and_names, two_names, three_names}
 use Rattle.lv_reader.specs.Statements.{HasShape, number_fits}
+use Rattle.lv_reader.specs.declared.version.Version.{Version}
+use Rattle.lv_reader.specs.Versions.{version_in, gives_version, stated}
 use Rattle.lv_reader.specs.Lines.{Says, SaysOf}
 use Rattle.lv_reader.specs.Texts.{AreStatements, none_left, one_more, numbered}
 use Rattle.lv_checker.proofs.FitsLists.{chained, mapped, guarded}
@@ -124,26 +126,34 @@ module _ (ls : List Lexeme) (facts : All IsLexeme ls) where
   shape_named (VariableLine class name domain) h = two_spelled (record { first = name; second = domain }) h
   shape_named (ModeLine name) h = only_spelled name h
   shape_named (LawLine f) h = refl
-  shape_named (InLine mode f) h = refl
+  shape_named (InLine modes f) h = refl
   shape_named (StepLine source target guard) h = refl
   shape_named (FaultLine source target cost guard) h = refl
+  shape_named (FaultsLine target cost guard) h = refl
+  shape_named (RepairLine source target cost repair guard) h = refl
   shape_named EndLine h = refl
   shape_named (PartLine name kind start) h = three_spelled (record { first = name; second = kind; third = start }) h
   shape_named (PriceLine part control value cost) h = refl
+  shape_named (VersionLine n) h = refl
 
-line_sound : (line : List ℕ) (s : Statement) → Says line (Some s) → has_names s && number_fits s ≡ true
-line_sound line s says = by (line_reading line) refl says
+line_sound : (v : Version) (line : List ℕ) (s : Statement) → Says v line (Some s) → has_names s && number_fits s ≡ true
+line_sound v line s says = by (line_reading line) refl says
   where
-    by : (r : Reading) → line_reading line ≡ r → SaysOf r (Some s) → has_names s && number_fits s ≡ true
+    by : (r : Reading) → line_reading line ≡ r → SaysOf v r (Some s) → has_names s && number_fits s ≡ true
     by (reads ls) e h = and_from (has_names s) (number_fits s) (shape_named ls (lexemes_have line ls e) s h.form.shape) h.number
     by (has_bad_byte place) e h = absurd h
     by is_too_long e h = absurd h
 
-said_sound : (before : ℕ) (line : List ℕ) (ss : List NumberedStatement) (said : Option Statement) → Says line said → list_all is_sound ss ≡ true → list_all is_sound (numbered before said ++ ss) ≡ true
-said_sound before line ss None says h = h
-said_sound before line ss (Some s) says h = and_from (has_names s && number_fits s) (list_all is_sound ss) (line_sound line s says) h
+said_sound : (known : Option Version) (before : ℕ) (line : List ℕ) (ss : List NumberedStatement) (said : Option Statement) → Says (version_in known) line said → list_all is_sound ss ≡ true
+    → list_all is_sound (numbered before (stated known said) ++ ss) ≡ true
+said_sound known before line ss None says h = h
+said_sound known before line ss (Some s) says h = by (gives_version known s)
+  where
+    by : (b : Bool) → list_all is_sound (numbered before (if b then None else Some s) ++ ss) ≡ true
+    by true = h
+    by false = and_from (has_names s && number_fits s) (list_all is_sound ss) (line_sound (version_in known) line s says) h
 
-pub statements_sound : {before : ℕ} {ls : List (List ℕ)} {ss : List NumberedStatement} → AreStatements before ls ss → list_all is_sound ss ≡ true
+pub statements_sound : {known : Option Version} {before : ℕ} {ls : List (List ℕ)} {ss : List NumberedStatement} → AreStatements known before ls ss → list_all is_sound ss ≡ true
 statements_sound none_left = refl
-statements_sound (one_more {before} {line} {lines} {ss} said says are f) =
-    subst (λ (xs : List NumberedStatement). list_all is_sound xs ≡ true) (sym f) (said_sound (before + 1) line ss said says (statements_sound are))
+statements_sound (one_more {known} {before} {line} {lines} {ss} said says are f) =
+    subst (λ (xs : List NumberedStatement). list_all is_sound xs ≡ true) (sym f) (said_sound known (before + 1) line ss said says (statements_sound are))

@@ -94,7 +94,7 @@ module _ (domains : List Domain) (t : ComponentType) where
   own_value_below (Modes kind) word v h = place_below t.modes word v h
   own_value_below (Values d) word v h = domain_value_below domains d word v h
 
-  own_value : (x : VarId) (word : List ℕ) (v : ValId) → value_of_type domains t x word ≡ Some v → has_value (type_ranges domains 0 t) x.0 v.0 ≡ true
+  pub own_value : (x : VarId) (word : List ℕ) (v : ValId) → value_of_type domains t x word ≡ Some v → has_value (type_ranges domains 0 t) x.0 v.0 ≡ true
   own_value x word v h =
       let one = chained (λ (s : Sort). value_by_sort domains t s word) (sort_in_type t x.0) v h in
       let range = own_range x.0 one.0 one.1 in

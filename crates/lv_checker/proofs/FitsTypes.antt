@@ -2,7 +2,7 @@
 use Rattle.std.proofs.Common.{◌≡◌, ◌+◌, ◌<◌, ◌≤◌, ℕ, zero, suc, Bool, true, false, not, ◌&&◌, ◌||◌, nat_eq, nat_lt, nat_le, List, [], ◌∷◌, ◌++◌, length, map, count_by, slice_get, cond, Option, Some, None, refl, sym, ap, ap₂, subst, ◌∙◌, arith}
 use Rattle.std.specs.List.{list_all}
 use Rattle.std.specs.Option.{option_map_or}
-use Rattle.std.proofs.lemmas.Bool.{and_parts, and_from, and_left, lt-ltb, le-leb, eq-eqb, ltb-true}
+use Rattle.std.proofs.lemmas.Bool.{and_parts, and_from, and_left, lt-ltb, le-leb, eq-eqb, ltb-true, not-true}
 use Rattle.std.proofs.lemmas.List.{length-map, map_push, length_push}
 use Rattle.lv_base.specs.declared.limits.TheConstants.{MODES, MOVES}
 use Rattle.lv_formula.specs.Tree.{Tree, Trees, always, never, is, same, negation, all, any, implies, iff, none, more}
@@ -22,9 +22,9 @@ use Rattle.lv_model.specs.Counts.{has_count, variable_size, formula_sizes, mode_
 use Rattle.lv_model.specs.WellFormed.{name_fits, variable_fits, mode_formula_fits, kind_fits, guard_fits, move_fits, moves_rise, is_stay, is_stay_of, stays_once, names_fit, counts_fit, formulas_fit, moves_fit, type_fits, is_within}
 use Rattle.lv_checker.specs.declared.draft.TypeDraft.{TypeDraft}
 use Rattle.lv_checker.specs.declared.draft.Entry.{Entry}
-use Rattle.lv_checker.specs.declared.draft.Entry.TheVariants.{Named, NewDomain, TypeBegins, NewVariable, NewMode, TypeLaw, ModeLaw, NewMove, TypeEnds, NewPart, SystemLaw, NewPrice}
-use Rattle.lv_checker.specs.Drafts.{begun, stay_in, with_move_in_place, with_variable, with_mode, with_type_law, with_mode_law, with_move, type_with}
-use Rattle.lv_checker.proofs.FitsLists.{all_more, all_kept, all_joined}
+use Rattle.lv_checker.specs.declared.draft.Entry.TheVariants.{Named, NewDomain, TypeBegins, NewVariable, NewMode, TypeLaw, ModeLaws, NewMoves, TypeEnds, NewPart, SystemLaw, NewPrice}
+use Rattle.lv_checker.specs.Drafts.{begun, stay_in, with_move_in_place, with_variable, with_mode, with_moves_in_place, with_type_law, with_mode_laws, with_moves, type_with}
+use Rattle.lv_checker.proofs.FitsLists.{all_more, all_behind, all_kept, all_joined}
 use Rattle.lv_checker.proofs.FitsCounts.{has_kept}
 use Rattle.lv_checker.proofs.FitsMoves.{put, put_is, put_length, put_all, put_rises, from_first, put_count, none_of, once_same, once_more}
 
@@ -58,9 +58,9 @@ pub record LawFits (ranges : List Range) (sizes : List ℕ) (f : Tree) : Type 0 
   pub fit : fits ranges f ≡ true
   pub counts : has_count sizes true f ≡ true
 
-pub record ModeLawFits (ranges : List Range) (t : TypeDraft) (f : ModeFormula) : Type 0 where
-  pub fit : mode_formula_fits ranges (length t.lists.modes) f ≡ true
-  pub counts : mode_formula_has_count t.sizes f ≡ true
+pub record ModeLawsFit (ranges : List Range) (t : TypeDraft) (fs : List ModeFormula) : Type 0 where
+  pub fit : list_all (mode_formula_fits ranges (length t.lists.modes)) fs ≡ true
+  pub counts : list_all (mode_formula_has_count t.sizes) fs ≡ true
 
 pub record MoveFits (ranges : List Range) (t : TypeDraft) (m : Move) : Type 0 where
   pub fit : move_fits ranges (length t.lists.modes) m ≡ true
@@ -68,13 +68,26 @@ pub record MoveFits (ranges : List Range) (t : TypeDraft) (m : Move) : Type 0 wh
   pub no_stay : is_stay m.kind ≡ false
   pub few_moves : length t.lists.moves < MOVES
 
+abbrev pub is_no_stay : Move → Bool
+is_no_stay m = not (is_stay m.kind)
+
+pub record MovesFit (ranges : List Range) (t : TypeDraft) (ms : List Move) : Type 0 where
+  pub fit : list_all (move_fits ranges (length t.lists.modes)) ms ≡ true
+  pub counts : list_all (guard_has_counts t.sizes) ms ≡ true
+  pub no_stay : list_all is_no_stay ms ≡ true
+  pub few_moves : length t.lists.moves + length ms ≤ MOVES
+
+-- a type with one move more
+abbrev with_move : TypeDraft → Move → TypeDraft
+with_move t m = record t { lists = record (t.lists) { moves = with_move_in_place m t.lists.moves } }
+
 -- what is known of an entry that is added to a type
 abbrev pub FitsInside : List Domain → TypeDraft → Entry → Type 0
 FitsInside domains t (NewVariable v) = variable_fits (length domains) v ≡ true
 FitsInside domains t (NewMode name n) = ModeFits t name n
 FitsInside domains t (TypeLaw f) = LawFits (own_ranges domains t) t.sizes f
-FitsInside domains t (ModeLaw f) = ModeLawFits (own_ranges domains t) t f
-FitsInside domains t (NewMove m) = MoveFits (own_ranges domains t) t m
+FitsInside domains t (ModeLaws fs) = ModeLawsFit (own_ranges domains t) t fs
+FitsInside domains t (NewMoves line ms) = MovesFit (own_ranges domains t) t ms
 FitsInside domains t TypeEnds = 1 ≤ length t.lists.modes
 FitsInside domains t entry = Unit {0}
 
@@ -205,8 +218,8 @@ module _ (domains : List Domain) (t : TypeDraft) (fact : TypeFits domains t) whe
         guard_counts = fact.guard_counts;
       }
 
-  mode_law_added : (f : ModeFormula) → ModeLawFits (own_ranges domains t) t f → TypeFits domains (with_mode_law t f)
-  mode_law_added f h =
+  mode_laws_added : (fs : List ModeFormula) → ModeLawsFit (own_ranges domains t) t fs → TypeFits domains (with_mode_laws t fs)
+  mode_laws_added fs h =
       record {
         name = fact.name;
         variables = fact.variables;
@@ -214,13 +227,13 @@ module _ (domains : List Domain) (t : TypeDraft) (fact : TypeFits domains t) whe
         few_modes = fact.few_modes;
         few_moves = fact.few_moves;
         laws = fact.laws;
-        mode_laws = all_more (mode_formula_fits (own_ranges domains t) (length t.lists.modes)) t.lists.formulas f fact.mode_laws h.fit;
+        mode_laws = all_behind (mode_formula_fits (own_ranges domains t) (length t.lists.modes)) t.lists.formulas fs fact.mode_laws h.fit;
         moves = fact.moves;
         rise = fact.rise;
         once = fact.once;
         sizes = fact.sizes;
         law_counts = fact.law_counts;
-        mode_law_counts = all_more (mode_formula_has_count t.sizes) t.lists.formulas f fact.mode_law_counts h.counts;
+        mode_law_counts = all_behind (mode_formula_has_count t.sizes) t.lists.formulas fs fact.mode_law_counts h.counts;
         guard_counts = fact.guard_counts;
       }
 
@@ -341,19 +354,52 @@ module _ (domains : List Domain) (t : TypeDraft) (fact : TypeFits domains t) whe
           put_count (is_stay_of (0 + length t.lists.modes)) m t.lists.moves
           ∙ ap₂ (λ (c : ℕ) (b : Bool). c + cond b 1 0) before (eq-eqb n (0 + length t.lists.modes) e)
 
-  pub type_kept : (entry : Entry) → FitsInside domains t entry → TypeFits domains (type_with domains t entry)
-  type_kept (NewVariable v) h = variable_kept v h
-  type_kept (NewMode name n) h = mode_added name n h
-  type_kept (TypeLaw f) h = law_added f h
-  type_kept (ModeLaw f) h = mode_law_added f h
-  type_kept (NewMove m) h = move_added m h
-  type_kept (Named name) h = fact
-  type_kept (NewDomain x) h = fact
-  type_kept (TypeBegins name) h = fact
-  type_kept TypeEnds h = fact
-  type_kept (NewPart p) h = fact
-  type_kept (SystemLaw f) h = fact
-  type_kept (NewPrice p) h = fact
+  lined : (line : ℕ) → TypeFits domains (with_moves t line [])
+  lined line =
+      record {
+        name = fact.name;
+        variables = fact.variables;
+        modes = fact.modes;
+        few_modes = fact.few_modes;
+        few_moves = fact.few_moves;
+        laws = fact.laws;
+        mode_laws = fact.mode_laws;
+        moves = fact.moves;
+        rise = fact.rise;
+        once = fact.once;
+        sizes = fact.sizes;
+        law_counts = fact.law_counts;
+        mode_law_counts = fact.mode_law_counts;
+        guard_counts = fact.guard_counts;
+      }
+
+-- moves that are put in their places one after the other
+moves_added : (domains : List Domain) (t : TypeDraft) → TypeFits domains t → (line : ℕ) (ms : List Move) → MovesFit (own_ranges domains t) t ms → TypeFits domains (with_moves t line ms)
+moves_added domains t fact line [] h = lined domains t fact line
+moves_added domains t fact line (m ∷ ms) h =
+    let fits_here = and_parts (move_fits (own_ranges domains t) (length t.lists.modes) m) (list_all (move_fits (own_ranges domains t) (length t.lists.modes)) ms) h.fit in
+    let counted = and_parts (guard_has_counts t.sizes m) (list_all (guard_has_counts t.sizes) ms) h.counts in
+    let moving = and_parts (is_no_stay m) (list_all is_no_stay ms) h.no_stay in
+    let room = h.few_moves in
+    let longer : length (with_move_in_place m t.lists.moves) ≡ length t.lists.moves + 1 = ap (λ (xs : List Move). length xs) (put_is m t.lists.moves) ∙ put_length m t.lists.moves in
+    moves_added domains (with_move t m)
+    (move_added domains t fact m (record { fit = fits_here.0; counts = counted.0; no_stay = not-true (is_stay m.kind) moving.0; few_moves = omega (arith, room) }))
+    line ms
+    (record { fit = fits_here.1; counts = counted.1; no_stay = moving.1; few_moves = omega (arith, room, longer) })
+
+pub type_kept : (domains : List Domain) (t : TypeDraft) → TypeFits domains t → (entry : Entry) → FitsInside domains t entry → TypeFits domains (type_with domains t entry)
+type_kept domains t fact (NewVariable v) h = variable_kept domains t fact v h
+type_kept domains t fact (NewMode name n) h = mode_added domains t fact name n h
+type_kept domains t fact (TypeLaw f) h = law_added domains t fact f h
+type_kept domains t fact (ModeLaws fs) h = mode_laws_added domains t fact fs h
+type_kept domains t fact (NewMoves line ms) h = moves_added domains t fact line ms h
+type_kept domains t fact (Named name) h = fact
+type_kept domains t fact (NewDomain x) h = fact
+type_kept domains t fact (TypeBegins name) h = fact
+type_kept domains t fact TypeEnds h = fact
+type_kept domains t fact (NewPart p) h = fact
+type_kept domains t fact (SystemLaw f) h = fact
+type_kept domains t fact (NewPrice p) h = fact
 
 -- the formulas of a type fit at whatever place it ends
 module _ (domains : List Domain) (t : ComponentType) (kind : ℕ) where

@@ -1,5 +1,6 @@
 pub mod VerdictLemmas
 pub mod ModelLemmas
+pub mod PlaceLists
 pub mod FitsLists
 pub mod FitsCounts
 pub mod FitsMoves

@@ -1,11 +1,13 @@
 -- A text has one verdict, by what its lines read as.
-use Rattle.std.proofs.Common.{◌≡◌, ◌≤◌, ℕ, List, [], ◌∷◌, length, map, refl, sym, ◌∙◌, ap, ap₂, subst, arith}
+use Rattle.std.proofs.Common.{◌≡◌, ◌≤◌, ℕ, List, [], ◌∷◌, length, map, Option, refl, sym, ◌∙◌, ap, ap₂, subst, arith}
 use Rattle.lv_base.specs.declared.limits.TheConstants.{MODEL_BYTES}
 use Rattle.lv_formula_text.specs.lv_text.Lexemes.{Reading, line_reading}
 use Rattle.lv_formula_text.specs.lv_text.Lines.{lines_of}
 use Rattle.lv_reader.specs.declared.code.ModelCode.{ModelCode}
 use Rattle.lv_reader.specs.declared.statement.NumberedStatement.{NumberedStatement}
 use Rattle.lv_reader.specs.declared.statement.ModelText.{ModelText}
+use Rattle.lv_reader.specs.declared.version.Version.{Version}
+use Rattle.lv_reader.specs.Versions.{version_in}
 use Rattle.lv_reader.specs.Lines.{SaysOf, RefusedOf}
 use Rattle.lv_reader.specs.Texts.{AreStatements, none_left, one_more, IsFirstRefused, at_once, later, ReadsAs, IsReadingFault, too_long, refused as on_line}
 use Rattle.lv_reader.proofs.ReadingLemmas.{text_one, fault_code_one, fault_line_one, text_or_fault}
@@ -24,23 +26,23 @@ first_alike x y xs ys e = (cc)
 rest_alike : (x y : Reading) (xs ys : List Reading) → x ∷ xs ≡ y ∷ ys → xs ≡ ys
 rest_alike x y xs ys e = (cc)
 
-statements_alike : {before : ℕ} {ls : List (List ℕ)} {ss : List NumberedStatement} → AreStatements before ls ss → (ms : List (List ℕ))
-    → map line_reading ls ≡ map line_reading ms → AreStatements before ms ss
+statements_alike : {known : Option Version} {before : ℕ} {ls : List (List ℕ)} {ss : List NumberedStatement} → AreStatements known before ls ss → (ms : List (List ℕ))
+    → map line_reading ls ≡ map line_reading ms → AreStatements known before ms ss
 statements_alike none_left [] e = none_left
 statements_alike none_left (m ∷ ms) e = absurd (cc)
 statements_alike (one_more said says are f) [] e = absurd (cc)
-statements_alike (one_more {before} {line} {lines} said says are f) (m ∷ ms) e =
-    one_more said (subst (λ r. SaysOf r said) (first_alike (line_reading line) (line_reading m) (map line_reading lines) (map line_reading ms) e) says)
+statements_alike (one_more {known} {before} {line} {lines} said says are f) (m ∷ ms) e =
+    one_more said (subst (λ r. SaysOf (version_in known) r said) (first_alike (line_reading line) (line_reading m) (map line_reading lines) (map line_reading ms) e) says)
     (statements_alike are ms (rest_alike (line_reading line) (line_reading m) (map line_reading lines) (map line_reading ms) e)) f
 
-refused_alike : {before at : ℕ} {ls : List (List ℕ)} {code : ModelCode} → IsFirstRefused before ls code at → (ms : List (List ℕ))
-    → map line_reading ls ≡ map line_reading ms → IsFirstRefused before ms code at
+refused_alike : {known : Option Version} {before at : ℕ} {ls : List (List ℕ)} {code : ModelCode} → IsFirstRefused known before ls code at → (ms : List (List ℕ))
+    → map line_reading ls ≡ map line_reading ms → IsFirstRefused known before ms code at
 refused_alike (at_once why f) [] e = absurd (cc)
-refused_alike (at_once {before} {at} {line} {lines} {code} why f) (m ∷ ms) e =
-    at_once (subst (λ r. RefusedOf r code) (first_alike (line_reading line) (line_reading m) (map line_reading lines) (map line_reading ms) e) why) f
+refused_alike (at_once {known} {before} {at} {line} {lines} {code} why f) (m ∷ ms) e =
+    at_once (subst (λ r. RefusedOf (version_in known) r code) (first_alike (line_reading line) (line_reading m) (map line_reading lines) (map line_reading ms) e) why) f
 refused_alike (later said says first) [] e = absurd (cc)
-refused_alike (later {before} {at} {line} {lines} said says first) (m ∷ ms) e =
-    later said (subst (λ r. SaysOf r said) (first_alike (line_reading line) (line_reading m) (map line_reading lines) (map line_reading ms) e) says)
+refused_alike (later {known} {before} {at} {line} {lines} said says first) (m ∷ ms) e =
+    later said (subst (λ r. SaysOf (version_in known) r said) (first_alike (line_reading line) (line_reading m) (map line_reading lines) (map line_reading ms) e) says)
     (refused_alike first ms (rest_alike (line_reading line) (line_reading m) (map line_reading lines) (map line_reading ms) e))
 
 count_alike : (ls ms : List (List ℕ)) → map line_reading ls ≡ map line_reading ms → length ls ≡ length ms

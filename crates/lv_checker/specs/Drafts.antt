@@ -16,7 +16,7 @@ use Rattle.lv_model.specs.Counts.{held, limited, variable_size, type_count, law_
 use Rattle.lv_checker.specs.declared.draft.Draft.{Draft}
 use Rattle.lv_checker.specs.declared.draft.TypeDraft.{TypeDraft}
 use Rattle.lv_checker.specs.declared.draft.Entry.{Entry}
-use Rattle.lv_checker.specs.declared.draft.Entry.TheVariants.{Named, NewDomain, TypeBegins, NewVariable, NewMode, TypeLaw, ModeLaw, NewMove, TypeEnds, NewPart, SystemLaw, NewPrice}
+use Rattle.lv_checker.specs.declared.draft.Entry.TheVariants.{Named, NewDomain, TypeBegins, NewVariable, NewMode, TypeLaw, ModeLaws, NewMoves, TypeEnds, NewPart, SystemLaw, NewPrice}
 use Rattle.lv_checker.specs.Faults.{share_of}
 
 -- the plant before any statement
@@ -32,6 +32,7 @@ begun name =
     record {
       lists = record { name = name; variables = []; modes = []; laws = []; formulas = []; moves = [] };
       sizes = MODES ∷ [];
+      lines = 0;
     }
 
 abbrev pub stay_in : ℕ → Move
@@ -51,7 +52,7 @@ with_move_in_place m moves = insert moves (place_among m moves) m
 
 abbrev pub with_variable : List Domain → TypeDraft → Variable → TypeDraft
 with_variable domains t v =
-    record { lists = record (t.lists) { variables = t.lists.variables ++ v ∷ [] }; sizes = t.sizes ++ variable_size domains v ∷ [] }
+    record t { lists = record (t.lists) { variables = t.lists.variables ++ v ∷ [] }; sizes = t.sizes ++ variable_size domains v ∷ [] }
 
 -- a mode with its stay
 abbrev pub with_mode : TypeDraft → List ℕ → ℕ → TypeDraft
@@ -61,19 +62,25 @@ with_mode t name n =
 abbrev pub with_type_law : TypeDraft → Tree → TypeDraft
 with_type_law t f = record t { lists = record (t.lists) { laws = t.lists.laws ++ f ∷ [] } }
 
-abbrev pub with_mode_law : TypeDraft → ModeFormula → TypeDraft
-with_mode_law t f = record t { lists = record (t.lists) { formulas = t.lists.formulas ++ f ∷ [] } }
+abbrev pub with_mode_laws : TypeDraft → List ModeFormula → TypeDraft
+with_mode_laws t fs = record t { lists = record (t.lists) { formulas = t.lists.formulas ++ fs } }
 
-abbrev pub with_move : TypeDraft → Move → TypeDraft
-with_move t m = record t { lists = record (t.lists) { moves = with_move_in_place m t.lists.moves } }
+-- the moves with new ones, one after the other
+abbrev pub with_moves_in_place : List Move → List Move → List Move
+with_moves_in_place [] moves = moves
+with_moves_in_place (m ∷ ms) moves = with_moves_in_place ms (with_move_in_place m moves)
+
+-- the moves of the line of this number
+abbrev pub with_moves : TypeDraft → ℕ → List Move → TypeDraft
+with_moves t line ms = record t { lists = record (t.lists) { moves = with_moves_in_place ms t.lists.moves }; lines = line }
 
 -- a type that goes on
 abbrev pub type_with : List Domain → TypeDraft → Entry → TypeDraft
 type_with domains t (NewVariable v) = with_variable domains t v
 type_with domains t (NewMode name n) = with_mode t name n
 type_with domains t (TypeLaw f) = with_type_law t f
-type_with domains t (ModeLaw f) = with_mode_law t f
-type_with domains t (NewMove m) = with_move t m
+type_with domains t (ModeLaws fs) = with_mode_laws t fs
+type_with domains t (NewMoves line ms) = with_moves t line ms
 type_with domains t entry = t
 
 -- a type that ends, behind those before it, with the share of a part of it

@@ -1,13 +1,14 @@
 -- Why a statement is refused whose place and names are right: a new name is in use, a formula gives too many clauses, a limit is
 -- passed. The first of these counts.
-use Rattle.std.specs.Prelude.{ℕ, ◌+◌, Bool, true, false, not, ◌&&◌, ◌||◌, List, [], ◌∷◌, length, position, nat_lt, is_some, slice_get, if◌then◌else◌, Option, Some, None, Result, Ok, Err}
-use Rattle.std.specs.List.{list_any}
+use Rattle.std.specs.Prelude.{ℕ, ◌+◌, Bool, true, false, not, ◌&&◌, ◌||◌, List, [], ◌∷◌, length, position, nat_eq, nat_lt, is_some, slice_get, if◌then◌else◌, Option, Some, None, Result, Ok, Err}
+use Rattle.std.specs.List.{list_all, list_any}
 use Rattle.std.specs.Option.{option_map_or}
 use Rattle.lv_base.specs.Names.{is_named}
 use Rattle.lv_base.specs.declared.limits.TheConstants.{PARTS, MODES, MOVES, VALUES, VARIABLES, NAME_BYTES, MODEL_CLAUSES}
+use Rattle.lv_model.specs.declared.plant.ModeFormula.{ModeFormula}
 use Rattle.lv_model.specs.declared.plant.Part.{Part}
 use Rattle.lv_model.specs.Names.{domain_named, type_named, variable_named, part_named}
-use Rattle.lv_model.specs.Counts.{has_count, guard_has_counts, law_count}
+use Rattle.lv_model.specs.Counts.{has_count, mode_formula_has_count, guard_has_counts, law_count}
 use Rattle.lv_model.specs.Lists.{part_width}
 use Rattle.lv_model.specs.Prices.{is_price_of}
 use Rattle.lv_reader.specs.declared.code.ModelCode.{ModelCode}
@@ -16,7 +17,7 @@ use Rattle.lv_reader.specs.declared.statement.Statement.{Statement}
 use Rattle.lv_checker.specs.declared.draft.Draft.{Draft}
 use Rattle.lv_checker.specs.declared.draft.TypeDraft.{TypeDraft}
 use Rattle.lv_checker.specs.declared.draft.Entry.{Entry}
-use Rattle.lv_checker.specs.declared.draft.Entry.TheVariants.{Named, NewDomain, TypeBegins, NewVariable, NewMode, TypeLaw, ModeLaw, NewMove, NewPart, SystemLaw, NewPrice}
+use Rattle.lv_checker.specs.declared.draft.Entry.TheVariants.{Named, NewDomain, TypeBegins, NewVariable, NewMode, TypeLaw, ModeLaws, NewMoves, NewPart, SystemLaw, NewPrice}
 use Rattle.lv_checker.specs.Entries.{entry_of, on_ok}
 
 -- no name stands twice
@@ -24,10 +25,19 @@ abbrev pub are_distinct : List (List ℕ) → Bool
 are_distinct [] = true
 are_distinct (name ∷ names) = not (is_some (position (is_named name) names)) && are_distinct names
 
--- the new name is in use in its name space, a value stands twice in its domain, or a control's value is priced already
+abbrev pub is_law_in : ℕ → ModeFormula → Bool
+is_law_in mode f = nat_eq f.mode.0 mode
+
+-- no mode stands twice
+abbrev pub are_of_distinct_modes : List ModeFormula → Bool
+are_of_distinct_modes [] = true
+are_of_distinct_modes (f ∷ fs) = not (list_any (is_law_in f.mode.0) fs) && are_of_distinct_modes fs
+
+-- the new name is in use in its name space, a mode or a value stands twice in its line, or a control's value is priced already
 abbrev pub in_use_inside : TypeDraft → Entry → Bool
 in_use_inside t (NewVariable v) = is_some (position (variable_named v.name) t.lists.variables)
 in_use_inside t (NewMode name n) = is_some (position (is_named name) t.lists.modes)
+in_use_inside t (ModeLaws fs) = not (are_of_distinct_modes fs)
 in_use_inside t entry = false
 
 abbrev pub in_use_outside : Draft → Entry → Bool
@@ -40,8 +50,8 @@ in_use_outside d entry = false
 -- a formula gives too many clauses: a step's guard in either sign
 abbrev pub is_too_long_inside : TypeDraft → Entry → Bool
 is_too_long_inside t (TypeLaw f) = not (has_count t.sizes true f)
-is_too_long_inside t (ModeLaw f) = not (has_count t.sizes true f.condition)
-is_too_long_inside t (NewMove m) = not (guard_has_counts t.sizes m)
+is_too_long_inside t (ModeLaws fs) = not (list_all (mode_formula_has_count t.sizes) fs)
+is_too_long_inside t (NewMoves line ms) = not (list_all (guard_has_counts t.sizes) ms)
 is_too_long_inside t entry = false
 
 abbrev pub is_too_long_outside : Draft → Entry → Bool
@@ -55,7 +65,7 @@ is_long_name name = nat_lt NAME_BYTES (length name)
 abbrev pub passes_inside : TypeDraft → Entry → Bool
 passes_inside t (NewVariable v) = is_long_name v.name
 passes_inside t (NewMode name n) = not (nat_lt (length t.lists.modes) MODES) || (not (nat_lt (length t.lists.moves) MOVES) || is_long_name name)
-passes_inside t (NewMove m) = not (nat_lt (length t.lists.moves) MOVES)
+passes_inside t (NewMoves line ms) = nat_lt MOVES (length t.lists.moves + length ms)
 passes_inside t entry = false
 
 -- the share of a part in the clauses of the model

@@ -36,6 +36,8 @@ pub struct TypeDraft {
     pub lists: NamedType,
     /// How many values the variables of its formulas have, where clauses are counted: the mode first.
     pub sizes: Seq<u32>,
+    /// How many of its lines are steps or faults.
+    pub lines: u32,
 }
 
 /// What a statement adds, its names given what they stand for.
@@ -50,8 +52,10 @@ pub enum Entry {
     /// A mode's name and its number.
     NewMode(Name, u32),
     TypeLaw(Condition),
-    ModeLaw(ModeFormula),
-    NewMove(Move),
+    /// A formula once for each of the modes that its line names.
+    ModeLaws(Seq<ModeFormula>),
+    /// The number of a step or fault line and the moves that it gives, in their order.
+    NewMoves(u32, Seq<Move>),
     TypeEnds,
     NewPart(Part),
     SystemLaw(Condition),

@@ -1,25 +1,29 @@
 //! What a statement adds to the statements before it, or why its place or its names are refused.
 #![tactic(auto)]
 
-ghost use Rattle.std.specs.Prelude.{◌≡◌, IfOk, IfErr, Ok, false};
+ghost use Rattle.std.specs.Prelude.{◌≡◌, [], ◌∷◌, IfOk, IfErr, Ok, false, length, map};
 ghost use Rattle.std.specs.Option.{option_copied, option_map_or};
 ghost use Rattle.lv_reader.specs.declared.statement.Statement.TheVariants.{LawLine};
-ghost use Rattle.lv_checker.specs.Entries.{variable_entry, mode_entry, mode_law_entry, line_number, step_entry, guard_in, fault_entry, end_entry, inside_entry, name_entry, part_entry, own_variable, is_control_of, has_control, priced_entry, price_entry, outside_entry, entry_of, TellsEntry, TellsGuard};
+ghost use Rattle.lv_checker.specs.Entries.{variable_entry, mode_entry, mode_places, law_in, mode_laws_entry, line_number, fault_of, step_of, step_entry, guard_in, fault_entry, faults_to, is_short, faults_entry, repair_in, repair_entry, end_entry, inside_entry, name_entry, part_entry, own_variable, is_control_of, has_control, priced_entry, price_entry, outside_entry, entry_of, TellsEntry, TellsFound};
+ghost use Rattle.lv_checker.specs.declared.draft.Entry.TheVariants.{NewMoves};
 ghost use Rattle.lv_model.specs.Lists.{is_control};
 ghost use Rattle.lv_model.specs.declared.plant.Variable.{Variable};
 
-use crate::draft::{CheckFault, Draft, Entry};
+use crate::copies::{condition_copied, guard_copied};
+use crate::draft::{CheckFault, Draft, Entry, TypeDraft};
 use crate::places::{
     domain_place, mode_of_type, mode_place, part_of_name, placed, type_place, variable_numbered,
-    variable_of_kind,
+    variable_of_kind, variable_place,
 };
-use crate::scope::{system_formula, type_formula, value_of_system, variable_of_part};
+use crate::scope::{
+    own_value, own_variable_named, system_formula, type_formula, value_of_system, variable_of_part,
+};
 use lv_base::{Class, Cost, Name, Seq, ValId, VarId};
-use lv_formula::Condition;
+use lv_formula::{Condition, Formula};
 use lv_formula_text::Phrase;
 use lv_model::{ComponentType, Domain, ModeFormula, Move, MoveKind, Part, Price, Variable};
 use lv_model_draft::{NamedPlant, NamedType};
-use lv_reader::{ModelCode, Statement};
+use lv_reader::{ModelCode, Repair, Statement};
 use std::alloc::{AllocError, Global};
 
 const UNKNOWN: CheckFault = CheckFault::Refused(ModelCode::UnknownName);
@@ -77,46 +81,78 @@ fn mode_entry(alloc: Global, of: &ComponentType, name: &Name) -> Result<Entry, C
 fn law_entry(
     alloc: Global,
     domains: &[Domain],
-    of: &NamedType,
+    of: &TypeDraft,
     phrase: &Phrase,
 ) -> Result<Entry, CheckFault>
     ensures ok { IfOk result (λ e. inside_entry domains.now of.now (LawLine phrase.now) ≡ Ok e) }
     ensures fault { IfErr result (λ fault. TellsEntry fault (inside_entry domains.now of.now (LawLine phrase.now))) }
 {
-    Ok(Entry::TypeLaw(type_formula(alloc, domains, of, phrase)?))
+    Ok(Entry::TypeLaw(type_formula(alloc, domains, &of.lists, phrase)?))
 }
 
-fn mode_law_entry(
+/// The modes of these names.
+fn mode_places(alloc: Global, of: &ComponentType, names: &[Name]) -> Result<Vec<ValId>, CheckFault>
+    ensures ok { IfOk result (λ modes. mode_places of.now names.now ≡ Ok modes.items) }
+    ensures fault { IfErr result (λ fault. TellsFound fault (mode_places of.now names.now)) }
+{
+    let mut modes = Vec::new(alloc);
+    'names: for name in names {
+        let mode = mode_place(of, name.as_slice()).ok_or(UNKNOWN)?;
+        modes.push(mode)?;
+    }
+    Ok(modes)
+}
+
+/// The formula once for each mode.
+fn laws_in(alloc: Global, law: &Condition, modes: &[ValId]) -> Result<Seq<ModeFormula>, AllocError>
+    ensures { IfOk result (λ laws. laws ≡ map (law_in law.now) modes.now) }
+{
+    let mut laws = Vec::new(alloc);
+    'modes: for mode in modes {
+        let condition = condition_copied(alloc, law)?;
+        laws.push(ModeFormula {
+            mode: *mode,
+            condition,
+        })?;
+    }
+    Ok(Seq::from_vec(laws))
+}
+
+fn mode_laws_entry(
     alloc: Global,
     domains: &[Domain],
     of: &NamedType,
-    mode: &Name,
+    names: &[Name],
     phrase: &Phrase,
 ) -> Result<Entry, CheckFault>
-    ensures ok { IfOk result (λ e. mode_law_entry domains.now of.now mode.now phrase.now ≡ Ok e) }
-    ensures fault { IfErr result (λ fault. TellsEntry fault (mode_law_entry domains.now of.now mode.now phrase.now)) }
+    ensures ok { IfOk result (λ e. mode_laws_entry domains.now of.now names.now phrase.now ≡ Ok e) }
+    ensures fault { IfErr result (λ fault. TellsEntry fault (mode_laws_entry domains.now of.now names.now phrase.now)) }
 {
-    let mode = mode_place(of.as_type(), mode.as_slice()).ok_or(UNKNOWN)?;
-    let condition = type_formula(alloc, domains, of, phrase)?;
-    Ok(Entry::ModeLaw(ModeFormula { mode, condition }))
+    let modes = mode_places(alloc, of.as_type(), names)?;
+    let law = type_formula(alloc, domains, of, phrase)?;
+    Ok(Entry::ModeLaws(laws_in(alloc, &law, modes.as_slice())?))
 }
 
 /// The number of the next step or fault line of a type, from 1.
-fn line_number(of: &ComponentType) -> Option<u32>
+fn line_number(of: &TypeDraft) -> Option<u32>
     ensures { result ≡ line_number of.now }
 {
-    placed(
-        of.moves
-            .len()
-            .saturating_sub(of.modes.len())
-            .saturating_add(1),
-    )
+    of.lines.checked_add(1)
+}
+
+/// What a line of this number adds that gives one move.
+fn one_move(alloc: Global, line: u32, m: Move) -> Result<Entry, AllocError>
+    ensures { IfOk result (λ e. e ≡ NewMoves line (m ∷ [])) }
+{
+    let mut moves = Seq::new(alloc);
+    moves.push(m)?;
+    Ok(Entry::NewMoves(line, moves))
 }
 
 fn step_entry(
     alloc: Global,
     domains: &[Domain],
-    of: &NamedType,
+    of: &TypeDraft,
     source: &Name,
     target: &Name,
     guard: &Phrase,
@@ -124,18 +160,40 @@ fn step_entry(
     ensures ok { IfOk result (λ e. step_entry domains.now of.now source.now target.now guard.now ≡ Ok e) }
     ensures fault { IfErr result (λ fault. TellsEntry fault (step_entry domains.now of.now source.now target.now guard.now)) }
 {
-    let source = mode_place(of.as_type(), source.as_slice()).ok_or(UNKNOWN)?;
-    let target = mode_place(of.as_type(), target.as_slice()).ok_or(UNKNOWN)?;
-    let guard = type_formula(alloc, domains, of, guard)?;
-    let line = line_number(of.as_type()).ok_or(PASSED)?;
-    Ok(Entry::NewMove(Move {
+    let modes = of.lists.as_type();
+    let source = mode_place(modes, source.as_slice()).ok_or(UNKNOWN)?;
+    let target = mode_place(modes, target.as_slice()).ok_or(UNKNOWN)?;
+    let guard = type_formula(alloc, domains, &of.lists, guard)?;
+    let line = line_number(of).ok_or(PASSED)?;
+    Ok(one_move(alloc, line, step_of(source, target, guard, line))?)
+}
+
+/// A step.
+fn step_of(source: ValId, target: ValId, guard: Condition, line: u32) -> Move
+    ensures { result ≡ step_of source target guard line }
+{
+    Move {
         kind: MoveKind::Step,
         source,
         target,
         guard: Some(guard),
         cost: Cost(0),
         line,
-    }))
+    }
+}
+
+/// A fault.
+fn fault_of(source: ValId, target: ValId, cost: u64, guard: Option<Condition>, line: u32) -> Move
+    ensures { result ≡ fault_of source target cost guard line }
+{
+    Move {
+        kind: MoveKind::Fault,
+        source,
+        target,
+        guard,
+        cost: Cost(cost),
+        line,
+    }
 }
 
 /// The guard of a fault, if it has one.
@@ -146,7 +204,7 @@ fn guard_in(
     guard: &Option<Phrase>,
 ) -> Result<Option<Condition>, CheckFault>
     ensures ok { IfOk result (λ g. guard_in domains.now of.now guard.now ≡ Ok g) }
-    ensures fault { IfErr result (λ fault. TellsGuard fault (guard_in domains.now of.now guard.now)) }
+    ensures fault { IfErr result (λ fault. TellsFound fault (guard_in domains.now of.now guard.now)) }
 {
     match guard {
         Some(guard) => Ok(Some(type_formula(alloc, domains, of, guard)?)),
@@ -157,7 +215,7 @@ fn guard_in(
 fn fault_entry(
     alloc: Global,
     domains: &[Domain],
-    of: &NamedType,
+    of: &TypeDraft,
     source: &Name,
     target: &Name,
     cost: u64,
@@ -166,18 +224,142 @@ fn fault_entry(
     ensures ok { IfOk result (λ e. fault_entry domains.now of.now source.now target.now cost guard.now ≡ Ok e) }
     ensures fault { IfErr result (λ fault. TellsEntry fault (fault_entry domains.now of.now source.now target.now cost guard.now)) }
 {
-    let source = mode_place(of.as_type(), source.as_slice()).ok_or(UNKNOWN)?;
-    let target = mode_place(of.as_type(), target.as_slice()).ok_or(UNKNOWN)?;
-    let guard = guard_in(alloc, domains, of, guard)?;
-    let line = line_number(of.as_type()).ok_or(PASSED)?;
-    Ok(Entry::NewMove(Move {
-        kind: MoveKind::Fault,
-        source,
-        target,
-        guard,
-        cost: Cost(cost),
-        line,
-    }))
+    let modes = of.lists.as_type();
+    let source = mode_place(modes, source.as_slice()).ok_or(UNKNOWN)?;
+    let target = mode_place(modes, target.as_slice()).ok_or(UNKNOWN)?;
+    let guard = guard_in(alloc, domains, &of.lists, guard)?;
+    let line = line_number(of).ok_or(PASSED)?;
+    Ok(one_move(alloc, line, fault_of(source, target, cost, guard, line))?)
+}
+
+/// A fault to the mode from each other one of so many modes.
+fn faults_to(
+    alloc: Global,
+    target: ValId,
+    cost: u64,
+    guard: &Option<Condition>,
+    line: u32,
+    modes: u32,
+) -> Result<Seq<Move>, AllocError>
+    ensures { IfOk result (λ faults. faults ≡ faults_to target cost guard.now line modes) }
+{
+    let mut faults = Vec::new(alloc);
+    'modes: for mode in 0..modes {
+        if mode != target.0 {
+            let guard = guard_copied(alloc, guard)?;
+            faults.push(fault_of(ValId(mode), target, cost, guard, line))?;
+        }
+    }
+    Ok(Seq::from_vec(faults))
+}
+
+/// Whether the guard gives few enough clauses.
+fn is_short(of: &TypeDraft, guard: &Option<Condition>) -> bool
+    ensures { result ≡ is_short of.now guard.now }
+{
+    match guard {
+        Some(guard) => guard.clause_count(true, of.sizes.as_slice()).is_some(),
+        None => true,
+    }
+}
+
+fn faults_entry(
+    alloc: Global,
+    domains: &[Domain],
+    of: &TypeDraft,
+    target: &Name,
+    cost: u64,
+    guard: &Option<Phrase>,
+) -> Result<Entry, CheckFault>
+    ensures ok { IfOk result (λ e. faults_entry domains.now of.now target.now cost guard.now ≡ Ok e) }
+    ensures fault { IfErr result (λ fault. TellsEntry fault (faults_entry domains.now of.now target.now cost guard.now)) }
+{
+    let target = mode_place(of.lists.as_type(), target.as_slice()).ok_or(UNKNOWN)?;
+    let guard = guard_in(alloc, domains, &of.lists, guard)?;
+    if !is_short(of, &guard) {
+        drop(guard);
+        return Err(CheckFault::Refused(ModelCode::TooManyClauses));
+    }
+    let line = line_number(of).ok_or(PASSED)?;
+    let modes = placed(of.lists.as_type().modes.len()).ok_or(PASSED)?;
+    let faults = faults_to(alloc, target, cost, &guard, line, modes)?;
+    Ok(Entry::NewMoves(line, faults))
+}
+
+/// The variable at a place of a type, counted from its mode.
+fn own_variable(variables: &[Variable], place: usize) -> Option<&Variable>
+    ensures { option_copied result ≡ own_variable variables.now place }
+{
+    if place == 0 {
+        return None;
+    }
+    variables.get(place - 1)
+}
+
+/// Whether the variable at a place of a type is a control, counted from its mode.
+fn is_control_at(of: &ComponentType, place: usize) -> bool
+    ensures { result ≡ option_map_or (λ (v : Variable). is_control v.class) (own_variable of.now.variables place) false }
+{
+    match own_variable(of.variables.as_slice(), place) {
+        Some(variable) => variable.class == Class::Control,
+        None => false,
+    }
+}
+
+/// Whether the word names a control of the type.
+fn is_control_of(of: &NamedType, word: &[u8]) -> bool
+    ensures { result ≡ is_control_of of.now word.now }
+{
+    match variable_place(of, word) {
+        Some(place) => is_control_at(of.as_type(), place),
+        None => false,
+    }
+}
+
+/// The equation by which a repair leads back.
+fn repair_in(domains: &[Domain], of: &NamedType, repair: &Repair) -> Result<Condition, CheckFault>
+    ensures ok { IfOk result (λ g. repair_in domains.now of.now repair.now ≡ Ok g) }
+    ensures fault { IfErr result (λ fault. TellsFound fault (repair_in domains.now of.now repair.now)) }
+{
+    let variable = own_variable_named(of, repair.control.as_slice()).ok_or(UNKNOWN)?;
+    if !is_control_of(of, repair.control.as_slice()) {
+        return Err(NO_FIT);
+    }
+    let value = own_value(domains, of, variable, repair.value.as_slice()).ok_or(NO_FIT)?;
+    Ok(Condition::new(Formula::Is(variable, value)))
+}
+
+/// What a line of this number adds that gives two moves.
+fn two_moves(alloc: Global, line: u32, first: Move, second: Move) -> Result<Entry, AllocError>
+    ensures { IfOk result (λ e. e ≡ NewMoves line (first ∷ second ∷ [])) }
+{
+    let mut moves = Seq::new(alloc);
+    moves.push(first)?;
+    moves.push(second)?;
+    Ok(Entry::NewMoves(line, moves))
+}
+
+fn repair_entry(
+    alloc: Global,
+    domains: &[Domain],
+    of: &TypeDraft,
+    ends: (&Name, &Name),
+    cost: u64,
+    repair: &Repair,
+    guard: &Option<Phrase>,
+) -> Result<Entry, CheckFault>
+    ensures ok { IfOk result (λ e. repair_entry domains.now of.now ends.0.now ends.1.now cost repair.now guard.now ≡ Ok e) }
+    ensures fault { IfErr result (λ fault. TellsEntry fault (repair_entry domains.now of.now ends.0.now ends.1.now cost repair.now guard.now)) }
+{
+    let modes = of.lists.as_type();
+    let source = mode_place(modes, ends.0.as_slice()).ok_or(UNKNOWN)?;
+    let target = mode_place(modes, ends.1.as_slice()).ok_or(UNKNOWN)?;
+    let way_back = repair_in(domains, &of.lists, repair)?;
+    let guard = guard_in(alloc, domains, &of.lists, guard)?;
+    let line = line_number(of).ok_or(PASSED)?;
+    let fault = fault_of(source, target, cost, guard, line);
+    let step = step_of(target, source, way_back, line);
+    Ok(two_moves(alloc, line, fault, step)?)
 }
 
 fn end_entry(of: &ComponentType) -> Result<Entry, CheckFault>
@@ -195,7 +377,7 @@ fn end_entry(of: &ComponentType) -> Result<Entry, CheckFault>
 fn inside_entry(
     alloc: Global,
     plant: &NamedPlant,
-    of: &NamedType,
+    of: &TypeDraft,
     statement: &Statement,
 ) -> Result<Entry, CheckFault>
     ensures ok { IfOk result (λ e. inside_entry plant.now.domains of.now statement.now ≡ Ok e) }
@@ -206,16 +388,24 @@ fn inside_entry(
         Statement::VariableLine(class, name, domain) => {
             variable_entry(alloc, plant, *class, name, domain)
         }
-        Statement::ModeLine(name) => mode_entry(alloc, of.as_type(), name),
+        Statement::ModeLine(name) => mode_entry(alloc, of.lists.as_type(), name),
         Statement::LawLine(phrase) => { law_entry(alloc, domains, of, phrase) }
-        Statement::InLine(mode, phrase) => mode_law_entry(alloc, domains, of, mode, phrase),
+        Statement::InLine(modes, phrase) => {
+            mode_laws_entry(alloc, domains, &of.lists, modes.as_slice(), phrase)
+        }
         Statement::StepLine(source, target, guard) => {
             step_entry(alloc, domains, of, source, target, guard)
         }
         Statement::FaultLine(source, target, cost, guard) => {
             fault_entry(alloc, domains, of, source, target, *cost, guard)
         }
-        Statement::EndLine => end_entry(of.as_type()),
+        Statement::FaultsLine(target, cost, guard) => {
+            faults_entry(alloc, domains, of, target, *cost, guard)
+        }
+        Statement::RepairLine(source, target, cost, repair, guard) => {
+            repair_entry(alloc, domains, of, (source, target), *cost, repair, guard)
+        }
+        Statement::EndLine => end_entry(of.lists.as_type()),
         _ => Err(MISPLACED),
     }
 }
@@ -251,26 +441,6 @@ fn part_entry(
         start,
         first,
     }))
-}
-
-/// The variable at a place of a type, counted from its mode.
-fn own_variable(variables: &[Variable], place: usize) -> Option<&Variable>
-    ensures { option_copied result ≡ own_variable variables.now place }
-{
-    if place == 0 {
-        return None;
-    }
-    variables.get(place - 1)
-}
-
-/// Whether the variable at a place of a type is a control, counted from its mode.
-fn is_control_at(of: &ComponentType, place: usize) -> bool
-    ensures { result ≡ option_map_or (λ (v : Variable). is_control v.class) (own_variable of.now.variables place) false }
-{
-    match own_variable(of.variables.as_slice(), place) {
-        Some(variable) => variable.class == Class::Control,
-        None => false,
-    }
 }
 
 /// Whether the word names a control of the part.
@@ -350,7 +520,7 @@ pub fn entry_of(alloc: Global, draft: &Draft, statement: &Statement) -> Result<E
     ensures fault { IfErr result (λ fault. TellsEntry fault (entry_of draft.now statement.now)) }
 {
     match &draft.current {
-        Some(current) => inside_entry(alloc, &draft.plant, &current.lists, statement),
+        Some(current) => inside_entry(alloc, &draft.plant, current, statement),
         None => outside_entry(alloc, draft, statement),
     }
 }

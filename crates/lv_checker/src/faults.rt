@@ -4,23 +4,23 @@
 
 ghost use Rattle.lv_base.specs.declared.limits.TheConstants.{VARIABLES as MOST_VARIABLES};
 ghost use Rattle.std.specs.Prelude.{◌≡◌, ◌+◌, nat_lt, IfOk, IfErr, Ok, Err};
-ghost use Rattle.std.specs.List.{list_any};
+ghost use Rattle.std.specs.List.{list_all, list_any};
 ghost use Rattle.std.specs.Option.{option_map_or};
 ghost use Rattle.lv_reader.specs.declared.code.ModelCode.{ModelCode};
 ghost use Rattle.lv_formula.specs.Tree.{Tree};
-ghost use Rattle.lv_model.specs.Counts.{has_count, guard_has_counts};
+ghost use Rattle.lv_model.specs.Counts.{has_count, mode_formula_has_count, guard_has_counts};
 ghost use Rattle.lv_model.specs.Lists.{part_width};
-ghost use Rattle.lv_checker.specs.Faults.{are_distinct, in_use_inside, in_use_outside, is_too_long_inside, is_too_long_outside, is_long_name, passes_inside, share_of, passes_outside, first_of, fault_where, fault_of_entry, unless_faulty, judged};
+ghost use Rattle.lv_checker.specs.Faults.{are_distinct, is_law_in, are_of_distinct_modes, in_use_inside, in_use_outside, is_too_long_inside, is_too_long_outside, is_long_name, passes_inside, share_of, passes_outside, first_of, fault_where, fault_of_entry, unless_faulty, judged};
 ghost use Rattle.lv_checker.specs.Entries.{TellsEntry};
 ghost use Rattle.lv_checker.specs.declared.draft.Entry.TheVariants.{NewPart, SystemLaw};
 
 use crate::draft::{CheckFault, Draft, Entry, TypeDraft};
 use crate::entries::entry_of;
-use lv_base::{Name, find_name, limits};
+use lv_base::{Name, ValId, find_name, limits};
 use lv_formula::Condition;
 use lv_model::counts::law_count;
 use lv_model::lookup::type_of;
-use lv_model::{ComponentType, Move, MoveKind, Part};
+use lv_model::{ComponentType, ModeFormula, Move, MoveKind, Part};
 use lv_reader::{ModelCode, Statement};
 use std::alloc::Global;
 
@@ -50,7 +50,27 @@ fn has_long_name(names: &[Name]) -> bool
     names.iter().any(|name| is_long_name(name))
 }
 
-/// Whether a variable's or a mode's name is in use in the type.
+fn has_law_in(laws: &[ModeFormula], mode: ValId) -> bool
+    ensures { result ≡ list_any (is_law_in mode.0) laws.now }
+{
+    laws.iter().any(|law| law.mode.0 == mode.0)
+}
+
+/// Whether no mode stands twice.
+fn are_of_distinct_modes(laws: &[ModeFormula]) -> bool
+    ensures { result ≡ are_of_distinct_modes laws.now }
+{
+    let mut rest = laws;
+    while let Some((law, more)) = rest.split_first() {
+        if has_law_in(more, law.mode) {
+            return false;
+        }
+        rest = more;
+    }
+    true
+}
+
+/// Whether a variable's or a mode's name is in use in the type, or a mode stands twice in its line.
 fn is_in_use_inside(current: &TypeDraft, entry: &Entry) -> bool
     ensures { result ≡ in_use_inside current.now entry.now }
 {
@@ -60,6 +80,7 @@ fn is_in_use_inside(current: &TypeDraft, entry: &Entry) -> bool
         Entry::NewMode(name, _) => {
             find_name(of.as_type().modes.as_slice(), name.as_slice()).is_some()
         }
+        Entry::ModeLaws(laws) => !are_of_distinct_modes(laws.as_slice()),
         _ => false,
     }
 }
@@ -100,14 +121,27 @@ fn guard_has_counts(m: &Move, sizes: &[u32]) -> bool
     }
 }
 
+fn have_counts(laws: &[ModeFormula], sizes: &[u32]) -> bool
+    ensures { result ≡ list_all (mode_formula_has_count sizes.now) laws.now }
+{
+    laws.iter()
+        .all(|law| has_count(&law.condition, true, sizes))
+}
+
+fn guards_have_counts(moves: &[Move], sizes: &[u32]) -> bool
+    ensures { result ≡ list_all (guard_has_counts sizes.now) moves.now }
+{
+    moves.iter().all(|m| guard_has_counts(m, sizes))
+}
+
 fn is_too_long_inside(current: &TypeDraft, entry: &Entry) -> bool
     ensures { result ≡ is_too_long_inside current.now entry.now }
 {
     let sizes = current.sizes.as_slice();
     match entry {
         Entry::TypeLaw(f) => !has_count(f, true, sizes),
-        Entry::ModeLaw(f) => !has_count(&f.condition, true, sizes),
-        Entry::NewMove(m) => !guard_has_counts(m, sizes),
+        Entry::ModeLaws(laws) => !have_counts(laws.as_slice(), sizes),
+        Entry::NewMoves(_, moves) => !guards_have_counts(moves.as_slice(), sizes),
         _ => false,
     }
 }
@@ -133,7 +167,9 @@ fn passes_inside(current: &TypeDraft, entry: &Entry) -> bool
                 || of.moves.len() >= limits::MOVES as usize
                 || is_long_name(name)
         }
-        Entry::NewMove(_) => of.moves.len() >= limits::MOVES as usize,
+        Entry::NewMoves(_, moves) => {
+            of.moves.len().saturating_add(moves.len()) > limits::MOVES as usize
+        }
         _ => false,
     }
 }

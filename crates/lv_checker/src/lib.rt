@@ -15,6 +15,7 @@
 #![tactic(auto)]
 
 pub mod checker;
+mod copies;
 pub mod draft;
 mod entries;
 mod faults;

@@ -5,6 +5,7 @@
 ghost use Rattle.std.specs.Prelude.{◌≡◌, IfOk, IfErr, Ok};
 ghost use Rattle.lv_checker.specs.Scopes.{are_one_sort, variable_of_type, sort_in_type, value_by_sort, value_of_type, share_in_type, variable_of_part, variable_of_system, sort_in_system, value_of_system, share_in_system, TellsFormula};
 ghost use Rattle.lv_checker.specs.Entries.{type_formula, system_formula};
+ghost use Rattle.lv_formula.specs.declared.path.Path.TheVariants.{Own};
 
 use crate::draft::{CheckFault, Draft};
 use crate::places::{
@@ -57,6 +58,22 @@ fn value_by_sort(domains: &[Domain], of: &ComponentType, sort: Sort, word: &[u8]
     }
 }
 
+/// The variable of a type that a word alone names.
+pub fn own_variable_named(of: &NamedType, word: &[u8]) -> Option<VarId>
+    ensures { result ≡ variable_of_type of.now (Own word.now) }
+{
+    variable_numbered(variable_place(of, word)?)
+}
+
+/// The value of this name of a type's variable.
+pub fn own_value(domains: &[Domain], of: &NamedType, variable: VarId, name: &[u8]) -> Option<ValId>
+    ensures { result ≡ value_of_type domains.now of.now variable name.now }
+{
+    let of = of.as_type();
+    let sort = sort_in_type(of, variable.0)?;
+    value_by_sort(domains, of, sort, name)
+}
+
 impl<'a> Scope for TypeScope<'a> {
     ghost use Rattle.lv_checker.specs.Scopes.{variable_of_type, value_of_type, share_in_type};
 
@@ -68,15 +85,13 @@ impl<'a> Scope for TypeScope<'a> {
 
     fn variable(&self, path: &Path) -> Option<VarId> {
         match path {
-            Path::Own(word) => variable_numbered(variable_place(self.lists, word.as_slice())?),
+            Path::Own(word) => own_variable_named(self.lists, word.as_slice()),
             Path::OfPart(_, _) => None,
         }
     }
 
     fn value(&self, variable: VarId, name: &[u8]) -> Option<ValId> {
-        let of = self.lists.as_type();
-        let sort = sort_in_type(of, variable.0)?;
-        value_by_sort(self.domains, of, sort, name)
+        own_value(self.domains, self.lists, variable, name)
     }
 
     fn same_domain(&self, left: VarId, right: VarId) -> bool {

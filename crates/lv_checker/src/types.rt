@@ -1,9 +1,9 @@
 //! A type, line by line.
 #![tactic(auto)]
 
-ghost use Rattle.std.specs.Prelude.{◌≡◌, ◌<◌, ◌≤◌, OnOk, IfOk, IfSome, length, position};
+ghost use Rattle.std.specs.Prelude.{◌≡◌, ◌<◌, ◌≤◌, ◌++◌, OnOk, IfOk, IfSome, length, position};
 ghost use Rattle.lv_model.specs.WellFormed.{kind_place};
-ghost use Rattle.lv_checker.specs.Drafts.{begun, stay_in, stands_before, place_among, with_move_in_place, with_variable, with_mode, with_type_law, with_mode_law, with_move, type_with};
+ghost use Rattle.lv_checker.specs.Drafts.{begun, stay_in, stands_before, place_among, with_move_in_place, with_moves_in_place, with_variable, with_mode, with_type_law, with_mode_laws, with_moves, type_with};
 
 use crate::draft::{Entry, TypeDraft};
 use lv_base::{Cost, Name, Seq, ValId, limits};
@@ -21,6 +21,7 @@ pub fn begun(alloc: Global, name: Name) -> Result<TypeDraft, AllocError>
     Ok(TypeDraft {
         lists: NamedType::new(alloc, name),
         sizes,
+        lines: 0,
     })
 }
 
@@ -110,16 +111,42 @@ fn add_type_law(draft: &mut TypeDraft, law: Condition) -> Result<(), AllocError>
     draft.lists.push_law(law)
 }
 
-fn add_mode_law(draft: &mut TypeDraft, law: ModeFormula) -> Result<(), AllocError>
-    ensures { OnOk result (draft.new ≡ with_mode_law draft.old law) }
+fn add_lists_laws(lists: &mut NamedType, laws: Seq<ModeFormula>) -> Result<(), AllocError>
+    ensures { OnOk result (lists.new ≡ record lists.old { formulas = lists.old.formulas ++ laws }) }
 {
-    draft.lists.push_formula(law)
+    'laws: for law in laws.into_vec() {
+        lists.push_formula(law)?;
+    }
+    Ok(())
 }
 
-fn add_move(alloc: Global, draft: &mut TypeDraft, m: Move) -> Result<(), AllocError>
-    ensures { OnOk result (draft.new ≡ with_move draft.old m) }
+fn add_mode_laws(draft: &mut TypeDraft, laws: Seq<ModeFormula>) -> Result<(), AllocError>
+    ensures { OnOk result (draft.new ≡ with_mode_laws draft.old laws) }
 {
-    add_lists_move(alloc, &mut draft.lists, m)
+    add_lists_laws(&mut draft.lists, laws)
+}
+
+/// Adds moves in their places, one after the other.
+fn add_lists_moves(alloc: Global, lists: &mut NamedType, moves: Seq<Move>) -> Result<(), AllocError>
+    ensures { OnOk result (lists.new ≡ record lists.old { moves = with_moves_in_place moves lists.old.moves }) }
+{
+    'moves: for m in moves.into_vec() {
+        add_lists_move(alloc, lists, m)?;
+    }
+    Ok(())
+}
+
+/// Adds the moves of the line of this number.
+fn add_moves(
+    alloc: Global,
+    draft: &mut TypeDraft,
+    line: u32,
+    moves: Seq<Move>,
+) -> Result<(), AllocError>
+    ensures { OnOk result (draft.new ≡ with_moves draft.old line moves) }
+{
+    draft.lines = line;
+    add_lists_moves(alloc, &mut draft.lists, moves)
 }
 
 /// Adds an entry to a type that goes on.
@@ -135,8 +162,8 @@ pub fn add_inside(
         Entry::NewVariable(variable) => add_variable(alloc, draft, domains, variable),
         Entry::NewMode(name, mode) => add_mode(alloc, draft, name, mode),
         Entry::TypeLaw(law) => add_type_law(draft, law),
-        Entry::ModeLaw(law) => add_mode_law(draft, law),
-        Entry::NewMove(m) => add_move(alloc, draft, m),
+        Entry::ModeLaws(laws) => add_mode_laws(draft, laws),
+        Entry::NewMoves(line, moves) => add_moves(alloc, draft, line, moves),
         _ => Ok(()),
     }
 }

@@ -5,7 +5,7 @@ use Rattle.lv_text.specs.Lexemes.{Lexeme, says}
 use Rattle.lv_text.proofs.Choices.{if_holds}
 use Rattle.lv_formula_text.specs.Spacing.{word}
 use Rattle.lv_reader.specs.declared.keyword.Keyword.{Keyword}
-use Rattle.lv_reader.specs.declared.keyword.Keyword.TheVariants.{ModelWord, DomainWord, TypeWord, ClassWord, ModeWord, LawWord, InWord, StepWord, FaultWord, EndWord, PartWord, PriceWord}
+use Rattle.lv_reader.specs.declared.keyword.Keyword.TheVariants.{ModelWord, DomainWord, TypeWord, ClassWord, ModeWord, LawWord, InWord, StepWord, FaultWord, EndWord, PartWord, PriceWord, VersionWord}
 use Rattle.lv_reader.specs.Keywords.{keyword_of, keyword_in_type}
 use Rattle.lv_reader.specs.CanonicalTokens.{class_word}
 use Rattle.lv_reader.proofs.Places.{says_next}
@@ -23,6 +23,7 @@ keyword_text FaultWord = codes "fault"
 keyword_text EndWord = codes "end"
 keyword_text PartWord = codes "part"
 keyword_text PriceWord = codes "price"
+keyword_text VersionWord = codes "version"
 
 abbrev Begins : List Lexeme → Option Keyword → Type 0
 Begins ts None = Unit {0}
@@ -51,7 +52,8 @@ begins ts =
     if_holds P (says (codes "domain") ts 0) (Some DomainWord) _ (says_next (codes "domain") ts 0) (λ _.
     if_holds P (says (codes "type") ts 0) (Some TypeWord) _ (says_next (codes "type") ts 0) (λ _.
     if_holds P (says (codes "model") ts 0) (Some ModelWord) _ (says_next (codes "model") ts 0) (λ _.
-    begins_in_type ts))))))
+    if_holds P (says (codes "version") ts 0) (Some VersionWord) _ (says_next (codes "version") ts 0) (λ _.
+    begins_in_type ts)))))))
   where
     P : Option Keyword → Type 0
     P = Begins ts

@@ -1,3 +1,4 @@
+pub mod Choices
 pub mod WordLists
 pub mod FormLemmas
 pub mod TextLemmas
@@ -7,6 +8,7 @@ pub mod Numerals
 pub mod Places
 pub mod Keywords
 pub mod Reprinting
+pub mod FormulaFirst
 pub mod CanonicalForms
 pub mod Statements
 pub mod Lines

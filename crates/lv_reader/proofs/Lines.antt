@@ -1,7 +1,8 @@
 -- The canonical line of a statement, by itself and among others.
-use Rattle.std.proofs.Common.{◌≡◌, ℕ, zero, suc, ◌-◌, ◌≤◌, Bool, true, false, ◌&&◌, cond, nat_eq, nat_lt, List, [], ◌∷◌, ◌++◌, length, map, get_or, All, Some, refl, sym, ap, ap₂, subst, ◌∙◌, arith, append_assoc, codes}
+use Rattle.std.proofs.Common.{◌≡◌, ℕ, zero, suc, ◌-◌, ◌≤◌, Bool, true, false, ◌&&◌, cond, nat_eq, nat_lt, List, [], ◌∷◌, ◌++◌, length, map, get_or, All, Option, Some, None, refl, sym, ap, ap₂, subst, ◌∙◌, arith, append_assoc, length-append, decimal, codes}
 use Rattle.std.proofs.lemmas.Bool.{and_parts, and_from, or_from}
 use Rattle.std.proofs.lemmas.Bool.Decides.{nat_tests}
+use Rattle.std.proofs.lemmas.Fmt.{length-decimal-le}
 use Rattle.std.proofs.lemmas.List.Folds.{list_all-append}
 use Rattle.std.proofs.lemmas.List.Elements.{All-nil, All-cons, All-head, All-tail}
 use Rattle.std.specs.List.{list_all, list_any, flat_map}
@@ -21,12 +22,17 @@ use Rattle.lv_text.proofs.LineLaws.{line_feed_ends}
 use Rattle.lv_text.proofs.ReadBack.{lexemes_have}
 use Rattle.lv_formula_text.specs.Spacing.{is_wordlike, spaced, word}
 use Rattle.lv_formula_text.proofs.SpacedLines.{spaced_again, line_no_shorter}
+use Rattle.lv_reader.specs.declared.version.TheConstants.{NEWEST}
+use Rattle.lv_reader.specs.declared.version.Version.{Version}
+use Rattle.lv_reader.specs.declared.version.Version.TheVariants.{One, Two}
 use Rattle.lv_reader.specs.declared.statement.Statement.{Statement}
+use Rattle.lv_reader.specs.declared.statement.Statement.TheVariants.{VersionLine}
 use Rattle.lv_reader.specs.Keywords.{keyword_of}
-use Rattle.lv_reader.specs.Statements.{HasForm, IsStatement}
-use Rattle.lv_reader.specs.Lines.{Says, SaysOf}
-use Rattle.lv_reader.specs.CanonicalTokens.{statement_tokens, statement_text}
+use Rattle.lv_reader.specs.Statements.{HasForm, has_form_of, IsStatement}
+use Rattle.lv_reader.specs.Lines.{Says, SaysOf, SaysBy}
+use Rattle.lv_reader.specs.CanonicalTokens.{number, statement_tokens, statement_text}
 use Rattle.lv_reader.specs.CanonicalTexts.{default_name, ended_line}
+use Rattle.lv_reader.proofs.Numerals.{number_told, number_is_lexeme}
 use Rattle.lv_reader.proofs.Statements.{reprinted}
 
 -- neither a line feed nor a carriage return
@@ -91,16 +97,34 @@ no_return_at (x ∷ xs) (suc i) h = no_return_at xs i ((and_parts (is_printed_by
 no_return : (xs : List ℕ) → list_all is_printed_byte xs ≡ true → strip_carriage_return xs ≡ xs
 no_return xs h = rw (no_return_at xs (length xs - 1) h) refl
 
--- a statement whose canonical line says it
-pub record IsPrinted (s : Statement) : Type 0 where
-  pub says : Says (statement_text s) (Some s)
+-- a statement whose canonical line says it in a text of the version
+pub record IsPrinted (v : Version) (s : Statement) : Type 0 where
+  pub says : Says v (statement_text s) (Some s)
   pub prints : list_all is_printed_byte (statement_text s) ≡ true
 
-tokens_say : (s : Statement) → All IsLexeme (statement_tokens s) → length (statement_text s) ≤ LINE_BYTES → IsStatement (statement_tokens s) s → IsPrinted s
-tokens_say s h le is = record {
-  says = subst (λ found. SaysOf found (Some s)) (sym (spaced_again (statement_tokens s) h le)) is;
+tokens_say : (v : Version) (s : Statement) → All IsLexeme (statement_tokens s) → length (statement_text s) ≤ LINE_BYTES → IsStatement v (statement_tokens s) s → IsPrinted v s
+tokens_say v s h le is = record {
+  says = subst (λ found. SaysOf v found (Some s)) (sym (spaced_again (statement_tokens s) h le)) is;
   prints = spaced_prints false (statement_tokens s) h;
 }
+
+-- what is a statement of the first version is one of the second
+statement_kept : (line : List Lexeme) (said : Option Statement) → SaysBy One line said → SaysBy Two line said
+statement_kept line None h = h
+statement_kept line (Some s) h = record { shallow = h.shallow; form = h.form; known = refl; number = h.number }
+
+said_kept : (r : Reading) (said : Option Statement) → SaysOf One r said → SaysOf Two r said
+said_kept (reads line) said h = statement_kept line said h
+said_kept (has_bad_byte place) said h = h
+said_kept is_too_long said h = h
+
+pub one_is_read : (line : List ℕ) (said : Option Statement) → Says One line said → Says Two line said
+one_is_read line said h = said_kept (line_reading line) said h
+
+-- in the second version all is read that is read in either
+pub read_in_two : (v : Version) (line : List ℕ) (said : Option Statement) → Says v line said → Says Two line said
+read_in_two One line said h = one_is_read line said h
+read_in_two Two line said h = h
 
 within : (line : List ℕ) (ts : List Lexeme) → line_reading line ≡ reads ts → length line ≤ LINE_BYTES
 within line ts e = by (nat_lt LINE_BYTES (length line)) refl e
@@ -110,17 +134,17 @@ within line ts e = by (nat_lt LINE_BYTES (length line)) refl e
     by false is e = grind (arith, nat_tests)
 
 -- each statement that a line says is such, and its line no longer
-pub line_printed : (line : List ℕ) (s : Statement) → Says line (Some s) → IsPrinted s × (length (statement_text s) ≤ length line)
-line_printed line s h = by (line_reading line) refl h
+pub line_printed : (v : Version) (line : List ℕ) (s : Statement) → Says v line (Some s) → IsPrinted v s × (length (statement_text s) ≤ length line)
+line_printed v line s h = by (line_reading line) refl h
   where
-    by : (found : Reading) → line_reading line ≡ found → SaysOf found (Some s) → IsPrinted s × (length (statement_text s) ≤ length line)
+    by : (found : Reading) → line_reading line ≡ found → SaysOf v found (Some s) → IsPrinted v s × (length (statement_text s) ≤ length line)
     by (reads ts) is h =
-        let again = reprinted ts s (lexemes_have line ts is) h in
+        let again = reprinted ts s (lexemes_have line ts is) (record { shallow = h.shallow; form = h.form; known = refl; number = h.number }) in
         let room = line_no_shorter line ts is in
         let shorter = again.shorter in
         let short = within line ts is in
         let le : length (statement_text s) ≤ length line = omega arith in
-        (tokens_say s again.lexemes (omega arith) (record { shallow = again.shallow; form = again.form; number = h.number }), le)
+        (tokens_say v s again.lexemes (omega arith) (record { shallow = again.shallow; form = again.form; known = h.known; number = h.number }), le)
     by (has_bad_byte place) is h = absurd h
     by is_too_long is h = absurd h
 
@@ -129,22 +153,43 @@ unfolding keyword_of
 default_form = record { word = refl; shape = refl }
 
 -- and so is the name that a model has without one
-pub default_printed : IsPrinted default_name
+pub default_printed : IsPrinted Two default_name
 default_printed =
     let name = word (codes "model") in
     let one : IsLexeme name = record { kind = refl; ascii = refl } in
-    tokens_say default_name (All-cons IsLexeme name (name ∷ []) one (All-cons IsLexeme name [] one (All-nil IsLexeme))) (omega arith)
-    (record { shallow = refl; form = default_form; number = refl })
+    tokens_say Two default_name (All-cons IsLexeme name (name ∷ []) one (All-cons IsLexeme name [] one (All-nil IsLexeme))) (omega arith)
+    (record { shallow = refl; form = default_form; known = refl; number = refl })
+
+-- and the version that stands first
+newest_form : HasForm (statement_tokens (VersionLine NEWEST)) (VersionLine NEWEST)
+unfolding keyword_of
+newest_form = record { word = refl; shape = ap Some (number_told NEWEST (omega arith)) }
+
+pub newest_short : length (statement_text (VersionLine NEWEST)) ≤ 9
+newest_short =
+    let one : length (decimal NEWEST) ≤ 1 = length-decimal-le 1 NEWEST (omega arith) (omega arith) (omega arith) in
+    let all = length-append (decimal NEWEST) [] in
+    omega (arith, one, all)
+
+pub newest_printed : IsPrinted One (VersionLine NEWEST)
+newest_printed =
+    let name : IsLexeme (word (codes "version")) = record { kind = refl; ascii = refl } in
+    let digit : IsLexeme (number NEWEST) = number_is_lexeme NEWEST (omega arith) in
+    let short = newest_short in
+    tokens_say One (VersionLine NEWEST) (All-cons IsLexeme (word (codes "version")) (number NEWEST ∷ []) name (All-cons IsLexeme (number NEWEST) [] digit (All-nil IsLexeme))) (omega (arith, short))
+    (record { shallow = refl; form = newest_form; known = refl; number = refl })
 
 abbrev pub AllPrinted : List Statement → Type 0
 AllPrinted [] = Unit {0}
-AllPrinted (s ∷ ss) = IsPrinted s × AllPrinted ss
+AllPrinted (s ∷ ss) = IsPrinted Two s × AllPrinted ss
+
+-- the line of such a statement, before others
+pub line_before : (v : Version) (s : Statement) → IsPrinted v s → (rest : List ℕ) → lines_of (ended_line s ++ rest) ≡ statement_text s ∷ lines_of rest
+line_before v s h rest =
+    ap lines_of (append_assoc (statement_text s) (10 ∷ []) rest) ∙ line_feed_ends (statement_text s) rest (no_feed (statement_text s) h.prints)
+    ∙ ap (λ (x : List ℕ). x ∷ lines_of rest) (no_return (statement_text s) h.prints)
 
 -- the lines of such statements
 pub lines_printed : (ss : List Statement) → AllPrinted ss → lines_of (flat_map ended_line ss) ≡ map statement_text ss
 lines_printed [] h = refl
-lines_printed (s ∷ ss) h =
-    let line = statement_text s in
-    let rest = flat_map ended_line ss in
-    ap lines_of (append_assoc line (10 ∷ []) rest) ∙ line_feed_ends line rest (no_feed line h.0.prints)
-    ∙ ap₂ (λ (x : List ℕ) (xs : List (List ℕ)). x ∷ xs) (no_return line h.0.prints) (lines_printed ss h.1)
+lines_printed (s ∷ ss) h = line_before Two s h.0 (flat_map ended_line ss) ∙ ap (λ (xs : List (List ℕ)). statement_text s ∷ xs) (lines_printed ss h.1)

@@ -5,28 +5,15 @@ use Rattle.std.specs.Option.{option_and_then, option_map_or}
 use Rattle.std.specs.Cmp.Lexicographic.{same_text}
 use Rattle.lv_base.specs.Names.{is_named}
 use Rattle.lv_text.specs.declared.lexer.TokenKind.{TokenKind}
-use Rattle.lv_text.specs.declared.lexer.TokenKind.TheVariants.{Word, Number, Arrow, Equals, Dot}
+use Rattle.lv_text.specs.declared.lexer.TokenKind.TheVariants.{Word, Number, Arrow, Equals, Or, Dot}
 use Rattle.lv_text.specs.Lexemes.{Lexeme, kind_at, word_at, word_of, is_word, is_number, says}
 use Rattle.lv_text.specs.Laws.{IsLexeme}
 use Rattle.lv_text.specs.Numbers.{number_in_range}
 use Rattle.lv_formula_text.specs.Spacing.{is_wordlike, symbol, word}
 use Rattle.lv_formula_text.proofs.CursorLemmas.{token_at, found_word}
 use Rattle.lv_formula_text.proofs.Canonicals.{symbol_is, word_is}
-use Rattle.lv_reader.specs.Words.{is_arrow, is_equals, is_dot, has_kind_at, words_of, is_reserved, free_word_at, capped, numeral_at}
-
--- what is told behind a test
-pub told_if : {A : Type 0} {a : A} (b : Bool) (x : Option A) → cond b x None ≡ Some a → (b ≡ true) × (x ≡ Some a)
-told_if true x e = (refl, e)
-told_if false x e = absurd (cc)
-
--- what is told of what is told
-pub told_then : {A B : Type 0} {b : B} (f : A → Option B) (o : Option A) → option_and_then f o ≡ Some b → (a : A) × (o ≡ Some a) × (f a ≡ Some b)
-told_then f (Some a) e = (a, refl, e)
-told_then f None e = absurd (cc)
-
-pub told_of : {A B : Type 0} {b : B} (f : A → B) (o : Option A) → option_map f o ≡ Some b → (a : A) × (o ≡ Some a) × (f a ≡ b)
-told_of f (Some a) e = (a, refl, (cc))
-told_of f None e = absurd (cc)
+use Rattle.lv_reader.proofs.Choices.{told_then, told_of}
+use Rattle.lv_reader.specs.Words.{is_or, is_arrow, is_equals, is_dot, has_kind_at, words_of, is_reserved, free_word_at, capped, numeral_at}
 
 -- the word at a place
 pub word_next : (ts : List Lexeme) (i : ℕ) (name : List ℕ) → word_at ts i ≡ Some name → drop i ts ≡ word name ∷ drop (i + 1) ts
@@ -74,6 +61,14 @@ only_dot : (k : TokenKind) → is_dot k ≡ true → k ≡ Dot
 only_dot Dot e = refl
 only_dot k e = absurd (cc)
 
+only_or : (k : TokenKind) → is_or k ≡ true → k ≡ Or
+only_or Or e = refl
+only_or k e = absurd (cc)
+
+-- the sign between names
+pub or_first : (t : Lexeme) → IsLexeme t → is_or t.kind ≡ true → t ≡ symbol Or
+or_first t h e = symbol_is t Or h (only_or t.kind e) refl
+
 pub arrow_next : (ts : List Lexeme) (i : ℕ) → All IsLexeme ts → has_kind_at is_arrow ts i ≡ true → drop i ts ≡ symbol Arrow ∷ drop (i + 1) ts
 arrow_next ts i h e = symbol_next is_arrow Arrow ts i only_arrow refl h e
 
@@ -105,17 +100,18 @@ numeral_next (t ∷ ts) (suc i) n e =
     let found = numeral_next ts i n e in
     record { token = found.token; there = found.there ∙ ap (λ rest. found.token ∷ rest) (one_more t ts i); kind = found.kind; value = found.value }
 
+-- a lexeme that is a word
+pub word_itself : (l : Lexeme) (name : List ℕ) → word_of l ≡ Some name → l ≡ word name
+word_itself l name e = by l.kind refl e
+  where
+    by : (k : TokenKind) → l.kind ≡ k → cond (is_word k) (Some l.text) None ≡ Some name → l ≡ word name
+    by Word is f = let same : l.text ≡ name = cc in word_is l is ∙ ap word same
+    by k is f = absurd (cc)
+
 -- words and nothing else
 pub words_are : (ls : List Lexeme) (names : List (List ℕ)) → words_of ls ≡ Some names → ls ≡ map word names
 words_are [] names e = let none : [] ≡ names = cc in ap (map word) none
 words_are (l ∷ ls) names e =
     let told = told_then (λ word. option_map (λ words. word ∷ words) (words_of ls)) (word_of l) e in
     let others = told_of (λ words. told.0 ∷ words) (words_of ls) told.2 in
-    ap₂ (λ (t : Lexeme) (ts : List Lexeme). t ∷ ts) (first l told.0 told.1) (words_are ls others.0 others.1) ∙ ap (map word) others.2
-  where
-    first : (l : Lexeme) (name : List ℕ) → word_of l ≡ Some name → l ≡ word name
-    first l name e = by l.kind refl e
-      where
-        by : (k : TokenKind) → l.kind ≡ k → cond (is_word k) (Some l.text) None ≡ Some name → l ≡ word name
-        by Word is f = let same : l.text ≡ name = cc in word_is l is ∙ ap word same
-        by k is f = absurd (cc)
+    ap₂ (λ (t : Lexeme) (ts : List Lexeme). t ∷ ts) (word_itself l told.0 told.1) (words_are ls others.0 others.1) ∙ ap (map word) others.2

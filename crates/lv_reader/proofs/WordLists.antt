@@ -1,8 +1,8 @@
 -- Words taken one by one from lexemes that are all words.
-use Rattle.std.proofs.Common.{◌≡◌, ℕ, zero, suc, ◌+◌, ◌<◌, ◌≤◌, List, [], ◌∷◌, ◌++◌, length, drop, Option, Some, None, option_map, refl, sym, ap, subst, ◌∙◌, arith, append_assoc}
+use Rattle.std.proofs.Common.{◌≡◌, ℕ, zero, suc, ◌+◌, ◌<◌, ◌≤◌, List, [], ◌∷◌, ◌++◌, Bool, true, false, length, drop, Option, Some, None, option_map, refl, sym, ap, subst, ◌∙◌, arith, append_assoc}
 use Rattle.std.proofs.lemmas.List.{append-nil, drop_all}
 use Rattle.lv_text.specs.Lexemes.{Lexeme, word_at}
-use Rattle.lv_reader.specs.Words.{words_of}
+use Rattle.lv_reader.specs.Words.{words_of, is_or, has_kind_at, alternatives, one_or_more}
 
 -- words and those after them
 abbrev pub joined_words : List (List ℕ) → Option (List (List ℕ)) → Option (List (List ℕ))
@@ -45,3 +45,74 @@ pub words_taken : (line : List Lexeme) (at : ℕ) (front : List (List ℕ)) (who
     → joined_words front (words_of (drop at line)) ≡ whole → whole ≡ Some front
 words_taken line at front whole past is =
     sym is ∙ ap (λ ls. joined_words front (words_of ls)) (drop_all at line past) ∙ ap Some (append-nil front)
+
+sign_taken : (line : List Lexeme) (at : ℕ) (word : List ℕ) → has_kind_at is_or line at ≡ true → word_at line (suc at) ≡ Some word
+    → alternatives (drop at line) ≡ option_map (λ words. word ∷ words) (alternatives (drop (suc (suc at)) line))
+sign_taken [] at word s h = absurd (nothing_there at s)
+  where
+    nothing_there : (at : ℕ) → has_kind_at is_or [] at ≡ true → ⊥
+    nothing_there zero s = (cc)
+    nothing_there (suc n) s = (cc)
+sign_taken (l ∷ []) zero word s h = absurd (cc)
+sign_taken (l ∷ m ∷ ls) zero word s h = rw (s, h) refl
+sign_taken (l ∷ ls) (suc n) word s h = sign_taken ls n word s h
+
+-- one more name behind a sign is taken
+pub other_taken : (line : List Lexeme) (at : ℕ) (front : List (List ℕ)) (word : List ℕ) (whole : Option (List (List ℕ))) → has_kind_at is_or line at ≡ true
+    → word_at line (at + 1) ≡ Some word → joined_words front (alternatives (drop at line)) ≡ whole → joined_words (front ++ word ∷ []) (alternatives (drop (at + 2) line)) ≡ whole
+other_taken line at front word whole s h is =
+    let one : at + 1 ≡ suc at = omega arith in
+    let two : suc (suc at) ≡ at + 2 = omega arith in
+    let there : word_at line (suc at) ≡ Some word = subst (λ n. word_at line n ≡ Some word) one h in
+    let now : joined_words (front ++ word ∷ []) (alternatives (drop (suc (suc at)) line)) ≡ whole =
+    moved_on front word (alternatives (drop (suc (suc at)) line)) ∙ ap (joined_words front) (sym (sign_taken line at word s there)) ∙ is in
+    subst (λ n. joined_words (front ++ word ∷ []) (alternatives (drop n line)) ≡ whole) two now
+
+sign_alone : (line : List Lexeme) (at : ℕ) → has_kind_at is_or line at ≡ true → word_at line (suc at) ≡ None → alternatives (drop at line) ≡ None
+sign_alone [] zero s h = absurd (cc)
+sign_alone [] (suc n) s h = absurd (cc)
+sign_alone (l ∷ []) zero s h = rw s refl
+sign_alone (l ∷ m ∷ ls) zero s h = rw (s, h) refl
+sign_alone (l ∷ ls) (suc n) s h = sign_alone ls n s h
+
+-- a sign without a name behind it ends the search for names
+pub other_missing : (line : List Lexeme) (at : ℕ) (front : List (List ℕ)) (whole : Option (List (List ℕ))) → has_kind_at is_or line at ≡ true → word_at line (at + 1) ≡ None
+    → joined_words front (alternatives (drop at line)) ≡ whole → whole ≡ None
+other_missing line at front whole s h is =
+    let one : at + 1 ≡ suc at = omega arith in
+    sym is ∙ ap (joined_words front) (sign_alone line at s (subst (λ n. word_at line n ≡ None) one h))
+
+no_sign : (line : List Lexeme) (at : ℕ) → has_kind_at is_or line at ≡ false → alternatives (drop at line) ≡ Some []
+no_sign [] zero s = refl
+no_sign [] (suc n) s = refl
+no_sign (l ∷ ls) zero s = rw s refl
+no_sign (l ∷ ls) (suc n) s = no_sign ls n s
+
+-- without a sign all names are taken
+pub others_taken : (line : List Lexeme) (at : ℕ) (front : List (List ℕ)) (whole : Option (List (List ℕ))) → has_kind_at is_or line at ≡ false
+    → joined_words front (alternatives (drop at line)) ≡ whole → whole ≡ Some front
+others_taken line at front whole s is = sym is ∙ ap (joined_words front) (no_sign line at s) ∙ ap Some (append-nil front)
+
+-- the first name
+pub first_taken : (line : List Lexeme) (word : List ℕ) → word_at line 1 ≡ Some word → joined_words (word ∷ []) (alternatives (drop 2 line)) ≡ one_or_more line
+first_taken [] word h = absurd (cc)
+first_taken (t ∷ []) word h = absurd (cc)
+first_taken (t ∷ l ∷ ls) word h = rw h refl
+
+pub first_missing : (line : List Lexeme) → word_at line 1 ≡ None → one_or_more line ≡ None
+first_missing [] h = refl
+first_missing (t ∷ []) h = refl
+first_missing (t ∷ l ∷ ls) h = rw h refl
+
+-- a place with a word is inside the line
+pub sign_inside : (line : List Lexeme) (at : ℕ) → has_kind_at is_or line at ≡ true → at < length line
+sign_inside [] zero s = absurd (cc)
+sign_inside [] (suc n) s = absurd (cc)
+sign_inside (l ∷ ls) zero s = omega arith
+sign_inside (l ∷ ls) (suc n) s = let less = sign_inside ls n s in omega (arith, less)
+
+pub word_inside : (line : List Lexeme) (at : ℕ) (word : List ℕ) → word_at line at ≡ Some word → at < length line
+word_inside [] zero word s = absurd (cc)
+word_inside [] (suc n) word s = absurd (cc)
+word_inside (l ∷ ls) zero word s = omega arith
+word_inside (l ∷ ls) (suc n) word s = let less = word_inside ls n word s in omega (arith, less)

@@ -1,10 +1,11 @@
--- The canonical text of a model: its name first, one statement a line, and no line without a statement.
+-- The canonical text of a model: the newest version first, then its name, one statement a line, and no line without a statement.
 use Rattle.std.specs.Prelude.{ℕ, ◌+◌, List, [], ◌∷◌, ◌++◌, Bool, true, false, map, length, if◌then◌else◌, codes}
 use Rattle.std.specs.List.{flat_map}
 use Rattle.lv_reader.specs.declared.statement.Statement.{Statement}
-use Rattle.lv_reader.specs.declared.statement.Statement.TheVariants.{ModelLine}
+use Rattle.lv_reader.specs.declared.statement.Statement.TheVariants.{ModelLine, VersionLine}
 use Rattle.lv_reader.specs.declared.statement.NumberedStatement.{NumberedStatement}
 use Rattle.lv_reader.specs.declared.statement.ModelText.{ModelText}
+use Rattle.lv_reader.specs.declared.version.TheConstants.{NEWEST}
 use Rattle.lv_reader.specs.CanonicalTokens.{statement_text}
 
 -- the statement gives the model's name
@@ -37,15 +38,19 @@ named_statements ss = name_before (statements_of ss) ++ statements_of ss
 abbrev pub ended_line : Statement → List ℕ
 ended_line s = statement_text s ++ 10 ∷ []
 
+-- the line that gives the version, with its end
+abbrev pub version_line : List ℕ
+version_line = ended_line (VersionLine NEWEST)
+
 -- the canonical text
 abbrev pub canonical_model : ModelText → List ℕ
-canonical_model text = flat_map ended_line (named_statements text.statements)
+canonical_model text = version_line ++ flat_map ended_line (named_statements text.statements)
 
 -- statements on lines that follow one another, behind so many lines
 abbrev pub numbered_from : ℕ → List Statement → List NumberedStatement
 numbered_from before [] = []
 numbered_from before (s ∷ ss) = record { line = before + 1; statement = s } ∷ numbered_from (before + 1) ss
 
--- what the canonical text reads as: the same statements, one a line, the model's name before them
+-- what the canonical text reads as: the same statements, one a line behind the version, the model's name before them
 abbrev pub canonical_reading : ModelText → ModelText
-canonical_reading text = record { statements = numbered_from 0 (named_statements text.statements); lines = length (named_statements text.statements) }
+canonical_reading text = record { statements = numbered_from 1 (named_statements text.statements); lines = length (named_statements text.statements) + 1 }

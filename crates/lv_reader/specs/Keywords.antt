@@ -3,7 +3,7 @@ use Rattle.std.specs.Prelude.{List, if◌then◌else◌, Option, Some, None, cod
 use Rattle.lv_base.specs.declared.names.Class.TheVariants.{Control, Dependent, Observable}
 use Rattle.lv_text.specs.Lexemes.{Lexeme, says}
 use Rattle.lv_reader.specs.declared.keyword.Keyword.{Keyword}
-use Rattle.lv_reader.specs.declared.keyword.Keyword.TheVariants.{ModelWord, DomainWord, TypeWord, ClassWord, ModeWord, LawWord, InWord, StepWord, FaultWord, EndWord, PartWord, PriceWord}
+use Rattle.lv_reader.specs.declared.keyword.Keyword.TheVariants.{ModelWord, DomainWord, TypeWord, ClassWord, ModeWord, LawWord, InWord, StepWord, FaultWord, EndWord, PartWord, PriceWord, VersionWord}
 
 -- the word that a line begins with, if it is one of those that stand in types alone
 abbrev pub keyword_in_type : List Lexeme → Option Keyword
@@ -27,4 +27,5 @@ keyword_of line =
     else (if says (codes "domain") line 0 then Some DomainWord
     else (if says (codes "type") line 0 then Some TypeWord
     else (if says (codes "model") line 0 then Some ModelWord
-    else keyword_in_type line)))))
+    else (if says (codes "version") line 0 then Some VersionWord
+    else keyword_in_type line))))))

@@ -2,6 +2,7 @@ pub mod Codes
 pub mod Keywords
 pub mod Words
 pub mod Statements
+pub mod Versions
 pub mod Lines
 pub mod Texts
 pub mod Laws

@@ -3,11 +3,12 @@ use Rattle.std.specs.Prelude.{◌≡◌, ℕ, ◌+◌, List, [], ◌∷◌, Bool
 use Rattle.std.specs.Option.{option_and_then, option_map_or}
 use Rattle.lv_base.specs.Names.{is_named}
 use Rattle.lv_text.specs.declared.lexer.TokenKind.{TokenKind}
-use Rattle.lv_text.specs.declared.lexer.TokenKind.TheVariants.{Arrow, Equals, Dot}
+use Rattle.lv_text.specs.declared.lexer.TokenKind.TheVariants.{Arrow, Equals, Or, Dot}
 use Rattle.lv_text.specs.Lexemes.{Lexeme, word_of, kind_at, word_at, number_at, is_number, says}
 use Rattle.lv_formula_text.specs.PhraseTree.{PhraseTree}
 use Rattle.lv_formula_text.specs.Grammar.{IsFormula}
 use Rattle.lv_reader.specs.declared.words.TheConstants.{OVER_EVERY_LIMIT}
+use Rattle.lv_reader.specs.declared.statement.Repair.{Repair}
 use Rattle.lv_reader.specs.declared.words.NameAndNames.{NameAndNames}
 use Rattle.lv_reader.specs.declared.words.TwoNames.{TwoNames}
 use Rattle.lv_reader.specs.declared.words.ThreeNames.{ThreeNames}
@@ -23,6 +24,10 @@ is_equals kind = false
 abbrev pub is_dot : TokenKind → Bool
 is_dot Dot = true
 is_dot kind = false
+
+abbrev pub is_or : TokenKind → Bool
+is_or Or = true
+is_or kind = false
 
 -- the lexeme at this place, counted from 0, has such a kind
 abbrev pub has_kind_at : (TokenKind → Bool) → List Lexeme → ℕ → Bool
@@ -48,6 +53,10 @@ capped (Some n) = if nat_lt n OVER_EVERY_LIMIT then n else OVER_EVERY_LIMIT
 
 abbrev pub numeral_at : List Lexeme → ℕ → Option ℕ
 numeral_at line i = if has_kind_at is_number line i then Some (capped (number_at line i)) else None
+
+-- `.. N`
+abbrev pub only_numeral : List Lexeme → Option ℕ
+only_numeral line = if nat_eq (length line) 2 then numeral_at line 1 else None
 
 -- `.. NAME`
 abbrev pub only_name : List Lexeme → Option (List ℕ)
@@ -79,6 +88,32 @@ abbrev pub both_ends : List Lexeme → Option TwoNames
 both_ends line =
     if has_kind_at is_arrow line 2
     then option_and_then (λ a. option_map (λ b. record { first = a; second = b }) (word_at line 3)) (word_at line 1)
+    else None
+
+abbrev mutual
+  -- the names behind the signs `|` that lexemes begin with, as far as these go
+  pub alternatives : List Lexeme → Option (List (List ℕ))
+  alternatives [] = Some []
+  alternatives (sign ∷ ls) = if is_or sign.kind then alternative_first ls else Some []
+
+  -- such a name, and others behind it
+  pub alternative_first : List Lexeme → Option (List (List ℕ))
+  alternative_first [] = None
+  alternative_first (name ∷ ls) = option_and_then (λ n. option_map (λ ns. n ∷ ns) (alternatives ls)) (word_of name)
+
+-- `.. NAME | NAME ..`: a name, and those behind it that may stand in its place
+abbrev pub one_or_more : List Lexeme → Option (List (List ℕ))
+one_or_more line = alternative_first (drop 1 line)
+
+-- `.. -> MODE ..`
+abbrev pub bare_target : List Lexeme → Option (List ℕ)
+bare_target line = if has_kind_at is_arrow line 1 then word_at line 2 else None
+
+-- `.. repair CONTROL = VALUE ..` behind the cost of a fault
+abbrev pub repair_of : List Lexeme → Option Repair
+repair_of line =
+    if says (codes "repair") line 6 && has_kind_at is_equals line 8
+    then option_and_then (λ c. option_map (λ v. record { control = c; value = v }) (word_at line 9)) (word_at line 7)
     else None
 
 -- `.. PART.CONTROL = VALUE N`

@@ -1,11 +1,13 @@
 //! The canonical tokens of a statement, written behind what a line has so far.
 #![tactic(auto, using(crate::proofs::Writing::written_more))]
 
-ghost use Rattle.std.specs.Prelude.{◌≡◌, OnOk, [], ◌∷◌, map, Some};
-ghost use Rattle.lv_formula_text.specs.Spacing.{written, word};
-ghost use Rattle.lv_reader.specs.CanonicalTokens.{number, class_word, named_tokens, move_tokens, guard_tokens, cost_tokens, price_tokens, statement_tokens};
+ghost use Rattle.std.specs.Prelude.{◌≡◌, OnOk, [], ◌∷◌, map, Some, codes};
+ghost use Rattle.std.specs.List.{flat_map};
+ghost use Rattle.lv_text.specs.declared.lexer.TokenKind.TheVariants.{Arrow};
+ghost use Rattle.lv_formula_text.specs.Spacing.{written, word, symbol};
+ghost use Rattle.lv_reader.specs.CanonicalTokens.{number, class_word, named_tokens, alternative_tokens, mode_tokens, move_tokens, guard_tokens, repair_tokens, price_tokens, statement_tokens};
 
-use crate::Statement;
+use crate::{Repair, Statement};
 use itoa::Buffer;
 use lv_base::{Class, Name};
 use lv_formula_text::{LineWriter, Phrase, write_phrase};
@@ -32,8 +34,9 @@ pub fn write_statement(writer: &mut LineWriter, statement: &Statement) -> Result
             writer.word(b"law")?;
             write_phrase(writer, formula)
         }
-        Statement::InLine(mode, formula) => {
-            write_named(writer, b"in", mode)?;
+        Statement::InLine(modes, formula) => {
+            writer.word(b"in")?;
+            write_modes(writer, modes.as_slice())?;
             write_phrase(writer, formula)
         }
         Statement::StepLine(source, target, guard) => {
@@ -42,7 +45,19 @@ pub fn write_statement(writer: &mut LineWriter, statement: &Statement) -> Result
         }
         Statement::FaultLine(source, target, cost, guard) => {
             write_move(writer, b"fault", source, target)?;
-            write_cost(writer, *cost, guard)
+            write_cost(writer, *cost)?;
+            write_any_guard(writer, guard)
+        }
+        Statement::FaultsLine(target, cost, guard) => {
+            write_target(writer, target)?;
+            write_cost(writer, *cost)?;
+            write_any_guard(writer, guard)
+        }
+        Statement::RepairLine(source, target, cost, repair, guard) => {
+            write_move(writer, b"fault", source, target)?;
+            write_cost(writer, *cost)?;
+            write_repair(writer, repair)?;
+            write_any_guard(writer, guard)
         }
         Statement::EndLine => writer.word(b"end"),
         Statement::PartLine(name, kind, start) => {
@@ -53,6 +68,10 @@ pub fn write_statement(writer: &mut LineWriter, statement: &Statement) -> Result
         Statement::PriceLine(part, control, value, cost) => {
             write_named(writer, b"price", part)?;
             write_price(writer, control, value, *cost)
+        }
+        Statement::VersionLine(n) => {
+            writer.word(b"version")?;
+            write_number(writer, *n)
         }
     }
 }
@@ -71,6 +90,53 @@ fn write_names(writer: &mut LineWriter, names: &[Name]) -> Result<(), AllocError
         writer.word(name.as_slice())?;
     }
     Ok(())
+}
+
+/// A name, and others that may stand in its place.
+fn write_modes(writer: &mut LineWriter, modes: &[Name]) -> Result<(), AllocError>
+    ensures { OnOk result (writer.new ≡ written (mode_tokens modes.now) writer.old) }
+{
+    match modes.split_first() {
+        Some((mode, others)) => {
+            writer.word(mode.as_slice())?;
+            write_alternatives(writer, others)
+        }
+        None => Ok(()),
+    }
+}
+
+fn write_alternatives(writer: &mut LineWriter, modes: &[Name]) -> Result<(), AllocError>
+    ensures { OnOk result (writer.new ≡ written (flat_map alternative_tokens modes.now) writer.old) }
+{
+    'modes: for mode in modes {
+        write_alternative(writer, mode)?;
+    }
+    Ok(())
+}
+
+fn write_alternative(writer: &mut LineWriter, mode: &Name) -> Result<(), AllocError>
+    ensures { OnOk result (writer.new ≡ written (alternative_tokens mode.now) writer.old) }
+{
+    writer.symbol(TokenKind::Or)?;
+    writer.word(mode.as_slice())
+}
+
+/// A fault from each other mode, up to its cost.
+fn write_target(writer: &mut LineWriter, target: &Name) -> Result<(), AllocError>
+    ensures { OnOk result (writer.new ≡ written (word (codes "fault") ∷ symbol Arrow ∷ word target.now ∷ []) writer.old) }
+{
+    writer.word(b"fault")?;
+    writer.symbol(TokenKind::Arrow)?;
+    writer.word(target.as_slice())
+}
+
+fn write_repair(writer: &mut LineWriter, repair: &Repair) -> Result<(), AllocError>
+    ensures { OnOk result (writer.new ≡ written (repair_tokens repair.now) writer.old) }
+{
+    writer.word(b"repair")?;
+    writer.word(repair.control.as_slice())?;
+    writer.symbol(TokenKind::Equals)?;
+    writer.word(repair.value.as_slice())
 }
 
 fn write_move(
@@ -100,11 +166,16 @@ fn write_guard(writer: &mut LineWriter, guard: &Phrase) -> Result<(), AllocError
     write_phrase(writer, guard)
 }
 
-fn write_cost(writer: &mut LineWriter, cost: u64, guard: &Option<Phrase>) -> Result<(), AllocError>
-    ensures { OnOk result (writer.new ≡ written (cost_tokens cost guard.now) writer.old) }
+fn write_cost(writer: &mut LineWriter, cost: u64) -> Result<(), AllocError>
+    ensures { OnOk result (writer.new ≡ written (word (codes "cost") ∷ number cost ∷ []) writer.old) }
 {
     writer.word(b"cost")?;
-    write_number(writer, cost)?;
+    write_number(writer, cost)
+}
+
+fn write_any_guard(writer: &mut LineWriter, guard: &Option<Phrase>) -> Result<(), AllocError>
+    ensures { OnOk result (writer.new ≡ written (guard_tokens guard.now) writer.old) }
+{
     match guard {
         Some(guard) => write_guard(writer, guard),
         None => Ok(()),

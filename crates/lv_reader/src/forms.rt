@@ -1,11 +1,13 @@
 //! The forms of statements: the statement that the tokens of a line are, by the word that it begins with.
 #![tactic(auto)]
 
-ghost use Rattle.std.specs.Prelude.{◌≡◌, IfOk, IfErr, Some, false};
+ghost use Rattle.std.specs.Prelude.{◌≡◌, IfOk, IfErr, Some, false, true, codes};
 ghost use Rattle.lv_formula_text.specs.Nesting.{is_too_deep};
 ghost use Rattle.lv_reader.specs.declared.fault.FormFault.TheVariants.{Form};
 ghost use Rattle.lv_reader.specs.Keywords.{keyword_of};
-ghost use Rattle.lv_reader.specs.Statements.{HasForm, HasNoForm, IsStatement};
+ghost use Rattle.lv_text.specs.Lexemes.{says};
+ghost use Rattle.lv_reader.specs.Words.{is_arrow, has_kind_at};
+ghost use Rattle.lv_reader.specs.Statements.{HasForm, HasNoForm, IsStatement, has_form_of};
 ghost use Rattle.lv_reader.specs.Lines.{TellsBy};
 ghost use Rattle.lv_reader.specs.declared.keyword.Keyword.TheVariants.{DomainWord, ClassWord, InWord, StepWord, FaultWord, EndWord, PartWord, PriceWord};
 
@@ -13,9 +15,10 @@ use crate::code::ModelCode;
 use crate::fault::{FormFault, LineFault};
 use crate::keyword::{Keyword, keyword_of};
 use crate::statement::Statement;
+use crate::version::Version;
 use crate::words::{
-    both_ends, formula_from, guard_from, name_and_names, name_at, numeral_at, only_name,
-    priced_names, three_names, two_names,
+    bare_target, both_ends, formula_from, guard_from, is_arrow_at, name_and_names, numeral_at,
+    one_or_more, only_name, only_numeral, priced_names, repair_of, three_names, two_names,
 };
 use lv_base::Class;
 use lv_formula_text::is_too_deep;
@@ -76,9 +79,9 @@ fn in_line(alloc: Global, line: &TokenLine<'_>) -> Result<Statement, FormFault>
     ensures ok { IfOk result (HasForm line.now) }
     ensures refused { result ≡ Err Form → HasNoForm line.now }
 {
-    let mode = name_at(alloc, line, 1)?;
-    let formula = formula_from(alloc, line, 2)?;
-    Ok(Statement::InLine(mode, formula))
+    let modes = one_or_more(alloc, line)?;
+    let formula = formula_from(alloc, line, modes.len().saturating_mul(2))?;
+    Ok(Statement::InLine(modes, formula))
 }
 
 fn step_line(alloc: Global, line: &TokenLine<'_>) -> Result<Statement, FormFault>
@@ -94,9 +97,48 @@ fn step_line(alloc: Global, line: &TokenLine<'_>) -> Result<Statement, FormFault
     }
 }
 
-fn fault_line(alloc: Global, line: &TokenLine<'_>) -> Result<Statement, FormFault>
+/// A fault from each other mode.
+fn faults_line(alloc: Global, line: &TokenLine<'_>) -> Result<Statement, FormFault>
     requires word { keyword_of line.now ≡ Some FaultWord }
     requires shallow { is_too_deep line.now ≡ false }
+    requires bare { has_kind_at is_arrow line.now 1 ≡ true }
+    ensures ok { IfOk result (HasForm line.now) }
+    ensures refused { result ≡ Err Form → HasNoForm line.now }
+{
+    let target = bare_target(alloc, line)?;
+    if !line.says(3, b"cost") {
+        return Err(FormFault::Form);
+    }
+    let cost = numeral_at(line, 4)?;
+    let guard = guard_from(alloc, line, 5)?;
+    Ok(Statement::FaultsLine(target, cost, guard))
+}
+
+/// A fault with a repair.
+fn repair_line(alloc: Global, line: &TokenLine<'_>) -> Result<Statement, FormFault>
+    requires word { keyword_of line.now ≡ Some FaultWord }
+    requires shallow { is_too_deep line.now ≡ false }
+    requires bare { has_kind_at is_arrow line.now 1 ≡ false }
+    requires repair { says (codes "repair") line.now 6 ≡ true }
+    ensures ok { IfOk result (HasForm line.now) }
+    ensures refused { result ≡ Err Form → HasNoForm line.now }
+{
+    let ends = both_ends(alloc, line)?;
+    if !line.says(4, b"cost") {
+        return Err(FormFault::Form);
+    }
+    let cost = numeral_at(line, 5)?;
+    let repair = repair_of(alloc, line)?;
+    let guard = guard_from(alloc, line, 10)?;
+    Ok(Statement::RepairLine(ends.first, ends.second, cost, repair, guard))
+}
+
+/// A fault from one mode.
+fn plain_fault_line(alloc: Global, line: &TokenLine<'_>) -> Result<Statement, FormFault>
+    requires word { keyword_of line.now ≡ Some FaultWord }
+    requires shallow { is_too_deep line.now ≡ false }
+    requires bare { has_kind_at is_arrow line.now 1 ≡ false }
+    requires repair { says (codes "repair") line.now 6 ≡ false }
     ensures ok { IfOk result (HasForm line.now) }
     ensures refused { result ≡ Err Form → HasNoForm line.now }
 {
@@ -107,6 +149,21 @@ fn fault_line(alloc: Global, line: &TokenLine<'_>) -> Result<Statement, FormFaul
     let cost = numeral_at(line, 5)?;
     let guard = guard_from(alloc, line, 6)?;
     Ok(Statement::FaultLine(ends.first, ends.second, cost, guard))
+}
+
+fn fault_line(alloc: Global, line: &TokenLine<'_>) -> Result<Statement, FormFault>
+    requires word { keyword_of line.now ≡ Some FaultWord }
+    requires shallow { is_too_deep line.now ≡ false }
+    ensures ok { IfOk result (HasForm line.now) }
+    ensures refused { result ≡ Err Form → HasNoForm line.now }
+{
+    if is_arrow_at(line, 1) {
+        faults_line(alloc, line)
+    } else if line.says(6, b"repair") {
+        repair_line(alloc, line)
+    } else {
+        plain_fault_line(alloc, line)
+    }
 }
 
 /// The statement whose form the line has, by the word that it begins with.
@@ -129,13 +186,19 @@ fn form_of(alloc: Global, line: &TokenLine<'_>, keyword: Keyword) -> Result<Stat
         Keyword::EndWord => end_line(line),
         Keyword::PartWord => part_line(alloc, line),
         Keyword::PriceWord => price_line(alloc, line),
+        Keyword::VersionWord => Ok(Statement::VersionLine(only_numeral(line)?)),
     }
 }
 
-/// The statement that the tokens of a line are, of which there are some.
-pub fn statement_of(alloc: Global, line: &TokenLine<'_>) -> Result<Statement, LineFault>
-    ensures ok { IfOk result (IsStatement line.now) }
-    ensures fault { IfErr result (λ fault. TellsBy fault line.now) }
+/// The statement that the tokens of a line are in a text of the version, of which there are some.
+#[tactic(auto, using(crate::proofs::FormLemmas::none_in_version, crate::proofs::FormLemmas::not_of_version))]
+pub fn statement_of(
+    alloc: Global,
+    line: &TokenLine<'_>,
+    version: Version,
+) -> Result<Statement, LineFault>
+    ensures ok { IfOk result (IsStatement version line.now) }
+    ensures fault { IfErr result (λ fault. TellsBy fault version line.now) }
 {
     let Some(keyword) = keyword_of(line) else {
         return Err(LineFault::Refused(ModelCode::UnknownStatement));
@@ -148,6 +211,10 @@ pub fn statement_of(alloc: Global, line: &TokenLine<'_>) -> Result<Statement, Li
         Err(FormFault::Form) => return Err(LineFault::Refused(ModelCode::Form)),
         Err(FormFault::Memory) => return Err(LineFault::Memory),
     };
+    if !version.has_form_of(&statement) {
+        drop(statement);
+        return Err(LineFault::Refused(ModelCode::Form));
+    }
     if !statement.number_fits() {
         drop(statement);
         return Err(LineFault::Refused(ModelCode::NumberOutOfRange));

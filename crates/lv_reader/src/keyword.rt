@@ -34,6 +34,8 @@ pub enum Keyword {
     PartWord,
     /// `price`
     PriceWord,
+    /// `version`
+    VersionWord,
 }
 
 /// The word that the line begins with, if it is one of those that stand in types alone.
@@ -78,6 +80,8 @@ pub fn keyword_of(line: &TokenLine<'_>) -> Option<Keyword>
         Some(Keyword::TypeWord)
     } else if line.says(0, b"model") {
         Some(Keyword::ModelWord)
+    } else if line.says(0, b"version") {
+        Some(Keyword::VersionWord)
     } else {
         keyword_in_type(line)
     }

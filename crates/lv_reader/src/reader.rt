@@ -1,7 +1,7 @@
 //! The statements of a text, line by line.
 #![tactic(auto)]
 
-ghost use Rattle.std.specs.Prelude.{◌≡◌, ◌≤◌, length, IfOk, IfErr, OnOk};
+ghost use Rattle.std.specs.Prelude.{◌≡◌, ◌≤◌, length, IfOk, IfErr};
 ghost use Rattle.lv_base.specs.declared.limits.TheConstants.{MODEL_BYTES as MOST_BYTES};
 ghost use Rattle.lv_text.specs.Lines.{lines_of};
 ghost use Rattle.lv_reader.specs.Lines.{Says, Tells};
@@ -11,15 +11,16 @@ use crate::code::ModelCode;
 use crate::fault::{LineFault, ModelFault};
 use crate::forms::statement_of;
 use crate::statement::{ModelText, NumberedStatement, Statement};
+use crate::version::{Version, gives_version, known_behind, version_in};
 use lv_base::Seq;
 use lv_base::limits::MODEL_BYTES;
 use lv_text::{TextFault, TokenLine, next_line};
 use std::alloc::Global;
 
-/// What a line says, which is given without its end: nothing where it has no tokens.
-fn read_line(alloc: Global, line: &[u8]) -> Result<Option<Statement>, LineFault>
-    ensures ok { IfOk result (Says line.now) }
-    ensures fault { IfErr result (λ fault. Tells fault line.now) }
+/// What a line says in a text of the version, which is given without its end: nothing where it has no tokens.
+fn read_line(alloc: Global, version: Version, line: &[u8]) -> Result<Option<Statement>, LineFault>
+    ensures ok { IfOk result (Says version line.now) }
+    ensures fault { IfErr result (λ fault. Tells fault version line.now) }
 {
     let tokens = match TokenLine::read(alloc, line) {
         Ok(tokens) => tokens,
@@ -30,32 +31,36 @@ fn read_line(alloc: Global, line: &[u8]) -> Result<Option<Statement>, LineFault>
     if tokens.is_empty() {
         return Ok(None);
     }
-    match statement_of(alloc, &tokens) {
+    match statement_of(alloc, &tokens, version) {
         Ok(statement) => Ok(Some(statement)),
         Err(LineFault::Refused(code)) => Err(LineFault::Refused(code)),
         Err(LineFault::Memory) => Err(LineFault::Memory),
     }
 }
 
-/// Adds what the line of this number says.
+/// Adds what the line of this number says, and tells what is known of the version then.
 fn add_line(
     alloc: Global,
     statements: &mut Vec<NumberedStatement>,
+    known: Option<Version>,
     at: usize,
     line: &[u8],
-) -> Result<(), ModelFault>
-    ensures ok { OnOk result (AddsLine at line.now statements.old.items statements.new.items) }
-    ensures fault { IfErr result (λ fault. TellsLine fault at line.now) }
+) -> Result<Option<Version>, ModelFault>
+    ensures ok { IfOk result (AddsLine known at line.now statements.old.items statements.new.items) }
+    ensures fault { IfErr result (λ fault. TellsLine fault known at line.now) }
 {
-    match read_line(alloc, line) {
+    match read_line(alloc, version_in(known), line) {
         Ok(Some(statement)) => {
-            statements.push(NumberedStatement {
-                line: at,
-                statement,
-            })?;
-            Ok(())
+            let version = known_behind(known, &statement);
+            if !gives_version(known, &statement) {
+                statements.push(NumberedStatement {
+                    line: at,
+                    statement,
+                })?;
+            }
+            Ok(Some(version))
         }
-        Ok(None) => Ok(()),
+        Ok(None) => Ok(known),
         Err(LineFault::Refused(code)) => Err(ModelFault::At { code, line: at }),
         Err(LineFault::Memory) => Err(ModelFault::Memory),
     }
@@ -65,14 +70,15 @@ fn add_line(
 fn read_lines(alloc: Global, bytes: &[u8]) -> Result<ModelText, ModelFault>
     requires { length bytes.now ≤ MOST_BYTES }
     ensures ok { IfOk result (ReadsAs bytes.now) }
-    ensures fault { IfErr result (λ fault. TellsLines fault 0 (lines_of bytes.now)) }
+    ensures fault { IfErr result (λ fault. TellsLines fault (lines_of bytes.now)) }
 {
     let mut statements = Vec::new(alloc);
+    let mut known = None;
     let mut lines: usize = 0;
     let mut rest = bytes;
     while let Some(line) = next_line(rest) {
         lines += 1;
-        add_line(alloc, &mut statements, lines, &rest[..line.length])?;
+        known = add_line(alloc, &mut statements, known, lines, &rest[..line.length])?;
         rest = &rest[line.whole..];
     }
     Ok(ModelText {

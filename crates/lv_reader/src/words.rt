@@ -6,9 +6,10 @@ ghost use Rattle.lv_base.specs.Names.{is_named};
 ghost use Rattle.lv_formula_text.specs.Nesting.{is_too_deep};
 ghost use Rattle.lv_text.specs.Lexemes.{word_at, is_number};
 ghost use Rattle.lv_reader.specs.declared.fault.FormFault.TheVariants.{Form};
-ghost use Rattle.lv_reader.specs.Words.{is_arrow, is_equals, is_dot, has_kind_at, is_reserved, free_word_at, words_of, capped, numeral_at, only_name, name_and_names, two_names, three_names, both_ends, priced_names, EndsInFormula, EndsInNone, HasGuard, HasNoGuard};
+ghost use Rattle.lv_reader.specs.Words.{is_arrow, is_equals, is_dot, is_or, has_kind_at, is_reserved, free_word_at, words_of, capped, numeral_at, only_numeral, only_name, name_and_names, two_names, three_names, one_or_more, both_ends, bare_target, repair_of, priced_names, EndsInFormula, EndsInNone, HasGuard, HasNoGuard};
 
 use crate::fault::FormFault;
+use crate::statement::Repair;
 use lv_base::{Name, Seq};
 use lv_formula_text::{Phrase, PhraseFault, read_phrase};
 use lv_text::{TokenKind, TokenLine};
@@ -40,7 +41,7 @@ pub struct ThreeNames {
 }
 
 /// Whether the token at this place, counted from 0, is `->`.
-fn is_arrow_at(line: &TokenLine<'_>, place: usize) -> bool
+pub fn is_arrow_at(line: &TokenLine<'_>, place: usize) -> bool
     ensures { result ≡ has_kind_at is_arrow line.now place }
 {
     matches!(line.kind(place), Some(TokenKind::Arrow))
@@ -56,6 +57,12 @@ fn is_dot_at(line: &TokenLine<'_>, place: usize) -> bool
     ensures { result ≡ has_kind_at is_dot line.now place }
 {
     matches!(line.kind(place), Some(TokenKind::Dot))
+}
+
+fn is_or_at(line: &TokenLine<'_>, place: usize) -> bool
+    ensures { result ≡ has_kind_at is_or line.now place }
+{
+    matches!(line.kind(place), Some(TokenKind::Or))
 }
 
 fn is_number_at(line: &TokenLine<'_>, place: usize) -> bool
@@ -164,6 +171,45 @@ pub fn three_names(alloc: Global, line: &TokenLine<'_>) -> Result<ThreeNames, Fo
     })
 }
 
+/// A name and those behind it that may stand in its place, as far as these go.
+pub fn one_or_more(alloc: Global, line: &TokenLine<'_>) -> Result<Seq<Name>, FormFault>
+    ensures ok { IfOk result (λ names. one_or_more line.now ≡ Some names) }
+    ensures refused { result ≡ Err Form → one_or_more line.now ≡ None }
+{
+    let mut names = Vec::new(alloc);
+    names.push(name_at(alloc, line, 1)?)?;
+    let mut place: usize = 2;
+    'others: while is_or_at(line, place) {
+        names.push(name_at(alloc, line, place + 1)?)?;
+        place += 2;
+    }
+    Ok(Seq::from_vec(names))
+}
+
+/// The name behind an arrow that nothing stands before.
+pub fn bare_target(alloc: Global, line: &TokenLine<'_>) -> Result<Name, FormFault>
+    ensures ok { IfOk result (λ name. bare_target line.now ≡ Some name) }
+    ensures refused { result ≡ Err Form → bare_target line.now ≡ None }
+{
+    if !is_arrow_at(line, 1) {
+        return Err(FormFault::Form);
+    }
+    name_at(alloc, line, 2)
+}
+
+/// The control and the value of the repair behind the cost of a fault.
+pub fn repair_of(alloc: Global, line: &TokenLine<'_>) -> Result<Repair, FormFault>
+    ensures ok { IfOk result (λ repair. repair_of line.now ≡ Some repair) }
+    ensures refused { result ≡ Err Form → repair_of line.now ≡ None }
+{
+    if !line.says(6, b"repair") || !is_equals_at(line, 8) {
+        return Err(FormFault::Form);
+    }
+    let control = name_at(alloc, line, 7)?;
+    let value = name_at(alloc, line, 9)?;
+    Ok(Repair { control, value })
+}
+
 /// The names before and behind an arrow.
 pub fn both_ends(alloc: Global, line: &TokenLine<'_>) -> Result<TwoNames, FormFault>
     ensures ok { IfOk result (λ names. both_ends line.now ≡ Some names) }
@@ -214,6 +260,17 @@ pub fn numeral_at(line: &TokenLine<'_>, place: usize) -> Result<u64, FormFault>
         return Err(FormFault::Form);
     }
     Ok(capped(line.number(place)))
+}
+
+/// The line's only number behind its first word.
+pub fn only_numeral(line: &TokenLine<'_>) -> Result<u64, FormFault>
+    ensures ok { IfOk result (λ n. only_numeral line.now ≡ Some n) }
+    ensures refused { result ≡ Err Form → only_numeral line.now ≡ None }
+{
+    if line.len() != 2 {
+        return Err(FormFault::Form);
+    }
+    numeral_at(line, 1)
 }
 
 /// The formula that the tokens from this place to the end are.

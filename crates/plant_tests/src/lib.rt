@@ -7,3 +7,5 @@
 mod first_places;
 #[cfg(test)]
 mod models;
+#[cfg(test)]
+mod versions;

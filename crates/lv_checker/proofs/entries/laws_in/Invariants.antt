@@ -1,0 +1,7 @@
+use Rattle.std.proofs.Common.{◌≡◌, map, take}
+use Rattle.lv_checker.specs.Entries.{law_in}
+use Rattle.lv_checker.proofs.entries.laws_in.Given as goal
+
+-- the law holds in the modes so far
+abbrev pub invariant-modes : goal.invariant-modes
+invariant-modes l = l.laws.items ≡ map (law_in l.law) (take l.mode-index l.modes)
