@@ -10,15 +10,17 @@ _CODES: Dict[str, Tuple[str, str]] = {
     "M02": ("a byte that isn't allowed", "outside comments stand words, numbers and <=> => -> = ! & | ( ) . alone"),
     "M03": ("the line is longer than 4,096 bytes, its comment counted", "part the law into several"),
     "M04": ("the first word begins no statement", "statements: model domain type control variable observable mode "
-            "law in step fault end part price"),
-    "M05": ("the line has not the form of its statement", "true, false and mode name no part and no variable"),
-    "M06": ("the number is outside its limits", "a fault costs 1 to 1,000,000, a price is 0 to 1,000,000"),
+            "law in step fault end part price version"),
+    "M05": ("the line has not the form of its statement", "true, false and mode name no part and no variable; `in M | N`, "
+            "`fault -> M` and `repair` want the line `version 2` first"),
+    "M06": ("the number is outside its limits", "a fault costs 1 to 1,000,000, a price is 0 to 1,000,000, a "
+            "version is 1 or 2"),
     "M07": ("the name is in use, or the value is priced twice", "domains, types, parts, the values of a domain, and "
             "the variables and the modes of a type have a name space each"),
     "M08": ("a name that isn't known here", "a name is known on the lines below its declaration"),
     "M09": ("the right side doesn't fit", "it has to be a value of the left side's domain, or a variable of it; a "
             "price is for a control's value that isn't its resting one, the first"),
-    "M10": ("the statement stands in the wrong place", "model comes first; parts, prices, domains and types stand "
+    "M10": ("the statement stands in the wrong place", "version comes first, then model; parts, prices, domains and types stand "
             "outside types; what a type declares stands before its end"),
     "M11": ("the type has no mode, or isn't ended", "a type has one mode or more, and a line `end`"),
     "M12": ("a limit on names, values, modes, moves, parts, variables or clauses is passed", "a name has 64 bytes, "

@@ -34,7 +34,8 @@ def read_plant(data: bytes) -> Plant:
     """The plant of a text; raises ModelFault with the code and the place of the first fault."""
     statements, lines = read_statements(data)
     builder = _Builder()
-    for index, statement in enumerate(statements):
+    versioned = bool(statements) and statements[0].word == "version"
+    for index, statement in enumerate(statements[versioned:]):
         builder.declare(statement, index)
     if builder.open is not None:
         raise ModelFault("M11", lines + 1)
@@ -49,12 +50,14 @@ class _Builder:
         self.open: Optional[PartType] = None
         self.variables = 0
         self.clauses = 0
+        # How many step and fault lines the open type has.
+        self.lines = 0
 
     def declare(self, statement: Statement, index: int) -> None:
         inside = self.open is not None
         outside_only = statement.word in ("domain", "type", "part", "price")
         inside_only = statement.word in ("control", "variable", "observable", "mode", "in", "step", "fault", "end")
-        if (statement.word == "model" and index > 0) or (inside and outside_only) or (not inside and inside_only):
+        if statement.word == "version" or (statement.word == "model" and index > 0) or (inside and outside_only) or (not inside and inside_only):
             raise ModelFault("M10", statement.line, statement.column)
         handler = "variable" if statement.word in ("control", "observable") else statement.word
         getattr(self, f"_{handler}")(statement)
@@ -81,6 +84,7 @@ class _Builder:
         _limit_names(statement, [name])
         self.open = PartType(name.text, statement.line)
         self.plant.types[name.text] = self.open
+        self.lines = 0
 
     def _variable(self, statement: Statement) -> None:
         assert self.open is not None
@@ -115,30 +119,57 @@ class _Builder:
 
     def _in(self, statement: Statement) -> None:
         assert self.open is not None
-        mode = statement.names[0]
-        _known(statement, mode, self.open.modes)
-        formula = self._type_formula(statement, (True,))
-        self.open.rules.append(Rule(mode.text, formula, statement.line))
+        for mode in statement.names:
+            _known(statement, mode, self.open.modes)
+        formula = _resolved(statement, self._type_scope, self.open.values)
+        seen: List[str] = []
+        for mode in statement.names:
+            _new(statement, mode, seen)
+            seen.append(mode.text)
+        self._type_counts(statement, formula, (True,))
+        self.open.rules.extend(Rule(mode, formula, statement.line) for mode in seen)
 
     def _step(self, statement: Statement) -> None:
-        self._move(statement, (True, False))
-
-    def _fault(self, statement: Statement) -> None:
-        self._move(statement, (True,))
-
-    def _move(self, statement: Statement, signs: Tuple[bool, ...]) -> None:
         assert self.open is not None
         source, target = statement.names
         _known(statement, source, self.open.modes)
         _known(statement, target, self.open.modes)
-        guard = self._type_formula(statement, signs) if statement.formula is not None else None
-        if self._move_total() == MAX_MOVES:
+        guard = self._type_formula(statement, (True, False))
+        self._add(statement, [("step", source.text, target.text, guard)])
+
+    def _fault(self, statement: Statement) -> None:
+        assert self.open is not None
+        ends = statement.names[:2]
+        for mode in ends:
+            _known(statement, mode, self.open.modes)
+        target = ends[-1].text
+        back = self._repair(statement, *statement.names[2:]) if len(statement.names) == 4 else None
+        guard = self._type_formula(statement, (True,)) if statement.formula is not None else None
+        sources = [ends[0].text] if len(ends) == 2 else [mode for mode in self.open.modes if mode != target]
+        moves = [("fault", source, target, guard) for source in sources]
+        if back is not None:
+            moves.append(("step", target, sources[0], back))
+        self._add(statement, moves)
+
+    def _repair(self, statement: Statement, control: Token, value: Token) -> Formula:
+        """The guard of the step by which a fault is repaired."""
+        assert self.open is not None
+        _known(statement, control, (MODE, *self.open.variables))
+        if control.text == MODE or self.open.variables[control.text].kind != "control":
+            raise ModelFault("M09", statement.line, control.start + 1)
+        if value.text not in self.open.values(control.text):
+            raise ModelFault("M09", statement.line, value.start + 1)
+        return Is(control.text, value.text)
+
+    def _add(self, statement: Statement, moves: List[Tuple[str, str, str, Optional[Formula]]]) -> None:
+        """The moves of one line, which share its number; each by its kind, its ends and its guard."""
+        assert self.open is not None
+        if self._move_total() + len(moves) > MAX_MOVES:
             raise ModelFault("M12", statement.line, statement.column)
-        number = len(self.open.written) + 1
-        cost = statement.number
-        self.open.written.append(
-            Move(statement.word, source.text, target.text, cost, guard, number, statement.line)
-        )
+        self.lines += 1
+        for kind, source, target, guard in moves:
+            cost = statement.number if kind == "fault" else 0
+            self.open.written.append(Move(kind, source, target, cost, guard, self.lines, statement.line))
 
     def _end(self, statement: Statement) -> None:
         assert self.open is not None
@@ -182,8 +213,13 @@ class _Builder:
         assert self.open is not None
         kind = self.open
         formula = _resolved(statement, self._type_scope, kind.values)
-        _counts(statement, formula, signs, lambda name: type_size(kind, name))
+        self._type_counts(statement, formula, signs)
         return formula
+
+    def _type_counts(self, statement: Statement, formula: Formula, signs: Tuple[bool, ...]) -> None:
+        assert self.open is not None
+        kind = self.open
+        _counts(statement, formula, signs, lambda name: type_size(kind, name))
 
     def _type_scope(self, path: Tuple[str, ...]) -> Optional[Tuple[str, object]]:
         assert self.open is not None

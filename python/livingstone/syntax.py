@@ -32,7 +32,16 @@ FORMS: Dict[str, Tuple[str, ...]] = {
     "end": (),
     "part": ("own", "word", "word"),
     "price": ("word", ".", "word", "=", "word", "number"),
+    "version": ("number",),
 }
+
+# The same in a text of the second version, where they differ: `alternatives` one word or more with `|` between them.
+ALTERNATIVES_FORM = ("alternatives", "formula")
+FROM_OTHERS_FORM = ("->", "word", "cost", "number", "guard")
+REPAIR_FORM = ("word", "->", "word", "cost", "number", "repair", "word", "=", "word", "guard")
+
+# The limits of the numbers of statements.
+LIMITS = {"price": (0, 1_000_000), "fault": (1, 1_000_000), "version": (1, 2)}
 
 
 class ModelFault(Exception):
@@ -47,7 +56,8 @@ class ModelFault(Exception):
 
 @dataclass
 class Statement:
-    """One statement: its word, the words behind it, its number and its formula as written."""
+    """One statement: its word, the words behind it, its number and its formula as written. A fault from each other mode
+    has one name, one with a repair four."""
 
     line: int
     word: str
@@ -63,15 +73,19 @@ class Statement:
 
 
 def read_statements(data: bytes) -> Tuple[List[Statement], int]:
-    """The statements of a text and its number of lines; raises the first fault of reading."""
+    """The statements of a text, its version among them, and its number of lines; raises the first fault of reading."""
     if len(data) > MAX_TEXT:
         raise ModelFault("M01", 0)
     lines = cut_lines(data)
-    statements = []
+    statements: List[Statement] = []
+    version = 1
     for number, line in enumerate(lines, 1):
         found = _tokens(line, number)
         if found:
-            statements.append(_statement(found, number))
+            statement = _statement(found, number, version)
+            if statement.word == "version" and not statements:
+                version = statement.number
+            statements.append(statement)
     return statements, len(lines)
 
 
@@ -84,7 +98,20 @@ def _tokens(line: bytes, number: int) -> List[Token]:
         raise ModelFault("M02", number, fault.place + 1) from None
 
 
-def _statement(found: List[Token], line: int) -> Statement:
+def _form(found: List[Token], version: int) -> Tuple[str, ...]:
+    """What has to stand behind the first word in a text of the version."""
+    word = found[0].text
+    if version == 2 and word == "in":
+        return ALTERNATIVES_FORM
+    if version == 2 and word == "fault":
+        if len(found) > 1 and found[1].text == "->":
+            return FROM_OTHERS_FORM
+        if len(found) > 6 and found[6].text == "repair":
+            return REPAIR_FORM
+    return FORMS[word]
+
+
+def _statement(found: List[Token], line: int, version: int) -> Statement:
     statement = Statement(line, found[0].text, found)
     if statement.word not in FORMS:
         raise ModelFault("M04", line, statement.column)
@@ -94,14 +121,15 @@ def _statement(found: List[Token], line: int) -> Statement:
     number = None
     reader = Reader(found, 1)
     try:
-        for item in FORMS[statement.word]:
+        for item in _form(found, version):
             number = read_item(reader, item, statement) or number
         reader.end()
     except FormFault as fault:
         raise ModelFault("M05", line, place_of(found, fault.index)) from None
     if number is not None:
         statement.number = _value(number)
-        if not (0 if statement.word == "price" else 1) <= statement.number <= 1_000_000:
+        least, most = LIMITS[statement.word]
+        if not least <= statement.number <= most:
             raise ModelFault("M06", line, number.start + 1)
     return statement
 
@@ -127,6 +155,11 @@ def read_item(reader: Reader, item: str, statement: Statement) -> Optional[Token
     elif item == "words":
         statement.names.append(reader.take("word"))
         while reader.index < len(reader.tokens):
+            statement.names.append(reader.take("word"))
+    elif item == "alternatives":
+        statement.names.append(reader.take("word"))
+        while reader.peek() == "|":
+            reader.expect("|")
             statement.names.append(reader.take("word"))
     elif item == "formula" or (item == "guard" and reader.index < len(reader.tokens)):
         if item == "guard":

@@ -18,16 +18,18 @@ use Rattle.lv_session.proofs.lv_session_request.WordLaws.{word_is_one}
 use Rattle.lv_reader.specs.declared.code.ModelCode.{ModelCode}
 use Rattle.lv_reader.specs.declared.code.ModelCode.TheVariants.{UnknownName, NoFit, Misplaced, LimitPassed, NotEnded, NoPart}
 use Rattle.lv_reader.specs.declared.statement.Statement.{Statement}
-use Rattle.lv_reader.specs.declared.statement.Statement.TheVariants.{ModelLine, DomainLine, TypeLine, VariableLine, ModeLine, LawLine, InLine, StepLine, FaultLine, EndLine, PartLine, PriceLine}
+use Rattle.lv_reader.specs.declared.statement.Statement.TheVariants.{ModelLine, DomainLine, TypeLine, VariableLine, ModeLine, LawLine, InLine, StepLine, FaultLine, FaultsLine, RepairLine, EndLine, PartLine, PriceLine, VersionLine}
 use Rattle.lv_reader.specs.declared.statement.NumberedStatement.{NumberedStatement}
 use Rattle.lv_reader.specs.declared.statement.ModelText.{ModelText}
 use Rattle.lv_reader.specs.Statements.{HasShape}
+use Rattle.lv_reader.specs.declared.version.Version.{Version}
+use Rattle.lv_reader.specs.Versions.{version_in, gives_version, stated}
 use Rattle.lv_reader.specs.Lines.{Says, SaysOf}
 use Rattle.lv_reader.specs.Texts.{AreStatements, none_left, one_more, numbered}
 use Rattle.lv_checker.specs.declared.draft.Draft.{Draft}
 use Rattle.lv_checker.specs.declared.draft.TypeDraft.{TypeDraft}
 use Rattle.lv_checker.specs.declared.draft.Entry.{Entry}
-use Rattle.lv_checker.specs.declared.draft.Entry.TheVariants.{Named, NewDomain, TypeBegins, NewVariable, NewMode, TypeLaw, ModeLaw, NewMove, TypeEnds, NewPart, SystemLaw, NewPrice}
+use Rattle.lv_checker.specs.declared.draft.Entry.TheVariants.{Named, NewDomain, TypeBegins, NewVariable, NewMode, TypeLaw, ModeLaws, NewMoves, TypeEnds, NewPart, SystemLaw, NewPrice}
 use Rattle.lv_checker.specs.Places.{type_place, mode_of_type, variable_numbered, part_of_name}
 use Rattle.lv_checker.specs.Scopes.{variable_of_part, value_of_system}
 use Rattle.lv_checker.specs.Entries.{known, system_formula, has_control, priced_entry, outside_entry, entry_where}
@@ -76,29 +78,37 @@ shape_one ls facts (TypeLine name) h = refl
 shape_one ls facts (VariableLine class name domain) h = refl
 shape_one ls facts (ModeLine name) h = refl
 shape_one ls facts (LawLine f) h = refl
-shape_one ls facts (InLine mode f) h = refl
+shape_one ls facts (InLine modes f) h = refl
 shape_one ls facts (StepLine source target guard) h = refl
 shape_one ls facts (FaultLine source target cost guard) h = refl
+shape_one ls facts (FaultsLine target cost guard) h = refl
+shape_one ls facts (RepairLine source target cost repair guard) h = refl
 shape_one ls facts EndLine h = refl
 shape_one ls facts (PartLine name kind start) h = refl
 shape_one ls facts (PriceLine part control value cost) h = refl
+shape_one ls facts (VersionLine n) h = refl
 
-line_one : (line : List ℕ) (s : Statement) → Says line (Some s) → names_one s ≡ true
-line_one line s says = by (line_reading line) refl says
+line_one : (v : Version) (line : List ℕ) (s : Statement) → Says v line (Some s) → names_one s ≡ true
+line_one v line s says = by (line_reading line) refl says
   where
-    by : (r : Reading) → line_reading line ≡ r → SaysOf r (Some s) → names_one s ≡ true
+    by : (r : Reading) → line_reading line ≡ r → SaysOf v r (Some s) → names_one s ≡ true
     by (reads ls) e h = shape_one ls (lexemes_have line ls e) s h.form.shape
     by (has_bad_byte place) e h = absurd h
     by is_too_long e h = absurd h
 
-said_one : (before : ℕ) (line : List ℕ) (ss : List NumberedStatement) (said : Option Statement) → Says line said → list_all says_one ss ≡ true → list_all says_one (numbered before said ++ ss) ≡ true
-said_one before line ss None says h = h
-said_one before line ss (Some s) says h = both_true (line_one line s says) h
+said_one : (known : Option Version) (before : ℕ) (line : List ℕ) (ss : List NumberedStatement) (said : Option Statement) → Says (version_in known) line said → list_all says_one ss ≡ true
+    → list_all says_one (numbered before (stated known said) ++ ss) ≡ true
+said_one known before line ss None says h = h
+said_one known before line ss (Some s) says h = by (gives_version known s)
+  where
+    by : (b : Bool) → list_all says_one (numbered before (cond b None (Some s)) ++ ss) ≡ true
+    by true = h
+    by false = both_true (line_one (version_in known) line s says) h
 
-statements_one : {before : ℕ} {ls : List (List ℕ)} {ss : List NumberedStatement} → AreStatements before ls ss → list_all says_one ss ≡ true
+statements_one : {known : Option Version} {before : ℕ} {ls : List (List ℕ)} {ss : List NumberedStatement} → AreStatements known before ls ss → list_all says_one ss ≡ true
 statements_one none_left = refl
-statements_one (one_more {before} {line} {lines} {ss} said says are f) =
-    subst (λ (xs : List NumberedStatement). list_all says_one xs ≡ true) (sym f) (said_one (before + 1) line ss said says (statements_one are))
+statements_one (one_more {known} {before} {line} {lines} {ss} said says are f) =
+    subst (λ (xs : List NumberedStatement). list_all says_one xs ≡ true) (sym f) (said_one known (before + 1) line ss said says (statements_one are))
 
 -- the name that an entry gives is the statement's
 module _ (d : Draft) (name : List ℕ) where
@@ -131,10 +141,13 @@ module _ (d : Draft) (name : List ℕ) where
       controlled x false e = absurd (cc e)
   own_name (VariableLine class n domain) h one = absurd (cc h)
   own_name (ModeLine n) h one = absurd (cc h)
-  own_name (InLine mode f) h one = absurd (cc h)
+  own_name (InLine modes f) h one = absurd (cc h)
   own_name (StepLine source target f) h one = absurd (cc h)
   own_name (FaultLine source target cost guard) h one = absurd (cc h)
+  own_name (FaultsLine target cost guard) h one = absurd (cc h)
+  own_name (RepairLine source target cost repair guard) h one = absurd (cc h)
   own_name EndLine h one = absurd (cc h)
+  own_name (VersionLine n) h one = absurd (cc h)
 
 -- the draft's plant has a name of one word
 abbrev IsNamed : Draft → Type 0
@@ -156,8 +169,8 @@ where_named d None s (TypeBegins name) h one is = is
 where_named d None s (NewVariable v) h one is = is
 where_named d None s (NewMode name n) h one is = is
 where_named d None s (TypeLaw f) h one is = is
-where_named d None s (ModeLaw f) h one is = is
-where_named d None s (NewMove m) h one is = is
+where_named d None s (ModeLaws fs) h one is = is
+where_named d None s (NewMoves line ms) h one is = is
 where_named d None s TypeEnds h one is = is
 where_named d None s (NewPart p) h one is = is
 where_named d None s (SystemLaw f) h one is = is

@@ -10,7 +10,8 @@ use lv_run::Status;
 use std::alloc::{AllocError, Global};
 
 /// The valve's canonical text.
-const CANONICAL: &[u8] = b"model valve
+const CANONICAL: &[u8] = b"version 2
+model valve
 domain flow zero some
 domain order none open close
 type valve
@@ -34,6 +35,85 @@ fault closed->stuck_open cost 8
 end
 part v valve closed
 law v.inn=some
+";
+
+/// The valve in short, in the second version.
+const SHORT: &[u8] = b"version 2
+model valve
+domain flow zero some
+domain order none open close
+type valve
+control cmd order
+variable inn flow
+observable out flow
+mode closed
+mode open
+mode stuck_closed
+mode stuck_open
+in closed | stuck_closed out = zero
+in open out = inn
+in stuck_open out = inn
+step closed -> open when cmd = open
+step open -> closed when cmd = close
+fault closed -> stuck_closed cost 3 repair cmd = close
+fault open -> stuck_open cost 5
+fault -> stuck_closed cost 4
+fault closed -> stuck_open cost 8
+end
+part v valve closed
+law v.inn = some
+";
+
+const SHORT_CANONICAL: &[u8] = b"version 2
+model valve
+domain flow zero some
+domain order none open close
+type valve
+control cmd order
+variable inn flow
+observable out flow
+mode closed
+mode open
+mode stuck_closed
+mode stuck_open
+in closed|stuck_closed out=zero
+in open out=inn
+in stuck_open out=inn
+step closed->open when cmd=open
+step open->closed when cmd=close
+fault closed->stuck_closed cost 3 repair cmd=close
+fault open->stuck_open cost 5
+fault->stuck_closed cost 4
+fault closed->stuck_open cost 8
+end
+part v valve closed
+law v.inn=some
+";
+
+/// The same without its version.
+const SHORT_IN_ONE: &[u8] = b"model valve
+domain flow zero some
+domain order none open close
+type valve
+control cmd order
+variable inn flow
+observable out flow
+mode closed
+mode open
+mode stuck_closed
+mode stuck_open
+in closed | stuck_closed out = zero
+in open out = inn
+in stuck_open out = inn
+step closed -> open when cmd = open
+step open -> closed when cmd = close
+fault closed -> stuck_closed cost 3 repair cmd = close
+fault open -> stuck_open cost 5
+fault -> stuck_closed cost 4
+fault closed -> stuck_open cost 8
+end
+part v valve closed
+law v.inn = some
 ";
 
 const COMMANDED: &[u8] = b"ok
@@ -202,6 +282,45 @@ const PRINTS: &[Case] = &[
             status: Status::Done,
             out: CANONICAL,
             err: b"",
+        }),
+    },
+    Case {
+        name: "a printed model of the second version",
+        call: Call {
+            words: &["livingstone", "print", "a.ses"],
+            second: SHORT,
+            fails: NOTHING,
+        },
+        wanted: Wanted::Just(End {
+            status: Status::Done,
+            out: SHORT_CANONICAL,
+            err: b"",
+        }),
+    },
+    Case {
+        name: "a form of the second version in a text of the first",
+        call: Call {
+            words: &["livingstone", "print", "a.ses"],
+            second: SHORT_IN_ONE,
+            fails: NOTHING,
+        },
+        wanted: Wanted::Just(End {
+            status: Status::ModelRefused,
+            out: b"",
+            err: b"model 12 M05\n",
+        }),
+    },
+    Case {
+        name: "a version that is none",
+        call: Call {
+            words: &["livingstone", "print", "a.ses"],
+            second: b"version 3",
+            fails: NOTHING,
+        },
+        wanted: Wanted::Just(End {
+            status: Status::ModelRefused,
+            out: b"",
+            err: b"model 1 M06\n",
         }),
     },
     Case {

@@ -9,9 +9,9 @@ syntax match lvModelName '[A-Za-z_][A-Za-z0-9_]*'
 syntax match lvModelOperator '<=>\|=>\|->\|[=!&|().]'
 syntax match lvModelNumber '[0-9]\+\ze\%([^0-9A-Za-z_]\|$\)'
 syntax match lvModelConstant '\<\%(true\|false\|mode\)\>'
-syntax match lvModelKeyword '\<\%(when\|cost\)\>'
+syntax match lvModelKeyword '\<\%(when\|cost\|repair\)\>'
 syntax match lvModelError '^\s*[A-Za-z_][A-Za-z0-9_]*'
-syntax match lvModelWord '^\s*\%(model\|domain\|type\|control\|variable\|observable\|mode\|law\|in\|step\|fault\|end\|part\|price\)\>'
+syntax match lvModelWord '^\s*\%(model\|domain\|type\|control\|variable\|observable\|mode\|law\|in\|step\|fault\|end\|part\|price\|version\)\>'
 syntax match lvModelComment '#.*$'
 
 highlight default link lvModelError Error

@@ -141,8 +141,10 @@ def _colour_moves(plant: Plant, boxes: Dict[str, Box], shown: Candidate) -> None
     for move in shown.moves:
         box = boxes[move.part]
         box.lines = [f"{move.source} > {move.target}"]
-        assert move.number is not None
-        box.colour = plant.parts[move.part].type.written[move.number - 1].kind
+        shown_as = (move.number, move.source, move.target)
+        written = plant.parts[move.part].type.written
+        # The moves of one line share its number; a fault from a mode to itself and its repair look alike.
+        box.colour = next(m.kind for m in written if (m.number, m.source, m.target) == shown_as)
 
 
 def _title(answer: Optional[Reply], shown: Optional[Candidate], wanted: int) -> str:
