@@ -7,6 +7,7 @@
     shared LINES   a type with so many laws, each of nearly 4,000 bytes, and 256 parts of it
     domains LINES  so many domains, each of a name of its own, and a part
     variables LINES   a type with so many variables, and a part of another type
+    short LINES    the same in the second version: 16 modes, three lines of faults from each other mode, and a repair
     names LINES    so many types, each of a name of its own, and a part of the last
     prices LINES   a part with as many controls as it takes, and so many prices of theirs: at most 61,425
     bytes BYTES    a series whose text has exactly so many bytes, the last of them a comment
@@ -52,6 +53,24 @@ def types(lines):
     number = 1
     while len(out) < lines:
         out += crowded_type(number)
+        number += 1
+    return out + ["part p t1 m1"]
+
+
+def short_type(number):
+    """16 stays, 3 times 15 faults, and a fault with its step back: 63 moves of four lines."""
+    modes = ["m%d" % i for i in range(1, 17)]
+    return (["type t%d" % number, "control c order"] + ["mode " + mode for mode in modes]
+            + ["in %s c = none" % " | ".join(modes)]
+            + ["fault -> m%d cost %d when c = open" % (i, i) for i in (1, 2, 3)]
+            + ["fault m1 -> m4 cost 5 repair c = close when c = open", "end"])
+
+
+def short(lines):
+    out = ["version 2"] + list(DOMAINS)
+    number = 1
+    while len(out) < lines:
+        out += short_type(number)
         number += 1
     return out + ["part p t1 m1"]
 
@@ -129,7 +148,7 @@ def main():
     if kind == "series":
         lines = [line for line, _ in zip(series(min(MOST_PARTS, size // 4)), range(size))]
     else:
-        kinds = {"types": types, "laws": laws, "shared": shared, "domains": domains, "variables": variables, "names": names,
+        kinds = {"types": types, "short": short, "laws": laws, "shared": shared, "domains": domains, "variables": variables, "names": names,
                  "prices": prices, "bytes": series_of_bytes, "clauses": most_clauses}
         lines = kinds[kind](size)
     sys.stdout.write("".join(line + "\n" for line in lines))

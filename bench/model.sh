@@ -1,7 +1,7 @@
 #!/usr/bin/env bash
 # What `print` takes for each byte of a model, in nanoseconds of the processor: the text is read, checked, and written in
 # its canonical form. The texts are those of make_model.py: growing series of valves with laws, growing numbers of types
-# with 16 modes and 64 moves, laws of nearly 4,000 bytes, such laws in a type that 256 parts share, growing numbers of
+# with 16 modes and 64 moves, in both versions of the language, laws of nearly 4,000 bytes, such laws in a type that 256 parts share, growing numbers of
 # domains, of a type's variables, of types and of prices, and the longest text that there may be. Behind each stands the time a byte as a multiple of the first of its kind, so that growth beyond the
 # text's own can be seen in one run.
 # Builds the program first, and takes the time that it needs for a text of four lines off.
@@ -46,6 +46,9 @@ report series 100000 1
 report types 1000 100
 report types 10000 10
 report types 100000 1
+report short 1000 100
+report short 10000 10
+report short 100000 1
 report laws 10 100
 report laws 100 10
 report laws 1000 1

@@ -1,6 +1,7 @@
 pub mod VerdictLemmas
 pub mod ModelLemmas
 pub mod PlaceLists
+pub mod FaultLists
 pub mod FitsLists
 pub mod FitsCounts
 pub mod FitsMoves
@@ -11,4 +12,5 @@ pub mod FitsEntries
 pub mod FitsPlants
 pub mod FitsParts
 pub mod FitsDrafts
+pub mod OneLemmas
 pub mod Ending

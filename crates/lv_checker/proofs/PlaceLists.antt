@@ -1,6 +1,6 @@
 -- The modes of names, taken one by one.
-use Rattle.std.proofs.Common.{◌≡◌, ℕ, List, [], ◌∷◌, ◌++◌, Option, Some, None, Result, Ok, Err, refl, sym, ap, ◌∙◌, append_assoc}
-use Rattle.std.proofs.lemmas.List.{append-nil}
+use Rattle.std.proofs.Common.{◌≡◌, ◌+◌, ◌<◌, ◌≤◌, ℕ, length, drop, get_or, List, [], ◌∷◌, ◌++◌, Option, Some, None, Result, Ok, Err, refl, sym, ap, ◌∙◌, append_assoc}
+use Rattle.std.proofs.lemmas.List.{append-nil, drop_more, drop_all}
 use Rattle.lv_base.specs.declared.ids.ValId.{ValId}
 use Rattle.lv_model.specs.declared.plant.ComponentType.{ComponentType}
 use Rattle.lv_reader.specs.declared.code.ModelCode.{ModelCode}
@@ -34,3 +34,13 @@ pub place_missing : (t : ComponentType) (left rest : List (List ℕ)) (name : Li
 place_missing t left rest name front whole same none is =
     sym is ∙ ap (λ (ns : List (List ℕ)). joined_places front (mode_places t ns)) same
     ∙ ap (λ (o : Option ValId). joined_places front (known o UnknownName (λ x. on_ok (mode_places t rest) (λ ms. Ok (x ∷ ms))))) none
+
+-- what is left begins with the name there
+pub left_at : (names : List (List ℕ)) (i : ℕ) (name : List ℕ) → i < length names → name ≡ get_or names i name → drop i names ≡ name ∷ drop (i + 1) names
+left_at names i name inside is = drop_more names i name inside ∙ ap (λ (x : List ℕ). x ∷ drop (i + 1) names) (sym is)
+
+-- behind the last name all modes are taken
+pub places_taken : (t : ComponentType) (names : List (List ℕ)) (i : ℕ) (front : List ValId) (whole : Result (List ValId) ModelCode) → length names ≤ i
+    → joined_places front (mode_places t (drop i names)) ≡ whole → whole ≡ Ok front
+places_taken t names i front whole past is =
+    sym is ∙ ap (λ (ns : List (List ℕ)). joined_places front (mode_places t ns)) (drop_all i names past) ∙ ap Ok (append-nil front)

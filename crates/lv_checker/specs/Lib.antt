@@ -5,3 +5,4 @@ pub mod Faults
 pub mod Drafts
 pub mod Checking
 pub mod Verdicts
+pub mod VersionOne

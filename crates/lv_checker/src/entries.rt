@@ -91,6 +91,7 @@ fn law_entry(
 }
 
 /// The modes of these names.
+#[tactic(auto, using(crate::proofs::PlaceLists::place_taken, crate::proofs::PlaceLists::place_missing, crate::proofs::PlaceLists::joined_none, crate::proofs::PlaceLists::left_at, crate::proofs::PlaceLists::places_taken))]
 fn mode_places(alloc: Global, of: &ComponentType, names: &[Name]) -> Result<Vec<ValId>, CheckFault>
     ensures ok { IfOk result (λ modes. mode_places of.now names.now ≡ Ok modes.items) }
     ensures fault { IfErr result (λ fault. TellsFound fault (mode_places of.now names.now)) }
@@ -233,6 +234,7 @@ fn fault_entry(
 }
 
 /// A fault to the mode from each other one of so many modes.
+#[tactic(auto, using(crate::proofs::FaultLists::mode_passed_over, crate::proofs::FaultLists::mode_gives))]
 fn faults_to(
     alloc: Global,
     target: ValId,

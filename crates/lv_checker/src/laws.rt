@@ -2,6 +2,7 @@
 #![tactic(auto)]
 
 ghost use Rattle.lv_checker.specs.Verdicts.{VerdictIsOne, ReadingsGiveVerdict, AcceptedIsWellFormed};
+ghost use Rattle.lv_checker.specs.VersionOne.{VersionOneIsKept};
 
 /// A text has at most one verdict.
 pub fn verdict_is_one()
@@ -17,4 +18,10 @@ pub fn readings_give_verdict()
 /// The plant of an accepted text is well formed: what is asked of each statement leaves nothing to ask of the whole.
 pub fn accepted_is_well_formed()
     ensures { AcceptedIsWellFormed }
+{}
+
+/// In a text of the first version each line gives one formula or one move, and the number of a step or fault is that of
+/// the moves before it that are no stays, and 1.
+pub fn version_one_is_kept()
+    ensures { VersionOneIsKept }
 {}
