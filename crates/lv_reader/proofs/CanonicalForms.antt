@@ -169,8 +169,7 @@ first_ahead (l ∷ ls) names h e =
     let rest = others_ahead ls two.0 (All-tail IsLexeme l ls h) two.1 in
     let name : l ≡ word one.0 = word_itself l one.0 one.1 in
     let back = two_more (length two.0) (symbol Or) l ls in
-    subst (λ (ns : List (List ℕ)). (l ∷ ls ≡ mode_tokens ns ++ drop (2 * length ns) (symbol Or ∷ l ∷ ls)) × (alternatives (drop (2 * length ns) (symbol Or ∷ l ∷ ls)) ≡ Some [])) two.2
-    (
+    subst (λ (ns : List (List ℕ)). (l ∷ ls ≡ mode_tokens ns ++ drop (2 * length ns) (symbol Or ∷ l ∷ ls)) × (alternatives (drop (2 * length ns) (symbol Or ∷ l ∷ ls)) ≡ Some [])) two.2 (
       ap₂ (λ (t : Lexeme) (xs : List Lexeme). t ∷ xs) name (rest.tokens ∙ ap (λ xs. flat_map alternative_tokens two.0 ++ xs) (sym back)),
       ap alternatives back ∙ rest.ends,
     )

@@ -11,7 +11,7 @@ use Rattle.lv_formula_text.specs.PhraseTree.{PhraseTree}
 use Rattle.std.specs.Cmp.Lexicographic.{same_text}
 use Rattle.lv_formula_text.specs.Grammar.{IsFormula}
 use Rattle.lv_formula_text.proofs.GrammarLemmas.{formula_one}
-use Rattle.lv_reader.specs.declared.keyword.Keyword.TheVariants.{StepWord}
+use Rattle.lv_reader.specs.declared.keyword.Keyword.TheVariants.{StepWord, FaultWord}
 use Rattle.lv_reader.specs.declared.version.Version.{Version}
 use Rattle.lv_reader.specs.declared.version.Version.TheVariants.{One, Two}
 use Rattle.lv_reader.specs.declared.statement.Repair.{Repair}
@@ -86,18 +86,33 @@ repair_no_when word h k =
     let long : 6 ≡ 4 = ap (λ (ws : List ℕ). length ws) (sym first ∙ other) in
     omega (arith, long)
 
--- the repair stands where a fault without one ends, or has its guard
-pub no_repair : (line : List Lexeme) (repair : Repair) (guard : Option PhraseTree) → repair_of line ≡ Some repair → HasGuard line 6 guard → ⊥
-no_repair line repair guard e g = by guard g
-  where
-    said : says (codes "repair") line 6 ≡ true
-    said =
-        let both = told_if (says (codes "repair") line 6 && has_kind_at is_equals line 8) (option_and_then (λ c. option_map (λ v. record { control = c; value = v }) (word_at line 9)) (word_at line 7)) e in
-        (and_parts (says (codes "repair") line 6) (has_kind_at is_equals line 8) both.0).0
+-- where a repair stands, a fault without one doesn't end, and has no guard
+repair_excludes : (line : List Lexeme) (guard : Option PhraseTree) → says (codes "repair") line 6 ≡ true → HasGuard line 6 guard → ⊥
+repair_excludes line None said g = nothing_said line 6 (codes "repair") g said
+repair_excludes line (Some f) said g = two_words_said (codes "repair") (codes "when") line 6 repair_no_when said g.0
 
-    by : (guard : Option PhraseTree) → HasGuard line 6 guard → ⊥
-    by None g = nothing_said line 6 (codes "repair") g said
-    by (Some f) g = two_words_said (codes "repair") (codes "when") line 6 repair_no_when said g.0
+pub no_repair : (line : List Lexeme) (repair : Repair) (guard : Option PhraseTree) → repair_of line ≡ Some repair → HasGuard line 6 guard → ⊥
+no_repair line repair guard e g =
+    let both = told_if (says (codes "repair") line 6 && has_kind_at is_equals line 8) (option_and_then (λ c. option_map (λ v. record { control = c; value = v }) (word_at line 9)) (word_at line 7)) e in
+    repair_excludes line guard (and_parts (says (codes "repair") line 6) (has_kind_at is_equals line 8) both.0).0 g
+
+-- a fault with a word before its arrow and a repair behind its cost is of no other form
+module _ (line : List Lexeme) (known : keyword_of line ≡ Some FaultWord) (bare : has_kind_at is_arrow line 1 ≡ false) (said : says (codes "repair") line 6 ≡ true)
+    (no_shape : (source target : List ℕ) (cost : ℕ) (repair : Repair) (guard : Option PhraseTree) → HasShape line (RepairLine source target cost repair guard) → ⊥) where
+  by_form : (s : Statement) → word_of s ≡ FaultWord → HasShape line s → ⊥
+  by_form (FaultLine source target cost guard) is shape = repair_excludes line guard said shape.3
+  by_form (FaultsLine target cost guard) is shape = let told = told_if (has_kind_at is_arrow line 1) (word_at line 2) shape.0 in let arrow = told.0 in (cc)
+  by_form (RepairLine source target cost repair guard) is shape = no_shape source target cost repair guard shape
+  by_form s is shape = (cc)
+
+  no_fault_form : HasNoForm line
+  no_fault_form = record { none = λ s form. by_form s (told_once form.word known) form.shape }
+
+pub no_repair_named : (line : List Lexeme) → keyword_of line ≡ Some FaultWord → has_kind_at is_arrow line 1 ≡ false → says (codes "repair") line 6 ≡ true → repair_of line ≡ None → HasNoForm line
+no_repair_named line known bare said e = no_fault_form line known bare said (λ source target cost repair guard shape. let told = shape.3 in (cc))
+
+pub no_repair_guard : (line : List Lexeme) → keyword_of line ≡ Some FaultWord → has_kind_at is_arrow line 1 ≡ false → says (codes "repair") line 6 ≡ true → HasNoGuard line 10 → HasNoForm line
+no_repair_guard line known bare said h = no_fault_form line known bare said (λ source target cost repair guard shape. h.none guard shape.4)
 
 shape_one : (line : List Lexeme) (s t : Statement) → word_of s ≡ word_of t → HasShape line s → HasShape line t → s ≡ t
 shape_one line (ModelLine a) (ModelLine b) w h k = ap ModelLine (told_once h k)
