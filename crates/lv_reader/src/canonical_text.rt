@@ -6,6 +6,7 @@ ghost use Rattle.std.specs.List.{flat_map};
 ghost use Rattle.lv_reader.specs.CanonicalTexts.{statements_of, begins_with_name, name_before, version_line, ended_line, canonical_model};
 
 use crate::canonical_statement::write_statement;
+use crate::version::NEWEST;
 use crate::{ModelText, NumberedStatement, Statement};
 use lv_formula_text::LineWriter;
 use std::alloc::{AllocError, Global};
@@ -16,18 +17,17 @@ pub fn print_model(alloc: Global, text: &ModelText) -> Result<Vec<u8>, AllocErro
 {
     let statements = text.statements.as_slice();
     let mut bytes = Vec::new(alloc);
-    push_version(&mut bytes)?;
+    push_version(alloc, &mut bytes)?;
     push_name(&mut bytes, statements)?;
     push_lines(alloc, &mut bytes, statements)?;
     Ok(bytes)
 }
 
 /// Adds the line that gives the version.
-fn push_version(bytes: &mut Vec<u8>) -> Result<(), AllocError>
+fn push_version(alloc: Global, bytes: &mut Vec<u8>) -> Result<(), AllocError>
     ensures { OnOk result (bytes.new.items ≡ bytes.old.items ++ version_line) }
 {
-    bytes.extend_from_slice(b"version 2\n")?;
-    Ok(())
+    push_line(alloc, bytes, &Statement::VersionLine(NEWEST))
 }
 
 /// Adds the line that gives the model's name, where the statements don't begin with it.
