@@ -82,6 +82,30 @@ AIMED = "goal g v.out = some\nrecover\nconflicts\n"
 BUDGET = "budget 2\ncommand v.cmd = open\nobserve o v.out = zero\ndiagnose\nmore 1\nmore 1\nmore 1\n"
 GONE_ON = SEEN + "commit\nstates\nlabels 1\n" + AIMED + "drop g\nreset\n" + BUDGET
 
+# Three lanes: two with turns that go on with both, one with nothing unsettled, and lines that are refused.
+LANED = """\
+@a budget 1
+@a command v.cmd = open
+@b budget 2
+@b command v.cmd = open
+@a observe o v.out = zero
+@b observe o v.out = zero
+@a diagnose
+turn 1
+@b diagnose
+turn 1
+@c goal g v.out = some
+@c recover
+turn 0
+turn 2
+turn
+@c conflicts
+@b conflicts
+@a commit
+turn 1
+@a states
+"""
+
 SERIES = "tests/sessions/series.lv"
 
 
@@ -103,6 +127,7 @@ def runs():
     yield "a certificate that is valid", "check", valve("valve.lv"), valve("valve.cert")
     yield "a long session", "run", valve("valve.lv"), GONE_ON.encode()
     yield "two valves in a row", "run", read(SERIES), read("tests/sessions/series.ses")
+    yield "lanes with turns", "lanes", valve("valve.lv"), LANED.encode()
     yield "a model printed", "print", read(SERIES), None
     yield "a certificate of a recovery that is valid", "check", *recovery_certificate()
 
