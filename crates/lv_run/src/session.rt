@@ -5,7 +5,6 @@ ghost use Rattle.lv_io.specs.Outside.{Rose};
 ghost use Rattle.lv_io.specs.declared.Role.{Role};
 ghost use Rattle.lv_io.specs.declared.Role.TheVariants.{Second as OfSecond};
 ghost use Rattle.lv_serve.specs.Faults.{HasShelfCause, HasSinkCause, IsFlushed};
-ghost use Rattle.lv_run_words.specs.declared.commands.Service.TheVariants.{Single, Lanes as LanesService};
 ghost use Rattle.lv_run.specs.Services.{Serves};
 ghost use Rattle.lv_run.specs.Expected.{ServesTold};
 ghost use Rattle.lv_run.specs.Inputs.{second_open, AddsOpens};
@@ -69,22 +68,20 @@ fn serve_opened<F: Shelf, O: Sink>(
     ensures sink_cause { HasSinkCause (O.faults out.old) (O.faults out.new) result }
 {
     let compiled = CompiledModel::new(alloc, model)?;
-    match service {
-        Service::Single => serve_alone(alloc, &compiled, shelf, slot, out),
-        Service::Lanes => serve_lanes(alloc, &compiled, shelf, slot, out),
-    }
+    serve_compiled(alloc, service, &compiled, shelf, slot, out)
 }
 
-/// One session serves all lines.
-fn serve_alone<F: Shelf, O: Sink>(
+/// Serves all lines by one session, or each by the session of its lane.
+fn serve_compiled<F: Shelf, O: Sink>(
     alloc: Global,
+    service: Service,
     compiled: &CompiledModel<'_>,
     shelf: &mut F,
     slot: Slot,
     out: &mut O,
 ) -> Result<(), ServeFault>
     requires known { IsTrue (F.knows shelf.old slot) }
-    ensures told { (text : List ℕ) → F.rest shelf.old slot ≡ Some text → Serves Single compiled.now text (O.text out.old) (O.text out.new) result }
+    ensures told { (text : List ℕ) → F.rest shelf.old slot ≡ Some text → Serves service compiled.now text (O.text out.old) (O.text out.new) result }
     ensures flushed { O.is_flushed out.old ≡ true → IsFlushed result (O.is_flushed out.new ≡ true) }
     ensures opens { F.opens shelf.new ≡ F.opens shelf.old }
     ensures shelf_cause { HasShelfCause (F.faults shelf.old slot.role) (F.faults shelf.new slot.role) result }
@@ -92,27 +89,10 @@ fn serve_alone<F: Shelf, O: Sink>(
     ensures sink_cause { HasSinkCause (O.faults out.old) (O.faults out.new) result }
 {
     let session = Session::new(alloc, compiled)?;
-    serve(alloc, session, shelf, slot, out)
-}
-
-/// Each line is served by the session of its lane.
-fn serve_lanes<F: Shelf, O: Sink>(
-    alloc: Global,
-    compiled: &CompiledModel<'_>,
-    shelf: &mut F,
-    slot: Slot,
-    out: &mut O,
-) -> Result<(), ServeFault>
-    requires known { IsTrue (F.knows shelf.old slot) }
-    ensures told { (text : List ℕ) → F.rest shelf.old slot ≡ Some text → Serves LanesService compiled.now text (O.text out.old) (O.text out.new) result }
-    ensures flushed { O.is_flushed out.old ≡ true → IsFlushed result (O.is_flushed out.new ≡ true) }
-    ensures opens { F.opens shelf.new ≡ F.opens shelf.old }
-    ensures shelf_cause { HasShelfCause (F.faults shelf.old slot.role) (F.faults shelf.new slot.role) result }
-    ensures others { (r : Role) → r ≢ slot.role → F.faults shelf.new r ≡ F.faults shelf.old r }
-    ensures sink_cause { HasSinkCause (O.faults out.old) (O.faults out.new) result }
-{
-    let first = Session::new(alloc, compiled)?;
-    serve(alloc, Lanes::new(alloc, first), shelf, slot, out)
+    match service {
+        Service::Single => serve(alloc, session, shelf, slot, out),
+        Service::Lanes => serve(alloc, Lanes::new(alloc, session), shelf, slot, out),
+    }
 }
 
 /// Opens the session's file.

@@ -1,7 +1,0 @@
--- Where memory was wanting before anything was read.
-use Rattle.lv_serve.proofs.ToldLemmas.{not_begun}
-use Rattle.lv_session.specs.Answering.{begun, next_at, SaysAt, has_quit}
-use Rattle.lv_run.proofs.session.serve_alone.Goals as goal
-
-pub returns-in_err-session-clause-told : goal.returns-in_err-session-clause-told
-returns-in_err-session-clause-told g c = λ text told. not_begun next_at SaysAt has_quit (begun c.args.compiled.now) text _ c.from_residual.result c.from_residual.ensures.1
