@@ -10,11 +10,11 @@ use Rattle.lv_text.specs.declared.lexer.TokenKind.{TokenKind}
 use Rattle.lv_text.specs.declared.lexer.TokenKind.TheVariants as kind
 use Rattle.lv_text.specs.Lexemes.{Lexeme, Reading, reads, has_bad_byte, is_too_long, line_reading, number_at, word_at}
 use Rattle.lv_formula.specs.Tree.{Tree}
-use Rattle.lv_formula_text.specs.PhraseTree.{PhraseTree}
-use Rattle.lv_formula_text.specs.Canonical.{canonical_text}
-use Rattle.lv_formula_text.specs.Descent.{phrase_of}
-use Rattle.lv_formula_text.specs.Laws.{is_flat}
-use Rattle.lv_formula_text.specs.Nesting.{is_too_deep}
+use Rattle.lv_model_names.specs.lv_formula_text.PhraseTree.{PhraseTree}
+use Rattle.lv_model_names.specs.lv_formula_text.Canonical.{canonical_text}
+use Rattle.lv_model_names.specs.lv_formula_text.Descent.{phrase_of}
+use Rattle.lv_model_names.specs.lv_formula_text.Laws.{is_flat}
+use Rattle.lv_model_names.specs.lv_formula_text.Nesting.{is_too_deep}
 use Rattle.lv_model.specs.declared.plant.Plant.{Plant}
 use Rattle.lv_model.specs.WellFormed.{is_well_formed}
 use Rattle.lv_model_names.specs.declared.lists.Lists.{Lists}
