@@ -7,7 +7,7 @@ ghost use Rattle.lv_io.specs.declared.Role.{Role};
 ghost use Rattle.lv_io.specs.declared.Role.TheVariants.{Model as OfModel, Second as OfSecond};
 ghost use Rattle.lv_run_words.specs.Words.{command_of};
 ghost use Rattle.lv_run_words.specs.declared.commands.Service.TheVariants.{Single, Lanes};
-ghost use Rattle.lv_run.specs.OfLanes.{AddsLanes};
+ghost use Rattle.lv_run.specs.OfLanes.{AddsLanes, AddsOwnParts};
 ghost use Rattle.lv_run.specs.Faults.{ended_status};
 ghost use Rattle.lv_run.specs.Inputs.{opens_of};
 ghost use Rattle.lv_run.specs.Expected.{Expected, Expects, status_expected, Meets, Follows, TellsVerdict, is_silent, keeps_shelf};
@@ -61,6 +61,10 @@ pub fn livingstone<F: Shelf, O: Sink, E: Sink>(
     // belongs to each lane is the transcript of the lane's own session over its own lines.
     ensures lanes { (plant : Plant) (lines : List ℕ) → Asks Lanes (F.file shelf.old) (map string_bytes words.items) plant lines → result ≡ Status.Done
         → AddsLanes plant lines (O.text out.old) (O.text out.new) × (E.text err.new ≡ E.text err.old) }
+    // The same byte by byte: of what is written, the lines that begin with `@NAME `, that taken off, are the transcript of
+    // the lane's own session.
+    ensures lanes_bytes { (plant : Plant) (lines : List ℕ) → Asks Lanes (F.file shelf.old) (map string_bytes words.items) plant lines → result ≡ Status.Done
+        → AddsOwnParts plant lines (O.text out.old) (O.text out.new) }
     ensures lanes_complete { (plant : Plant) (lines : List ℕ) → Asks Lanes (F.file shelf.old) (map string_bytes words.items) plant lines
         → HasNoFault (F.faults shelf.old) (F.faults shelf.new) (O.faults out.old) (O.faults out.new) (E.faults err.old) (E.faults err.new)
         → (result ≡ Status.Done) ⊎ (result ≡ Status.OutOfMemory) }

@@ -7,7 +7,7 @@ use Rattle.lv_run.specs.Expected.{Meets, serves, judges, shows}
 use Rattle.lv_run.specs.Faults.{ended_status}
 use Rattle.lv_run.specs.declared.status.Status.{Status}
 use Rattle.lv_run_words.specs.declared.commands.Service.TheVariants.{Single, Lanes}
-use Rattle.lv_run.proofs.ServiceLemmas.{adds_lanes}
+use Rattle.lv_run.proofs.ServiceLemmas.{adds_lanes, adds_own_parts}
 use Rattle.lv_run.proofs.TopLemmas.{reported_meets, status_due, expected_run, expected_check, expected_text, told_verdict, ended_done, output_cause}
 use Rattle.lv_run.proofs.OpenLemmas.{all_opened}
 use Rattle.lv_session.proofs.TrueAnswers.{adds_true}
@@ -54,6 +54,12 @@ returns-clause-lanes g c =
           (returns-clause-meets g c (serves Lanes plant lines) (expected_run Lanes (g.F.Shelf.file c.args.shelf.now) (map (string_bytes {Z = Global}) c.args.words.items) plant lines asks))).1,
       ended_done c.carry_out-ended.result _ _ c.tell_end.result c.tell_end.ensures.status c.tell_end.ensures.told done,
     )
+
+pub returns-clause-lanes_bytes : goal.returns-clause-lanes_bytes
+returns-clause-lanes_bytes g c =
+    λ plant lines asks done. adds_own_parts plant lines (g.O.Sink.text c.args.out.now) (g.O.Sink.text c.carry_out-ended.new.out)
+    (subst (λ (s : Status). Meets (serves Lanes plant lines) (g.O.Sink.text c.args.out.now) (g.O.Sink.text c.carry_out-ended.new.out) s) done
+    (returns-clause-meets g c (serves Lanes plant lines) (expected_run Lanes (g.F.Shelf.file c.args.shelf.now) (map (string_bytes {Z = Global}) c.args.words.items) plant lines asks))).1
 
 pub returns-clause-lanes_complete : goal.returns-clause-lanes_complete
 returns-clause-lanes_complete g c =
