@@ -1,5 +1,5 @@
 -- A statement is the only one whose form its tokens have.
-use Rattle.std.proofs.Common.{◌≡◌, ℕ, zero, suc, ◌+◌, ◌*◌, Bool, false, ◌&&◌, cond, List, [], ◌∷◌, length, drop, true, Option, Some, None, option_map, refl, sym, subst, ◌∙◌, ap, ap₂, arith, codes}
+use Rattle.std.proofs.Common.{◌≡◌, ℕ, zero, suc, ◌+◌, ◌*◌, false, ◌&&◌, cond, List, [], ◌∷◌, length, drop, true, Option, Some, None, option_map, refl, sym, subst, ◌∙◌, ap, ap₂, arith, codes}
 use Rattle.std.proofs.lemmas.Bool.{and_parts}
 use Rattle.std.specs.Option.{option_and_then, option_map_or}
 use Rattle.lv_base.specs.Names.{is_named}
@@ -13,7 +13,6 @@ use Rattle.lv_formula_text.specs.Grammar.{IsFormula}
 use Rattle.lv_formula_text.proofs.GrammarLemmas.{formula_one}
 use Rattle.lv_reader.specs.declared.keyword.Keyword.TheVariants.{InWord, StepWord, FaultWord}
 use Rattle.lv_reader.specs.declared.version.Version.{Version}
-use Rattle.lv_reader.specs.declared.version.Version.TheVariants.{One, Two}
 use Rattle.lv_reader.specs.declared.statement.Repair.{Repair}
 use Rattle.lv_reader.specs.declared.statement.Statement.{Statement}
 use Rattle.lv_reader.specs.declared.statement.Statement.TheVariants.{ModelLine, DomainLine, TypeLine, VariableLine, ModeLine, LawLine, InLine, StepLine, FaultLine, FaultsLine, RepairLine, EndLine, PartLine, PriceLine, VersionLine}
