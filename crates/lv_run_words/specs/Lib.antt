@@ -1,4 +1,5 @@
 pub mod Numbers
 pub mod Words
+pub mod Parser
 pub mod Commands
 pub use Rattle.lv_text.specs as lv_text

@@ -1,14 +1,16 @@
 //! The commands, each over its values.
 #![tactic(auto)]
 
-ghost use Rattle.std.specs.Prelude.{◌≡◌, ◌≢◌, Some, None, map, IfOk};
+ghost use Rattle.std.specs.Prelude.{◌≡◌, ◌≢◌, Some, None, IfOk};
 ghost use Rattle.lv_run_words.specs.Words.{runs, checks, prints, said_of, said_of_two, said_of_one, made_of, driven_of};
 ghost use Rattle.lv_run_words.specs.Words as Words;
 ghost use Rattle.lv_run_words.specs.Commands.{said_by};
+ghost use Rattle.lv_run_words.specs.Parser.{values_in};
+ghost use Rattle.clap.specs.Words.{rows_of, found_of};
 
 use crate::WordsFault;
 use crate::numbers::number_of;
-use crate::values::{one_value, two_values};
+use clap::ArgMatches;
 use std::alloc::Global;
 
 /// What the program is asked to do.
@@ -62,15 +64,19 @@ pub enum Kind {
     Session,
 }
 
-/// The command of this name over words that are its values.
-pub fn command_of_names(alloc: Global, command: &str, names: &[&str]) -> Result<Command, WordsFault>
-    ensures ok { IfOk result (λ given. said_of command.now (map (λ name. name.now) names.now) ≡ Some (said_by given)) }
-    ensures refused { result ≡ Err WordsFault.Refused → said_of command.now (map (λ name. name.now) names.now) ≡ None }
+/// The command of this name over the values that were read.
+pub fn command_of_values(
+    alloc: Global,
+    command: &str,
+    values: &ArgMatches<'_>,
+) -> Result<Command, WordsFault>
+    ensures ok { IfOk result (λ given. said_of command.now (values_in (rows_of (found_of values.now))) ≡ Some (said_by given)) }
+    ensures refused { result ≡ Err WordsFault.Refused → said_of command.now (values_in (rows_of (found_of values.now))) ≡ None }
 {
-    match names {
-        [first, second] => command_of_two(alloc, command, first, second),
-        [first] => command_of_one(alloc, command, first),
-        _ => Err(WordsFault::Refused),
+    match (values.get_str("first"), values.get_str("second")) {
+        (Some(first), Some(second)) => command_of_two(alloc, command, first, second),
+        (Some(first), None) => command_of_one(alloc, command, first),
+        (None, _) => Err(WordsFault::Refused),
     }
 }
 
@@ -87,7 +93,7 @@ fn command_of_two(
     match command {
         "run" => run_command(alloc, Service::Single, first, second),
         "check" => check_command(alloc, first, second),
-        "generate" => generate_command(alloc, first, second),
+        "generate" => generate_command(first, second),
         "lanes" => run_command(alloc, Service::Lanes, first, second),
         _ => Err(WordsFault::Refused),
     }
@@ -100,7 +106,7 @@ fn command_of_one(alloc: Global, command: &str, first: &str) -> Result<Command, 
 {
     match command {
         "print" => print_command(alloc, first),
-        "drive" => drive_command(alloc, first),
+        "drive" => drive_command(first),
         _ => Err(WordsFault::Refused),
     }
 }
@@ -115,11 +121,10 @@ fn run_command(
     ensures ok { IfOk result (λ given. said_by given ≡ runs service model.now session.now) }
     ensures refused { result ≢ Err WordsFault.Refused }
 {
-    let (model, session) = two_values(alloc, model, session)?;
     Ok(Command::Run {
         service,
-        model,
-        session,
+        model: String::from_str(alloc, model)?,
+        session: String::from_str(alloc, session)?,
     })
 }
 
@@ -128,8 +133,10 @@ fn check_command(alloc: Global, model: &str, cert: &str) -> Result<Command, Word
     ensures ok { IfOk result (λ given. said_by given ≡ checks model.now cert.now) }
     ensures refused { result ≢ Err WordsFault.Refused }
 {
-    let (model, cert) = two_values(alloc, model, cert)?;
-    Ok(Command::Check { model, cert })
+    Ok(Command::Check {
+        model: String::from_str(alloc, model)?,
+        cert: String::from_str(alloc, cert)?,
+    })
 }
 
 /// The command `print` over a file.
@@ -137,28 +144,27 @@ fn print_command(alloc: Global, model: &str) -> Result<Command, WordsFault>
     ensures ok { IfOk result (λ given. said_by given ≡ prints model.now) }
     ensures refused { result ≢ Err WordsFault.Refused }
 {
-    let model = one_value(alloc, model)?;
-    Ok(Command::Print { model })
+    Ok(Command::Print {
+        model: String::from_str(alloc, model)?,
+    })
 }
 
 /// The command `generate` over a kind of text and a number.
-fn generate_command(alloc: Global, kind: &str, number: &str) -> Result<Command, WordsFault>
+fn generate_command(kind: &str, number: &str) -> Result<Command, WordsFault>
     ensures ok { IfOk result (λ given. made_of kind.now number.now ≡ Some (said_by given)) }
     ensures refused { result ≡ Err WordsFault.Refused → made_of kind.now number.now ≡ None }
 {
-    let (kind, number) = two_values(alloc, kind, number)?;
-    match (kind_of(kind.as_str()), number_of(number.as_bytes())) {
+    match (kind_of(kind), number_of(number.as_bytes())) {
         (Some(kind), Some(number)) => Ok(Command::Generate { kind, number }),
         _ => Err(WordsFault::Refused),
     }
 }
 
 /// The command `drive` over a number.
-fn drive_command(alloc: Global, number: &str) -> Result<Command, WordsFault>
+fn drive_command(number: &str) -> Result<Command, WordsFault>
     ensures ok { IfOk result (λ given. driven_of number.now ≡ Some (said_by given)) }
     ensures refused { result ≡ Err WordsFault.Refused → driven_of number.now ≡ None }
 {
-    let number = one_value(alloc, number)?;
     match number_of(number.as_bytes()) {
         Some(number) => Ok(Command::Drive { number }),
         None => Err(WordsFault::Refused),

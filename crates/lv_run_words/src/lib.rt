@@ -1,13 +1,9 @@
 //! The words that the program is called with, and the command that they give.
 //!
-//! Which words are accepted is decided in plain code, in `names` and `command_of_names`; the values of an accepted
-//! command are what the command line parser `clap` makes of its words, behind a `--`.
-//!
 //! | file | what it is |
 //! |---|---|
-//! | `names` | the values among the words behind the command |
-//! | `commands` | the commands, each over its values |
-//! | `values` | the values of a command, read by `clap` |
+//! | `parser` | the command line, as `clap` reads it |
+//! | `commands` | the commands, each over the values that were read |
 //! | `numbers` | the number of a generated text, as a word |
 #![tactic(auto)]
 
@@ -16,13 +12,12 @@ ghost use Rattle.lv_run_words.specs.Words.{command_of};
 ghost use Rattle.lv_run_words.specs.Commands.{said_by};
 
 mod commands;
-mod names;
 mod numbers;
-mod values;
+mod parser;
 
-use commands::command_of_names;
+use commands::command_of_values;
 pub use commands::{Command, Kind, Service};
-use names::names;
+use parser::read;
 use std::alloc::{AllocError, AllocFailed, Global};
 use thiserror::Error;
 
@@ -42,11 +37,11 @@ pub fn read_words(alloc: Global, words: &[String]) -> Result<Command, WordsFault
     ensures ok { IfOk result (λ command. command_of (map string_bytes words.now) ≡ Some (said_by command)) }
     ensures refused { result ≡ Err WordsFault.Refused → command_of (map string_bytes words.now) ≡ None }
 {
-    let [_, command, rest @ ..] = words else {
+    let matches = read(alloc, words)?;
+    let Some((command, values)) = matches.subcommand() else {
         return Err(WordsFault::Refused);
     };
-    let names = names(alloc, rest)?;
-    command_of_names(alloc, command, names.as_slice())
+    command_of_values(alloc, command, values)
 }
 
 impl From<AllocError> for WordsFault {

@@ -10,7 +10,7 @@ ghost use Rattle.lv_run_words.specs.Numbers.{in_limits};
 use lv_text::number;
 
 /// The largest number of a generated text.
-const LARGEST: u32 = 1_000_000;
+pub const LARGEST: u32 = 1_000_000;
 
 /// The number that a word is: decimal digits, which may begin with zeros.
 pub fn number_of(word: &[u8]) -> Option<u32>

@@ -45,6 +45,14 @@ fn checks(alloc: Global, words: &[&str], of: &str, over: &str) -> Result<bool, A
     }
 }
 
+/// Whether the words ask for a run of this session over this model.
+fn runs(alloc: Global, words: &[&str], of: &str, over: &str) -> Result<bool, AllocError> {
+    Ok(match read(alloc, words)? {
+        Ok(Command::Run { model, session, .. }) => model.as_str() == over && session.as_str() == of,
+        _ => false,
+    })
+}
+
 fn is_refused(alloc: Global, words: &[&str]) -> Result<bool, AllocError> {
     Ok(match read(alloc, words)? {
         Err(WordsFault::Refused) => true,
@@ -95,5 +103,18 @@ fn names_of_a_check(rt: HostRuntime) -> Result<(), AllocError> {
     assert!(rt; is_refused(alloc, &["check", "m", "-c"])?);
     assert!(rt; is_refused(alloc, &["Check", "m", "c"])?);
     assert!(rt; is_refused(alloc, &["check "])?);
+    Ok(())
+}
+
+#[test]
+fn names_of_a_run(rt: HostRuntime) -> Result<(), AllocError> {
+    let alloc = rt.alloc();
+    assert!(rt; runs(alloc, &["run", "m", "s", "--"], "s", "m")?);
+    assert!(rt; runs(alloc, &["lanes", "m", "--", "-"], "-", "m")?);
+    assert!(rt; runs(alloc, &["run", "--", "help", "-h"], "-h", "help")?);
+    assert!(rt; is_refused(alloc, &["run", "m", "-"])?);
+    assert!(rt; is_refused(alloc, &["run", "--help"])?);
+    assert!(rt; is_refused(alloc, &["help"])?);
+    assert!(rt; is_refused(alloc, &["run", "m", "--", "--", "s", "t"])?);
     Ok(())
 }
