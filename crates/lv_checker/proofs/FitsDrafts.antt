@@ -1,9 +1,10 @@
 -- A draft fits at every statement, and what is checked is well formed.
-use Rattle.std.proofs.Common.{◌≡◌, ◌+◌, ◌-◌, ◌<◌, ◌≤◌, ℕ, zero, suc, Bool, true, false, not, ◌&&◌, ◌||◌, nat_eq, nat_lt, nat_le, List, [], ◌∷◌, ◌++◌, length, map, position, slice_get, if◌then◌else◌, Option, Some, None, is_some, option_map, Result, Ok, Err, refl, sym, ap, ap₂, subst, ◌∙◌, arith}
+use Rattle.std.proofs.Common.{◌≡◌, ◌+◌, ◌-◌, ◌<◌, ◌≤◌, ℕ, zero, suc, Bool, true, false, not, ◌&&◌, ◌||◌, nat_eq, nat_lt, nat_le, List, [], ◌∷◌, ◌++◌, length, map, position, slice_get, if◌then◌else◌, Option, Some, None, is_some, option_map, take, drop, Result, Ok, Err, refl, sym, ap, ap₂, subst, ◌∙◌, arith}
 use Rattle.std.specs.List.{list_all, list_any}
 use Rattle.std.specs.Option.{option_map_or, option_and_then}
 use Rattle.std.proofs.lemmas.Bool.{and_parts, and_from, or_parts, lt-ltb, le-leb, ltb-true, ltb-false, eqb-false, not-false, not-true}
-use Rattle.std.proofs.lemmas.List.{map_push}
+use Rattle.std.proofs.lemmas.List.{map_push, take-append-drop}
+use Rattle.std.proofs.lemmas.List.Folds.{list_all-append}
 use Rattle.std.proofs.lemmas.Option.{slice_get-map}
 use Rattle.lv_base.specs.declared.limits.TheConstants.{PARTS, VALUES, VARIABLES, MODEL_CLAUSES, PRICE}
 use Rattle.lv_base.specs.declared.ids.VarId.{VarId}
@@ -42,6 +43,7 @@ use Rattle.lv_checker.specs.Entries.{system_formula, own_variable, is_control_of
 use Rattle.lv_checker.specs.Faults.{fault_where, judged, in_use_inside, is_too_long_inside, passes_inside, in_use_outside, is_too_long_outside, passes_outside, is_long_name, share_of}
 use Rattle.lv_checker.specs.Drafts.{empty, begun, with_type, with_inside, with_part, with_law, with_outside, with_where, with_entry, type_with, limited_size}
 use Rattle.lv_checker.specs.Checking.{Checked, fine, faulty, checked_by, after, all_added, finished, checked, GivesModel}
+use Rattle.lv_checker.specs.Caches.{KeepsCounts, CountsAreKept}
 use Rattle.lv_checker.specs.Verdicts.{Verdict, IsVerdict, not_read, is_checked, accepted, refused, verdict_of, AcceptedIsWellFormed}
 use Rattle.lv_checker.proofs.FitsLists.{chained, mapped, passed, placed_is}
 use Rattle.lv_checker.proofs.FitsNames.{is_spelled, has_names, is_sound, statements_sound}
@@ -419,6 +421,17 @@ all_fit d (s ∷ ss) end fact sound h = by (judged d s.statement) refl h (λ e f
         → ((e : Entry) → DraftFits (with_entry d e) → all_added (with_entry d e) ss ≡ fine end → DraftFits end) → DraftFits end
     by (Ok e) is h rest = rest e (entry_kept d fact s.statement e is own.0 own.1) h
     by (Err code) is h rest = absurd (cc)
+
+-- what is kept is what is counted, behind any of the statements
+pub counts_kept : CountsAreKept
+counts_kept bytes text n d reads added =
+    let sound = statements_sound reads.statements in
+    let front =
+    and_parts (list_all is_sound (take n text.statements)) (list_all is_sound (drop n text.statements))
+    (sym (list_all-append is_sound (take n text.statements) (drop n text.statements)) ∙ ap (list_all is_sound) (take-append-drop n text.statements) ∙ sound)
+    in
+    let fact = all_fit empty (take n text.statements) d empty_fits front.0 added in
+    record { ranges = fact.ranges_are; sizes = fact.sizes_are; shares = fact.shares_are; clauses = fact.clauses_are }
 
 checked_well : (bytes : List ℕ) (text : ModelText) (d : Draft) → ReadsAs bytes text → all_added empty text.statements ≡ fine d → nat_eq (length d.plant.parts) 0 ≡ false → is_well_formed d.plant ≡ true
 checked_well bytes text d reads added some =

@@ -6,3 +6,4 @@ pub mod Drafts
 pub mod Checking
 pub mod Verdicts
 pub mod VersionOne
+pub mod Caches

@@ -3,6 +3,7 @@
 
 ghost use Rattle.lv_checker.specs.Verdicts.{VerdictIsOne, ReadingsGiveVerdict, AcceptedIsWellFormed};
 ghost use Rattle.lv_checker.specs.VersionOne.{VersionOneIsKept};
+ghost use Rattle.lv_checker.specs.Caches.{CountsAreKept};
 
 /// A text has at most one verdict.
 pub fn verdict_is_one()
@@ -24,4 +25,10 @@ pub fn accepted_is_well_formed()
 /// the moves before it that are no stays, and 1.
 pub fn version_one_is_kept()
     ensures { VersionOneIsKept }
+{}
+
+/// What is kept beside the plant while statements come, its ranges, sizes, shares and clauses, is what is counted of the plant
+/// of the statements so far.
+pub fn counts_are_kept()
+    ensures { CountsAreKept }
 {}

@@ -49,6 +49,12 @@ unread plant text out LongSession ends long = absurd ends
 unread plant text out LongCertificate ends long = (long refl, refl)
 unread plant text out NoMemory ends long = nothing plant text out
 
+-- and of one that was read nothing is, where memory is wanting before it is judged or its verdict a line
+pub without_memory : (plant : Plant) (text : List ℕ) (out : Option (List ℕ)) (result : Result Ended RunFault)
+    → IsErrAnd result (λ e. e ≡ NoMemory)
+    → JudgesTold plant text out out result
+without_memory plant text out result handed = handed_on plant text out out result NoMemory handed (nothing plant text out)
+
 longer : (told : Option (List ℕ)) (text : List ℕ) → told ≡ Some text → IsLonger CERTIFICATE_BYTES told → CERTIFICATE_BYTES < length text
 longer told text is beyond = subst (λ (o : Option (List ℕ)). IsLonger CERTIFICATE_BYTES o) is beyond
 
