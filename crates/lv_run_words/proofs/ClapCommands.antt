@@ -286,7 +286,7 @@ module _ (k m : Option ValueParser) (word : Text) (run : is_word (codes "run") w
   met_by a b c d e f =
       option_map (λ (s : Text × List Text). s.0)
       (cond (a || false) (Some (codes "run", [])) (cond (b || false) (Some (codes "lanes", [])) (cond (c || false) (Some (codes "check", []))
-      (cond (d || false) (Some (codes "print", [])) (cond (e || false) (Some (codes "generate", [])) (cond (f || false) (Some (codes "drive", [])) None))))))
+      (cond (d || false) (Some (codes "print", [])) (cond (f || false) (Some (codes "drive", [])) (cond (e || false) (Some (codes "generate", [])) None))))))
 
   met_none : subcommand_met (below_top k m) idle word ≡ None
   unfolding met_by

@@ -79,8 +79,8 @@ livingstone kind number =
     (over_two (codes "lanes") None None).top)
     (over_two (codes "check") None None).top)
     (over_one (codes "print") None).top)
-    (over_two (codes "generate") kind number).top)
-    (over_one (codes "drive") number).top
+    (over_one (codes "drive") number).top)
+    (over_two (codes "generate") kind number).top
 
 pub record IsLivingstone (command : Command) : Type 0 where
   pub kind : ValueParser

@@ -5,7 +5,7 @@
 #![tactic(auto)]
 
 ghost use Rattle.std.specs.Prelude.{◌≡◌, Some, None, codes, map, string_bytes, IfOk};
-ghost use Rattle.clap.specs.Words.{subcommand_rows_of};
+ghost use Rattle.clap.specs.Words.{App, app_of, with_subcommand, subcommand_rows_of};
 ghost use Rattle.lv_run_words.specs.Words.{command_of};
 ghost use Rattle.lv_run_words.specs.Parser.{value_rule, number_parser, over_two, over_one, IsArg, IsKindArg, IsCommand, IsGenerate, IsLivingstone, has_lone_by, IsReadOff};
 
@@ -71,20 +71,30 @@ fn drive<'a>(alloc: Global) -> Result<Parser<'a>, AllocError>
     Parser::new(alloc, "drive").arg(number(alloc, "first"))
 }
 
+/// The command line with one more command, where memory sufficed for that.
+fn with_command<'a>(
+    parser: Parser<'a>,
+    command: Result<Parser<'a>, AllocError>,
+) -> Result<Parser<'a>, AllocError>
+    ensures { (app : App) → IfOk command.entry (IsCommand app) → IfOk result (λ whole. app_of whole ≡ with_subcommand (app_of parser.entry) app.top) }
+{
+    parser.subcommand(command?)
+}
+
 /// The whole command line.
 fn parser<'a>(alloc: Global) -> Result<Parser<'a>, AllocError>
     ensures { IfOk result IsLivingstone }
 {
-    Parser::new(alloc, "livingstone")
+    let parser = Parser::new(alloc, "livingstone")
         .disable_help_flag(true)
         .disable_help_subcommand(true)
-        .subcommand_required(true)
-        .subcommand(over_files(alloc, "run")?)?
-        .subcommand(over_files(alloc, "lanes")?)?
-        .subcommand(over_files(alloc, "check")?)?
-        .subcommand(over_file(alloc, "print")?)?
-        .subcommand(generate(alloc)?)?
-        .subcommand(drive(alloc)?)
+        .subcommand_required(true);
+    let parser = with_command(parser, over_files(alloc, "run"))?;
+    let parser = with_command(parser, over_files(alloc, "lanes"))?;
+    let parser = with_command(parser, over_files(alloc, "check"))?;
+    let parser = with_command(parser, over_file(alloc, "print"))?;
+    let parser = with_command(parser, drive(alloc))?;
+    parser.subcommand(generate(alloc)?)
 }
 
 /// A `-` stands alone before the first `--`.
