@@ -354,7 +354,7 @@ fn text_of(alloc: Global, row: &Row) -> Result<(Vec<u8>, usize), AllocError> {
     text.extend_from_slice(row.line)?;
     text.extend_from_slice(b"\n")?;
     text.extend_from_slice(TAIL)?;
-    Ok((text, modes + row.times + 8))
+    Ok((text, modes.saturating_add(row.times).saturating_add(8)))
 }
 
 fn has_verdict(alloc: Global, row: &Row) -> Result<bool, AllocError> {
