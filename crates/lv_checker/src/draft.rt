@@ -12,7 +12,7 @@ use std::alloc::{AllocError, AllocFailed};
 
 /// A model as far as its statements go. What its lists say of the parts' variables and of clauses is kept beside them,
 /// so that no statement goes over the lists again.
-#[derive(Debug, Drop)]
+#[derive(Drop)]
 pub struct Draft {
     /// The lists so far, with what is found in them by name.
     pub plant: NamedPlant,
@@ -31,7 +31,7 @@ pub struct Draft {
 }
 
 /// A type as far as its lines go. Its moves stand in their order, the stay of each mode among them.
-#[derive(Debug, Drop)]
+#[derive(Drop)]
 pub struct TypeDraft {
     pub lists: NamedType,
     /// How many values the variables of its formulas have, where clauses are counted: the mode first.
@@ -41,7 +41,7 @@ pub struct TypeDraft {
 }
 
 /// What a statement adds, its names given what they stand for.
-#[derive(Debug, Drop)]
+#[derive(Drop)]
 pub enum Entry {
     /// The model's name.
     Named(Name),
