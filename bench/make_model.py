@@ -3,11 +3,11 @@
 
     series LINES   a series of up to 256 valves, then laws over them, in so many lines
     types LINES    types of 16 modes and 64 moves, in about so many lines, and a part of the first
+    short LINES    the same in the second version: types of 16 modes and 64 moves, three lines of faults from each other mode and a repair
     laws LINES     two parts and so many laws, each of nearly 4,000 bytes
     shared LINES   a type with so many laws, each of nearly 4,000 bytes, and 256 parts of it
     domains LINES  so many domains, each of a name of its own, and a part
     variables LINES   a type with so many variables, and a part of another type
-    short LINES    the same in the second version: 16 modes, three lines of faults from each other mode, and a repair
     names LINES    so many types, each of a name of its own, and a part of the last
     prices LINES   a part with as many controls as it takes, and so many prices of theirs: at most 61,425
     bytes BYTES    a series whose text has exactly so many bytes, the last of them a comment
@@ -58,12 +58,12 @@ def types(lines):
 
 
 def short_type(number):
-    """16 stays, 3 times 15 faults, and a fault with its step back: 63 moves of four lines."""
+    """16 stays, 3 times 15 faults, a fault with its step back, and a step: 64 moves of five lines."""
     modes = ["m%d" % i for i in range(1, 17)]
     return (["type t%d" % number, "control c order"] + ["mode " + mode for mode in modes]
             + ["in %s c = none" % " | ".join(modes)]
             + ["fault -> m%d cost %d when c = open" % (i, i) for i in (1, 2, 3)]
-            + ["fault m1 -> m4 cost 5 repair c = close when c = open", "end"])
+            + ["fault m1 -> m4 cost 5 repair c = close when c = open", "step m1 -> m2 when c = open", "end"])
 
 
 def short(lines):

@@ -1,9 +1,8 @@
 -- Faults from each of so many modes, taken one by one.
-use Rattle.std.proofs.Common.{◌≡◌, ◌+◌, ℕ, suc, Bool, true, false, nat_eq, List, [], ◌∷◌, ◌++◌, Option, if◌then◌else◌, refl, ap, ◌∙◌, arith}
+use Rattle.std.proofs.Common.{◌≡◌, ◌+◌, ℕ, suc, Bool, true, false, nat_eq, [], ◌∷◌, ◌++◌, Option, if◌then◌else◌, ap, ◌∙◌, arith}
 use Rattle.std.proofs.lemmas.List.{append-nil}
 use Rattle.lv_base.specs.declared.ids.ValId.{ValId}
 use Rattle.lv_formula.specs.Tree.{Tree}
-use Rattle.lv_model.specs.declared.plant.Move.{Move}
 use Rattle.lv_checker.specs.Entries.{fault_of, faults_to}
 
 one_further : (target : ValId) (cost : ℕ) (guard : Option Tree) (line n : ℕ)

@@ -1,5 +1,5 @@
 -- What a statement adds to a type that has not ended is known to fit.
-use Rattle.std.proofs.Common.{◌≡◌, ◌<◌, ◌≤◌, ℕ, zero, suc, Bool, true, false, not, ◌&&◌, ◌||◌, nat_eq, nat_lt, nat_le, ◌+◌, List, [], ◌∷◌, ◌++◌, length, map, position, Option, Some, None, Result, Ok, Err, if◌then◌else◌, refl, sym, ap, subst, ◌∙◌, arith}
+use Rattle.std.proofs.Common.{◌≡◌, ◌<◌, ◌≤◌, ℕ, zero, suc, Bool, true, false, not, ◌&&◌, ◌||◌, nat_eq, nat_lt, nat_le, ◌+◌, List, [], ◌∷◌, length, map, position, Option, Some, None, Result, Ok, Err, if◌then◌else◌, refl, sym, ap, subst, ◌∙◌, arith}
 use Rattle.std.specs.List.{list_all}
 use Rattle.std.specs.Option.{option_map_or}
 use Rattle.std.proofs.lemmas.Bool.{and_from, and_parts, lt-ltb, le-leb, ltb-true, ltb-false, eqb-false, or_parts, not-false}
@@ -142,17 +142,17 @@ module _ (domains : List Domain) (t : TypeDraft) where
   few_from n limit h = ltb-true n limit (not-false (nat_lt n limit) h)
 
   ended : (b : Bool) (e : Entry) → nat_eq (length t.lists.modes) 0 ≡ b → (if b then Err NotEnded else done TypeEnds) ≡ Ok e → Fitting e
-  ended true e is h = absurd (cc)
-  ended false e is h =
+  ended true e asked h = absurd (cc)
+  ended false e asked h =
       let same : TypeEnds ≡ e = cc h in
-      let none = eqb-false (length t.lists.modes) 0 is in
+      let none = eqb-false (length t.lists.modes) 0 asked in
       subst (λ (x : Entry). Fitting x) same (λ free. by (length t.lists.modes) none)
     where
       by : (n : ℕ) → (n ≡ 0 → ⊥) → 1 ≤ n
       by zero f = absurd (f refl)
       by (suc n) f = omega arith
 
-  pub inside_fits : (s : Statement) (e : Entry) → inside_entry domains t.lists s ≡ Ok e → has_names s ≡ true → number_fits s ≡ true → Fitting e
+  pub inside_fits : (s : Statement) (e : Entry) → inside_entry domains t s ≡ Ok e → has_names s ≡ true → number_fits s ≡ true → Fitting e
   unfolding inside_entry
   inside_fits (VariableLine class name domain) e h named number =
       let one = known_parts (domain_place domains domain) UnknownName _ e h in
@@ -261,5 +261,5 @@ judged_parts d s e h =
     (one.1 ∙ ap Ok two.0, subst (λ (x : Entry). fault_where d d.current x ≡ None) two.0 two.1)
   where
     by : (o : Option ModelCode) (x : Entry) → fault_where d d.current x ≡ o → option_map_or (λ (code : ModelCode). Err code) o (done x) ≡ Ok e → (x ≡ e) × (fault_where d d.current x ≡ None)
-    by None x is k = (same_ok x e k, is)
-    by (Some code) x is k = absurd (cc)
+    by None x none k = (same_ok x e k, none)
+    by (Some code) x none k = absurd (cc)

@@ -23,7 +23,7 @@ use Rattle.lv_model.specs.WellFormed.{name_fits, variable_fits, mode_formula_fit
 use Rattle.lv_checker.specs.declared.draft.TypeDraft.{TypeDraft}
 use Rattle.lv_checker.specs.declared.draft.Entry.{Entry}
 use Rattle.lv_checker.specs.declared.draft.Entry.TheVariants.{Named, NewDomain, TypeBegins, NewVariable, NewMode, TypeLaw, ModeLaws, NewMoves, TypeEnds, NewPart, SystemLaw, NewPrice}
-use Rattle.lv_checker.specs.Drafts.{begun, stay_in, with_move_in_place, with_variable, with_mode, with_moves_in_place, with_type_law, with_mode_laws, with_moves, type_with}
+use Rattle.lv_checker.specs.Drafts.{begun, stay_in, with_move_in_place, with_variable, with_mode, with_type_law, with_mode_laws, with_moves, type_with}
 use Rattle.lv_checker.proofs.FitsLists.{all_more, all_behind, all_kept, all_joined}
 use Rattle.lv_checker.proofs.FitsCounts.{has_kept}
 use Rattle.lv_checker.proofs.FitsMoves.{put, put_is, put_length, put_all, put_rises, from_first, put_count, none_of, once_same, once_more}

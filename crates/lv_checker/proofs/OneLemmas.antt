@@ -1,5 +1,5 @@
 -- A text of the first version: each line gives one formula or one move, numbered as the moves are.
-use Rattle.std.proofs.Common.{◌≡◌, ◌+◌, ℕ, Bool, true, false, ◌&&◌, nat_eq, List, [], ◌∷◌, ◌++◌, length, map, Option, Some, None, Result, Ok, Err, if◌then◌else◌, refl, sym, ap, subst, ◌∙◌, arith}
+use Rattle.std.proofs.Common.{◌≡◌, ◌+◌, ℕ, Bool, true, false, nat_eq, List, [], ◌∷◌, length, map, Option, Some, None, Result, Ok, Err, if◌then◌else◌, refl, sym, ap, subst, ◌∙◌, arith}
 use Rattle.std.specs.List.{list_all}
 use Rattle.std.proofs.lemmas.Bool.{and_parts, eqb-true}
 use Rattle.std.proofs.lemmas.List.{length-map, length_push}
@@ -21,8 +21,8 @@ use Rattle.lv_checker.specs.declared.draft.Entry.TheVariants.{Named, NewDomain, 
 use Rattle.lv_checker.specs.Places.{placed, domain_place, mode_place}
 use Rattle.lv_checker.specs.Entries.{type_formula, mode_places, law_in, step_of, fault_of, line_number, guard_in, inside_entry, entry_where}
 use Rattle.lv_checker.specs.Faults.{judged}
-use Rattle.lv_checker.specs.Drafts.{empty, stay_in, with_move_in_place, with_moves_in_place, type_with, with_where, with_entry}
-use Rattle.lv_checker.specs.Checking.{Checked, fine, checked_by, after, all_added}
+use Rattle.lv_checker.specs.Drafts.{empty, stay_in, with_move_in_place, type_with, with_where, with_entry}
+use Rattle.lv_checker.specs.Checking.{fine, checked_by, after, all_added}
 use Rattle.lv_checker.specs.VersionOne.{AddsOne, NumbersMoves, is_of_one, VersionOneIsKept}
 use Rattle.lv_checker.proofs.FitsLists.{placed_is}
 use Rattle.lv_checker.proofs.FitsMoves.{put_is, put_length}

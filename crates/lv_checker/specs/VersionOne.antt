@@ -1,6 +1,6 @@
 -- What is kept of the first version: a line gives one formula or one move, and the moves of a type that are no stays are numbered
 -- one after the other.
-use Rattle.std.specs.Prelude.{◌≡◌, ◌+◌, ℕ, Bool, true, List, length, Option, Some, None, Ok}
+use Rattle.std.specs.Prelude.{◌≡◌, ◌+◌, Bool, true, List, length, Option, Some, None, Ok}
 use Rattle.std.specs.List.{list_all}
 use Rattle.lv_model.specs.declared.plant.Domain.{Domain}
 use Rattle.lv_reader.specs.declared.version.Version.TheVariants.{One}

@@ -350,8 +350,8 @@ fn repair_entry(
     repair: &Repair,
     guard: &Option<Phrase>,
 ) -> Result<Entry, CheckFault>
-    ensures ok { IfOk result (λ e. repair_entry domains.now of.now ends.0.now ends.1.now cost repair.now guard.now ≡ Ok e) }
-    ensures fault { IfErr result (λ fault. TellsEntry fault (repair_entry domains.now of.now ends.0.now ends.1.now cost repair.now guard.now)) }
+    ensures ok { IfOk result (λ e. repair_entry domains.now of.now ends.entry.0.now ends.entry.1.now cost repair.now guard.now ≡ Ok e) }
+    ensures fault { IfErr result (λ fault. TellsEntry fault (repair_entry domains.now of.now ends.entry.0.now ends.entry.1.now cost repair.now guard.now)) }
 {
     let modes = of.lists.as_type();
     let source = mode_place(modes, ends.0.as_slice()).ok_or(UNKNOWN)?;

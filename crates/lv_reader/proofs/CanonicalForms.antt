@@ -1,5 +1,5 @@
 -- The tokens of a line, by the statement that they are.
-use Rattle.std.proofs.Common.{◌≡◌, ℕ, zero, suc, ◌+◌, ◌*◌, ◌++◌, cond, Bool, Option, None, refl, sym, subst, true, false, ◌&&◌, nat_eq, nat_le, List, [], ◌∷◌, length, drop, map, All, Some, option_map, ap, ap₂, ◌∙◌, arith, codes}
+use Rattle.std.proofs.Common.{◌≡◌, ℕ, zero, suc, ◌*◌, ◌++◌, cond, Bool, refl, sym, subst, true, false, ◌&&◌, nat_eq, nat_le, List, [], ◌∷◌, length, drop, map, All, Some, option_map, ap, ap₂, ◌∙◌, arith, codes}
 use Rattle.std.proofs.lemmas.Bool.{and_parts}
 use Rattle.std.proofs.lemmas.Bool.Decides.{nat_tests}
 use Rattle.std.proofs.lemmas.List.{drop_all}

@@ -1,5 +1,5 @@
 -- A statement is the only one whose form its tokens have.
-use Rattle.std.proofs.Common.{◌≡◌, ℕ, zero, suc, ◌+◌, ◌*◌, Bool, false, ◌&&◌, cond, List, [], ◌∷◌, length, drop, true, Option, Some, None, option_map, refl, sym, subst, ◌∙◌, ap, ap₂, arith, codes}
+use Rattle.std.proofs.Common.{◌≡◌, ℕ, zero, suc, ◌+◌, ◌*◌, false, ◌&&◌, cond, List, [], ◌∷◌, length, drop, true, Option, Some, None, option_map, refl, sym, subst, ◌∙◌, ap, ap₂, arith, codes}
 use Rattle.std.proofs.lemmas.Bool.{and_parts}
 use Rattle.std.specs.Option.{option_and_then, option_map_or}
 use Rattle.lv_base.specs.Names.{is_named}
@@ -11,14 +11,13 @@ use Rattle.lv_formula_text.specs.PhraseTree.{PhraseTree}
 use Rattle.std.specs.Cmp.Lexicographic.{same_text}
 use Rattle.lv_formula_text.specs.Grammar.{IsFormula}
 use Rattle.lv_formula_text.proofs.GrammarLemmas.{formula_one}
-use Rattle.lv_reader.specs.declared.keyword.Keyword.TheVariants.{StepWord, FaultWord}
+use Rattle.lv_reader.specs.declared.keyword.Keyword.TheVariants.{InWord, StepWord, FaultWord}
 use Rattle.lv_reader.specs.declared.version.Version.{Version}
-use Rattle.lv_reader.specs.declared.version.Version.TheVariants.{One, Two}
 use Rattle.lv_reader.specs.declared.statement.Repair.{Repair}
 use Rattle.lv_reader.specs.declared.statement.Statement.{Statement}
 use Rattle.lv_reader.specs.declared.statement.Statement.TheVariants.{ModelLine, DomainLine, TypeLine, VariableLine, ModeLine, LawLine, InLine, StepLine, FaultLine, FaultsLine, RepairLine, EndLine, PartLine, PriceLine, VersionLine}
 use Rattle.lv_reader.specs.Keywords.{keyword_of}
-use Rattle.lv_reader.specs.Words.{is_arrow, is_equals, has_kind_at, both_ends, bare_target, repair_of, HasGuard, HasNoGuard}
+use Rattle.lv_reader.specs.Words.{is_arrow, is_equals, has_kind_at, one_or_more, both_ends, bare_target, repair_of, EndsInFormula, EndsInNone, HasGuard, HasNoGuard}
 use Rattle.lv_reader.specs.declared.words.NameAndNames.{NameAndNames}
 use Rattle.lv_reader.specs.declared.words.TwoNames.{TwoNames}
 use Rattle.lv_reader.specs.declared.words.ThreeNames.{ThreeNames}
@@ -31,6 +30,16 @@ some_is_one h = (cc)
 -- two answers of one question
 told_once : {A : Type 0} {o : Option A} {x y : A} → o ≡ Some x → o ≡ Some y → x ≡ y
 told_once e f = some_is_one (sym e ∙ f)
+
+-- behind the modes of a line there is no formula
+pub no_in_formula : (line : List Lexeme) (modes : List (List ℕ)) (place : ℕ) → keyword_of line ≡ Some InWord → one_or_more line ≡ Some modes → place ≡ 2 * length modes → EndsInNone line place → HasNoForm line
+no_in_formula line modes place known named at no_formula = record { none = λ s form. by_form s (told_once form.word known) form.shape }
+  where
+    by_form : (s : Statement) → word_of s ≡ InWord → HasShape line s → ⊥
+    by_form (InLine xs f) is shape =
+        let same : 2 * length xs ≡ place = ap (λ (ns : List (List ℕ)). 2 * length ns) (told_once shape.0 named) ∙ sym at in
+        no_formula.none f (subst (λ n. EndsInFormula line n f) same shape.1)
+    by_form s is shape = (cc)
 
 pub no_step_guard : (line : List Lexeme) → keyword_of line ≡ Some StepWord → HasNoGuard line 4 → HasNoForm line
 no_step_guard line known no_guard = record { none = λ s form. by_form s (told_once form.word known) form.shape }

@@ -1,5 +1,5 @@
 -- No formula begins with the sign that stands between names.
-use Rattle.std.proofs.Common.{◌≡◌, Bool, false, cond, List, [], ◌∷◌, Some, ap, refl, ◌∙◌}
+use Rattle.std.proofs.Common.{◌≡◌, false, cond, List, [], ◌∷◌, Some, ap, refl, ◌∙◌}
 use Rattle.lv_text.specs.declared.lexer.TokenKind.{TokenKind}
 use Rattle.lv_text.specs.declared.lexer.TokenKind.TheVariants.{Word, Not, Open}
 use Rattle.lv_text.specs.Lexemes.{Lexeme}

@@ -1,5 +1,5 @@
 -- The canonical line of a statement, by itself and among others.
-use Rattle.std.proofs.Common.{◌≡◌, ℕ, zero, suc, ◌-◌, ◌≤◌, Bool, true, false, ◌&&◌, cond, nat_eq, nat_lt, List, [], ◌∷◌, ◌++◌, length, map, get_or, All, Option, Some, None, refl, sym, ap, ap₂, subst, ◌∙◌, arith, append_assoc, length-append, decimal, codes}
+use Rattle.std.proofs.Common.{◌≡◌, ℕ, zero, suc, ◌-◌, ◌≤◌, Bool, true, false, ◌&&◌, cond, nat_eq, nat_lt, List, [], ◌∷◌, ◌++◌, length, map, get_or, All, Option, Some, None, refl, sym, ap, subst, ◌∙◌, arith, append_assoc, length-append, decimal, codes}
 use Rattle.std.proofs.lemmas.Bool.{and_parts, and_from, or_from}
 use Rattle.std.proofs.lemmas.Bool.Decides.{nat_tests}
 use Rattle.std.proofs.lemmas.Fmt.{length-decimal-le}
@@ -28,7 +28,7 @@ use Rattle.lv_reader.specs.declared.version.Version.TheVariants.{One, Two}
 use Rattle.lv_reader.specs.declared.statement.Statement.{Statement}
 use Rattle.lv_reader.specs.declared.statement.Statement.TheVariants.{VersionLine}
 use Rattle.lv_reader.specs.Keywords.{keyword_of}
-use Rattle.lv_reader.specs.Statements.{HasForm, has_form_of, IsStatement}
+use Rattle.lv_reader.specs.Statements.{HasForm, IsStatement}
 use Rattle.lv_reader.specs.Lines.{Says, SaysOf, SaysBy}
 use Rattle.lv_reader.specs.CanonicalTokens.{number, statement_tokens, statement_text}
 use Rattle.lv_reader.specs.CanonicalTexts.{default_name, ended_line}

@@ -22,16 +22,15 @@ use Rattle.lv_reader.specs.declared.words.TheConstants.{OVER_EVERY_LIMIT}
 use Rattle.lv_reader.specs.declared.keyword.Keyword.TheVariants.{ModelWord, DomainWord, TypeWord, ClassWord, ModeWord, LawWord, InWord, StepWord, FaultWord, EndWord, PartWord, PriceWord, VersionWord}
 use Rattle.lv_reader.specs.declared.statement.Repair.{Repair}
 use Rattle.lv_reader.specs.declared.version.TheConstants.{NEWEST}
-use Rattle.lv_reader.specs.declared.version.Version.{Version}
 use Rattle.lv_reader.specs.declared.version.Version.TheVariants.{Two}
 use Rattle.lv_reader.specs.declared.statement.Statement.{Statement}
 use Rattle.lv_reader.specs.declared.statement.Statement.TheVariants.{ModelLine, DomainLine, TypeLine, VariableLine, ModeLine, LawLine, InLine, StepLine, FaultLine, FaultsLine, RepairLine, EndLine, PartLine, PriceLine, VersionLine}
 use Rattle.lv_reader.specs.Keywords.{keyword_of}
 use Rattle.lv_reader.specs.Words.{capped, HasGuard}
 use Rattle.lv_reader.specs.Statements.{IsStatement}
-use Rattle.lv_reader.specs.CanonicalTokens.{number, class_word, named_tokens, mode_tokens, repair_tokens, move_tokens, cost_tokens, guard_tokens}
+use Rattle.lv_reader.specs.CanonicalTokens.{number, class_word, named_tokens, mode_tokens, repair_tokens, move_tokens}
 use Rattle.lv_reader.proofs.Numerals.{number_no_longer, number_told, number_is_lexeme}
-use Rattle.lv_reader.proofs.Places.{word_next, says_next, IsNumeralAt, numeral_next}
+use Rattle.lv_reader.proofs.Places.{says_next, IsNumeralAt, numeral_next}
 use Rattle.lv_reader.proofs.Keywords.{keyword_first}
 use Rattle.lv_reader.proofs.Reprinting.{Reprints, same_tokens, alike_itself, alike_behind, Derives, IsCut, cut_tokens}
 use Rattle.lv_reader.proofs.CanonicalForms.{ahead, one_name, names_then, two_words, three_words, modes_ahead, modes_flat, modes_again, move_words, target_words, repair_words, price_words, numeral_ahead}

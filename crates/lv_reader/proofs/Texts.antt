@@ -5,7 +5,7 @@ use Rattle.std.specs.List.{flat_map}
 use Rattle.lv_reader.specs.declared.version.TheConstants.{NEWEST}
 use Rattle.lv_reader.specs.declared.version.Version.{Version}
 use Rattle.lv_reader.specs.declared.version.Version.TheVariants.{One, Two}
-use Rattle.lv_reader.specs.Versions.{version_in, gives_version, stated}
+use Rattle.lv_reader.specs.Versions.{version_in, gives_version}
 use Rattle.lv_reader.specs.declared.statement.Statement.{Statement}
 use Rattle.lv_reader.specs.declared.statement.Statement.TheVariants.{VersionLine}
 use Rattle.lv_reader.specs.declared.statement.NumberedStatement.{NumberedStatement}

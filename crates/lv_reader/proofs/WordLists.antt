@@ -89,9 +89,15 @@ no_sign (l ∷ ls) zero s = rw s refl
 no_sign (l ∷ ls) (suc n) s = no_sign ls n s
 
 -- without a sign all names are taken
-pub others_taken : (line : List Lexeme) (at : ℕ) (front : List (List ℕ)) (whole : Option (List (List ℕ))) → has_kind_at is_or line at ≡ false
+pub others_end : (line : List Lexeme) (at : ℕ) (front : List (List ℕ)) (whole : Option (List (List ℕ))) (sign : Bool) → sign ≡ has_kind_at is_or line at → sign ≡ false
     → joined_words front (alternatives (drop at line)) ≡ whole → whole ≡ Some front
-others_taken line at front whole s is = sym is ∙ ap (joined_words front) (no_sign line at s) ∙ ap Some (append-nil front)
+others_end line at front whole sign asked none is = sym is ∙ ap (joined_words front) (no_sign line at (sym asked ∙ none)) ∙ ap Some (append-nil front)
+
+-- and so they are at the end of the line
+pub others_past : (line : List Lexeme) (at : ℕ) (front : List (List ℕ)) (whole : Option (List (List ℕ))) → length line ≤ at
+    → joined_words front (alternatives (drop at line)) ≡ whole → whole ≡ Some front
+others_past line at front whole past is =
+    sym is ∙ ap (λ ls. joined_words front (alternatives ls)) (drop_all at line past) ∙ ap Some (append-nil front)
 
 -- the first name
 pub first_taken : (line : List Lexeme) (word : List ℕ) → word_at line 1 ≡ Some word → joined_words (word ∷ []) (alternatives (drop 2 line)) ≡ one_or_more line

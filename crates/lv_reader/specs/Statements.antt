@@ -1,7 +1,7 @@
 -- What lexemes are which statement: by cases on the statement, the word that it begins with and the form of the rest.
 use Rattle.std.specs.Prelude.{◌≡◌, ◌*◌, List, Bool, true, false, ◌&&◌, length, nat_eq, nat_le, is_some, Some, None, codes}
 use Rattle.lv_base.specs.declared.limits.TheConstants.{LEAST_FAULT_COST, FAULT_COST, PRICE}
-use Rattle.lv_text.specs.Lexemes.{Lexeme, word_at, says}
+use Rattle.lv_text.specs.Lexemes.{Lexeme, says}
 use Rattle.lv_formula_text.specs.Nesting.{is_too_deep}
 use Rattle.lv_reader.specs.declared.code.ModelCode.{ModelCode}
 use Rattle.lv_reader.specs.declared.code.ModelCode.TheVariants as code

@@ -35,8 +35,7 @@ pub fn write_statement(writer: &mut LineWriter, statement: &Statement) -> Result
             write_phrase(writer, formula)
         }
         Statement::InLine(modes, formula) => {
-            writer.word(b"in")?;
-            write_modes(writer, modes.as_slice())?;
+            write_in(writer, modes.as_slice())?;
             write_phrase(writer, formula)
         }
         Statement::StepLine(source, target, guard) => {
@@ -90,6 +89,14 @@ fn write_names(writer: &mut LineWriter, names: &[Name]) -> Result<(), AllocError
         writer.word(name.as_slice())?;
     }
     Ok(())
+}
+
+/// The modes in which a formula holds, behind their word.
+fn write_in(writer: &mut LineWriter, modes: &[Name]) -> Result<(), AllocError>
+    ensures { OnOk result (writer.new ≡ written (word (codes "in") ∷ mode_tokens modes.now) writer.old) }
+{
+    writer.word(b"in")?;
+    write_modes(writer, modes)
 }
 
 /// A name, and others that may stand in its place.

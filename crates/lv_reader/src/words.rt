@@ -172,15 +172,16 @@ pub fn three_names(alloc: Global, line: &TokenLine<'_>) -> Result<ThreeNames, Fo
 }
 
 /// A name and those behind it that may stand in its place, as far as these go.
-#[tactic(auto, using(crate::proofs::WordLists::first_taken, crate::proofs::WordLists::first_missing, crate::proofs::WordLists::other_taken, crate::proofs::WordLists::other_missing, crate::proofs::WordLists::others_taken, crate::proofs::WordLists::sign_inside, crate::proofs::WordLists::word_inside))]
+#[tactic(auto, using(crate::proofs::WordLists::first_taken, crate::proofs::WordLists::first_missing, crate::proofs::WordLists::other_taken, crate::proofs::WordLists::other_missing, crate::proofs::WordLists::sign_inside, crate::proofs::WordLists::word_inside))]
 pub fn one_or_more(alloc: Global, line: &TokenLine<'_>) -> Result<Seq<Name>, FormFault>
     ensures ok { IfOk result (λ names. one_or_more line.now ≡ Some names) }
     ensures refused { result ≡ Err Form → one_or_more line.now ≡ None }
 {
     let mut names = Vec::new(alloc);
     names.push(name_at(alloc, line, 1)?)?;
+    let most = line.len();
     let mut place: usize = 2;
-    'others: while is_or_at(line, place) {
+    'others: while place < most && is_or_at(line, place) {
         names.push(name_at(alloc, line, place + 1)?)?;
         place += 2;
     }

@@ -35,7 +35,8 @@ use Rattle.lv_run.specs.declared.status.Status.{Status}
 use Rattle.lv_run.specs.declared.status.Status.TheVariants.{Done, WordsRefused, ModelRefused, ModelUnread, SecondUnread, OutputFailed, SecondTooLong, OutOfMemory}
 use Rattle.lv_run.specs.declared.fault.RunFault.{RunFault}
 use Rattle.lv_run.specs.declared.fault.RunFault.TheVariants.{WordsRefused as BadWords, ModelRefused as BadModel, ModelUnread as NoModel, SessionUnread as NoSession, CertificateUnread as NoCertificate, OutputFailed as NoOutput, SessionTooLong as LongSession, CertificateTooLong as LongCertificate, OutOfMemory as NoMemory}
-use Rattle.lv_run.proofs.VerdictLemmas.{not_both, same_plant, same_refusal, same_canonical, verdict_is_one}
+use Rattle.lv_run.proofs.VerdictLemmas.{not_both, same_plant, same_refusal, same_canonical}
+use Rattle.lv_certcheck.proofs.ProvingLemmas.{is_one}
 use Rattle.lv_run.proofs.SecondLemmas.{EndsSecond, session_ends, check_ends}
 
 pub some_weaker : {A : Type 0} {P Q : A → Type 0} (o : Option A) → ((x : A) → P x → Q x) → IfSome o P → IfSome o Q
@@ -397,7 +398,7 @@ judged_short : (plant : Plant) (text : List ℕ) (verdict : Verdict) (before aft
     → JudgesTold plant text before after result
     → Meets (judges verdict) before after (ended_status result)
 judged_short plant text verdict before after (Ok ended) within is told =
-    whole_verdict verdict before after ended told.verdict (verdict_is_one plant text told.verdict verdict told.is is) told.ends told.written
+    whole_verdict verdict before after ended told.verdict (is_one plant text told.verdict verdict told.is is) told.ends told.written
 judged_short plant text verdict before after (Err BadWords) within is told = absurd told
 judged_short plant text verdict before after (Err (BadModel code line)) within is told = absurd told
 judged_short plant text verdict before after (Err NoModel) within is told = absurd told

@@ -16,7 +16,7 @@ use Rattle.lv_run.specs.declared.status.Ended.TheVariants.{Done as AllDone, Inva
 use Rattle.lv_run.specs.declared.status.Status.TheVariants.{SecondUnread, SecondTooLong}
 use Rattle.lv_run.specs.declared.fault.RunFault.{RunFault}
 use Rattle.lv_run.specs.declared.fault.RunFault.TheVariants.{WordsRefused as BadWords, ModelRefused as BadModel, ModelUnread as NoModel, SessionUnread as NoSession, CertificateUnread as NoCertificate, OutputFailed as NoOutput, SessionTooLong as LongSession, CertificateTooLong as LongCertificate, OutOfMemory as NoMemory}
-use Rattle.lv_run.proofs.VerdictLemmas.{verdict_is_one}
+use Rattle.lv_certcheck.proofs.ProvingLemmas.{is_one}
 
 -- nothing was written
 nothing : (plant : Plant) (text : List ℕ) (out : Option (List ℕ)) → AddsVerdictFront plant text out out
@@ -84,7 +84,7 @@ partly : (plant : Plant) (text : List ℕ) (verdict : Verdict) (line : List ℕ)
     → AddsVerdictFront plant text before after
 partly plant text verdict line before after is tells added within = record {
   of_verdict = λ v w on.
-      let one : verdict ≡ v = verdict_is_one plant text verdict v is on in
+      let one : verdict ≡ v = is_one plant text verdict v is on in
       subst (λ (l : List ℕ). AddsFront l before after) (tells ∙ ap verdict_line one) added;
   of_long = λ beyond. absurd (not_both (length text) within beyond);
 }

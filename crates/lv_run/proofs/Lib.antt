@@ -6,5 +6,6 @@ pub mod OpenLemmas
 pub mod TopLemmas
 pub mod NameLemmas
 pub mod PrintedLemmas
+pub mod WholeLemmas
 pub mod ServiceLemmas
 pub mod ServedLemmas

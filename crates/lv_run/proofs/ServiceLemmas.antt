@@ -17,10 +17,13 @@ use Rattle.lv_session.specs.Answering.{begun, next_at, SaysAt, has_quit, begun_a
 use Rattle.lv_session.proofs.Answering.{transcript_of, no_transcript, transcript_front, transcript_of_longer, transcript_of_more}
 use Rattle.lv_run_words.specs.declared.commands.Service.{Service}
 use Rattle.lv_run_words.specs.declared.commands.Service.TheVariants.{Single, Lanes}
+use Rattle.lv_lanes.specs.Bytes.{own_part}
 use Rattle.lv_lanes.specs.Laws.{own_text}
 use Rattle.lv_lanes.proofs.AloneLemmas.{written_is_of_lanes}
-use Rattle.lv_run.specs.OfLanes.{lines_of_lane, AddsLanes}
+use Rattle.lv_lanes.proofs.ByteLaws.{own_part_is_alone}
+use Rattle.lv_run.specs.OfLanes.{lines_of_lane, AddsLanes, AddsOwnParts}
 use Rattle.lv_run.specs.Services.{lanes_begun, lanes_next, LanesSay, never_ends, Serves, quits, AddsReplies, AddsFrontOfReplies}
+use Rattle.lv_run.proofs.WholeLemmas.{replies_are_whole}
 
 -- where memory was wanting before anything was read
 pub not_served : (service : Service) (plant : Plant) (text : List ℕ) (out : Option (List ℕ)) (result : Result (Unit {0}) ServeFault)
@@ -61,6 +64,15 @@ adds_lanes plant text before after adds =
       alone = λ name. transcript_of (begun plant) (lines_of_lane plant name text) (own_text name is.replies) (is.alone name);
       added = adds.added ∙ ap (append_known before) is.all;
     }
+
+-- and byte by byte
+pub adds_own_parts : (plant : Plant) (text : List ℕ) (before after : Option (List ℕ)) → AddsReplies Lanes plant text before after → AddsOwnParts plant text before after
+adds_own_parts plant text before after adds = record {
+  written = adds.written;
+  alone = λ name word. transcript_of (begun plant) (lines_of_lane plant name text) (own_part name adds.written)
+      (own_part_is_alone next_at SaysAt begun_again is_open replies_are_whole name word (begun plant) (lines_of text) adds.written adds.is_conversation);
+  added = adds.added;
+}
 
 -- of no bytes nothing is due
 pub none_quit : (service : Service) (plant : Plant) → quits service plant [] ≡ false

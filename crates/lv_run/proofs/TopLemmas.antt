@@ -260,6 +260,23 @@ told_verdict file words plant certificate (Ok ended) before after err err_after 
       tells.0,
     )
 
+-- a session that is served, and a certificate that is judged, isn't too long
+pub session_not_long : (service : Service) (plant : Plant) (session : List ℕ) (before after : Option (List ℕ)) (result : Status)
+    → Meets (serves service plant session) before after result
+    → result ≢ SecondTooLong
+session_not_long service plant session before after result meets long =
+    let due : Done ≡ SecondTooLong = (subst (Meets (serves service plant session) before after) long meets).0 in
+    absurd (cc due)
+
+pub certificate_not_long : (verdict : Verdict) (before after : Option (List ℕ)) (result : Status)
+    → Meets (judges verdict) before after result
+    → result ≢ SecondTooLong
+certificate_not_long verdict before after result meets long = by verdict (subst (Meets (judges verdict) before after) long meets).0
+  where
+    by : (v : Verdict) → verdict_status v ≡ SecondTooLong → ⊥
+    by IsValid e = absurd (cc e)
+    by (IsInvalid line) e = absurd (cc e)
+
 -- a failure of the output is one of writing the transcript, or else one of telling the status
 pub output_cause : {A B : Type 0} (status result : Status)
     → (status ≡ OutputFailed → A)

@@ -1,4 +1,4 @@
--- Texts have one verdict and one canonical text, and certificates one verdict.
+-- Texts have one verdict and one canonical text.
 use Rattle.std.proofs.Common.{◌≡◌, ◌<◌, ℕ, List, length, sym, ◌∙◌, ap, ap₂, refl}
 use Rattle.lv_base.specs.declared.limits.TheConstants.{MODEL_BYTES}
 use Rattle.lv_model.specs.declared.plant.Plant.{Plant}
@@ -9,10 +9,6 @@ use Rattle.lv_reader.proofs.ReadingLemmas.{text_one}
 use Rattle.lv_checker.specs.Verdicts.{IsVerdict, accepted, refused, not_read}
 use Rattle.lv_checker.proofs.VerdictLemmas.{verdict_one}
 use Rattle.lv_reader.specs.CanonicalTexts.{canonical_model}
-use Rattle.lv_certcheck.proofs.lv_cert.AgreeLemmas.{one_certificate, one_fault, fault_or_certificate}
-use Rattle.lv_certcheck.specs.Verdicts.{IsVerdictOn, of_lines, of_form, verdict}
-use Rattle.lv_certcheck.specs.declared.check.Verdict.{Verdict}
-use Rattle.lv_certcheck.specs.declared.check.Verdict.TheVariants.{Invalid}
 use Rattle.lv_run.specs.Inputs.{IsCanonical}
 use Rattle.lv_run.specs.Expected.{fails}
 use Rattle.lv_run.specs.declared.fault.RunFault.TheVariants.{ModelRefused as BadModel}
@@ -42,10 +38,3 @@ refused_by_reading bytes code line fault = not_read code line fault refl
 pub refused_for_length : (bytes : List ℕ) → MODEL_BYTES < length bytes → IsVerdict bytes (refused TextTooLong 0)
 refused_for_length bytes beyond =
     refused_by_reading bytes TextTooLong 0 (too_long (record { beyond = beyond; code_is = refl; line_is = refl }))
-
--- a certificate has one verdict
-pub verdict_is_one : (plant : Plant) (bytes : List ℕ) (v w : Verdict) → IsVerdictOn plant bytes v → IsVerdictOn plant bytes w → v ≡ w
-verdict_is_one plant bytes v w (of_lines lines a e) (of_lines others b f) = e ∙ ap (verdict plant) (one_certificate bytes lines others a b) ∙ sym f
-verdict_is_one plant bytes v w (of_lines lines a e) (of_form n b f) = absurd (fault_or_certificate bytes lines n a b)
-verdict_is_one plant bytes v w (of_form n a e) (of_lines lines b f) = absurd (fault_or_certificate bytes lines n b a)
-verdict_is_one plant bytes v w (of_form n a e) (of_form m b f) = e ∙ ap Invalid (one_fault bytes n m a b) ∙ sym f

@@ -1,5 +1,5 @@
 -- The premises of the top call's promises, and what it tells.
-use Rattle.std.specs.Prelude.{◌≡◌, ℕ, ◌≤◌, true, List, length, Option, Some, Result}
+use Rattle.std.specs.Prelude.{◌≡◌, ℕ, ◌≤◌, ◌⊎◌, true, List, length, Option, Some, Result}
 use Rattle.std.specs.Io.KnownBytes.{append_known}
 use Rattle.lv_base.specs.declared.limits.TheConstants.{CERTIFICATE_BYTES}
 use Rattle.lv_io.specs.Outside.{Rose}
@@ -23,6 +23,7 @@ use Rattle.lv_run.specs.Telling.{Tells}
 use Rattle.lv_run.specs.declared.status.Ended.{Ended}
 use Rattle.lv_run.specs.declared.fault.RunFault.{RunFault}
 use Rattle.lv_run.specs.declared.status.Status.{Status}
+use Rattle.lv_run.specs.declared.status.Status.TheVariants.{OutOfMemory}
 
 -- the words ask for a run of this session, or of sessions in lanes, over this model, both of which the files hold: the model's text is
 -- accepted, and the session is no longer than its limit, or a `quit` that is accepted, where it is one session, ends within it
@@ -67,6 +68,12 @@ pub record TellsItsVerdict (plant : Plant) (certificate : List ℕ) (before afte
   pub status_is : result ≡ verdict_status verdict
   pub written : after ≡ append_known before (verdict_line verdict)
   pub proves : verdict ≡ IsValid → ProvesItsAnswer plant certificate
+
+-- the call ends with the verdict on the certificate for the plant, or memory was wanting
+pub record EndsWithVerdict (plant : Plant) (certificate : List ℕ) (result : Status) : Type 0 where
+  pub verdict : Verdict
+  pub is : IsVerdictOn plant certificate verdict
+  pub ends : (result ≡ verdict_status verdict) ⊎ (result ≡ OutOfMemory)
 
 -- no count of the shelf, of the output and of standard error rose
 pub record HasNoFault (shelf shelf_after : Role → ℕ) (out out_after err err_after : ℕ) : Type 0 where

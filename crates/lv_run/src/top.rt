@@ -6,8 +6,9 @@ ghost use Rattle.lv_io.specs.Outside.{Rose};
 ghost use Rattle.lv_io.specs.declared.Role.{Role};
 ghost use Rattle.lv_io.specs.declared.Role.TheVariants.{Model as OfModel, Second as OfSecond};
 ghost use Rattle.lv_run_words.specs.Words.{command_of};
+ghost use Rattle.lv_run_words.specs.declared.commands.Service.{Service};
 ghost use Rattle.lv_run_words.specs.declared.commands.Service.TheVariants.{Single, Lanes};
-ghost use Rattle.lv_run.specs.OfLanes.{AddsLanes};
+ghost use Rattle.lv_run.specs.OfLanes.{AddsLanes, AddsOwnParts};
 ghost use Rattle.lv_run.specs.Faults.{ended_status};
 ghost use Rattle.lv_run.specs.Inputs.{opens_of};
 ghost use Rattle.lv_run.specs.Expected.{Expected, Expects, status_expected, Meets, Follows, TellsVerdict, is_silent, keeps_shelf};
@@ -16,7 +17,7 @@ ghost use Rattle.lv_run.specs.Telling.{Tells};
 ghost use Rattle.lv_session.specs.Transcript.{AddsTranscript};
 ghost use Rattle.lv_session.specs.Answers.{AddsTrueTranscript};
 ghost use Rattle.lv_run.specs.Printed.{AddsCertified};
-ghost use Rattle.lv_run.specs.Top.{Asks, AsksToCheck, AsksForText, HasNoFault, TellsItsVerdict, TellsOwnEnd};
+ghost use Rattle.lv_run.specs.Top.{Asks, AsksToCheck, AsksForText, HasNoFault, TellsItsVerdict, EndsWithVerdict, TellsOwnEnd};
 ghost use Rattle.lv_run.specs.Judged.{verdict_status};
 ghost use Rattle.lv_certcheck.specs.Verdicts.{IsVerdictOn};
 ghost use Rattle.lv_certcheck.specs.declared.check.Verdict.{Verdict};
@@ -61,6 +62,10 @@ pub fn livingstone<F: Shelf, O: Sink, E: Sink>(
     // belongs to each lane is the transcript of the lane's own session over its own lines.
     ensures lanes { (plant : Plant) (lines : List ℕ) → Asks Lanes (F.file shelf.old) (map string_bytes words.items) plant lines → result ≡ Status.Done
         → AddsLanes plant lines (O.text out.old) (O.text out.new) × (E.text err.new ≡ E.text err.old) }
+    // The same byte by byte: of what is written, the lines that begin with `@NAME `, that taken off, are the transcript of
+    // the lane's own session.
+    ensures lanes_bytes { (plant : Plant) (lines : List ℕ) → Asks Lanes (F.file shelf.old) (map string_bytes words.items) plant lines → result ≡ Status.Done
+        → AddsOwnParts plant lines (O.text out.old) (O.text out.new) }
     ensures lanes_complete { (plant : Plant) (lines : List ℕ) → Asks Lanes (F.file shelf.old) (map string_bytes words.items) plant lines
         → HasNoFault (F.faults shelf.old) (F.faults shelf.new) (O.faults out.old) (O.faults out.new) (E.faults err.old) (E.faults err.new)
         → (result ≡ Status.Done) ⊎ (result ≡ Status.OutOfMemory) }
@@ -74,6 +79,13 @@ pub fn livingstone<F: Shelf, O: Sink, E: Sink>(
         → IsVerdictOn plant certificate verdict
         → HasNoFault (F.faults shelf.old) (F.faults shelf.new) (O.faults out.old) (O.faults out.new) (E.faults err.old) (E.faults err.new)
         → (result ≡ verdict_status verdict) ⊎ (result ≡ Status.OutOfMemory) }
+    // Every certificate within its limit has a verdict, so with no fault a check ends with 0 exactly where it is valid and
+    // with 9 where it isn't, or memory was wanting; and never as too long.
+    ensures settles { (plant : Plant) (certificate : List ℕ) → AsksToCheck (F.file shelf.old) (map string_bytes words.items) plant certificate
+        → HasNoFault (F.faults shelf.old) (F.faults shelf.new) (O.faults out.old) (O.faults out.new) (E.faults err.old) (E.faults err.new)
+        → EndsWithVerdict plant certificate result }
+    ensures short_certificate { (plant : Plant) (certificate : List ℕ) → AsksToCheck (F.file shelf.old) (map string_bytes words.items) plant certificate → result ≢ Status.SecondTooLong }
+    ensures short_session { (service : Service) (plant : Plant) (session : List ℕ) → Asks service (F.file shelf.old) (map string_bytes words.items) plant session → result ≢ Status.SecondTooLong }
 
     // The same of a text that the words ask for, the canonical text of a model, one made for a number, or a summary: what
     // is written is that text.

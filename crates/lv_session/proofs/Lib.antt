@@ -3,6 +3,8 @@ pub mod Listed
 pub mod Fitting
 pub mod Keeping
 pub mod StepLaws
+pub mod Slices
+pub mod Steps
 pub mod Answering
 pub mod TrueAnswers
 pub mod Asking

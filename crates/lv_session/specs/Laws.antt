@@ -1,9 +1,11 @@
 -- What holds of every step of a session; and where no certificate is told, a session has exactly one transcript.
 use Rattle.std.specs.Prelude.{◌≡◌, ℕ, ◌+◌, Bool, true, false, List, [], ◌∷◌, ◌++◌, Option}
-use Rattle.std.specs.List.{list_any}
+use Rattle.std.specs.List.{list_any, sum}
 use Rattle.lv_io.specs.Whole.{AddsFront}
 use Rattle.lv_text.specs.Lines.{lines_of}
 use Rattle.lv_model.specs.declared.plant.Plant.{Plant}
+use Rattle.lv_model.specs.WellFormed.{is_well_formed}
+use Rattle.lv_search_walk.specs.declared.outcome.Outcome.{Outcome}
 use Rattle.lv_search_walk.specs.declared.outcome.Outcome.TheVariants.{Unsettled}
 use Rattle.lv_reply.specs.declared.reply.Reply.{Reply}
 use Rattle.lv_reply.specs.declared.reply.Reply.TheVariants.{Nothing, Refused, Certificate}
@@ -12,6 +14,7 @@ use Rattle.lv_session_request.specs.declared.request.Request.{Request}
 use Rattle.lv_session_request.specs.declared.request.Request.TheVariants.{Track, SetControl, Release, Observe, Retract, SetGoal, DropGoal, More, Commit, Reset}
 use Rattle.lv_session.specs.declared.query.Query.TheVariants.{Absent, Diagnosis, Recovery}
 use Rattle.lv_session.specs.Session.{SessionState, start, walked, recovery, diagnosis_reply, recovery_reply, is_settled, carried_out, stepped}
+use Rattle.lv_session.specs.States.{IsStateOf}
 use Rattle.lv_session.specs.Transcript.{IsTranscript, AddsFrontOfTranscript}
 
 -- the replies to lines, in order
@@ -81,6 +84,29 @@ pub record MoreIsTheSum : Type 0 where
       → (carried_out plant state (More n)).reply ≡ diagnosis_reply (walked plant state (sum + n))
   pub of_recovery : (plant : Plant) (state : SessionState) (sum n : ℕ) → state.query ≡ Recovery sum → (recovery plant state sum).outcome ≡ Unsettled
       → (carried_out plant state (More n)).reply ≡ recovery_reply (recovery plant state (sum + n))
+
+-- the state behind a `more` line with each of these numbers
+abbrev pub gone_on : Plant → SessionState → List ℕ → SessionState
+gone_on plant state [] = state
+gone_on plant state (n ∷ ns) = gone_on plant (carried_out plant state (More n)).state ns
+
+-- what comes of so many trials isn't settled, nor what comes of those and the first of these numbers, and so on, but for the last
+abbrev pub GoesOn : (ℕ → Outcome) → ℕ → List ℕ → Type 0
+GoesOn outcome trials [] = Unit {0}
+GoesOn outcome trials (n ∷ ns) = (outcome trials ≡ Unsettled) × GoesOn outcome (trials + n) ns
+
+-- in however many slices a query's trials come, it is the query of their sum, and nothing else has changed
+pub record SlicesAreTheSum : Type 0 where
+  pub of_diagnosis : (plant : Plant) (state : SessionState) (first : ℕ) (ns : List ℕ) → state.query ≡ Diagnosis first
+      → GoesOn (λ trials. (walked plant state trials).outcome) first ns → gone_on plant state ns ≡ record state { query = Diagnosis (first + sum ns) }
+  pub of_recovery : (plant : Plant) (state : SessionState) (first : ℕ) (ns : List ℕ) → state.query ≡ Recovery first
+      → GoesOn (λ trials. (recovery plant state trials).outcome) first ns → gone_on plant state ns ≡ record state { query = Recovery (first + sum ns) }
+
+-- the start is a state of the plant, and what any line leads to from one is one: modes and values are there, no state costs more than
+-- its steps can, and all is within its limits
+pub record StatesStayStates : Type 0 where
+  pub start : (plant : Plant) → is_well_formed plant ≡ true → IsStateOf plant (start plant)
+  pub step : (plant : Plant) (state : SessionState) (line : List ℕ) → is_well_formed plant ≡ true → IsStateOf plant state → IsStateOf plant (stepped plant state line).state
 
 -- a certificate is told of a settled query alone, and the line changes nothing
 pub record CertificateChangesNothing : Type 0 where

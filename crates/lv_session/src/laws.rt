@@ -1,7 +1,7 @@
 //! What holds of steps and transcripts. The functions do nothing; their clauses are the laws.
 #![tactic(auto)]
 
-ghost use Rattle.lv_session.specs.Laws.{TranscriptIsOne, RefusedLineChangesNothing, NoQuerySurvivesAChange, MoreIsTheSum, CertificateChangesNothing, EndedIsSilent};
+ghost use Rattle.lv_session.specs.Laws.{TranscriptIsOne, RefusedLineChangesNothing, NoQuerySurvivesAChange, MoreIsTheSum, SlicesAreTheSum, StatesStayStates, CertificateChangesNothing, EndedIsSilent};
 ghost use Rattle.lv_session.specs.Answers.{SettledAnswersAreFirst};
 
 /// Where no certificate is told, a session has exactly one transcript.
@@ -22,6 +22,17 @@ pub fn no_query_survives_a_change()
 /// A diagnosis that goes on is the diagnosis with the sum of all its trials.
 pub fn more_is_the_sum()
     ensures { MoreIsTheSum }
+{}
+
+/// The same of any number of slices: the query is that of the sum of all its trials, and nothing else has changed.
+pub fn slices_are_the_sum()
+    ensures { SlicesAreTheSum }
+{}
+
+/// Whatever lines come, what a session holds are modes and values of its plant, no state costs more than its steps can, and
+/// each list and number is within its limits.
+pub fn states_stay_states()
+    ensures { StatesStayStates }
 {}
 
 /// A certificate is told of a settled query alone, and changes nothing.

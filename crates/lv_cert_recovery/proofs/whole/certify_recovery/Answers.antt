@@ -10,8 +10,8 @@ use Rattle.lv_cert_recovery.proofs.DoneLemmas.{done, formed}
 use Rattle.lv_cert_recovery.proofs.whole.certify_recovery.Goals as goal
 
 -- so they are in order
-pub new-requires : goal.new-requires
-new-requires c =
+pub new-requires-2 : goal.new-requires-2
+new-requires-2 c =
     (done
     c.args.model.now c.args.aim.now c.args.answer.now.listed.now c.args.answer.now.kept.now c.requires.settled (rw c.plant-plant.ensures.plant at c.plant-plant.ensures.well_formed) c.requires.asked
     c.args.texts.now c.requires.texts c.in_ok-lines.lines.items c.push_answer.new.lines.items c.in_ok-lines.ensures
@@ -22,7 +22,7 @@ new-requires c =
 
 pub returns-clause-certifies : goal.returns-clause-certifies
 returns-clause-certifies c =
-    subst (λ (ls : List Line). CertifiesRecovery c.args.model.now c.args.aim.now c.args.answer.now.listed.now ls) (sym c.new.ensures)
+    subst (λ (ls : List Line). CertifiesRecovery c.args.model.now c.args.aim.now c.args.answer.now.listed.now ls) (sym c.new-2.ensures)
     (done
     c.args.model.now c.args.aim.now c.args.answer.now.listed.now c.args.answer.now.kept.now c.requires.settled (rw c.plant-plant.ensures.plant at c.plant-plant.ensures.well_formed) c.requires.asked
     c.args.texts.now c.requires.texts c.in_ok-lines.lines.items c.push_answer.new.lines.items c.in_ok-lines.ensures
@@ -33,7 +33,7 @@ returns-clause-certifies c =
 
 pub returns-clause-formed : goal.returns-clause-formed
 returns-clause-formed c =
-    subst (λ (ls : List Line). AreFormed c.args.model.now ls) (sym c.new.ensures)
+    subst (λ (ls : List Line). AreFormed c.args.model.now ls) (sym c.new-2.ensures)
     (formed
     c.args.model.now c.args.aim.now c.args.answer.now.listed.now c.args.answer.now.kept.now c.requires.settled (rw c.plant-plant.ensures.plant at c.plant-plant.ensures.well_formed) c.requires.asked
     c.args.texts.now c.requires.texts c.in_ok-lines.lines.items c.push_answer.new.lines.items c.in_ok-lines.ensures

@@ -7,8 +7,9 @@ use Rattle.lv_run.specs.Expected.{Meets, serves, judges, shows}
 use Rattle.lv_run.specs.Faults.{ended_status}
 use Rattle.lv_run.specs.declared.status.Status.{Status}
 use Rattle.lv_run_words.specs.declared.commands.Service.TheVariants.{Single, Lanes}
-use Rattle.lv_run.proofs.ServiceLemmas.{adds_lanes}
-use Rattle.lv_run.proofs.TopLemmas.{reported_meets, status_due, expected_run, expected_check, expected_text, told_verdict, ended_done, output_cause}
+use Rattle.lv_run.proofs.ServiceLemmas.{adds_lanes, adds_own_parts}
+use Rattle.lv_run.proofs.TopLemmas.{reported_meets, status_due, expected_run, expected_check, expected_text, told_verdict, ended_done, session_not_long, certificate_not_long, output_cause}
+use Rattle.lv_certcheck.proofs.ProvingLemmas.{exists}
 use Rattle.lv_run.proofs.OpenLemmas.{all_opened}
 use Rattle.lv_session.proofs.TrueAnswers.{adds_true}
 use Rattle.lv_run.proofs.PrintedLemmas.{adds_certified}
@@ -55,6 +56,12 @@ returns-clause-lanes g c =
       ended_done c.carry_out-ended.result _ _ c.tell_end.result c.tell_end.ensures.status c.tell_end.ensures.told done,
     )
 
+pub returns-clause-lanes_bytes : goal.returns-clause-lanes_bytes
+returns-clause-lanes_bytes g c =
+    λ plant lines asks done. adds_own_parts plant lines (g.O.Sink.text c.args.out.now) (g.O.Sink.text c.carry_out-ended.new.out)
+    (subst (λ (s : Status). Meets (serves Lanes plant lines) (g.O.Sink.text c.args.out.now) (g.O.Sink.text c.carry_out-ended.new.out) s) done
+    (returns-clause-meets g c (serves Lanes plant lines) (expected_run Lanes (g.F.Shelf.file c.args.shelf.now) (map (string_bytes {Z = Global}) c.args.words.items) plant lines asks))).1
+
 pub returns-clause-lanes_complete : goal.returns-clause-lanes_complete
 returns-clause-lanes_complete g c =
     λ plant lines asks none. returns-clause-exact g c (serves Lanes plant lines)
@@ -97,3 +104,23 @@ pub returns-clause-judged : goal.returns-clause-judged
 returns-clause-judged g c =
     λ plant certificate verdict asks is none. returns-clause-exact g c (judges verdict)
     (expected_check (g.F.Shelf.file c.args.shelf.now) (map (string_bytes {Z = Global}) c.args.words.items) plant certificate verdict asks is) none
+
+pub returns-clause-settles : goal.returns-clause-settles
+returns-clause-settles g c =
+    λ plant certificate asks none. record {
+      verdict = (exists plant certificate).verdict;
+      is = (exists plant certificate).is;
+      ends = returns-clause-judged g c plant certificate (exists plant certificate).verdict asks (exists plant certificate).is none;
+    }
+
+pub returns-clause-short_certificate : goal.returns-clause-short_certificate
+returns-clause-short_certificate g c =
+    λ plant certificate asks long. certificate_not_long (exists plant certificate).verdict (g.O.Sink.text c.args.out.now) (g.O.Sink.text c.carry_out-ended.new.out) c.tell_end.result
+    (returns-clause-meets g c (judges (exists plant certificate).verdict)
+    (expected_check (g.F.Shelf.file c.args.shelf.now) (map (string_bytes {Z = Global}) c.args.words.items) plant certificate (exists plant certificate).verdict asks (exists plant certificate).is)) long
+
+pub returns-clause-short_session : goal.returns-clause-short_session
+returns-clause-short_session g c =
+    λ service plant session asks long. session_not_long service plant session (g.O.Sink.text c.args.out.now) (g.O.Sink.text c.carry_out-ended.new.out) c.tell_end.result
+    (returns-clause-meets g c (serves service plant session)
+    (expected_run service (g.F.Shelf.file c.args.shelf.now) (map (string_bytes {Z = Global}) c.args.words.items) plant session asks)) long
