@@ -8,7 +8,6 @@
 #include "livingstone.h"
 
 #include <stdlib.h>
-#include <string.h>
 
 /* What C holds for the proved side: a pointer that owns something, or null. */
 struct model_handle {

@@ -6,18 +6,19 @@
 # shellcheck source-path=SCRIPTDIR source=common.sh
 . "$(dirname "$(readlink -f "${BASH_SOURCE[0]}")")/common.sh"
 
-if ! "$root/library/build" "$work/library" >"$work/build" 2>&1 </dev/null; then
+library="$root/library/out"
+if ! "$root/library/build" "$library" >"$work/build" 2>&1 </dev/null; then
     tail -20 "$work/build"
     echo 'FAILED: the library could not be built'
     exit 1
 fi
 compile() {
-    "${CC:-cc}" -std=c11 -O1 -g -Wall -Wextra -Werror -I"$root/library/include" "$1" "$work/library/liblivingstone.a" -o "$2"
+    "${CC:-cc}" -std=c11 -O1 -g -Wall -Wextra -Werror -I"$root/library/include" "$1" "$library/liblivingstone.a" -o "$2"
 }
 compile "$root/tests/embedding.c" "$work/embedding" || exit 1
 
 # What the header names is all that the library shows.
-shown="$(nm --defined-only --extern-only "$work/library/liblivingstone.a" | sed -n 's/.* T //p' | sort | tr '\n' ' ')"
+shown="$(nm --defined-only --extern-only "$library/liblivingstone.a" | sed -n 's/.* T //p' | sort | tr '\n' ' ')"
 named="$(grep -o 'livingstone_[a-z_]*(' "$root/library/include/livingstone.h" | tr -d '(' | sort -u | tr '\n' ' ')"
 if [ "$shown" = "$named" ]; then
     passed=$((passed + 1))

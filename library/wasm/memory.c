@@ -1,0 +1,125 @@
+/* Memory in a WebAssembly module: blocks whose sizes are powers of two, which are kept by their sizes once they are let go, and
+ * pages that the module asks its host for as they are needed. */
+#include "stdint.h"
+#include "stdlib.h"
+
+/* What stands before a block. */
+struct head {
+    uint64_t power;
+    struct head *next; /* of a block that was let go: the one that was before it */
+};
+
+_Static_assert(sizeof(struct head) == 16, "blocks begin at multiples of 16");
+
+enum { LEAST = 5, MOST = 40, PAGE = 65536 };
+
+extern unsigned char __heap_base;
+
+static struct head *kept[MOST + 1];
+static uintptr_t unused, end;
+
+static uint64_t power_of(size_t size)
+{
+    uint64_t power = LEAST;
+    while (((size_t)1 << power) < size)
+        power += 1;
+    return power;
+}
+
+/* Makes room for so many bytes behind `unused`. */
+static int make_room(size_t size)
+{
+    if (unused == 0) {
+        unused = ((uintptr_t)&__heap_base + 15) / 16 * 16;
+        end = __builtin_wasm_memory_size(0) * PAGE;
+    }
+    if (end - unused >= size)
+        return 1;
+    size_t pages = (size - (end - unused) + PAGE - 1) / PAGE;
+    if (__builtin_wasm_memory_grow(0, pages) == (size_t)-1)
+        return 0;
+    end += pages * PAGE;
+    return 1;
+}
+
+void *malloc(size_t size)
+{
+    if (size > ((size_t)1 << MOST) - sizeof(struct head))
+        return NULL;
+    uint64_t power = power_of(size + sizeof(struct head));
+    struct head *head = kept[power];
+    if (head != NULL) {
+        kept[power] = head->next;
+        return head + 1;
+    }
+    if (!make_room((size_t)1 << power))
+        return NULL;
+    head = (struct head *)unused;
+    unused += (size_t)1 << power;
+    head->power = power;
+    return head + 1;
+}
+
+void free(void *at)
+{
+    if (at == NULL)
+        return;
+    struct head *head = (struct head *)at - 1;
+    head->next = kept[head->power];
+    kept[head->power] = head;
+}
+
+void *memcpy(void *restrict to, const void *restrict from, size_t length)
+{
+    unsigned char *t = to;
+    const unsigned char *f = from;
+    for (size_t i = 0; i < length; i++)
+        t[i] = f[i];
+    return to;
+}
+
+void *memmove(void *to, const void *from, size_t length)
+{
+    unsigned char *t = to;
+    const unsigned char *f = from;
+    if (t < f)
+        for (size_t i = 0; i < length; i++)
+            t[i] = f[i];
+    else
+        for (size_t i = length; i > 0; i--)
+            t[i - 1] = f[i - 1];
+    return to;
+}
+
+void *memset(void *at, int value, size_t length)
+{
+    unsigned char *t = at;
+    for (size_t i = 0; i < length; i++)
+        t[i] = (unsigned char)value;
+    return at;
+}
+
+int memcmp(const void *left, const void *right, size_t length)
+{
+    const unsigned char *l = left, *r = right;
+    for (size_t i = 0; i < length; i++)
+        if (l[i] != r[i])
+            return l[i] < r[i] ? -1 : 1;
+    return 0;
+}
+
+void *realloc(void *at, size_t size)
+{
+    if (at == NULL)
+        return malloc(size);
+    struct head *head = (struct head *)at - 1;
+    size_t had = ((size_t)1 << head->power) - sizeof(struct head);
+    if (size <= had)
+        return at;
+    void *moved = malloc(size);
+    if (moved == NULL)
+        return NULL;
+    memcpy(moved, at, had);
+    free(at);
+    return moved;
+}
