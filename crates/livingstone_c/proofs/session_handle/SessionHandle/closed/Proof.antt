@@ -1,9 +1,9 @@
 -- `closed` makes a handle that owns nothing: its pointer is null.
-use mathlib.Core.Path.{refl, sym, subst, ap}
+use mathlib.Core.Path.{refl, sym, subst}
 use mathlib.Core.List.{List, [], ◌∷◌, ◌++◌}
 use lib.Dec.{lit<}
 use seplogic.Ra.Ura.{Ura}
-use mir.Val.{Val, vnull, vstruct, vcons, vnil, of_list, has_ty}
+use mir.Val.{Val, vnull, vstruct, vcons, vnil, has_ty}
 use base.Logic.{SProp, ent, emp, id⊢}
 use base.Fml.{ftrue, fsep}
 use prog.Memory.{Memory}
@@ -14,12 +14,12 @@ use contract.Monad.{Fun}
 use contract.Running.{tables, tables_of}
 use sound.WpLaws.{WpFn-mono}
 use types.Kit.{Item, ‵, raw, ◌⊛◌, ◌$◌, ◌∵◌, !, qed, by, move, drop, use1, join, split, fsplit, fjoin, fpack, feq_i, suffices, done}
-use types.Part.{whole, sub, agg}
-use types.Run.{stop, fld, lit, no_more, and_then, of_opd, returns, enter}
-use types.ByLocal.{alloc_all, pass_all, free_all, look_at, get, get_in, sets}
+use types.Part.{agg}
+use types.Run.{lit, no_more, and_then, returns, enter}
+use types.ByLocal.{alloc_all, pass_all, free_all, look_at, get, sets}
 use denote.Exit.{yes}
 use denote.RattleType.{Valss}
-use denote.RawPtr.{Ptr, RawPtr, null_ptr, ptr_val}
+use denote.RawPtr.{RawPtr, null_ptr, ptr_val}
 use denote.Signature.{type_at, plain, Slot}
 use denote.Struct.Struct.{within}
 use denote.Struct.Owning.{shape, to}
