@@ -1,5 +1,6 @@
-/* Memory in a WebAssembly module: blocks whose sizes are powers of two, which are kept by their sizes once they are let go, and
- * pages that the module asks its host for as they are needed. */
+/* What a WebAssembly module lacks without a C library: memory, in blocks whose sizes are powers of two, which are kept by their sizes
+ * once they are let go, with pages that the module asks its host for as they are needed; copies; and products and quotients of 128 bits. */
+#include "stdbool.h"
 #include "stdint.h"
 #include "stdlib.h"
 
@@ -122,4 +123,37 @@ void *realloc(void *at, size_t size)
     memcpy(moved, at, had);
     free(at);
     return moved;
+}
+
+/* The product of two numbers of 128 bits, which clang asks for by this name. It is that of four halves, without such a product. */
+__int128 __multi3(__int128 left, __int128 right);
+
+__int128 __multi3(__int128 left, __int128 right)
+{
+    const uint64_t half = 0xffffffff;
+    uint64_t l = (uint64_t)left, r = (uint64_t)right;
+    uint64_t low = (l & half) * (r & half);
+    uint64_t middle = (l >> 32) * (r & half) + (low >> 32);
+    uint64_t other = (l & half) * (r >> 32) + (middle & half);
+    uint64_t high = (l >> 32) * (r >> 32) + (middle >> 32) + (other >> 32);
+    high += (uint64_t)(left >> 64) * r + l * (uint64_t)(right >> 64);
+    low = (other << 32) | (low & half);
+    return (__int128)(((unsigned __int128)high << 64) | low);
+}
+
+/* The quotient of two such numbers, bit by bit. By zero nothing divides. */
+unsigned __int128 __udivti3(unsigned __int128 left, unsigned __int128 right);
+
+unsigned __int128 __udivti3(unsigned __int128 left, unsigned __int128 right)
+{
+    unsigned __int128 quotient = 0, rest = 0;
+    for (int bit = 127; bit >= 0; bit--) {
+        bool carries = rest >> 127;
+        rest = (rest << 1) | ((left >> bit) & 1);
+        if (carries || rest >= right) {
+            rest -= right;
+            quotient |= (unsigned __int128)1 << bit;
+        }
+    }
+    return quotient;
 }
