@@ -75,10 +75,13 @@ static enum livingstone_end ask_next(struct talk *talk, bool *went_on)
     const char *line = talk->lines.at + talk->asked;
     const char *end = memchr(line, '\n', talk->lines.length - talk->asked);
     size_t length = end != NULL ? (size_t)(end - line) : talk->lines.length - talk->asked;
+    talk->asked += length + (end != NULL);
+    /* To the program a carriage return belongs to the line's end. */
+    if (length > 0 && line[length - 1] == '\r')
+        length -= 1;
     livingstone_reply reply;
     enum livingstone_end ended = livingstone_answer(talk->session, line, length, &reply);
     add(&talk->replies, reply);
-    talk->asked += length + (end != NULL);
     return ended;
 }
 

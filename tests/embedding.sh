@@ -41,7 +41,8 @@ same() {
 
 # 1,000 lines: those of the valve's sessions, again and again, without the line that ends one.
 cat "$root"/tests/sessions/valve*.ses "$root/examples/first.ses" | grep -v '^ *quit' >"$work/some"
-while [ "$(wc -l <"$work/lines" 2>/dev/null || echo 0)" -lt 1000 ]; do cat "$work/some" >>"$work/lines"; done
+: >"$work/lines"
+while [ "$(wc -l <"$work/lines")" -lt 1000 ]; do cat "$work/some" >>"$work/lines"; done
 head -1000 "$work/lines" >"$work/thousand"
 
 try_all() {

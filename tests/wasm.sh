@@ -34,7 +34,8 @@ run run "$root/examples/propulsion.lv" "$root/examples/propulsion.ses" </dev/nul
 same propulsion run "$root/examples/propulsion.lv" "$root/examples/propulsion.ses"
 
 cat "$root"/tests/sessions/valve*.ses "$root/examples/first.ses" | grep -v '^ *quit' >"$work/some"
-while [ "$(wc -l <"$work/lines" 2>/dev/null || echo 0)" -lt 1000 ]; do cat "$work/some" >>"$work/lines"; done
+: >"$work/lines"
+while [ "$(wc -l <"$work/lines")" -lt 1000 ]; do cat "$work/some" >>"$work/lines"; done
 head -1000 "$work/lines" >"$work/thousand"
 run run "$valve" "$work/thousand" </dev/null
 same '1,000 lines' run "$valve" "$work/thousand"

@@ -141,19 +141,23 @@ __int128 __multi3(__int128 left, __int128 right)
     return (__int128)(((unsigned __int128)high << 64) | low);
 }
 
-/* The quotient of two such numbers, bit by bit. By zero nothing divides. */
+/* The quotient of two such numbers, bit by bit, of halves, since clang asks for the shifts of whole ones too. By zero nothing
+ * divides. */
 unsigned __int128 __udivti3(unsigned __int128 left, unsigned __int128 right);
 
 unsigned __int128 __udivti3(unsigned __int128 left, unsigned __int128 right)
 {
-    unsigned __int128 quotient = 0, rest = 0;
+    uint64_t l[2] = {(uint64_t)left, (uint64_t)(left >> 64)}, r[2] = {(uint64_t)right, (uint64_t)(right >> 64)};
+    uint64_t quotient[2] = {0, 0}, rest[2] = {0, 0};
     for (int bit = 127; bit >= 0; bit--) {
-        bool carries = rest >> 127;
-        rest = (rest << 1) | ((left >> bit) & 1);
-        if (carries || rest >= right) {
-            rest -= right;
-            quotient |= (unsigned __int128)1 << bit;
+        bool carries = rest[1] >> 63;
+        rest[1] = (rest[1] << 1) | (rest[0] >> 63);
+        rest[0] = (rest[0] << 1) | ((l[bit / 64] >> (bit % 64)) & 1);
+        if (carries || rest[1] > r[1] || (rest[1] == r[1] && rest[0] >= r[0])) {
+            rest[1] -= r[1] + (rest[0] < r[0]);
+            rest[0] -= r[0];
+            quotient[bit / 64] |= (uint64_t)1 << (bit % 64);
         }
     }
-    return quotient;
+    return ((unsigned __int128)quotient[1] << 64) | quotient[0];
 }

@@ -114,6 +114,9 @@ class LibraryTransport(Transport):
         if not self._closing.alive:
             raise SessionEnded("the session was closed")
         self._model.stay_on_thread()
+        if line.endswith(b"\r"):
+            # To the program that belongs to the line's end.
+            line = line[:-1]
         reply = _Reply()
         if self._loaded.livingstone_answer(self._handle, line, len(line), ctypes.byref(reply)) != _DONE:
             raise ReplyCut(line.decode("utf-8", "backslashreplace"), "", OUT_OF_MEMORY, "out of memory")
