@@ -1,10 +1,11 @@
 #!/usr/bin/env bash
 # Runs the tests of the Python package over the built program, and the sessions of examples/netlists, whose replies an
-# independent reference program gave.
+# independent reference program gave. Where the library is built, its sessions too.
 # shellcheck source-path=SCRIPTDIR source=common.sh
 . "$(dirname "$(readlink -f "${BASH_SOURCE[0]}")")/common.sh"
 
 export LIVINGSTONE="$program"
+[ -f "$root/library/out/liblivingstone.so" ] || echo 'the library is not built (library/build): sessions over it are not tried'
 export PYTHONDONTWRITEBYTECODE=1
 
 if ! python3 -c 'import sys; sys.exit(sys.version_info < (3, 9))'; then

@@ -8,11 +8,12 @@
         for candidate in session.diagnose().candidates:
             print(candidate.cost, [str(move) for move in candidate.moves])
 
-The engine is a program of its own, which is proved; this package is tested, and not proved.
+The engine is a program of its own, or a library in this process; either is proved. This package is tested, and not proved.
 """
 
 from .errors import (
     BadReply,
+    LibraryNotFound,
     LivingstoneError,
     ModelRefused,
     ProgramFailed,
@@ -21,6 +22,7 @@ from .errors import (
     ReplyCut,
     SessionEnded,
 )
+from .library import LibraryTransport
 from .replies import (
     Accepted,
     Candidate,
@@ -44,7 +46,7 @@ from .transport import PipeTransport, Transport
 
 __all__ = [
     "Accepted", "BadReply", "Candidate", "Certificate", "Committed", "Conflicts", "Diagnosis", "Label", "Labels",
-    "LivingstoneError", "Model", "ModelRefused", "Move", "PipeTransport", "ProgramFailed", "ProgramNotFound",
+    "LibraryNotFound", "LibraryTransport", "LivingstoneError", "Model", "ModelRefused", "Move", "PipeTransport", "ProgramFailed", "ProgramNotFound",
     "Recovery", "Refusal", "Refused", "Reply", "ReplyCut", "Session", "SessionEnded", "Setting", "Silence", "State",
     "States", "Transport",
 ]

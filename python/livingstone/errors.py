@@ -13,6 +13,10 @@ class ProgramNotFound(LivingstoneError):
     """No program to talk to was found."""
 
 
+class LibraryNotFound(LivingstoneError):
+    """The file that was named is no library of the engine."""
+
+
 class ProgramFailed(LivingstoneError):
     """The program ended with a status that says why: see `status` and `said`, its line on standard error."""
 

@@ -11,6 +11,7 @@ from typing import Callable, Optional, Type, TypeVar, Union
 
 from .declarations import read_plant
 from .errors import BadReply, Refused, SessionEnded
+from .library import Library, LibraryModel, LibraryTransport, find_library
 from .plant import Plant
 from .program import check_certificate, file_name, find_program, print_model
 from .replies import (
@@ -38,22 +39,37 @@ BUDGET = 10_000
 
 
 class Model:
-    """A model that the program accepted: its file, its canonical text, and what it declares."""
+    """A model that was accepted: its file, its canonical text, and what it declares.
 
-    def __init__(self, path: str, program: Optional[str] = None) -> None:
-        self.program = find_program(program)
+    It is opened by the program, or by the library where one is named, as an argument or by LIVINGSTONE_LIBRARY; a program
+    that is given goes before the variable. Over the library a model and its sessions stay on one thread, and the canonical
+    text still takes the program.
+    """
+
+    def __init__(self, path: str, program: Optional[str] = None, library: Optional[str] = None) -> None:
         self.path = file_name(path)
-        self.canonical = print_model(self.program, self.path)
+        self._program = program
         self._plant: Optional[Plant] = None
+        self._canonical: Optional[bytes] = None
+        self._opened: Optional[LibraryModel] = None
+        found = find_library(library) if library or not program else None
+        if found is not None:
+            self._text = Path(path).read_bytes()
+            self._opened = LibraryModel(Library(found), self._text, path)
+        else:
+            self._program = find_program(program)
+            self._text = self.canonical
 
     @classmethod
-    def from_text(cls, text: Union[str, bytes], program: Optional[str] = None) -> Model:
+    def from_text(
+        cls, text: Union[str, bytes], program: Optional[str] = None, library: Optional[str] = None
+    ) -> Model:
         """A model from its text, which is kept in a file as long as the model is in use."""
         folder = tempfile.mkdtemp(prefix="livingstone-")
         try:
             path = Path(folder) / "model.lv"
             path.write_bytes(text.encode() if isinstance(text, str) else text)
-            model = cls(str(path), program)
+            model = cls(str(path), program, library)
         except BaseException:
             shutil.rmtree(folder, ignore_errors=True)
             raise
@@ -61,18 +77,32 @@ class Model:
         return model
 
     @property
+    def program(self) -> str:
+        return find_program(self._program)
+
+    @property
+    def canonical(self) -> bytes:
+        if self._canonical is None:
+            self._canonical = print_model(self.program, self.path)
+        return self._canonical
+
+    @property
     def plant(self) -> Plant:
         if self._plant is None:
-            self._plant = read_plant(self.canonical)
+            self._plant = read_plant(self._text)
         return self._plant
 
     def session(self) -> Session:
-        """A new session, in a process of its own."""
+        """A new session: in a process of its own, or of the library."""
+        if self._opened is not None:
+            return Session(LibraryTransport(self._opened), self)
         return Session(PipeTransport(self.program, self.path), self)
 
     def check(self, certificate: Union[str, bytes]) -> Optional[int]:
         """The first bad line of a certificate, or None where it is valid."""
         text = certificate.encode() if isinstance(certificate, str) else certificate
+        if self._opened is not None:
+            return self._opened.check(text)[1]
         return check_certificate(self.program, self.path, text)[1]
 
 

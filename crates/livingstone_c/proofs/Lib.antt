@@ -1,0 +1,2 @@
+pub mod AcceptedAsBox
+pub mod TalkAsBox

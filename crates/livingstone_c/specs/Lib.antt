@@ -1,0 +1,3 @@
+pub mod OwnedModel
+pub mod OwnedSession
+pub mod Answers
