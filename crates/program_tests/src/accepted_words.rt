@@ -45,12 +45,20 @@ fn checks(alloc: Global, words: &[&str], of: &str, over: &str) -> Result<bool, A
     }
 }
 
-/// Whether the words ask for a run of this session over this model.
-fn runs(alloc: Global, words: &[&str], of: &str, over: &str) -> Result<bool, AllocError> {
-    Ok(match read(alloc, words)? {
-        Ok(Command::Run { model, session, .. }) => model.as_str() == over && session.as_str() == of,
+/// Whether a command is the run of this session over this model.
+fn is_run(command: &Command, of: &str, over: &str) -> bool {
+    match command {
+        Command::Run { model, session, .. } => model.as_str() == over && session.as_str() == of,
         _ => false,
-    })
+    }
+}
+
+/// Whether the words ask for that run.
+fn runs(alloc: Global, words: &[&str], of: &str, over: &str) -> Result<bool, AllocError> {
+    match read(alloc, words)? {
+        Ok(command) => Ok(is_run(&command, of, over)),
+        Err(_) => Ok(false),
+    }
 }
 
 fn is_refused(alloc: Global, words: &[&str]) -> Result<bool, AllocError> {
