@@ -144,12 +144,12 @@ class Formulas(unittest.TestCase):
 
 class Clauses(unittest.TestCase):
     def test_the_valve(self) -> None:
-        """The clauses that docs/CERTIFICATES.md names, with their numbers, and the lines that say them."""
+        """The clauses that docs/CERTIFICATES.md names, with their numbers, and the lines of the canonical text that say them."""
         compiled = ModelClauses(Model(VALVE).plant)
         self.assertEqual(len(compiled.clauses), 114)
         wanted = {
-            35: ((-19, -20), 0), 39: ((-13, -21, 19), 13), 42: ((-15, -21, 19), 15), 44: ((20,), 24),
-            92: ((-23, 13), 16), 96: ((-24, -6), 16), 100: ((-26, 15), 21),
+            35: ((-19, -20), 0), 39: ((-13, -21, 19), 14), 42: ((-15, -21, 19), 16), 44: ((20,), 25),
+            92: ((-23, 13), 17), 96: ((-24, -6), 17), 100: ((-26, 15), 22),
         }
         for number, (clause, line) in wanted.items():
             found, origin = compiled.clauses[number - 1]
