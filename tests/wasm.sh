@@ -56,4 +56,17 @@ echo 'enough' >"$work/out"
 status=0
 same 'memory' memory "$valve" "$root/examples/first.ses"
 
+# The page opens its first example in a browser, where there is one.
+if command -v chromium >/dev/null && "$root/tools/page" "$work/page.html" >/dev/null; then
+    shown="$(timeout 120 chromium --headless --no-sandbox --disable-gpu --virtual-time-budget=15000 --dump-dom "file://$work/page.html" 2>/dev/null)"
+    if grep -q '<span id="verdict" class="">accepted</span>' <<<"$shown" && grep -q '<text [^>]*>closed</text>' <<<"$shown"; then
+        passed=$((passed + 1))
+    else
+        failed=$((failed + 1))
+        echo 'FAILED: the page in Chromium'
+    fi
+else
+    echo 'chromium is not there: the page was not opened'
+fi
+
 verdict
