@@ -1,9 +1,11 @@
 #!/usr/bin/env python3
-"""Each growth of memory refused once: the built program over a few runs, with the first call for memory refused, then the second,
-and so on until a run makes fewer calls. It is no part of the gate, and wants a C compiler.
+"""Each growth of memory refused, once and for good: the built program over a few runs, with the first call for memory refused,
+then the second, and so on until a run makes fewer calls; and the same with every call from the first on refused, from the
+second on, and so on. It is no part of the gate, and wants a C compiler.
 
-    allocations.py PROGRAM      prints a line for each run: what it is, how many calls were refused one by one, how many of these
-                                runs ended with status 8, and how many did not end as they should
+    allocations.py PROGRAM      prints a line for each run: what it is, how many calls it makes, how many runs with one of them
+                                refused ended with status 8, how many with all from one on refused, and how many did not end as
+                                they should
 
 A run with a refused call has to end with status 8, with a front of the whole output, and with a front of `out of memory` on
 standard error; a run whose refused call was not needed ends as if nothing had failed. A certificate may then have another text
@@ -32,7 +34,7 @@ REFUSING = r"""
 #include <sys/mman.h>
 #include <unistd.h>
 
-static uint64_t here, *count = &here, refused;
+static uint64_t here, *count = &here, refused, for_good;
 
 __attribute__((constructor)) static void begin(void) {
     const char *file = getenv("COUNTED"), *number = getenv("REFUSED");
@@ -44,10 +46,12 @@ __attribute__((constructor)) static void begin(void) {
     if (fd >= 0) close(fd);
     *count = 0;
     refused = number ? strtoull(number, NULL, 10) : 0;
+    for_good = getenv("FOR_GOOD") != NULL;
 }
 
 static int refuses(void) {
-    if (++*count != refused) return 0;
+    *count += 1;
+    if (refused == 0 || *count < refused || (*count > refused && !for_good)) return 0;
     errno = ENOMEM;
     return 1;
 }
@@ -146,9 +150,12 @@ def recovery_certificate():
     raise SystemExit("no certificate of a recovery")
 
 
-def call(words, library, counted, refused):
-    """Status, output and standard error of a run with the call of this number refused, and how many calls it made."""
+def call(words, library, counted, refused, for_good=False):
+    """Status, output and standard error of a run with the call of this number refused, or all from it on, and how many calls
+    it made."""
     environment = {"LD_PRELOAD": library, "COUNTED": counted, "REFUSED": str(refused)}
+    if for_good:
+        environment["FOR_GOOD"] = "1"
     done = subprocess.run(words, stdin=subprocess.DEVNULL, capture_output=True, env=environment, timeout=60)
     with open(counted, "rb") as file:
         return done.returncode, done.stdout, done.stderr, struct.unpack("=Q", file.read())[0]
@@ -170,18 +177,18 @@ def is_transcript(words, out, whole, room):
     return True
 
 
-def sweep(words, library, counted):
+def sweep(words, library, counted, for_good):
     """How many calls were refused, how many of the runs ended with status 8, and how many not as they should."""
     _, whole, _, calls = call(words, library, counted, 0)
     refused = ended = wrong = 0
     while refused < calls:
         refused += 1
-        status, out, err, _ = call(words, library, counted, refused)
+        status, out, err, _ = call(words, library, counted, refused, for_good)
         if status == 8 and whole.startswith(out) and TOLD.startswith(err):
             ended += 1
         elif (status, err) != (0, b"") or not is_transcript(words, out, whole, counted + ".cert"):
             wrong += 1
-            print(f"FAILED: {words[1:]} with call {refused} refused: status {status}, {err!r}")
+            print(f"FAILED: {words[1:]} with call {refused} refused{' for good' * for_good}: status {status}, {err!r}")
     return refused, ended, wrong
 
 
@@ -199,9 +206,10 @@ def main(program):
                     words.append(os.path.join(folder, f"file{i}"))
                     with open(words[-1], "wb") as file:
                         file.write(text)
-            refused, ended, wrong = sweep(words, library, os.path.join(folder, "count"))
-            print(f"| {name} | {refused} | {ended} | {wrong} |")
-            failed += wrong or refused == 0 or ended == 0
+            refused, ended, wrong = sweep(words, library, os.path.join(folder, "count"), False)
+            _, ended_for_good, wrong_for_good = sweep(words, library, os.path.join(folder, "count"), True)
+            print(f"| {name} | {refused} | {ended} | {ended_for_good} | {wrong + wrong_for_good} |", flush=True)
+            failed += wrong + wrong_for_good or refused == 0 or ended == 0 or ended_for_good == 0
     return 1 if failed else 0
 
 
