@@ -7,11 +7,19 @@
 . "$(dirname "$(readlink -f "${BASH_SOURCE[0]}")")/common.sh"
 
 library="$root/library/out"
-if ! "$root/library/build" "$library" >"$work/build" 2>&1 </dev/null; then
+"$root/library/build" --left "$library" >"$work/build" 2>&1 </dev/null
+case $? in
+0) ;;
+3)
+    echo 'the gate left no libraries here, since it proved nothing anew (library/build proves them): the library was not tried'
+    exit 0
+    ;;
+*)
     tail -20 "$work/build"
     echo 'FAILED: the library could not be built'
     exit 1
-fi
+    ;;
+esac
 compile() {
     "${CC:-cc}" -std=c11 -O1 -g -Wall -Wextra -Werror -I"$root/library/include" "$1" "$library/liblivingstone.a" -o "$2"
 }
