@@ -57,7 +57,7 @@ status=0
 same 'memory' memory "$valve" "$root/examples/first.ses"
 
 # The page opens its first example in a browser, where there is one.
-if command -v chromium >/dev/null && "$root/tools/page" "$work/page.html" >/dev/null; then
+if command -v chromium >/dev/null && "$root/tools/page" "$work/page.html" "$work/livingstone.wasm" >/dev/null; then
     shown="$(timeout 120 chromium --headless --no-sandbox --disable-gpu --virtual-time-budget=15000 --dump-dom "file://$work/page.html" 2>/dev/null)"
     if grep -q '<span id="verdict" class="">accepted</span>' <<<"$shown" && grep -q '<text [^>]*>closed</text>' <<<"$shown"; then
         passed=$((passed + 1))
@@ -66,7 +66,7 @@ if command -v chromium >/dev/null && "$root/tools/page" "$work/page.html" >/dev/
         echo 'FAILED: the page in Chromium'
     fi
 else
-    echo 'chromium is not there: the page was not opened'
+    echo 'the page was not opened: there is no chromium, or no page'
 fi
 
 verdict

@@ -34,7 +34,8 @@ class PipeTransport(Transport):
     """A session served by the program, in a process of its own, over pipes.
 
     A thread writes lines and reads replies, and the caller waits for its reply by a number. Interrupts come to the main
-    thread alone, so none is lost in the middle of a read: the reply that nobody waits for any more is passed over.
+    thread alone, so none is lost in the middle of a read: the reply that nobody waits for any more is passed over. Lines
+    and replies go by queues whose calls an interrupt can't leave half done.
     """
 
     def __init__(self, program: str, model: str) -> None:
@@ -58,10 +59,10 @@ class PipeTransport(Transport):
         self._number = 0
         self._closed = False
         self._asked: queue.SimpleQueue[Optional[Tuple[int, bytes]]] = queue.SimpleQueue()
-        # The number of the last line that was answered with its reply, and why no further one is.
-        self._answered: Tuple[int, bytes] = (0, b"")
+        # Each reply with the number of its line, and nothing behind the last; the last number; why no further line is answered.
+        self._replies: queue.SimpleQueue[Tuple[int, Optional[bytes]]] = queue.SimpleQueue()
+        self._answered = 0
         self._failed: Optional[Exception] = None
-        self._news = threading.Condition()
         self._thread = threading.Thread(target=self._serve, daemon=True)
         self._thread.start()
 
@@ -70,15 +71,18 @@ class PipeTransport(Transport):
             raise ValueError("a session line has no line feed in it")
         if self._closed:
             raise SessionEnded("the session was closed")
+        if self._failed is not None:
+            raise self._failed
         self._number += 1
         number = self._number
         self._asked.put((number, line))
-        with self._news:
-            self._news.wait_for(lambda: self._failed is not None or self._answered[0] >= number)
-            if self._answered[0] == number:
-                return self._answered[1]
-            assert self._failed is not None
-            raise self._failed
+        while True:
+            answered, reply = self._replies.get()
+            if reply is None:
+                assert self._failed is not None
+                raise self._failed
+            if answered == number:
+                return reply
 
     def _serve(self) -> None:
         """The thread: sends each line that is asked, and reads its reply."""
@@ -92,13 +96,11 @@ class PipeTransport(Transport):
                 self._send(line)
                 answer = b"" if is_silent(line) else self._reply(line)
             except (ProgramFailed, ReplyCut) as fault:
-                with self._news:
-                    self._failed = fault
-                    self._news.notify_all()
+                self._failed = fault
+                self._replies.put((number, None))
                 return
-            with self._news:
-                self._answered = (number, answer)
-                self._news.notify_all()
+            self._answered = number
+            self._replies.put((number, answer))
 
     def _send(self, line: bytes) -> None:
         assert self._process.stdin is not None
@@ -150,7 +152,7 @@ class PipeTransport(Transport):
         if self._closed:
             return
         self._closed = True
-        if self._failed is None and self._answered[0] < self._number:
+        if self._failed is None and self._answered < self._number:
             # It is in the middle of a search, which nobody waits for.
             self._process.kill()
         self._asked.put(None)
