@@ -33,7 +33,7 @@ and_in_turn false b c = refl
 
 -- the literal of a place
 
-no_value : ValId
+abbrev pub no_value : ValId
 no_value = record { 0 = 0 }
 
 chosen : {X : Type 0} (b : Bool) (x y : X) → b ≡ true → (if b then x else y) ≡ x
@@ -249,12 +249,6 @@ module _ (plant : Plant) (asked : Asked) where
           step = led.is.begins.step;
         };
       }
-
-  -- its value at a place is one of the variable's
-  pub own_below : (lead : Lead) → CanLead plant lead → (place : ℕ) (v : ValId) → place < length (places plant) → v ≡ get_or lead.values place no_value → v.0 < get_or (places plant) place 0
-  own_below lead can place v inside is =
-      let below : number_of lead.values place < get_or (places plant) place 0 = value_below (places plant) lead.values can.values place inside in
-      subst (λ (x : ValId). x.0 < get_or (places plant) place 0) (sym is) below
 
   pub none_yet : (front : List ValId) → NoneBelow plant asked front 0
   none_yet front = record { none = λ v below. absurd (omega (arith, below)) }

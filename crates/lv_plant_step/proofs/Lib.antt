@@ -5,4 +5,5 @@ pub mod AskedLemmas
 pub mod SolutionLemmas
 pub mod LeadLemmas
 pub mod StepLemmas
+pub mod SettledLemmas
 pub mod RecoveryLemmas

@@ -109,7 +109,8 @@ stands_at (x ∷ xs) zero d y ys is = let here : x ≡ y = cc is in let rest : x
 stands_at (x ∷ xs) (suc k) d y ys is =
     let more : StandsAt xs k d y ys = stands_at xs k d y ys is in
     let within = more.within in
-    record { within = omega (arith, within); is = more.is; behind = more.behind }
+    let next : suc k + 1 ≡ suc (k + 1) = omega arith in
+    record { within = omega (arith, within); is = more.is; behind = ap (λ (n : ℕ). drop n (x ∷ xs)) next ∙ more.behind }
 
 module _ (truth : ℕ → Bool) (c : Choices) (ms : List MoveId) (code : EncodeMoves truth c.first c.counts ms) (types : List ComponentType) where
   pub moves_as_named : (k : ℕ) (ps : List Part) (fs : List (Option MoveId)) → drop k c.counts ≡ map (part_moves types) ps → pointwise fault_fits fs (map (part_moves types) ps) ≡ true

@@ -154,6 +154,7 @@ module _ (plant : Plant) (aim : Aim) (u : List ℕ) (s : TrackedState) (asked : 
       }
 
   pub applied_reaches : (step : PlantStep) → plant_step plant asked ≡ Some step → meets_goals aim.goals step.after ≡ true
+  unfolding step_is_nominal
   applied_reaches step h = sym (ap (meets_goals aim.goals) (values_back step.after)) ∙ leads.goals (step_is_nominal step (step_is plant asked step h))
 
 pub recovery_reaches : AppliedRecoveryReaches
