@@ -1,5 +1,5 @@
 -- The literals of what is asked are true exactly where a step is as asked.
-use Rattle.std.proofs.Common.{◌≡◌, ◌<◌, ℕ, zero, suc, Bool, true, false, ◌&&◌, List, [], ◌∷◌, ◌++◌, length, map, get_or, refl, sym, subst, ap, ap₂, ◌∙◌, arith, All, IsTrue}
+use Rattle.std.proofs.Common.{◌≡◌, ◌<◌, ℕ, zero, suc, Bool, true, false, ◌&&◌, List, [], ◌∷◌, length, map, get_or, refl, sym, subst, ap, ap₂, ◌∙◌, arith, All}
 use Rattle.std.specs.List.{list_all}
 use Rattle.std.proofs.lemmas.Bool.{and_parts, ltb-true}
 use Rattle.std.proofs.lemmas.List.Elements.{All-cons, All-append, All-nil, All-tail}
@@ -7,12 +7,11 @@ use Rattle.std.proofs.lemmas.List.Folds.{list_all-append}
 use Rattle.lv_base.specs.declared.ids.Lit.{Lit}
 use Rattle.lv_base.specs.declared.ids.ValId.{ValId}
 use Rattle.lv_base.specs.declared.ids.MoveId.{MoveId}
-use Rattle.lv_clauses.specs.Literals.{in_range, lit_holds}
+use Rattle.lv_clauses.specs.Literals.{lit_holds}
 use Rattle.lv_model.specs.declared.plant.Plant.{Plant}
 use Rattle.lv_model.specs.declared.plant.Part.{Part}
 use Rattle.lv_model.specs.lv_formula.declared.range.Range.{Range}
 use Rattle.lv_model.specs.lv_formula.Fits.{has_value}
-use Rattle.lv_model.specs.lv_formula.Tree.{number_of}
 use Rattle.lv_model.specs.Ranges.{plant_ranges}
 use Rattle.lv_model.specs.Lists.{sizes}
 use Rattle.lv_meaning.specs.declared.facts.Observation.{Observation}
@@ -25,10 +24,10 @@ use Rattle.lv_system.proofs.LiteralLemmas.{now_in_range}
 use Rattle.lv_ident.specs.Literals.{observed_literal, observed_literals, plant_choices}
 use Rattle.lv_ident.proofs.MeaningLemmas.{observed_hold}
 use Rattle.lv_plant_step.specs.declared.asked.Asked.{Asked}
-use Rattle.lv_plant_step.specs.PlantSteps.{are_as_named, is_as_asked, AskedFits}
+use Rattle.lv_plant_step.specs.PlantSteps.{is_as_asked, AskedFits}
 use Rattle.lv_plant_step.specs.Literals.{mode_facts, begin_facts, move_literals, asked_literals}
 use Rattle.lv_plant_step.specs.Assuming.{Assumption, holds, IsLit, SaysMore}
-use Rattle.lv_plant_step.specs.Finding.{Encodes, has_front, Asks}
+use Rattle.lv_plant_step.specs.Finding.{Encodes, Asks}
 use Rattle.lv_plant_step.proofs.NamedLemmas.{moves_as_named, moves_are_lits}
 
 -- modes that fit

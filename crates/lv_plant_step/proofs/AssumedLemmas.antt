@@ -1,5 +1,5 @@
 -- Literals that are assumed one by one, and what they say together.
-use Rattle.std.proofs.Common.{◌≡◌, ◌+◌, ◌<◌, ◌≤◌, ℕ, zero, suc, Bool, true, false, not, ◌&&◌, ◌||◌, nat_eq, nat_lt, List, [], ◌∷◌, ◌++◌, length, drop, replicate, get_or, set, Option, Some, None, is_some, refl, sym, subst, ap, ap₂, ◌∙◌, arith, ◌⊎◌, inl, inr, All}
+use Rattle.std.proofs.Common.{◌≡◌, ◌+◌, ◌<◌, ◌≤◌, ℕ, Bool, true, false, not, ◌&&◌, ◌||◌, nat_eq, List, [], ◌∷◌, ◌++◌, length, drop, get_or, Option, Some, None, is_some, refl, sym, subst, ap, ap₂, ◌∙◌, arith, ◌⊎◌, inl, inr}
 use Rattle.std.specs.List.{list_all, list_any}
 use Rattle.std.proofs.lemmas.Bool.{cases_eq, and_parts, and_from, ltb-true, eq-eqb}
 use Rattle.std.proofs.lemmas.Bool.Decides.{nat_tests}
@@ -16,7 +16,7 @@ use Rattle.lv_sat.specs.declared.answer.Answer.TheVariants.{Sat, Unsat}
 use Rattle.lv_sat.specs.Answers.{Answers, IsModel, IsRefutation}
 use Rattle.lv_sat.specs.lv_reflog.declared.log.Step.{Step}
 use Rattle.lv_ident.proofs.OnceLemmas.{IsNotedOnce, none_noted, distinct_more}
-use Rattle.lv_plant_step.specs.Assuming.{Assumption, holds, AreMarked, IsLit, SaysMore, IsSolution, Tells}
+use Rattle.lv_plant_step.specs.Assuming.{Assumption, holds, AreMarked, SaysMore, Tells}
 
 and_true : (b : Bool) → (b && true) ≡ b
 and_true true = refl

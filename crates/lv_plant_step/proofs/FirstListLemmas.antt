@@ -5,7 +5,7 @@ use Rattle.std.proofs.lemmas.Bool.{and_parts, and_from, lt-ltb, ltb-true, eqb-tr
 use Rattle.lv_base.specs.declared.ids.ValId.{ValId}
 use Rattle.lv_meaning.specs.Possible.{value}
 use Rattle.lv_plant_step.specs.FirstList.{found_or, first_from, first_list, comes_before}
-use Rattle.lv_plant_step.specs.Finding.{is_value, are_values}
+use Rattle.lv_plant_step.specs.Finding.{are_values}
 
 -- where no value from v on finds something, nothing is found
 from_none : (left v : ℕ) (found : ℕ → Option (List ValId)) → ((u : ℕ) → v ≤ u → u < v + left → found u ≡ None) → first_from left v found ≡ None

@@ -1,6 +1,6 @@
 -- Values that are settled one after the other, each the first with which there is a plant step.
-use Rattle.std.proofs.Common.{◌≡◌, ◌+◌, ◌<◌, ◌≤◌, ◌-◌, ℕ, zero, suc, Bool, true, false, ◌&&◌, ◌||◌, nat_eq, nat_lt, if◌then◌else◌, List, [], ◌∷◌, ◌++◌, length, take, drop, get_or, Option, Some, None, refl, sym, subst, ap, ap₂, ◌∙◌, arith, ◌⊎◌, inl, inr, ⊎_elim}
-use Rattle.std.proofs.lemmas.Bool.{and_parts, and_from, or_cases, ltb-true, lt-ltb, eqb-true, eq-eqb}
+use Rattle.std.proofs.Common.{◌≡◌, ◌+◌, ◌<◌, ◌≤◌, ◌-◌, ℕ, zero, suc, Bool, true, false, ◌&&◌, ◌||◌, nat_eq, nat_lt, if◌then◌else◌, List, [], ◌∷◌, ◌++◌, length, take, get_or, Some, None, refl, sym, subst, ap, ap₂, ◌∙◌, arith, ◌⊎◌, inl, inr, ⊎_elim}
+use Rattle.std.proofs.lemmas.Bool.{and_parts, and_from, ltb-true, eqb-true, eq-eqb}
 use Rattle.std.proofs.lemmas.List.{length-append, take_more, take_all, length-take-le, get_or_append_left, get_or-append_right}
 use Rattle.lv_base.specs.declared.ids.Lit.{Lit}
 use Rattle.lv_base.specs.declared.ids.ValId.{ValId}
@@ -18,10 +18,10 @@ use Rattle.lv_plant_step.specs.declared.asked.Asked.{Asked}
 use Rattle.lv_plant_step.specs.declared.lead.Lead.{Lead}
 use Rattle.lv_plant_step.specs.FirstList.{first_list, comes_before}
 use Rattle.lv_plant_step.specs.PlantSteps.{is_as_asked, are_plant_step, places}
-use Rattle.lv_plant_step.specs.Assuming.{Assumption, holds, SaysMore}
-use Rattle.lv_plant_step.specs.Finding.{place_literal, Encodes, are_values, has_front, Asks, BeginsSo, IsLeadTo, CanLead, NoneBelow, IsLed}
-use Rattle.lv_plant_step.proofs.FirstListLemmas.{IsFirst, first_is, first_none}
-use Rattle.lv_plant_step.proofs.SolutionLemmas.{values_long, value_below}
+use Rattle.lv_plant_step.specs.Assuming.{Assumption, SaysMore}
+use Rattle.lv_plant_step.specs.Finding.{place_literal, Encodes, has_front, Asks, BeginsSo, IsLeadTo, CanLead, NoneBelow, IsLed}
+use Rattle.lv_plant_step.proofs.FirstListLemmas.{first_is, first_none}
+use Rattle.lv_plant_step.proofs.SolutionLemmas.{values_long}
 
 and_true : (b : Bool) → (b && true) ≡ b
 and_true true = refl

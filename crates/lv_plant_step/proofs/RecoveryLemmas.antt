@@ -1,5 +1,5 @@
 -- Where the controls have the values of a recovery, and no fault is named, a plant step is a nominal step that reaches the goals.
-use Rattle.std.proofs.Common.{◌≡◌, ◌+◌, ◌<◌, ℕ, zero, suc, Bool, true, false, ◌&&◌, nat_eq, nat_lt, List, [], ◌∷◌, ◌++◌, length, map, drop, get_or, slice_get, replicate, Option, Some, None, is_some, refl, sym, subst, ap, ap₂, ◌∙◌, arith}
+use Rattle.std.proofs.Common.{◌≡◌, ◌+◌, ◌<◌, ℕ, zero, suc, Bool, true, false, ◌&&◌, nat_eq, nat_lt, List, [], ◌∷◌, length, map, drop, get_or, slice_get, replicate, Option, Some, None, is_some, refl, sym, subst, ap, ap₂, ◌∙◌, arith}
 use Rattle.std.specs.List.{list_all}
 use Rattle.std.specs.Option.{option_map_or}
 use Rattle.std.proofs.lemmas.Bool.{and_parts, and_from}
@@ -8,7 +8,6 @@ use Rattle.std.proofs.lemmas.List.Folds.{list_all-append}
 use Rattle.lv_base.specs.declared.ids.ValId.{ValId}
 use Rattle.lv_base.specs.declared.ids.VarId.{VarId}
 use Rattle.lv_base.specs.declared.ids.MoveId.{MoveId}
-use Rattle.lv_base.specs.declared.search.Pair.{Pair}
 use Rattle.lv_base.specs.Choices.{pairs_of, pairs_from}
 use Rattle.lv_model.specs.declared.plant.Plant.{Plant}
 use Rattle.lv_model.specs.declared.plant.ComponentType.{ComponentType}
@@ -17,8 +16,6 @@ use Rattle.lv_model.specs.declared.state.TrackedState.{TrackedState}
 use Rattle.lv_model.specs.lv_formula.Tree.{number_of}
 use Rattle.lv_model.specs.Lists.{sizes, move_counts, controls, part_moves}
 use Rattle.lv_model.specs.Meaning.{is_step, is_nominal, parts_are_nominal, part_is_nominal}
-use Rattle.lv_meaning.specs.declared.facts.Observation.{Observation}
-use Rattle.lv_meaning.specs.declared.facts.Facts.{Facts}
 use Rattle.lv_meaning.specs.Facts.{agrees, meets, commanded, now_facts}
 use Rattle.lv_meaning.specs.Possible.{value, move_number}
 use Rattle.lv_meaning.specs.PossibleLaws.{are_below}
@@ -27,7 +24,6 @@ use Rattle.lv_meaning.specs.Commands.{control_sizes, is_command_set}
 use Rattle.lv_meaning.specs.Recovers.{has_modes, has_control, has_controls, meets_goals}
 use Rattle.lv_meaning.specs.RecoveryLaws.{NominalStep, LeadsToGoals}
 use Rattle.lv_meaning.proofs.NominalSteps.{recovers_leads}
-use Rattle.lv_system.specs.Laws.{IsWholeStep}
 use Rattle.lv_plant_step.specs.declared.asked.Asked.{Asked}
 use Rattle.lv_plant_step.specs.declared.asked.PlantStep.{PlantStep}
 use Rattle.lv_plant_step.specs.PlantSteps.{are_as_named, plant_step}

@@ -1,6 +1,5 @@
 -- What the solver's answers say of plant steps: its values are one, and where it has none there is none.
-use Rattle.std.proofs.Common.{◌≡◌, ◌+◌, ◌<◌, ◌≤◌, ◌-◌, ℕ, zero, suc, Bool, true, false, ◌&&◌, nat_lt, List, [], ◌∷◌, ◌++◌, length, map, take, drop, get_or, Option, Some, None, refl, sym, subst, ap, ap₂, ◌∙◌, arith}
-use Rattle.std.specs.Cmp.Lexicographic.{pointwise}
+use Rattle.std.proofs.Common.{◌≡◌, ◌<◌, ℕ, zero, suc, Bool, true, false, ◌&&◌, nat_lt, List, [], ◌∷◌, ◌++◌, length, map, take, drop, get_or, None, refl, sym, subst, ap, ap₂, ◌∙◌, arith}
 use Rattle.std.proofs.lemmas.Bool.{and_parts, and_from, lt-ltb, ltb-true}
 use Rattle.std.proofs.lemmas.List.{length-map, take-append-drop}
 use Rattle.std.proofs.Math.Seq.{take-append_seam, drop-append_seam}
@@ -13,13 +12,13 @@ use Rattle.lv_model.specs.Lists.{sizes, move_counts}
 use Rattle.lv_model.specs.WellFormed.{is_well_formed}
 use Rattle.lv_model.specs.Meaning.{is_step}
 use Rattle.lv_meaning.specs.Facts.{meets, now_facts}
-use Rattle.lv_meaning.specs.Possible.{value, move_number}
+use Rattle.lv_meaning.specs.Possible.{move_number}
 use Rattle.lv_meaning.specs.PossibleLaws.{are_below}
 use Rattle.lv_meaning.specs.Recovers.{has_modes}
 use Rattle.lv_meaning.proofs.SomeList.{ListFound, list_found, found_list}
 use Rattle.lv_system.specs.lv_compile.Booleans.{bool_count}
 use Rattle.lv_system.specs.lv_compile.Laws as compiled
-use Rattle.lv_system.specs.Encoding.{truth_in, encoded}
+use Rattle.lv_system.specs.Encoding.{encoded}
 use Rattle.lv_system.specs.Laws.{IsAssignment, IsFullChoice, IsWholeStep, IsModelOf}
 use Rattle.lv_system.specs.System.{SystemValue, IsSystemOf}
 use Rattle.lv_system.proofs.SystemLemmas.{step_has_a_model}
@@ -27,7 +26,7 @@ use Rattle.lv_plant_step.specs.declared.asked.Asked.{Asked}
 use Rattle.lv_plant_step.specs.declared.asked.PlantStep.{PlantStep}
 use Rattle.lv_plant_step.specs.PlantSteps.{are_as_named, is_as_asked, is_plant_step, are_plant_step, places}
 use Rattle.lv_plant_step.specs.Assuming.{Assumption, holds, IsSolution, Tells}
-use Rattle.lv_plant_step.specs.Finding.{Encodes, is_value, are_values, has_front, Asks, BeginsSo, IsLeadTo, CanLead, AreDecoded}
+use Rattle.lv_plant_step.specs.Finding.{Encodes, are_values, has_front, Asks, BeginsSo, IsLeadTo, CanLead, AreDecoded}
 use Rattle.lv_plant_step.specs.Laws.{IsPlantStep}
 
 -- values and assignments

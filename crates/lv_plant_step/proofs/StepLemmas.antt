@@ -1,5 +1,5 @@
 -- The plant's step is the first of all plant steps.
-use Rattle.std.proofs.Common.{◌≡◌, ℕ, Bool, true, false, List, ◌++◌, length, take, drop, Option, Some, None, is_some, option_map, refl, sym, subst, ap, ap₂, ◌∙◌}
+use Rattle.std.proofs.Common.{◌≡◌, ℕ, true, false, List, ◌++◌, length, take, drop, Option, Some, None, is_some, option_map, refl, sym, subst, ap, ◌∙◌}
 use Rattle.std.specs.Option.{option_map_or}
 use Rattle.std.proofs.lemmas.List.{take-append-drop}
 use Rattle.lv_base.specs.declared.ids.ValId.{ValId}
@@ -8,7 +8,7 @@ use Rattle.lv_model.specs.Lists.{sizes}
 use Rattle.lv_plant_step.specs.declared.asked.Asked.{Asked}
 use Rattle.lv_plant_step.specs.declared.asked.PlantStep.{PlantStep}
 use Rattle.lv_plant_step.specs.FirstList.{first_list, comes_before}
-use Rattle.lv_plant_step.specs.PlantSteps.{places, step_of, is_plant_step, are_plant_step, plant_step}
+use Rattle.lv_plant_step.specs.PlantSteps.{places, step_of, are_plant_step, plant_step}
 use Rattle.lv_plant_step.specs.Finding.{are_values}
 use Rattle.lv_plant_step.specs.Laws.{IsPlantStep, PlantStepIsFirst}
 use Rattle.lv_plant_step.proofs.FirstListLemmas.{IsFirst, first_some, none_passes}

@@ -1,5 +1,5 @@
 -- Literals that are assumed together, and what they say of truth values.
-use Rattle.std.specs.Prelude.{◌≡◌, ℕ, Bool, true, false, not, ◌&&◌, List, length, Option, Some, None, is_some, slice_index_or}
+use Rattle.std.specs.Prelude.{◌≡◌, ℕ, Bool, true, not, ◌&&◌, List, length, Option, Some, None, is_some, slice_index_or}
 use Rattle.std.specs.List.{list_all, list_any}
 use Rattle.lv_base.specs.declared.ids.Lit.{Lit}
 use Rattle.lv_clauses.specs.Literals.{is_clause, in_range, lit_holds}

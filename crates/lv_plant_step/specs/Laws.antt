@@ -1,5 +1,5 @@
 -- What the plant's step is, in the subject's own words, and where it leads after a recovery.
-use Rattle.std.specs.Prelude.{◌≡◌, ℕ, true, false, List, ◌++◌, length, map, replicate, Option, Some, None, is_some, Contains}
+use Rattle.std.specs.Prelude.{◌≡◌, ℕ, true, false, List, ◌++◌, length, map, replicate, Some, None, is_some, Contains}
 use Rattle.lv_base.specs.declared.ids.MoveId.{MoveId}
 use Rattle.lv_model.specs.declared.plant.Plant.{Plant}
 use Rattle.lv_model.specs.declared.state.TrackedState.{TrackedState}

@@ -23,11 +23,7 @@ use lv_system::{ChoiceBools, Moment, StepSystem};
 use std::alloc::{AllocError, Global};
 
 /// Adds each part's mode, as what is observed of it.
-fn push_modes(
-    out: &mut Vec<Observation>,
-    parts: &[Part],
-    modes: &[ValId],
-) -> Result<(), AllocError>
+fn push_modes(out: &mut Vec<Observation>, parts: &[Part], modes: &[ValId]) -> Result<(), AllocError>
     requires { length modes.now ≡ length parts.now }
     ensures { IfOk result (λ _. out.new.items ≡ out.old.items ++ mode_facts parts.now modes.now) }
 {
@@ -41,11 +37,7 @@ fn push_modes(
 }
 
 /// What is to hold before the step: commands, present observations, modes.
-fn begin_facts(
-    alloc: Global,
-    model: &Model,
-    asked: &Asked,
-) -> Result<Vec<Observation>, AllocError>
+fn begin_facts(alloc: Global, model: &Model, asked: &Asked) -> Result<Vec<Observation>, AllocError>
     requires { AskedFits model.now asked.now }
     ensures { IfOk result (λ out. out.items ≡ begin_facts model.now asked.now) }
 {

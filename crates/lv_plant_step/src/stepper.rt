@@ -48,11 +48,7 @@ impl<'a> marker::Model for PlantStepper<'a> {
 }
 
 /// The values before a step and those after it, one behind the other, as truth values encode them.
-fn values_of(
-    alloc: Global,
-    system: &StepSystem,
-    truth: &[bool],
-) -> Result<Seq<ValId>, AllocError>
+fn values_of(alloc: Global, system: &StepSystem, truth: &[bool]) -> Result<Seq<ValId>, AllocError>
     requires whole { length truth.now ≡ system.now.set.bools }
     requires satisfied { IsTrue (satisfies truth.now system.now.set.slots) }
     ensures { IfOk result (AreDecoded system.now truth.now) }
@@ -132,12 +128,7 @@ impl<'a> PlantStepper<'a> {
     }
 
     /// The same with this value at a place: a step that is so, if there is one.
-    fn lead_by(
-        &mut self,
-        lead: &Lead,
-        place: usize,
-        val: ValId,
-    ) -> Result<Option<Lead>, AllocError>
+    fn lead_by(&mut self, lead: &Lead, place: usize, val: ValId) -> Result<Option<Lead>, AllocError>
         requires can { CanLead self.old lead.now }
         requires below { val.0 < slice_index_or (places self.old) place 0 }
         ensures leads { (asked : Asked) → IsLed self.old asked place lead.now → IfOk result (LeadsTo self.old asked (take place lead.now.values ++ val ∷ [])) }
