@@ -4,3 +4,4 @@ pub mod Assuming
 pub mod Literals
 pub mod Finding
 pub mod Laws
+pub use Rattle.lv_system.specs as lv_system

@@ -23,7 +23,7 @@ mod moves;
 mod pieces;
 mod recovery;
 pub mod reply;
-mod states;
+pub mod states;
 mod text;
 mod variables;
 

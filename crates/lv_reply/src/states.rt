@@ -2,6 +2,7 @@
 #![tactic(auto)]
 
 ghost use Rattle.std.specs.Prelude.{◌≡◌, ◌+◌, ◌++◌, IfOk, drop, decimal, codes};
+ghost use Rattle.lv_reply.specs.Pieces.{joined};
 ghost use Rattle.lv_reply.specs.States.{part_text, part_texts, state_line, state_lines, committed_text, states_text};
 
 use crate::pieces::{push_joined, push_name, push_number};
@@ -49,6 +50,19 @@ fn texts_of_parts(
     Ok(out)
 }
 
+/// Adds the mode of each part.
+pub fn push_modes(
+    alloc: Global,
+    out: &mut Vec<u8>,
+    plant: &Plant,
+    modes: &[ValId],
+) -> Result<(), AllocError>
+    ensures { IfOk result (λ _. out.new.items ≡ out.old.items ++ joined (part_texts plant.now.types plant.now.parts modes.now)) }
+{
+    let texts = texts_of_parts(alloc, plant.types.as_slice(), plant.parts.as_slice(), modes)?;
+    push_joined(out, texts.as_slice())
+}
+
 /// Adds the line of a tracked state.
 fn push_line(
     alloc: Global,
@@ -59,17 +73,11 @@ fn push_line(
 ) -> Result<(), AllocError>
     ensures { IfOk result (λ _. out.new.items ≡ out.old.items ++ state_line plant.now n tracked.now) }
 {
-    let texts = texts_of_parts(
-        alloc,
-        plant.types.as_slice(),
-        plant.parts.as_slice(),
-        tracked.state.modes.as_slice(),
-    )?;
     push_number(out, n)?;
     out.extend_from_slice(b" cost ")?;
     push_number(out, tracked.cost.0)?;
     out.extend_from_slice(b": ")?;
-    push_joined(out, texts.as_slice())?;
+    push_modes(alloc, out, plant, tracked.state.modes.as_slice())?;
     out.extend_from_slice(b"\n")?;
     Ok(())
 }

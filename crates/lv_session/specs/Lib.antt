@@ -5,6 +5,7 @@ pub mod Current
 pub mod Certificates
 pub mod Transcript
 pub mod Answering
+pub mod Applying
 pub mod LongLines
 pub mod Laws
 pub mod Answers

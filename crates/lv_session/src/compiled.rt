@@ -2,6 +2,7 @@
 #![tactic(auto)]
 
 ghost use Rattle.std.specs.Prelude.{◌≡◌, IfOk};
+ghost use Rattle.lv_system.specs.System.{IsSystemOf};
 
 use lv_model::Model;
 use lv_model_names::Lists;
@@ -45,5 +46,18 @@ impl<'a> CompiledModel<'a> {
             lists,
             system,
         })
+    }
+
+    pub fn model(&self) -> &'a Model
+        ensures { result.now ≡ self.now }
+    {
+        self.model
+    }
+
+    /// Its clauses as a system.
+    pub fn system(&self) -> &StepSystem
+        ensures { IsSystemOf self.now result.now }
+    {
+        &self.system
     }
 }

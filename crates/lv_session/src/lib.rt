@@ -11,6 +11,7 @@
 //! | `goals` | the goals held, by their names |
 //! | `diagnoses` | diagnoses asked for, gone on with and taken over |
 //! | `recoveries` | recoveries asked for and gone on with |
+//! | `applying` | the values that the current recovery gives the controls |
 //! | `queries` | the current query gone on with, shown and taken over |
 //! | `certificates` | certificates of the current query |
 //! | `labels` | what propagation finds |
@@ -22,6 +23,7 @@
 //! of a session: the texts of its replies, one behind the other.
 #![tactic(auto)]
 
+mod applying;
 mod certificates;
 pub mod compiled;
 mod diagnoses;

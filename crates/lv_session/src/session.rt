@@ -1,19 +1,30 @@
 //! A session over a model: its state, and what each line does.
 #![tactic(auto)]
 
-ghost use Rattle.std.specs.Prelude.{◌≡◌, IfOk, OnOk, OnErr, IsErr, true, false};
-ghost use Rattle.lv_session.specs.Session.{stepped, is_settled};
+ghost use Rattle.std.specs.Prelude.{◌≡◌, All, IfOk, IfSome, OnOk, OnErr, IsErr, is_some, true, false};
+ghost use Rattle.std.specs.Option.{option_copied};
+ghost use Rattle.lv_meaning.specs.Facts.{FactsFit, FactsInRange};
+ghost use Rattle.lv_meaning.specs.Ranges.{StateFits};
+ghost use Rattle.lv_session_request.specs.Goals.{IsGoalIn};
+ghost use Rattle.lv_session_request.specs.Requests.{IsRequestOf};
+ghost use Rattle.lv_session.specs.Session.{stepped, is_settled, facts_of};
+ghost use Rattle.lv_session.specs.Applying.{recovery_at, applied, performed};
 ghost use Rattle.lv_session.specs.Answering.{begun, next_at, SaysAt, is_open};
 ghost use Rattle.lv_session.specs.Current.{IsSession};
 ghost use Rattle.lv_session.specs.Certificates.{Certifies, IsTextOf, IsDue};
 
+use crate::applying::values_of;
 use crate::compiled::CompiledModel;
 use crate::state::State;
-use crate::workings::{Workings, answer};
+use crate::workings::{Workings, answer, perform};
+use lv_base::ValId;
 use lv_ident::QueryEffort;
 use lv_lanes::Lane;
+use lv_meaning::Facts;
+use lv_model::TrackedState;
 use lv_reply::{Reply, reply_text};
 use lv_serve::Responder;
+use lv_session_request::{Goal, Held, Request};
 use std::alloc::{AllocError, Global};
 use std::marker;
 
@@ -125,6 +136,106 @@ impl<'a> Session<'a> {
             && self
                 .state
                 .is_unsettled(compiled.model, &self.workings.running)
+    }
+
+    /// The tracked states. Takes no memory.
+    pub fn tracked(&self) -> &[TrackedState]
+        ensures tracked { result.now ≡ self.now.state.tracked }
+        ensures fit { All (StateFits self.now.plant) result.now }
+    {
+        self.state.tracked.as_slice()
+    }
+
+    /// The values that the controls are commanded to, in written order. Takes no memory.
+    pub fn controls(&self) -> &[ValId]
+        ensures { result.now ≡ self.now.state.controls }
+    {
+        self.state.controls.as_slice()
+    }
+
+    /// What is observed now, by its names. Takes no memory.
+    pub fn present(&self) -> &Held
+        ensures { result.now ≡ self.now.state.present }
+    {
+        &self.state.present
+    }
+
+    /// The goals. Takes no memory.
+    pub fn goals(&self) -> &[Goal]
+        ensures goals { result.now ≡ self.now.state.goals }
+        ensures fit { All (IsGoalIn self.now.plant) result.now }
+    {
+        self.state.goals.as_slice()
+    }
+
+    /// The facts of a diagnosis of the state as it is.
+    pub fn facts(&self) -> Result<Facts, AllocError>
+        ensures facts { IfOk result (λ facts. facts ≡ facts_of self.now.state) }
+        ensures fit { IfOk result (FactsFit self.now.plant) }
+        ensures in_range { IfOk result (FactsInRange self.now.plant) }
+    {
+        self.state.facts(self.alloc)
+    }
+
+    /// The values that the current recovery gives the controls: none exactly where no recovery is current that is settled
+    /// and found some. Once memory was wanting, nothing is known of the query. Takes no memory.
+    pub fn recovery(&self) -> Option<&[u32]>
+        ensures { option_copied result ≡ recovery_at self.now }
+    {
+        if self.is_out_of_memory {
+            return None;
+        }
+        let compiled = self.compiled;
+        self.state
+            .recovery_values(compiled.model, &self.workings.running)
+    }
+
+    /// Commands the controls as in the current recovery, those that rest released; no query is current any more.
+    pub fn apply(&mut self) -> Result<(), AllocError>
+        requires { is_some (recovery_at self.old) ≡ true }
+        ensures ok { OnOk result (IfSome (recovery_at self.old) (λ values. self.new ≡ record self.old { state = applied self.old.state values })) }
+        ensures err { OnErr result (self.new ≡ record self.old { is_out_of_memory = true }) }
+    {
+        let Some(numbers) = self.recovery() else {
+            return Ok(());
+        };
+        match values_of(self.alloc, numbers) {
+            Ok(values) => {
+                self.state.command_all(values);
+                Ok(())
+            }
+            Err(error) => {
+                self.is_out_of_memory = true;
+                Err(error)
+            }
+        }
+    }
+
+    /// Does what is asked for, as a line that asks for it does, and answers the reply. Once memory was wanting, each later
+    /// call answers so too.
+    pub fn perform(&mut self, request: Request) -> Result<Reply, AllocError>
+        requires { IsRequestOf self.old.plant request }
+        ensures reply { IfOk result (λ reply. reply ≡ (performed self.old.plant self.old.state request).reply) }
+        ensures state { OnOk result (self.new ≡ record self.old { state = (performed self.old.plant self.old.state request).state }) }
+        ensures err { OnErr result (self.new ≡ record self.old { is_out_of_memory = true }) }
+        ensures stays { self.old.is_out_of_memory ≡ true → IsErr result }
+    {
+        if self.is_out_of_memory {
+            return Err(AllocError);
+        }
+        match perform(
+            self.alloc,
+            self.compiled,
+            &mut self.workings,
+            &mut self.state,
+            request,
+        ) {
+            Ok(reply) => Ok(reply),
+            Err(error) => {
+                self.is_out_of_memory = true;
+                Err(error)
+            }
+        }
     }
 
     /// What the last diagnosis did, in counts that no clause speaks of: for measuring. None where no diagnosis is kept. Takes

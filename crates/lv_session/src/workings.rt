@@ -2,7 +2,9 @@
 #![tactic(auto)]
 
 ghost use Rattle.std.specs.Prelude.{◌≡◌, IfOk, None, OnOk, OnErr};
+ghost use Rattle.lv_session_request.specs.Requests.{IsRequestOf};
 ghost use Rattle.lv_session.specs.Session.{stepped};
+ghost use Rattle.lv_session.specs.Applying.{performed};
 ghost use Rattle.lv_session.specs.States.{IsStateOf};
 ghost use Rattle.lv_session.specs.Current.{IsCurrent, IsLabellerOf};
 
@@ -11,7 +13,7 @@ use crate::running::Running;
 use crate::state::State;
 use lv_labels::Labeller;
 use lv_reply::Reply;
-use lv_session_request::{Unread, request_of};
+use lv_session_request::{Request, Unread, request_of};
 use lv_text::Token;
 use std::alloc::{AllocError, Global};
 
@@ -79,4 +81,37 @@ pub(crate) fn answer<'a>(
         Err(Unread::Refused(refusal)) => Ok(Reply::Refused(refusal)),
         Err(Unread::Memory) => Err(AllocError),
     }
+}
+
+/// Does what is asked for without a line, and answers the reply, as `answer` does with a line that asks for it.
+pub(crate) fn perform<'a>(
+    alloc: Global,
+    compiled: &'a CompiledModel<'a>,
+    workings: &mut Workings<'a>,
+    state: &mut State,
+    request: Request,
+) -> Result<Reply, AllocError>
+    requires state { IsStateOf compiled.now state.old }
+    requires request { IsRequestOf compiled.now request }
+    requires running { IsCurrent compiled.now state.old workings.old.running }
+    requires labeller { IsLabellerOf compiled.now workings.old.labeller }
+    ensures ok { IfOk result (λ reply. record { state = state.new; reply = reply } ≡ performed compiled.now state.old request) }
+    ensures err { OnErr result (state.new ≡ state.old) }
+    ensures kept { IsStateOf compiled.now state.new }
+    ensures running { OnOk result (IsCurrent compiled.now state.new workings.new.running) }
+    ensures labeller { IsLabellerOf compiled.now workings.new.labeller }
+{
+    if state.is_ended() {
+        return Ok(Reply::Nothing);
+    }
+    let model = compiled.model;
+    let _plant = model.plant();
+    state.carry_out(
+        alloc,
+        model,
+        &compiled.system,
+        &mut workings.running,
+        &mut workings.labeller,
+        request,
+    )
 }

@@ -1,0 +1,7 @@
+pub mod Forms
+pub mod Standing
+pub mod Replies
+pub mod Plants
+pub mod Answering
+pub mod LongLines
+pub mod Laws

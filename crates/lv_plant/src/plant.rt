@@ -1,0 +1,319 @@
+//! The plant, and what each line does.
+#![tactic(auto)]
+
+ghost use Rattle.std.specs.Prelude.{◌≡◌, ◌≤◌, All, IsTrue, IfOk, OnOk, OnErr, IsErr, length, map, true};
+ghost use Rattle.std.specs.Cmp.Lexicographic.{pointwise};
+ghost use Rattle.lv_formula.specs.Tree.{truth_of};
+ghost use Rattle.lv_model.specs.Lists.{sizes};
+ghost use Rattle.lv_model.specs.WellFormed.{Reads};
+ghost use Rattle.lv_meaning.specs.Recovers.{meets_goals};
+ghost use Rattle.lv_plant_step.specs.PlantSteps.{AskedFits};
+ghost use Rattle.lv_session.specs.Session.{formula_of};
+ghost use Rattle.lv_plant.specs.Plants.{EndsIn, GoalReads};
+ghost use Rattle.lv_plant.specs.Standing.{same_value, is_held, goals_among, at_start, asked_of, moved, told_by, committed_by, taken, named, step, apply, done};
+
+use crate::fault::PlantFault;
+use crate::form::{PlantLine, asked_by};
+use crate::naming::{fault_at, part_named};
+use crate::reply::{GoalsTold, PlantReply, StepTold, plant_text};
+use crate::seeing::{modes_in, seen};
+use lv_base::{MoveId, Seq, ValId};
+use lv_model::TrackedState;
+use lv_plant_step::{Asked, PlantStep, PlantStepper};
+use lv_reply::Reply;
+use lv_serve::Responder;
+use lv_session::{CompiledModel, Session};
+use lv_session_request::{Goal, Request};
+use std::alloc::{AllocError, Global};
+use std::marker;
+
+/// How many steps the plant makes at most.
+pub const STEPS: u64 = 1_000_000;
+
+/// How many observables are observed of a step at most.
+pub const SEEN: usize = 512;
+
+/// A plant and the session that is told what is observed of it.
+#[derive(Drop)]
+pub struct Plant<'a> {
+    alloc: Global,
+    compiled: &'a CompiledModel<'a>,
+    session: Session<'a>,
+    stepper: Box<PlantStepper<'a>>,
+    modes: Vec<ValId>,
+    faults: Vec<Option<MoveId>>,
+    time: u64,
+    is_halted: bool,
+    is_out_of_memory: bool,
+}
+
+impl<'a> marker::Model for Plant<'a> {
+    ghost use Rattle.lv_plant.specs.Standing.{Standing};
+    ghost use Rattle.lv_plant.specs.Plants.{IsPlant};
+    ghost use Rattle.std.specs.Coded.{codes};
+    ghost use Rattle.lv_model.specs.lv_formula.contracts.Condition as condition;
+
+    ghost Value = { Standing };
+
+    ghost coded = { Prim.hlevel (codes, condition.the_row.coded) };
+
+    ghost view = { λ p. record { session = p.session; modes = p.modes.items; faults = p.faults.items; time = p.time; is_halted = p.is_halted; is_out_of_memory = p.is_out_of_memory } };
+
+    ghost invariant = { λ p. IsPlant p.compiled.now p.session p.stepper.value p.modes.items p.faults.items };
+}
+
+/// Whether a state has these modes.
+fn has_modes(state: &TrackedState, modes: &[ValId]) -> bool
+    ensures { result ≡ pointwise same_value state.now.state.modes modes.now }
+{
+    state.state.modes.as_slice() == modes
+}
+
+/// Whether the modes are those of a tracked state.
+fn is_held(modes: &[ValId], tracked: &[TrackedState]) -> bool
+    ensures { result ≡ is_held modes.now tracked.now }
+{
+    tracked.iter().any(|state| has_modes(state, modes))
+}
+
+/// Whether a goal is true in `b`.
+fn is_met(b: &[ValId], goal: &Goal) -> bool
+    requires { GoalReads (length b.now) goal.now }
+    ensures { result ≡ truth_of b.now 0 goal.now.formula }
+{
+    goal.formula.formula().holds(b, 0)
+}
+
+/// Whether all goals are true in `b`.
+fn are_met(b: &[ValId], goals: &[Goal]) -> bool
+    requires { All (GoalReads (length b.now)) goals.now }
+    ensures { result ≡ meets_goals (map formula_of goals.now) b.now }
+{
+    goals.iter().all(|goal| is_met(b, goal))
+}
+
+/// Whether the goals that are held, if any, are all true in `b`.
+fn goals_told(b: &[ValId], goals: &[Goal]) -> GoalsTold
+    requires { All (GoalReads (length b.now)) goals.now }
+    ensures { result ≡ goals_among b.now goals.now }
+{
+    if goals.is_empty() {
+        GoalsTold::NoGoals
+    } else if are_met(b, goals) {
+        GoalsTold::Met
+    } else {
+        GoalsTold::Open
+    }
+}
+
+impl<'a> Plant<'a> {
+    /// A plant at its start: its parts in their starting modes, and a session at its own.
+    pub fn new(alloc: Global, compiled: &'a CompiledModel<'a>) -> Result<Plant<'a>, AllocError>
+        ensures { IfOk result (λ plant. plant ≡ at_start compiled.now) }
+    {
+        let model = compiled.model();
+        let parts = model.plant().parts.as_slice();
+        let modes = parts.iter().map(|part| part.start).collect(alloc)?;
+        let faults = vec![in alloc; None; parts.len()]?;
+        let stepper = Box::new(alloc, PlantStepper::new(alloc, model, compiled.system())?)?;
+        let session = Session::new(alloc, compiled)?;
+        Ok(Plant {
+            alloc,
+            compiled,
+            session,
+            stepper,
+            modes,
+            faults,
+            time: 0,
+            is_halted: false,
+            is_out_of_memory: false,
+        })
+    }
+
+    /// `fault P N`
+    fn name(&mut self, part: &[u8], tag: Option<u128>) -> PlantReply
+        ensures { record { next = self.new; reply = result } ≡ named self.old.session.plant self.old part.now tag }
+    {
+        let plant = self.compiled.model().plant();
+        let Some(line) = tag else {
+            return PlantReply::Refused(PlantFault::NoFault);
+        };
+        let Some(k) = part_named(plant.parts.as_slice(), part) else {
+            return PlantReply::Refused(PlantFault::NoFault);
+        };
+        let part = &plant.parts.as_slice()[k];
+        match fault_at(plant.types.as_slice(), part, self.modes[k], line) {
+            Some(n) => {
+                self.faults[k] = Some(MoveId(n as u32));
+                PlantReply::Accepted
+            }
+            None => PlantReply::Refused(PlantFault::NoFault),
+        }
+    }
+
+    /// What is asked of the next step.
+    fn asked(&self) -> Result<Asked, AllocError>
+        ensures asked { IfOk result (λ asked. asked ≡ asked_of self.now) }
+        ensures fits { IfOk result (AskedFits self.now.session.plant) }
+    {
+        Ok(Asked {
+            modes: Seq::from_slice(self.alloc, self.modes.as_slice())?,
+            facts: self.session.facts()?,
+            faults: Seq::from_slice(self.alloc, self.faults.as_slice())?,
+        })
+    }
+
+    /// The plant is where the step ends, and the named faults are forgotten.
+    fn go_to(&mut self, step: &PlantStep) -> Result<(), AllocError>
+        requires { EndsIn self.old.session.plant step.now }
+        ensures { OnOk result (self.new ≡ moved self.old.session.plant self.old step.now) }
+    {
+        let parts = self.compiled.model().plant().parts.as_slice();
+        let modes = modes_in(self.alloc, parts, step.after.as_slice())?;
+        let faults = vec![in self.alloc; None; parts.len()]?;
+        self.modes = modes;
+        self.faults = faults;
+        self.time += 1;
+        Ok(())
+    }
+
+    /// Tells the session what is observed.
+    fn tell(&mut self, step: &PlantStep) -> Result<(), AllocError>
+        requires { EndsIn self.old.session.plant step.now }
+        ensures { OnOk result (self.new ≡ told_by self.old step.now) }
+    {
+        let seen = seen(
+            self.alloc,
+            self.compiled.model(),
+            self.time % 2 == 1,
+            step.after.as_slice(),
+        )?;
+        for sighting in seen {
+            self.session.perform(Request::Observe(sighting))?;
+        }
+        Ok(())
+    }
+
+    /// Commits a settled diagnosis that lists something; else the plant is halted.
+    fn commit(&mut self, diagnosis: &Reply) -> Result<Option<Reply>, AllocError>
+        ensures { IfOk result (λ commit. record { next = self.new; commit = commit } ≡ committed_by self.old diagnosis.now) }
+    {
+        match diagnosis {
+            Reply::Settled(listed) if !listed.is_empty() => {
+                Ok(Some(self.session.perform(Request::Commit)?))
+            }
+            _ => {
+                self.is_halted = true;
+                Ok(None)
+            }
+        }
+    }
+
+    /// Takes a step, tells the session what is observed of it, and has it diagnose.
+    fn take(&mut self, step: &PlantStep) -> Result<PlantReply, AllocError>
+        requires { EndsIn self.old.session.plant step.now }
+        ensures { IfOk result (λ reply. record { next = self.new; reply = reply } ≡ taken self.old.session.plant self.old step.now) }
+    {
+        self.go_to(step)?;
+        self.tell(step)?;
+        let diagnosis = self.session.perform(Request::Diagnose)?;
+        let commit = self.commit(&diagnosis)?;
+        Ok(PlantReply::Moved(StepTold {
+            time: self.time,
+            modes: Seq::from_slice(self.alloc, self.modes.as_slice())?,
+            is_held: is_held(self.modes.as_slice(), self.session.tracked()),
+            goals: goals_told(step.after.as_slice(), self.session.goals()),
+            diagnosis,
+            commit,
+        }))
+    }
+
+    /// `step`
+    fn go_on(&mut self) -> Result<PlantReply, AllocError>
+        ensures { IfOk result (λ reply. record { next = self.new; reply = reply } ≡ step self.old.session.plant self.old) }
+    {
+        if self.is_halted || self.time >= STEPS {
+            return Ok(PlantReply::Refused(PlantFault::NoMore));
+        }
+        let asked = self.asked()?;
+        match self.stepper.first_step(&asked)? {
+            Some(step) => self.take(&step),
+            None => Ok(PlantReply::Refused(PlantFault::NoStep)),
+        }
+    }
+
+    /// `apply`
+    fn apply(&mut self) -> Result<PlantReply, AllocError>
+        ensures { IfOk result (λ reply. record { next = self.new; reply = reply } ≡ apply self.old) }
+    {
+        if self.session.recovery().is_none() {
+            return Ok(PlantReply::Refused(PlantFault::NoRecovery));
+        }
+        self.session.apply()?;
+        Ok(PlantReply::Accepted)
+    }
+
+    /// Does what a line asks for.
+    fn answered(&mut self, line: &[u8]) -> Result<PlantReply, AllocError>
+        ensures { IfOk result (λ reply. record { next = self.new; reply = reply } ≡ done self.old line.now) }
+    {
+        match asked_by(self.alloc, line)? {
+            PlantLine::Nothing => Ok(PlantReply::Silence),
+            PlantLine::Refused(fault) => Ok(PlantReply::Refused(fault)),
+            PlantLine::ForSession => Ok(PlantReply::Told(self.session.step(line)?)),
+            PlantLine::Name { part, tag } => Ok(self.name(part, tag)),
+            PlantLine::Step => self.go_on(),
+            PlantLine::Apply => self.apply(),
+        }
+    }
+
+    /// Does what a line asks for, which is given without its end, and answers the reply. Once memory was wanting, each
+    /// later call answers so too.
+    pub fn step(&mut self, line: &[u8]) -> Result<PlantReply, AllocError>
+        ensures done { IfOk result (λ reply. record { next = self.new; reply = reply } ≡ done self.old line.now) }
+        ensures err { OnErr result (self.new.is_out_of_memory ≡ true) }
+        ensures stays { self.old.is_out_of_memory ≡ true → IsErr result }
+    {
+        if self.is_out_of_memory {
+            return Err(AllocError);
+        }
+        match self.answered(line) {
+            Ok(reply) => Ok(reply),
+            Err(error) => {
+                self.is_out_of_memory = true;
+                Err(error)
+            }
+        }
+    }
+}
+
+/// A plant answers lines one by one. No line ends it.
+impl Responder for Plant<'_> {
+    ghost use Rattle.std.specs.Prelude.{false};
+    ghost use Rattle.lv_plant.specs.Answering.{next_at, SaysAt};
+    ghost use Rattle.lv_plant.specs.LongLines.{long_next, long_says};
+
+    ghost next = { next_at };
+
+    ghost says = { SaysAt };
+
+    ghost has_ended = { λ _. false };
+
+    fn answer(&mut self, line: &[u8]) -> Result<Vec<u8>, AllocError> {
+        let reply = self.step(line)?;
+        let compiled = self.compiled;
+        plant_text(self.alloc, compiled.model(), &reply)
+    }
+
+    fn is_ended(&self) -> bool {
+        false
+    }
+
+    ghost long_goes = { long_next };
+
+    ghost long_says = { long_says };
+
+    ghost ended_stays = { λ s line ended. absurd (cc ended) };
+
+    ghost ended_silent = { λ s line ended. absurd (cc ended) };
+}

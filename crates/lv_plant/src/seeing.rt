@@ -1,0 +1,129 @@
+//! What is observed of a step: the values of the first observables, under names that no present observation has.
+#![tactic(auto)]
+
+ghost use Rattle.std.specs.Prelude.{◌≡◌, ◌+◌, ◌++◌, ◌<◌, ◌^◌, IfOk, All, length, map, take, decimal};
+ghost use Rattle.lv_model.specs.Lists.{variable_count};
+ghost use Rattle.lv_model.specs.WellFormed.{PartEnds};
+ghost use Rattle.lv_model.specs.lv_formula.Tree.{value_of};
+ghost use Rattle.lv_plant.specs.Standing.{is_observable, observables_from, observables, letter, seen_from, seen, modes_in};
+
+use crate::plant::SEEN;
+use itoa::Buffer;
+use lv_base::{Class, Name, Seq, ValId, VarId};
+use lv_model::lookup::type_of;
+use lv_model::{ComponentType, Model, Part, Variable};
+use lv_session_request::Sighting;
+use std::alloc::{AllocError, Global};
+
+fn is_observable(class: Class) -> bool
+    ensures { result ≡ is_observable class }
+{
+    match class {
+        Class::Control => false,
+        Class::Dependent => false,
+        Class::Observable => true,
+    }
+}
+
+/// Adds the observables among these variables, of which the first has the number `first`.
+fn push_observables(
+    out: &mut Vec<VarId>,
+    variables: &[Variable],
+    first: u32,
+) -> Result<(), AllocError>
+    requires { first + length variables.now < 2 ^ 32 }
+    ensures { IfOk result (λ _. out.new.items ≡ out.old.items ++ observables_from first variables.now) }
+{
+    for (i, v) in variables.iter().enumerate() {
+        if is_observable(v.class) {
+            out.push(VarId(first + i as u32))?;
+        }
+    }
+    Ok(())
+}
+
+/// The observables of these parts, part by part.
+fn observables_of(
+    alloc: Global,
+    types: &[ComponentType],
+    parts: &[Part],
+) -> Result<Vec<VarId>, AllocError>
+    requires { All (PartEnds 4096 types.now) parts.now }
+    ensures { IfOk result (λ out. out.items ≡ observables types.now parts.now) }
+{
+    let mut out = Vec::new(alloc);
+    for part in parts {
+        if let Some(t) = type_of(types, part) {
+            push_observables(&mut out, t.variables.as_slice(), part.first.0 + 1)?;
+        }
+    }
+    Ok(out)
+}
+
+/// The name of the `n`-th observation of an odd or an even step.
+fn name_of(alloc: Global, odd: bool, n: u64) -> Result<Name, AllocError>
+    ensures { IfOk result (λ name. name ≡ letter odd ++ decimal n) }
+{
+    let mut digits = Buffer::new();
+    let mut name = Vec::new(alloc);
+    name.push(if odd { b'o' } else { b'e' })?;
+    name.extend_from_slice(digits.format(n).as_bytes())?;
+    Ok(Seq::from_vec(name))
+}
+
+/// What is observed of these variables, with their values in `b`.
+fn sightings_of(
+    alloc: Global,
+    odd: bool,
+    b: &[ValId],
+    vars: &[VarId],
+) -> Result<Vec<Sighting>, AllocError>
+    ensures { IfOk result (λ out. out.items ≡ seen_from (letter odd) 1 b.now vars.now) }
+{
+    let mut out = Vec::new(alloc);
+    for (i, var) in vars.iter().enumerate() {
+        out.push(Sighting {
+            name: name_of(alloc, odd, i as u64 + 1)?,
+            var: *var,
+            val: value_at(b, *var),
+        })?;
+    }
+    Ok(out)
+}
+
+/// The value of a variable; of one that isn't there the first.
+fn value_at(b: &[ValId], var: VarId) -> ValId
+    ensures { result ≡ value_of b.now var.0 }
+{
+    let index = var.0 as usize;
+    if index < b.len() { b[index] } else { ValId(0) }
+}
+
+/// What is observed of a step that ends so.
+pub fn seen(
+    alloc: Global,
+    model: &Model,
+    odd: bool,
+    b: &[ValId],
+) -> Result<Vec<Sighting>, AllocError>
+    ensures { IfOk result (λ out. out.items ≡ seen model.now odd b.now) }
+{
+    let plant = model.plant();
+    let vars = observables_of(alloc, plant.types.as_slice(), plant.parts.as_slice())?;
+    let some = if vars.len() > SEEN {
+        &vars[..SEEN]
+    } else {
+        vars.as_slice()
+    };
+    sightings_of(alloc, odd, b, some)
+}
+
+/// The mode of each part.
+pub fn modes_in(alloc: Global, parts: &[Part], b: &[ValId]) -> Result<Vec<ValId>, AllocError>
+    ensures { IfOk result (λ out. out.items ≡ modes_in parts.now b.now) }
+{
+    parts
+        .iter()
+        .map(|part| value_at(b, part.first))
+        .collect(alloc)
+}

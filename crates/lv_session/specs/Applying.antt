@@ -1,0 +1,44 @@
+-- The values that the current recovery gives the controls, and what commanding them does; what a request does without a line.
+use Rattle.std.specs.Prelude.{ℕ, Bool, List, [], ◌∷◌, map, if◌then◌else◌, Option, Some, None}
+use Rattle.lv_base.specs.declared.rank.Rank.{Rank}
+use Rattle.lv_model.specs.declared.plant.Plant.{Plant}
+use Rattle.lv_search_walk.specs.declared.outcome.Outcome.{Outcome}
+use Rattle.lv_search_walk.specs.declared.outcome.Outcome.TheVariants.{Settled, Unsettled}
+use Rattle.lv_search_walk.specs.Walk.{Walked}
+use Rattle.lv_meaning.specs.Possible.{value}
+use Rattle.lv_reply.specs.declared.reply.Reply.TheVariants.{Nothing as Silence}
+use Rattle.lv_session_request.specs.declared.request.Request.{Request}
+use Rattle.lv_session.specs.declared.query.Query.{Query}
+use Rattle.lv_session.specs.declared.query.Query.TheVariants.{Absent, Diagnosis, Recovery}
+use Rattle.lv_session.specs.Session.{SessionState, RunningSession, Stepped, recovery, unchanged, carried_out}
+
+-- those of the first command set listed, if there is one
+abbrev pub first_values : List Rank → Option (List ℕ)
+first_values [] = None
+first_values (r ∷ rs) = Some r.choices
+
+abbrev pub values_by : Outcome → List Rank → Option (List ℕ)
+values_by Settled listed = first_values listed
+values_by Unsettled listed = None
+
+-- of a recovery that came to this: nothing where it isn't settled or found none
+abbrev pub values_found : Walked → Option (List ℕ)
+values_found w = values_by w.outcome w.listed
+
+-- of the current query
+abbrev pub recovery_values : Query → Plant → SessionState → Option (List ℕ)
+recovery_values Absent plant state = None
+recovery_values (Diagnosis sum) plant state = None
+recovery_values (Recovery sum) plant state = values_found (recovery plant state sum)
+
+-- the controls are commanded to these values, and no query is current
+abbrev pub applied : SessionState → List ℕ → SessionState
+applied state values = record state { controls = map value values; query = Absent }
+
+-- of a session; once memory was wanting nothing is known of the query
+abbrev pub recovery_at : RunningSession → Option (List ℕ)
+recovery_at s = if s.is_out_of_memory then None else recovery_values s.state.query s.plant s.state
+
+-- what a request does, and the reply to it; in an ended session it does nothing
+abbrev pub performed : Plant → SessionState → Request → Stepped
+performed plant state request = if state.is_ended then unchanged state Silence else carried_out plant state request
