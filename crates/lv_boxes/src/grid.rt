@@ -62,6 +62,15 @@ impl Grid {
         self.slots.len()
     }
 
+    /// Of each slot what its choices cost.
+    pub fn slots(&self) -> &[Seq<Cost>]
+        ensures slots { result.now ≡ self.now }
+        ensures few { length self.now ≤ 4096 }
+        ensures each { All IsSlot self.now }
+    {
+        self.slots.as_slice()
+    }
+
     /// The cost of the zone's member of least rank: the zone's base and the costs of the member's choices. `None`
     /// exactly where some slot has no choice left, or the zone has not one mask for each slot. Takes no memory.
     pub fn best(&self, zone: &Zone) -> Option<Cost>

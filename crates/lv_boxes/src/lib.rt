@@ -5,8 +5,9 @@
 //! | part | items |
 //! |---|---|
 //! | what choices cost | `Grid` |
+//! | a slot's choices as a word | `mask` |
 //! | a set of candidates | `Zone` |
-//! | its first member | `Grid::best`, `Grid::write_best` |
+//! | its first member | `Grid::best`, `Grid::write_best`, `least::write_least` |
 //! | the members without those that contain a conflict | `split` |
 //! | all choices of a candidate as a conflict | `choices_as_conflict` |
 //! | laws | `members_need_choices`, `split_by_member_loses_one` |
@@ -14,8 +15,8 @@
 
 pub mod grid;
 pub mod laws;
-mod least;
-mod mask;
+pub mod least;
+pub mod mask;
 pub mod parts;
 pub mod zone;
 
