@@ -1,0 +1,5 @@
+pub mod BoxLemmas
+pub mod SearchLemmas
+pub mod LowestLemmas
+pub mod FreeLemmas
+pub mod NarrowLemmas

@@ -1,0 +1,6 @@
+pub mod Free
+pub mod Boxes
+pub mod Cheapest
+pub mod Lowest
+pub mod Narrow
+pub use Rattle.lv_boxes.specs as lv_boxes
