@@ -31,6 +31,14 @@ pub with_at_least : (slots : List (List Cost)) (conflicts : List (List Pair)) (m
 with_at_least slots conflicts masks part p cost within is low =
     subst (λ ms. CostsAtLeast slots conflicts ms cost) (sym is) (record { least = λ choices free. low.least choices (with_inside slots conflicts masks choices p within free).0 })
 
+-- the slots of a free member
+pub slot_in_choices : (slots : List (List Cost)) (conflicts : List (List Pair)) (masks choices : List ℕ) (slot : ℕ) → is_free slots conflicts masks choices ≡ true → slot < length slots → slot < length choices
+slot_in_choices slots conflicts masks choices slot free within = subst (λ n. slot < n) (sym (length-left slots masks choices (free_is_left slots conflicts masks choices free))) within
+
+pub slot_in_masks : (slots : List (List Cost)) (conflicts : List (List Pair)) (masks choices : List ℕ) (slot : ℕ) → is_free slots conflicts masks choices ≡ true → slot < length slots → slot < length masks
+slot_in_masks slots conflicts masks choices slot free within =
+    subst (λ n. slot < n) (length-are_left slots masks choices (free_is_left slots conflicts masks choices free)) (slot_in_choices slots conflicts masks choices slot free within)
+
 -- what the search in the part tells
 pub has_none : (slots : List (List Cost)) (conflicts : List (List Pair)) (masks part : List ℕ) (p : Pair) (cost : ℕ) → p.slot < length masks → part ≡ masks_with masks p
     → CostsAtLeast slots conflicts part (cost + 1) → NoneHas slots conflicts masks p cost
@@ -66,7 +74,7 @@ none_below_more slots conflicts masks slot choice cost within below lacks = reco
         by (inl is) =
             let long : slot < length others = subst (λ n. slot < n) (sym (length-are_left slots masks others (free_is_left slots conflicts masks others free))) within in
             let has : picks others (record { slot = slot; choice = choice }) ≡ true =
-                and_from (nat_lt slot (length others)) (nat_eq (slice_index others slot) choice) (lt-ltb slot (length others) long) (eq-eqb (slice_index others slot) choice is) in
+            and_from (nat_lt slot (length others)) (nat_eq (slice_index others slot) choice) (lt-ltb slot (length others) long) (eq-eqb (slice_index others slot) choice is) in
             absurd (lacks.none others free has same)
         by (inr other) = let far : choice ≤ slice_index others slot = below.none others free same in omega (arith, far, other)
 
@@ -167,8 +175,8 @@ narrowed_more slots conflicts whole cost slot part old choices new within n f is
             lacks : is_free slots conflicts part others ≡ true → slice_index others slot ≡ slice_index choices slot → ⊥
             lacks here e =
                 let has : picks others (pair_at slot choices) ≡ true =
-                    and_from (nat_lt slot (length others)) (nat_eq (slice_index others slot) (slice_index choices slot))
-                    (lt-ltb slot (length others) (long others (free_is_left slots conflicts part others here))) (eq-eqb (slice_index others slot) (slice_index choices slot) e) in
+                and_from (nat_lt slot (length others)) (nat_eq (slice_index others slot) (slice_index choices slot))
+                (lt-ltb slot (length others) (long others (free_is_left slots conflicts part others here))) (eq-eqb (slice_index others slot) (slice_index choices slot) e) in
                 clash _ (free_with slots conflicts part others (pair_at slot choices) within_part ∙ and_from (is_free slots conflicts part others) (picks others (pair_at slot choices)) here has) gone
 
 -- all slots are settled

@@ -1,6 +1,6 @@
 -- The search by a stack of boxes: what a look at one box tells, and what that does to what is under way.
 use Rattle.std.proofs.Common.{◌≡◌, ℕ, ◌+◌, ◌*◌, ◌^◌, ◌<◌, ◌≤◌, Bool, true, false, not, ◌&&◌, ◌||◌, List, [], ◌∷◌, ◌++◌, Option, Some, None, length, ◌⊎◌, inl, inr, ⊎_elim, refl, sym, ◌∙◌, ap, ap₂, subst, arith}
-use Rattle.std.specs.Prelude.{find, sum, sum_by, option_map}
+use Rattle.std.specs.Prelude.{find, sum, sum_by, option_map, option_to_list, IfSome}
 use Rattle.std.specs.List.{list_all, list_any}
 use Rattle.std.proofs.Math.Nat.{one-le-pow, pow-le-pow_right}
 use Rattle.std.proofs.lemmas.Grind.{pow_more}
@@ -20,7 +20,7 @@ use Rattle.lv_search_guide.specs.declared.look.Member.{Member}
 use Rattle.lv_search_guide.specs.declared.look.Looked.{Looked}
 use Rattle.lv_search_guide.specs.declared.cheapest.Best.{Best}
 use Rattle.lv_search_guide.specs.Boxes.{is_free, CostsAtLeast, is_open}
-use Rattle.lv_search_guide.specs.Cheapest.{IsCheapestLeft, HasNoneLeft, IsCheapest, IsCheapestUnder, CheapestTells, FallsApart, is_free_in_some, IsBest, BestTells, IsUnderWay, weight_of, TakesBox}
+use Rattle.lv_search_guide.specs.Cheapest.{IsCheapestLeft, HasNoneLeft, IsCheapest, IsCheapestUnder, CheapestTells, FallsApart, LookTells, splits_of, is_free_in_some, IsBest, BestTells, IsUnderWay, weight_of, TakesBox}
 use Rattle.lv_search_guide.specs.Narrow.{HasSameFree, IsNoMoreBy, HasNoneBy}
 use Rattle.lv_search_guide.proofs.BoxLemmas.{zone_at, candidate_at, free_with, free_without, free_is_left, free_from, found_passes, some_pass, found_itself, none_pass, both_smaller, all_contain}
 
@@ -53,6 +53,21 @@ cheapest_some slots masks member sum_is written bound =
             first : choices_cost slots choices < choices_cost slots member.choices → ranks_before (rank_in slots (zone_at masks) choices) (rank_in slots (zone_at masks) member.choices) ≡ true
             first less = grind arith
         by (inr more) = more
+
+-- what is written tells of the box
+pub written_some : (slots_then slots : List (List Cost)) (masks_then masks : List ℕ) (out : List ℕ) (result : Option ℕ) → slots_then ≡ slots → masks_then ≡ masks
+    → result ≡ option_map (choices_cost slots_then) (cheapest_choices slots_then masks_then) → option_map (λ (_ : ℕ). out) result ≡ cheapest_choices slots_then masks_then
+    → IfSome result (λ cost. cost ≤ 4096 * 1000000) → IfSome result (λ cost. IsCheapestLeft slots masks (record { cost = cost; choices = out }))
+written_some slots_then slots masks_then masks out None same same_too sum_is written bound = tt
+written_some slots_then slots masks_then masks out (Some cost) same same_too sum_is written bound =
+    subst (λ ss. IsCheapestLeft ss masks (record { cost = cost; choices = out })) same
+    (subst (λ ms. IsCheapestLeft slots_then ms (record { cost = cost; choices = out })) same_too
+    (cheapest_some slots_then masks_then (record { cost = cost; choices = out }) sum_is written bound))
+
+pub written_none : (slots_then slots : List (List Cost)) (masks_then masks : List ℕ) (result : Option ℕ) → slots_then ≡ slots → masks_then ≡ masks
+    → result ≡ option_map (choices_cost slots_then) (cheapest_choices slots_then masks_then) → result ≡ None → HasNoneLeft slots masks
+written_none slots_then slots masks_then masks result same same_too sum_is none =
+    subst (λ ss. HasNoneLeft ss masks) same (subst (λ ms. HasNoneLeft slots_then ms) same_too (cheapest_none slots_then masks_then (sym none ∙ sum_is)))
 
 -- a box without members, or whose members cost too much, has nothing to find
 pub none_at_least : (slots : List (List Cost)) (conflicts : List (List Pair)) (masks : List ℕ) (under : ℕ) → HasNoneLeft slots masks → CostsAtLeast slots conflicts masks under
@@ -100,6 +115,16 @@ look_nothing slots masks under member conflicts conflict m contained closed =
         let ruled : is_ruled_out conflicts choices ≡ true = some_pass (contains_all member.choices) (contains_all choices) conflicts conflict contained there in
         let not_ruled : not true ≡ true = rw ruled at parts.1 in
         cc not_ruled
+
+-- both told by the first open pair
+pub look_contained : (slots : List (List Cost)) (masks : List ℕ) (under : ℕ) (member : Member) (conflicts : List (List Pair)) (conflict : List Pair) (looked : Looked) → IsCheapestLeft slots masks member
+    → find (contains_all member.choices) conflicts ≡ Some conflict → looked ≡ splits_of (find (is_open masks) conflict) → LookTells slots conflicts masks under looked
+look_contained slots masks under member conflicts conflict looked m contained is =
+    subst (LookTells slots conflicts masks under) (sym is) (by (find (is_open masks) conflict) refl)
+  where
+    by : (o : Option Pair) → find (is_open masks) conflict ≡ o → LookTells slots conflicts masks under (splits_of o)
+    by None e = look_nothing slots masks under member conflicts conflict m contained e
+    by (Some p) e = look_splits slots masks member conflicts conflict p m contained e
 
 -- the free members of the two parts are those of the box
 or_parts_again : (b f k : Bool) → (b || ((f && k) || ((f && not k) || false))) ≡ (b || (f || false))
@@ -278,6 +303,12 @@ under_way-begins slots conflicts whole under boxes is =
       rest = λ choices free less. or_left (is_free slots conflicts whole choices) false free;
       inside = λ choices h. ⊎_elim (λ here. here) (λ never. absurd (cc never)) (or_cases (is_free slots conflicts whole choices) false h);
     })
+
+-- a box that was taken off the stack
+pub under_way-next : (slots : List (List Cost)) (conflicts : List (List Pair)) (whole : List ℕ) (under : ℕ) (old new : Best) (boxes popped left : List (List ℕ)) (masks : List ℕ) (taken : Option (List ℕ))
+    → boxes ≡ popped ++ option_to_list taken → taken ≡ Some masks → TakesBox slots conflicts masks old popped new left → IsUnderWay slots conflicts whole under old boxes → IsUnderWay slots conflicts whole under new left
+under_way-next slots conflicts whole under old new boxes popped left masks taken all is t u =
+    t.goes_on whole under (subst (IsUnderWay slots conflicts whole under old) (all ∙ ap (λ (o : Option (List ℕ)). popped ++ option_to_list o) is) u)
 
 -- where no member can cost less than what was found, that is the answer
 answer : (slots : List (List Cost)) (conflicts : List (List Pair)) (whole : List ℕ) (under now : ℕ) (found : Option Member) → BestTells slots conflicts whole under now found

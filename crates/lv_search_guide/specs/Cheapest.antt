@@ -52,6 +52,11 @@ LookTells slots conflicts masks under Nothing = CostsAtLeast slots conflicts mas
 LookTells slots conflicts masks under (Found member) = IsCheapestUnder slots conflicts masks under member
 LookTells slots conflicts masks under (Splits p) = FallsApart masks p
 
+-- by the first open pair, where there is one
+abbrev pub splits_of : Option Pair → Looked
+splits_of None = Nothing
+splits_of (Some p) = Splits p
+
 -- some of the boxes has it as a free member
 abbrev pub is_free_in_some : List (List Cost) → List (List Pair) → List (List ℕ) → List ℕ → Bool
 is_free_in_some slots conflicts boxes choices = list_any (λ masks. is_free slots conflicts masks choices) boxes

@@ -66,7 +66,8 @@ fn take_box(
     if !narrow(conflicts, masks) {
         return Ok(());
     }
-    take_narrowed(alloc, grid, conflicts, masks, best, boxes)
+    take_narrowed(alloc, grid, conflicts, masks, best, boxes)?;
+    Ok(())
 }
 
 /// Looks at a box: gives it up, or finds a cheaper member, or puts its two parts on the stack.
@@ -87,7 +88,10 @@ fn take_narrowed(
             best.member = Some(member);
             Ok(())
         }
-        Looked::Splits(pair) => push_parts(alloc, masks, pair, boxes),
+        Looked::Splits(pair) => {
+            push_parts(alloc, masks, pair, boxes)?;
+            Ok(())
+        }
     }
 }
 

@@ -6,8 +6,8 @@ ghost use Rattle.lv_search_guide.specs.Free.{LeastFreeTells};
 ghost use Rattle.lv_search_guide.specs.Lowest.{LowestTells};
 
 use super::cheapest::{ABOVE_ALL, cheapest};
-use super::lowest::lowest;
 use super::look::Member;
+use super::lowest::lowest;
 use super::masks::Masks;
 use lv_base::{Conflict, Cost, Rank};
 use lv_boxes::{Grid, Zone};
@@ -40,6 +40,7 @@ fn first_in(
     ensures first { IfOk result (λ first. LowestTells grid.now conflicts.now masks.now first) }
     ensures bound { IfOk result (λ first. IfSome first (λ member. member.cost ≤ 4096 * 1000000)) }
 {
+    let _slots = grid.slots();
     match cheapest(alloc, grid, conflicts, masks, 0, ABOVE_ALL)? {
         Some(member) => Ok(Some(lowest(alloc, grid, conflicts, masks, member)?)),
         None => Ok(None),

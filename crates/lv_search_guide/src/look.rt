@@ -2,13 +2,13 @@
 //! falls into two smaller boxes.
 #![tactic(auto)]
 
-ghost use Rattle.std.specs.Prelude.{◌≡◌, ◌<◌, ℕ, List, IfOk};
+ghost use Rattle.std.specs.Prelude.{◌≡◌, ◌<◌, ℕ, List, length, IfOk, IfSome, None};
 ghost use Rattle.std.specs.List.{find};
 ghost use Rattle.std.specs.Option.{option_copied};
 ghost use Rattle.lv_base.specs.declared.ids.Cost.{Cost};
 ghost use Rattle.lv_base.specs.Choices.{contains_all};
 ghost use Rattle.lv_search_guide.specs.Boxes.{is_open};
-ghost use Rattle.lv_search_guide.specs.Cheapest.{CheapestLeftTells, IsCheapestLeft, LookTells};
+ghost use Rattle.lv_search_guide.specs.Cheapest.{CheapestLeftTells, IsCheapestLeft, HasNoneLeft, LookTells, splits_of};
 
 use super::masks::Masks;
 use lv_base::{Conflict, Pair, Seq, contains};
@@ -55,7 +55,7 @@ fn cheapest_left(alloc: Global, grid: &Grid, masks: &Masks) -> Result<Option<Mem
     ensures { IfOk result (λ member. CheapestLeftTells grid.now masks.now member) }
 {
     let mut choices = vec![in alloc; 0; grid.len()]?;
-    match write_least(grid.slots(), masks.as_slice(), &mut choices) {
+    match write_cheapest(grid, masks, &mut choices) {
         Some(cost) => Ok(Some(Member {
             cost,
             choices: Seq::from_vec(choices),
@@ -64,17 +64,33 @@ fn cheapest_left(alloc: Global, grid: &Grid, masks: &Masks) -> Result<Option<Mem
     }
 }
 
-/// Looks at a box whose cheapest member this is: where that contains a conflict the box falls apart by a pair of it
-/// whose choice is not all that its slot has left, and without such a pair each member contains the conflict.
+/// Writes a cheapest member of a box, and answers what it costs.
+fn write_cheapest(grid: &Grid, masks: &Masks, out: &mut [u32]) -> Option<u64>
+    requires { length out.old ≡ length grid.now }
+    ensures some { IfSome result (λ cost. IsCheapestLeft grid.now masks.now (record { cost = cost; choices = out.new })) }
+    ensures none { result ≡ None → HasNoneLeft grid.now masks.now }
+{
+    write_least(grid.slots(), masks.as_slice(), out)
+}
+
+/// Looks at a box whose cheapest member this is: it is found, or contains a conflict.
 fn look_at(conflicts: &[Conflict], masks: &Masks, member: Member) -> Looked
     ensures { (slots : List (List Cost)) (under : ℕ) → IsCheapestLeft slots masks.now member → member.cost < under → LookTells slots conflicts.now masks.now under result }
 {
     match first_contained(conflicts, member.choices.as_slice()) {
+        Some(conflict) => split_by(conflict, masks),
         None => Looked::Found(member),
-        Some(conflict) => match first_open(masks.as_slice(), conflict.pairs()) {
-            Some(pair) => Looked::Splits(pair),
-            None => Looked::Nothing,
-        },
+    }
+}
+
+/// Looks at a box whose cheapest member contains this conflict: it falls apart by a pair whose choice is not all that
+/// its slot has left. Without such a pair each member contains the conflict.
+fn split_by(conflict: &Conflict, masks: &Masks) -> Looked
+    ensures { result ≡ splits_of (find (is_open masks.now) conflict.now) }
+{
+    match first_open(masks.as_slice(), conflict.pairs()) {
+        Some(pair) => Looked::Splits(*pair),
+        None => Looked::Nothing,
     }
 }
 
@@ -88,10 +104,10 @@ fn first_contained<'a>(conflicts: &'a [Conflict], choices: &[u32]) -> Option<&'a
 }
 
 /// The first pair whose choice is not all that its slot has left.
-fn first_open(masks: &[u64], pairs: &[Pair]) -> Option<Pair>
-    ensures { result ≡ find (is_open masks.now) pairs.now }
+fn first_open<'a>(masks: &[u64], pairs: &'a [Pair]) -> Option<&'a Pair>
+    ensures { option_copied result ≡ find (is_open masks.now) pairs.now }
 {
-    pairs.iter().find(|pair| leaves_open(masks, **pair)).copied()
+    pairs.iter().find(|pair| leaves_open(masks, **pair))
 }
 
 /// Whether the pair's choice is not all that its slot has left.

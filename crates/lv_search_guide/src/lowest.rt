@@ -32,11 +32,12 @@ pub(crate) fn lowest(
     let mut part = Masks::from_slice(alloc, masks.as_slice())?;
     let mut choices = member.choices;
     for slot in 0..grid.len() {
-        choices = first_at(alloc, grid, conflicts, &part, slot, choices, cost)?;
+        let first = first_at(alloc, grid, conflicts, &part, slot, choices, cost)?;
         part.fix(Pair {
             slot: slot as u32,
-            choice: choice_at(&choices, slot),
+            choice: choice_at(&first, slot),
         });
+        choices = first;
     }
     Ok(Member { cost, choices })
 }
@@ -57,6 +58,7 @@ fn first_at(
     requires least { CostsAtLeast grid.now conflicts.now masks.now cost }
     requires bound { cost ≤ 4096 * 1000000 }
     requires within { slot < length grid.now }
+    requires small { slot < 4096 }
     ensures { IfOk result (λ first. IsFirstAt grid.now conflicts.now masks.now slot cost first) }
 {
     let below = choice_at(&choices, slot);
@@ -80,7 +82,7 @@ fn lower_at(
     requires least { CostsAtLeast grid.now conflicts.now masks.now cost }
     requires bound { cost ≤ 4096 * 1000000 }
     requires within { slot < length masks.now }
-    requires few { length masks.now ≤ 4096 }
+    requires small { slot < 4096 }
     ensures { IfOk result (λ lower. LowerTells grid.now conflicts.now masks.now slot below cost lower) }
 {
     for choice in 0..below {
@@ -88,8 +90,9 @@ fn lower_at(
             slot: slot as u32,
             choice,
         };
-        if let Some(lower) = member_with(alloc, grid, conflicts, masks, pair, cost)? {
-            return Ok(Some(lower));
+        match member_with(alloc, grid, conflicts, masks, pair, cost)? {
+            Some(lower) => return Ok(Some(lower)),
+            None => {}
         }
     }
     Ok(None)

@@ -98,8 +98,10 @@ fn left_of(masks: &[u64], pairs: &[Pair]) -> Left
         match stands_in(masks, *pair) {
             Stands::Out => return Left::Other,
             Stands::Forced => {}
-            Stands::Open if last.is_some() => return Left::Other,
-            Stands::Open => last = Some(*pair),
+            Stands::Open => match last {
+                Some(_) => return Left::Other,
+                None => last = Some(*pair),
+            },
         }
     }
     match last {
