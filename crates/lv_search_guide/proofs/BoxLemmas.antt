@@ -1,10 +1,10 @@
 -- Free members of a box and of the two parts into which a pair splits it, and the size of these.
-use Rattle.std.proofs.Common.{◌≡◌, ◌≢◌, ℕ, ◌+◌, ◌*◌, ◌^◌, ◌<◌, ◌≤◌, Bool, true, false, not, nat_lt, nat_eq, ◌&&◌, ◌||◌, List, [], ◌∷◌, Option, Some, None, length, ◌⊎◌, inl, inr, ⊎_elim, refl, sym, ◌∙◌, ap, subst, cond, arith}
+use Rattle.std.proofs.Common.{◌≡◌, ◌≢◌, ℕ, ◌+◌, ◌*◌, ◌^◌, ◌<◌, ◌≤◌, Bool, true, false, not, nat_lt, nat_eq, ◌&&◌, ◌||◌, List, [], ◌∷◌, Some, None, length, ◌⊎◌, inl, inr, refl, sym, ◌∙◌, ap, subst, cond, arith}
 use Rattle.std.specs.Prelude.{slice_index, slice_set, find, sum, bit_and, bit_xor}
 use Rattle.std.specs.List.{list_all, list_any}
 use Rattle.std.specs.Int.Bits.{xor_add_and, and_self}
 use Rattle.std.proofs.lemmas.Nat.{and_assoc, and_le_l}
-use Rattle.std.proofs.lemmas.Bool.{and_from, and_parts, or_left, or_right, eqb-true, eq-eqb, ltb-true, false_from_ne_true, cases_eq}
+use Rattle.std.proofs.lemmas.Bool.{and_from, and_parts, or_left, or_right, eqb-true, eq-eqb, ltb-true, cases_eq}
 use Rattle.std.proofs.lemmas.List.{set-get_or}
 use Rattle.std.proofs.lemmas.List.Sums.{sum_by-set}
 use Rattle.lv_base.specs.declared.ids.Cost.{Cost}
@@ -12,12 +12,12 @@ use Rattle.lv_base.specs.declared.search.Pair.{Pair}
 use Rattle.lv_base.specs.declared.search.Candidate.{Candidate}
 use Rattle.lv_base.specs.Choices.{picks, contains_all}
 use Rattle.lv_boxes.specs.Masks.{only_choice, without_choice}
-use Rattle.lv_boxes.specs.Members.{ZoneValue, are_left, is_member, choices_cost}
+use Rattle.lv_boxes.specs.Members.{ZoneValue, are_left}
 use Rattle.lv_boxes.specs.Parts.{masks_with, masks_without}
 use Rattle.lv_boxes.proofs.PartsLemmas.{is_member-with, is_member-without}
 use Rattle.lv_boxes.proofs.MemberLemmas.{length-are_left}
 use Rattle.lv_search_walk.specs.Walk.{is_ruled_out}
-use Rattle.lv_search_guide.specs.Boxes.{is_free, CostsAtLeast, HasNone, is_open}
+use Rattle.lv_search_guide.specs.Boxes.{is_free, is_open}
 
 -- a box as the zone of a tracked state that costs nothing, and choices as its candidate
 abbrev pub zone_at : List ℕ → ZoneValue

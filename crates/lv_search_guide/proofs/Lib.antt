@@ -3,3 +3,4 @@ pub mod SearchLemmas
 pub mod LowestLemmas
 pub mod FreeLemmas
 pub mod NarrowLemmas
+pub mod PriceLemmas

@@ -1,9 +1,9 @@
 -- Of the cheapest free members the first in the order of slots, slot by slot.
-use Rattle.std.proofs.Common.{◌≡◌, ◌≢◌, ℕ, zero, suc, ◌+◌, ◌*◌, ◌<◌, ◌≤◌, Bool, true, false, not, nat_lt, nat_eq, ◌==◌, ◌&&◌, ◌||◌, List, [], ◌∷◌, ◌++◌, Option, Some, None, length, take, get_or, ◌⊎◌, inl, inr, ⊎_elim, refl, sym, ◌∙◌, ap, ap₂, subst, add-one, arith}
+use Rattle.std.proofs.Common.{◌≡◌, ℕ, zero, suc, ◌+◌, ◌<◌, ◌≤◌, Bool, true, false, nat_lt, nat_eq, List, [], ◌∷◌, ◌++◌, length, take, ◌⊎◌, inl, inr, refl, sym, ◌∙◌, ap₂, subst, add-one, arith}
 use Rattle.std.specs.Prelude.{slice_index}
 use Rattle.std.proofs.Math.Seq.{take-suc}
 use Rattle.std.proofs.lemmas.List.{take_all}
-use Rattle.std.proofs.lemmas.Bool.{and_from, and_parts, lt-ltb, eq-eqb, false_from_ne_true, cases_eq, cases_lt}
+use Rattle.std.proofs.lemmas.Bool.{and_from, and_parts, lt-ltb, eq-eqb, false_from_ne_true, cases_eq}
 use Rattle.lv_base.specs.declared.ids.Cost.{Cost}
 use Rattle.lv_base.specs.declared.search.Pair.{Pair}
 use Rattle.lv_base.specs.Choices.{picks}
@@ -14,9 +14,9 @@ use Rattle.lv_boxes.specs.Parts.{masks_with}
 use Rattle.lv_boxes.proofs.MemberLemmas.{length-are_left}
 use Rattle.lv_search_guide.specs.declared.look.Member.{Member}
 use Rattle.lv_search_guide.specs.Boxes.{is_free, CostsAtLeast}
-use Rattle.lv_search_guide.specs.Cheapest.{IsCheapest, IsCheapestUnder, CheapestTells}
+use Rattle.lv_search_guide.specs.Cheapest.{IsCheapest, IsCheapestUnder}
 use Rattle.lv_search_guide.specs.Lowest.{IsLowest, NoneHas, OneHas, NoneBelow, IsFirstAt, IsNarrowed}
-use Rattle.lv_search_guide.proofs.BoxLemmas.{left_with, free_with, free_is_left, length-left, slot_within, choice_is}
+use Rattle.lv_search_guide.proofs.BoxLemmas.{left_with, free_with, free_is_left, length-left, choice_is}
 
 clash : (b : Bool) → b ≡ true → b ≡ false → ⊥
 clash b p q = cc

@@ -1,23 +1,22 @@
 -- What conflicts leave of a box: the members without conflict stay.
-use Rattle.std.proofs.Common.{◌≡◌, ◌≢◌, ℕ, suc, ◌+◌, ◌*◌, ◌^◌, ◌<◌, ◌≤◌, Bool, true, false, not, nat_eq, ◌&&◌, ◌||◌, List, [], ◌∷◌, Option, Some, None, length, get_or, drop, drop-cons, ◌⊎◌, inl, inr, refl, sym, ◌∙◌, ap, subst, add-one, arith}
-use Rattle.std.specs.Prelude.{slice_index, sum, bit_and, IfSome}
-use Rattle.std.specs.List.{list_any}
+use Rattle.std.proofs.Common.{◌≡◌, ℕ, suc, ◌+◌, ◌*◌, ◌^◌, ◌<◌, ◌≤◌, Bool, true, false, not, ◌&&◌, ◌||◌, List, [], ◌∷◌, Option, Some, None, length, get_or, drop, drop-cons, refl, sym, ◌∙◌, ap, subst, add-one, arith}
+use Rattle.std.specs.Prelude.{slice_index, sum, IfSome}
 use Rattle.std.specs.Int.{bit_at}
 use Rattle.std.proofs.Math.ListN.{drop_of_length-le}
 use Rattle.std.proofs.lemmas.Nat.{pow_pos}
 use Rattle.std.proofs.lemmas.Nat.Bits.{and_pow}
-use Rattle.std.proofs.lemmas.Bool.{and_from, and_parts, or_left, eqb-true, false_from_ne_true}
+use Rattle.std.proofs.lemmas.Bool.{and_parts, or_left, eqb-true, false_from_ne_true}
 use Rattle.std.proofs.lemmas.List.Folds.{list_any_at}
 use Rattle.lv_base.specs.declared.ids.Cost.{Cost}
 use Rattle.lv_base.specs.declared.search.Pair.{Pair}
 use Rattle.lv_base.specs.Choices.{picks, contains_all}
-use Rattle.lv_boxes.specs.Masks.{has_choice, only_choice, without_choice}
+use Rattle.lv_boxes.specs.Masks.{only_choice, without_choice}
 use Rattle.lv_boxes.specs.Members.{are_left}
 use Rattle.lv_boxes.specs.Parts.{masks_with, masks_without}
 use Rattle.lv_search_walk.specs.Walk.{is_ruled_out}
-use Rattle.lv_search_guide.specs.Boxes.{is_free, HasNone}
-use Rattle.lv_search_guide.specs.Narrow.{IsForced, IsThere, has_last, LeavesLast, LeavesOne, HasSameFree, IsLessBy, IsNoMoreBy, HasNoneBy, ChangedTells}
-use Rattle.lv_search_guide.proofs.BoxLemmas.{left_with, free_without, free_from, free_is_left, without_and_only, smaller, with_all}
+use Rattle.lv_search_guide.specs.Boxes.{is_free}
+use Rattle.lv_search_guide.specs.Narrow.{IsForced, IsThere, has_last, LeavesLast, LeavesOne, IsLessBy, IsNoMoreBy, HasNoneBy, ChangedTells}
+use Rattle.lv_search_guide.proofs.BoxLemmas.{left_with, free_without, without_and_only, smaller, with_all}
 
 clash : (b : Bool) → b ≡ true → b ≡ false → ⊥
 clash b p q = cc

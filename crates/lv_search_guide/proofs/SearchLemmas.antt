@@ -1,17 +1,16 @@
 -- The search by a stack of boxes: what a look at one box tells, and what that does to what is under way.
 use Rattle.std.proofs.Common.{◌≡◌, ℕ, ◌+◌, ◌*◌, ◌^◌, ◌<◌, ◌≤◌, Bool, true, false, not, ◌&&◌, ◌||◌, List, [], ◌∷◌, ◌++◌, Option, Some, None, length, ◌⊎◌, inl, inr, ⊎_elim, refl, sym, ◌∙◌, ap, ap₂, subst, arith}
-use Rattle.std.specs.Prelude.{find, sum, sum_by, option_map, option_to_list, IfSome}
-use Rattle.std.specs.List.{list_all, list_any}
+use Rattle.std.specs.Prelude.{find, sum, option_map, option_to_list, IfSome}
 use Rattle.std.proofs.Math.Nat.{one-le-pow, pow-le-pow_right}
 use Rattle.std.proofs.lemmas.Grind.{pow_more}
-use Rattle.std.proofs.lemmas.Bool.{and_from, and_parts, or_cases, or_left, or_right, false_from_ne_true, cases_lt}
+use Rattle.std.proofs.lemmas.Bool.{and_parts, or_cases, or_left, or_right, cases_lt}
 use Rattle.std.proofs.lemmas.List.Folds.{list_any-append}
 use Rattle.std.proofs.lemmas.List.Sums.{sum_by-append, sum_by-cons, sum_by_push}
 use Rattle.lv_base.specs.declared.ids.Cost.{Cost}
 use Rattle.lv_base.specs.declared.search.Pair.{Pair}
 use Rattle.lv_base.specs.Choices.{picks, contains_all}
 use Rattle.lv_base.specs.Rank.{ranks_before}
-use Rattle.lv_boxes.specs.Members.{are_left, choices_cost, is_member, rank_in}
+use Rattle.lv_boxes.specs.Members.{are_left, choices_cost, rank_in}
 use Rattle.lv_boxes.specs.Least.{cheapest_choices, IsLeastMember}
 use Rattle.lv_boxes.specs.Parts.{masks_with, masks_without}
 use Rattle.lv_boxes.proofs.LeastLemmas.{sum_none, lacks_choice-none, written_is_least, written_costs}
@@ -20,7 +19,7 @@ use Rattle.lv_search_guide.specs.declared.look.Member.{Member}
 use Rattle.lv_search_guide.specs.declared.look.Looked.{Looked}
 use Rattle.lv_search_guide.specs.declared.cheapest.Best.{Best}
 use Rattle.lv_search_guide.specs.Boxes.{is_free, CostsAtLeast, is_open}
-use Rattle.lv_search_guide.specs.Cheapest.{IsCheapestLeft, HasNoneLeft, IsCheapest, IsCheapestUnder, CheapestTells, FallsApart, LookTells, splits_of, is_free_in_some, IsBest, BestTells, IsUnderWay, weight_of, TakesBox}
+use Rattle.lv_search_guide.specs.Cheapest.{IsCheapestLeft, HasNoneLeft, IsCheapestUnder, CheapestTells, FallsApart, LookTells, splits_of, is_free_in_some, BestTells, IsUnderWay, weight_of, TakesBox}
 use Rattle.lv_search_guide.specs.Narrow.{HasSameFree, IsNoMoreBy, HasNoneBy}
 use Rattle.lv_search_guide.proofs.BoxLemmas.{zone_at, candidate_at, free_with, free_without, free_is_left, free_from, found_passes, some_pass, found_itself, none_pass, both_smaller, all_contain}
 

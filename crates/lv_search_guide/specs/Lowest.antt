@@ -1,11 +1,11 @@
 -- Of the free members of a box that cost least the first in the order of slots, and what holds in the course of looking for it.
-use Rattle.std.specs.Prelude.{◌≡◌, ℕ, ◌<◌, ◌≤◌, Bool, true, false, List, length, slice_index, take, Option, Some, None}
+use Rattle.std.specs.Prelude.{◌≡◌, ℕ, ◌≤◌, true, false, List, slice_index, take, Option, Some, None}
 use Rattle.lv_base.specs.declared.ids.Cost.{Cost}
 use Rattle.lv_base.specs.declared.search.Pair.{Pair}
 use Rattle.lv_base.specs.Choices.{picks}
 use Rattle.lv_base.specs.Order.{comes_before}
 use Rattle.lv_boxes.specs.Members.{are_left, choices_cost}
-use Rattle.lv_search_guide.specs.Boxes.{is_free, CostsAtLeast, HasNone}
+use Rattle.lv_search_guide.specs.Boxes.{is_free, HasNone}
 use Rattle.lv_search_guide.specs.Cheapest.{IsCheapest}
 use Rattle.lv_search_guide.specs.declared.look.Member.{Member}
 

@@ -1,5 +1,5 @@
 -- What conflicts leave of a box.
-use Rattle.std.specs.Prelude.{◌≡◌, ℕ, ◌<◌, ◌≤◌, Bool, true, false, List, [], ◌∷◌, length, slice_index, sum, Option, Some, None}
+use Rattle.std.specs.Prelude.{◌≡◌, ℕ, ◌<◌, ◌≤◌, Bool, true, false, List, length, slice_index, sum, Option, Some, None}
 use Rattle.lv_base.specs.declared.ids.Cost.{Cost}
 use Rattle.lv_base.specs.declared.search.Pair.{Pair}
 use Rattle.lv_base.specs.Choices.{picks, contains_all}

@@ -14,6 +14,7 @@
 //! | `lowest` | of the cheapest members the first in the order of slots |
 //! | `masks` | a box: of each slot the choices left |
 //! | `narrow` | what conflicts leave of a box |
+//! | `prices` | what a member of a box costs at least |
 //! | `laws` | that there is one answer |
 #![tactic(auto)]
 
@@ -24,5 +25,6 @@ mod look;
 mod lowest;
 mod masks;
 mod narrow;
+mod prices;
 
 pub use laws::least_free_is_one;

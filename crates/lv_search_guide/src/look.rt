@@ -11,6 +11,7 @@ ghost use Rattle.lv_search_guide.specs.Boxes.{is_open};
 ghost use Rattle.lv_search_guide.specs.Cheapest.{CheapestLeftTells, IsCheapestLeft, HasNoneLeft, LookTells, splits_of};
 
 use super::masks::Masks;
+use super::prices::low_of;
 use lv_base::{Conflict, Pair, Seq, contains};
 use lv_boxes::least::write_least;
 use lv_boxes::{Grid, mask};
@@ -34,7 +35,8 @@ pub(crate) enum Looked {
     Splits(Pair),
 }
 
-/// Looks at a box for a cheapest member that contains no conflict and costs less than `under`.
+/// Looks at a box for a cheapest member that contains no conflict and costs less than `under`. Prices mostly tell that
+/// there is none before its cheapest member is looked at.
 pub(crate) fn look(
     alloc: Global,
     grid: &Grid,
@@ -44,6 +46,10 @@ pub(crate) fn look(
 ) -> Result<Looked, AllocError>
     ensures { IfOk result (λ looked. LookTells grid.now conflicts.now masks.now under looked) }
 {
+    let low = low_of(alloc, grid, conflicts, masks)?;
+    if low >= under {
+        return Ok(Looked::Nothing);
+    }
     match cheapest_left(alloc, grid, masks)? {
         Some(member) if member.cost < under => Ok(look_at(conflicts, masks, member)),
         _ => Ok(Looked::Nothing),

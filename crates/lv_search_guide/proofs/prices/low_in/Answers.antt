@@ -1,0 +1,11 @@
+-- bound and prices hold from slot to slot and from conflict to conflict
+use Rattle.std.proofs.Common.{◌∙◌}
+use Rattle.lv_search_guide.proofs.PriceLemmas.{bound_begins, bound_is_low}
+use Rattle.lv_search_guide.proofs.prices.low_in.Goals as goal
+
+pub returns : goal.returns
+returns c =
+    bound_is_low c.args.grid.now c.args.conflicts.now c.args.masks.now c.raise_by_conflicts.result c.raise_by_conflicts.new.rows.items
+    (c.raise_by_conflicts.ensures c.args.grid.now
+    (c.raise_by_slots-low.ensures.bound c.args.grid.now c.args.conflicts.now c.slots.ensures.each
+    (bound_begins c.args.grid.now c.args.conflicts.now c.args.masks.now c.in_ok-rows.rows.items (c.in_ok-rows.ensures ∙ c.slots.ensures.slots))))
