@@ -23,17 +23,18 @@ status=$?
 grep -v '^ok$' "$work/told" >"$work/out"
 expect_files 'a session that is told what a plant shows' 0 "$work/ladder.out" /dev/null
 
-# The last of a million steps, and none behind it.
+# The last of a million steps, and none behind it, of a plant that has nothing to do.
+printf '%s\n' 'type rock' 'mode lies' 'end' 'part r rock lies' >"$work/rock.lv"
 {
-    echo 'track 1'
     yes step | head -1000000
-    printf 'step\nfault v 3\n'
+    printf '%s\n' step states
 } >"$work/million.script"
-run plant "$root/examples/valve.lv" "$work/million.script" </dev/null
-tail -8 "$work/out" >"$work/last"
+run plant "$work/rock.lv" "$work/million.script" </dev/null
+tail -9 "$work/out" >"$work/last"
 mv "$work/last" "$work/out"
 expect 'a million steps' 0 "$(
-    printf '%s\n' 'plant time 1000000: v=closed' 'settled 1' '1 cost 0 from 1: -' 'time 1000000 tracked 1' 'held yes' 'goals none' 'error P04' ok
+    printf '%s\n' 'plant time 1000000: r=lies' 'settled 1' '1 cost 0 from 1: -' 'time 1000000 tracked 1' 'held yes' 'goals none' \
+        'error P04' 'time 1000000 tracked 1' '1 cost 0: r=lies'
 )" ''
 
 verdict
