@@ -8,6 +8,7 @@ ghost use Rattle.lv_search_walk.specs.Walk.{candidate_of, walk, suit_all};
 ghost use Rattle.lv_search.specs.Standing.{trials_of, all_suit, AreSame, IsUnderWay};
 
 use super::frontier::Frontier;
+use super::guide::Guide;
 use super::trial::Trial;
 use super::turn::{Held, take_turns};
 use super::zones::{Split, Zones};
@@ -102,6 +103,14 @@ impl<F: Frontier + Drop> Search<F> {
         ensures { result ≡ trials_of self.now.standing }
     {
         self.held.trials()
+    }
+}
+
+impl Search<Guide> {
+    /// How many zones there were so far: those that the search began with, and for each candidate listed as many as there
+    /// are slots. Takes no memory.
+    pub fn zones(&self) -> u64 {
+        self.frontier.opened()
     }
 }
 
