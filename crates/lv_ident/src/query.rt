@@ -88,7 +88,8 @@ pub fn identify<'a>(
     let grid = move_grid(alloc, model)?;
     let zones = zones_of(alloc, model, tracked)?;
     let asked = copied(alloc, &facts)?;
-    let search = Search::new(alloc, Guide::new(alloc, grid, zones)?, k)?;
+    let left = Guide::new(alloc, grid, zones)?;
+    let search = Search::new(alloc, left, k)?;
     match IdentTrial::new(alloc, model, system, asked) {
         Ok(trial) => Ok(Query {
             model,

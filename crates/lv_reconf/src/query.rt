@@ -49,7 +49,8 @@ fn search_of(alloc: Global, model: &Model) -> Result<Search<Guide>, AllocError>
     let grid = command_grid(alloc, model)?;
     let mut zones = Vec::new(alloc);
     zones.push(command_zone(alloc, model)?)?;
-    Search::new(alloc, Guide::new(alloc, grid, zones)?, 1)
+    let left = Guide::new(alloc, grid, zones)?;
+    Search::new(alloc, left, 1)
 }
 
 /// A query that has tried nothing, for the first command set that recovers: the cheapest, and of those that cost the same
