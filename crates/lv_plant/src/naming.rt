@@ -4,7 +4,7 @@
 ghost use Rattle.std.specs.Prelude.{◌≡◌, slice_get};
 ghost use Rattle.std.specs.List.{position};
 ghost use Rattle.std.specs.Option.{option_and_then};
-ghost use Rattle.lv_plant.specs.Standing.{is_part, is_fault_at, fault_at};
+ghost use Rattle.lv_plant.specs.Naming.{is_part, is_fault_at, fault_at};
 
 use lv_base::{ValId, has_name};
 use lv_model::lookup::type_of;

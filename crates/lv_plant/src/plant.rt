@@ -1,37 +1,40 @@
 //! The plant, and what each line does.
 #![tactic(auto)]
 
-ghost use Rattle.std.specs.Prelude.{◌≡◌, ◌≤◌, All, IsTrue, IfOk, OnOk, OnErr, IsErr, length, map, true};
-ghost use Rattle.std.specs.Cmp.Lexicographic.{pointwise};
-ghost use Rattle.lv_formula.specs.Tree.{truth_of};
-ghost use Rattle.lv_model.specs.Lists.{sizes};
-ghost use Rattle.lv_model.specs.WellFormed.{Reads};
-ghost use Rattle.lv_meaning.specs.Recovers.{meets_goals};
-ghost use Rattle.lv_plant_step.specs.PlantSteps.{AskedFits};
-ghost use Rattle.lv_session.specs.Session.{formula_of};
-ghost use Rattle.lv_plant.specs.Plants.{EndsIn, GoalReads};
-ghost use Rattle.lv_plant.specs.Standing.{same_value, is_held, goals_among, at_start, asked_of, moved, told_by, committed_by, taken, named, step, apply, done};
+ghost use Rattle.std.specs.Prelude.{◌≡◌, ◌<◌, IfOk, OnOk, OnErr, IsErr, IfSome, true};
+ghost use Rattle.lv_plant_step.specs.PlantSteps.{AskedFits, plant_step};
+ghost use Rattle.lv_session_request.specs.Requests.{IsSightingIn};
+ghost use Rattle.lv_plant.specs.Plants.{EndsIn};
+ghost use Rattle.lv_plant.specs.Forms as forms;
+ghost use Rattle.lv_plant.specs.Standing.{at_start, with_session, asked_of, moved, observed_by, told_by, diagnosed_by, lists_some, committed_by, told_of, taken, named, handed_on, step, apply, done};
 
 use crate::fault::PlantFault;
+use crate::findings::{goals_told, is_held};
 use crate::form::{PlantLine, asked_by};
 use crate::naming::{fault_at, part_named};
-use crate::reply::{GoalsTold, PlantReply, StepTold, plant_text};
+use crate::reply::{PlantReply, StepTold, plant_text};
 use crate::seeing::{modes_in, seen};
 use lv_base::{MoveId, Seq, ValId};
-use lv_model::TrackedState;
 use lv_plant_step::{Asked, PlantStep, PlantStepper};
 use lv_reply::Reply;
 use lv_serve::Responder;
 use lv_session::{CompiledModel, Session};
-use lv_session_request::{Goal, Request};
+use lv_session_request::{Request, Sighting};
 use std::alloc::{AllocError, Global};
 use std::marker;
 
 /// How many steps the plant makes at most.
 pub const STEPS: u64 = 1_000_000;
 
-/// How many observables are observed of a step at most.
-pub const SEEN: usize = 512;
+/// Whether a diagnosis is settled and lists something.
+fn lists_some(diagnosis: &Reply) -> bool
+    ensures { result ≡ lists_some diagnosis.now }
+{
+    match diagnosis {
+        Reply::Settled(listed) => !listed.is_empty(),
+        _ => false,
+    }
+}
 
 /// A plant and the session that is told what is observed of it.
 #[derive(Drop)]
@@ -60,50 +63,6 @@ impl<'a> marker::Model for Plant<'a> {
     ghost view = { λ p. record { session = p.session; modes = p.modes.items; faults = p.faults.items; time = p.time; is_halted = p.is_halted; is_out_of_memory = p.is_out_of_memory } };
 
     ghost invariant = { λ p. IsPlant p.compiled.now p.session p.stepper.value p.modes.items p.faults.items };
-}
-
-/// Whether a state has these modes.
-fn has_modes(state: &TrackedState, modes: &[ValId]) -> bool
-    ensures { result ≡ pointwise same_value state.now.state.modes modes.now }
-{
-    state.state.modes.as_slice() == modes
-}
-
-/// Whether the modes are those of a tracked state.
-fn is_held(modes: &[ValId], tracked: &[TrackedState]) -> bool
-    ensures { result ≡ is_held modes.now tracked.now }
-{
-    tracked.iter().any(|state| has_modes(state, modes))
-}
-
-/// Whether a goal is true in `b`.
-fn is_met(b: &[ValId], goal: &Goal) -> bool
-    requires { GoalReads (length b.now) goal.now }
-    ensures { result ≡ truth_of b.now 0 goal.now.formula }
-{
-    goal.formula.formula().holds(b, 0)
-}
-
-/// Whether all goals are true in `b`.
-fn are_met(b: &[ValId], goals: &[Goal]) -> bool
-    requires { All (GoalReads (length b.now)) goals.now }
-    ensures { result ≡ meets_goals (map formula_of goals.now) b.now }
-{
-    goals.iter().all(|goal| is_met(b, goal))
-}
-
-/// Whether the goals that are held, if any, are all true in `b`.
-fn goals_told(b: &[ValId], goals: &[Goal]) -> GoalsTold
-    requires { All (GoalReads (length b.now)) goals.now }
-    ensures { result ≡ goals_among b.now goals.now }
-{
-    if goals.is_empty() {
-        GoalsTold::NoGoals
-    } else if are_met(b, goals) {
-        GoalsTold::Met
-    } else {
-        GoalsTold::Open
-    }
 }
 
 impl<'a> Plant<'a> {
@@ -163,9 +122,20 @@ impl<'a> Plant<'a> {
         })
     }
 
+    /// The step that the plant takes next, if there is one.
+    fn next_step(&mut self) -> Result<Option<PlantStep>, AllocError>
+        ensures step { IfOk result (λ step. step ≡ plant_step self.old.session.plant (asked_of self.old)) }
+        ensures ends { IfOk result (λ step. IfSome step (EndsIn self.old.session.plant)) }
+        ensures kept { self.new ≡ self.old }
+    {
+        let asked = self.asked()?;
+        self.stepper.first_step(&asked)
+    }
+
     /// The plant is where the step ends, and the named faults are forgotten.
     fn go_to(&mut self, step: &PlantStep) -> Result<(), AllocError>
-        requires { EndsIn self.old.session.plant step.now }
+        requires ends { EndsIn self.old.session.plant step.now }
+        requires few { self.old.time < STEPS }
         ensures { OnOk result (self.new ≡ moved self.old.session.plant self.old step.now) }
     {
         let parts = self.compiled.model().plant().parts.as_slice();
@@ -177,55 +147,80 @@ impl<'a> Plant<'a> {
         Ok(())
     }
 
+    /// Tells the session of an observation.
+    fn observe(&mut self, sighting: Sighting) -> Result<(), AllocError>
+        requires { IsSightingIn self.old.session.plant sighting }
+        ensures { OnOk result (self.new ≡ with_session self.old (observed_by self.old sighting).state) }
+    {
+        self.session.perform(Request::Observe(sighting))?;
+        Ok(())
+    }
+
     /// Tells the session what is observed.
     fn tell(&mut self, step: &PlantStep) -> Result<(), AllocError>
         requires { EndsIn self.old.session.plant step.now }
         ensures { OnOk result (self.new ≡ told_by self.old step.now) }
     {
-        let seen = seen(
-            self.alloc,
-            self.compiled.model(),
-            self.time % 2 == 1,
-            step.after.as_slice(),
-        )?;
+        let odd = self.time % 2 == 1;
+        let seen = seen(self.alloc, self.compiled.model(), odd, step.after.as_slice())?;
         for sighting in seen {
-            self.session.perform(Request::Observe(sighting))?;
+            self.observe(sighting)?;
         }
         Ok(())
     }
 
-    /// Commits a settled diagnosis that lists something; else the plant is halted.
+    /// Has the session diagnose.
+    fn diagnose(&mut self) -> Result<Reply, AllocError>
+        ensures reply { IfOk result (λ reply. reply ≡ (diagnosed_by self.old).reply) }
+        ensures state { OnOk result (self.new ≡ with_session self.old (diagnosed_by self.old).state) }
+    {
+        self.session.perform(Request::Diagnose)
+    }
+
+    /// Commits a settled diagnosis that lists something; behind any other the plant is halted.
     fn commit(&mut self, diagnosis: &Reply) -> Result<Option<Reply>, AllocError>
         ensures { IfOk result (λ commit. record { next = self.new; commit = commit } ≡ committed_by self.old diagnosis.now) }
     {
-        match diagnosis {
-            Reply::Settled(listed) if !listed.is_empty() => {
-                Ok(Some(self.session.perform(Request::Commit)?))
-            }
-            _ => {
-                self.is_halted = true;
-                Ok(None)
-            }
+        if lists_some(diagnosis) {
+            Ok(Some(self.session.perform(Request::Commit)?))
+        } else {
+            self.is_halted = true;
+            Ok(None)
         }
+    }
+
+    /// What is told of a step.
+    fn told_of(
+        &self,
+        step: &PlantStep,
+        diagnosis: Reply,
+        commit: Option<Reply>,
+    ) -> Result<StepTold, AllocError>
+        requires { EndsIn self.now.session.plant step.now }
+        ensures { IfOk result (λ told. told ≡ told_of self.now step.now diagnosis commit) }
+    {
+        let modes = self.modes.as_slice();
+        Ok(StepTold {
+            time: self.time,
+            is_held: is_held(modes, self.session.tracked()),
+            goals: goals_told(step.after.as_slice(), self.session.goals()),
+            modes: Seq::from_slice(self.alloc, modes)?,
+            diagnosis,
+            commit,
+        })
     }
 
     /// Takes a step, tells the session what is observed of it, and has it diagnose.
     fn take(&mut self, step: &PlantStep) -> Result<PlantReply, AllocError>
-        requires { EndsIn self.old.session.plant step.now }
+        requires ends { EndsIn self.old.session.plant step.now }
+        requires few { self.old.time < STEPS }
         ensures { IfOk result (λ reply. record { next = self.new; reply = reply } ≡ taken self.old.session.plant self.old step.now) }
     {
         self.go_to(step)?;
         self.tell(step)?;
-        let diagnosis = self.session.perform(Request::Diagnose)?;
+        let diagnosis = self.diagnose()?;
         let commit = self.commit(&diagnosis)?;
-        Ok(PlantReply::Moved(StepTold {
-            time: self.time,
-            modes: Seq::from_slice(self.alloc, self.modes.as_slice())?,
-            is_held: is_held(self.modes.as_slice(), self.session.tracked()),
-            goals: goals_told(step.after.as_slice(), self.session.goals()),
-            diagnosis,
-            commit,
-        }))
+        Ok(PlantReply::Moved(self.told_of(step, diagnosis, commit)?))
     }
 
     /// `step`
@@ -235,8 +230,7 @@ impl<'a> Plant<'a> {
         if self.is_halted || self.time >= STEPS {
             return Ok(PlantReply::Refused(PlantFault::NoMore));
         }
-        let asked = self.asked()?;
-        match self.stepper.first_step(&asked)? {
+        match self.next_step()? {
             Some(step) => self.take(&step),
             None => Ok(PlantReply::Refused(PlantFault::NoStep)),
         }
@@ -253,6 +247,14 @@ impl<'a> Plant<'a> {
         Ok(PlantReply::Accepted)
     }
 
+    /// Hands on a line that is the session's.
+    fn hand_on(&mut self, line: &[u8]) -> Result<PlantReply, AllocError>
+        requires { forms.asked_by line.now ≡ forms.for_session }
+        ensures { IfOk result (λ reply. record { next = self.new; reply = reply } ≡ handed_on self.old.session.plant self.old line.now) }
+    {
+        Ok(PlantReply::Told(self.session.step(line)?))
+    }
+
     /// Does what a line asks for.
     fn answered(&mut self, line: &[u8]) -> Result<PlantReply, AllocError>
         ensures { IfOk result (λ reply. record { next = self.new; reply = reply } ≡ done self.old line.now) }
@@ -260,7 +262,7 @@ impl<'a> Plant<'a> {
         match asked_by(self.alloc, line)? {
             PlantLine::Nothing => Ok(PlantReply::Silence),
             PlantLine::Refused(fault) => Ok(PlantReply::Refused(fault)),
-            PlantLine::ForSession => Ok(PlantReply::Told(self.session.step(line)?)),
+            PlantLine::ForSession => self.hand_on(line),
             PlantLine::Name { part, tag } => Ok(self.name(part, tag)),
             PlantLine::Step => self.go_on(),
             PlantLine::Apply => self.apply(),
