@@ -5,3 +5,4 @@ pub mod KeptLemmas
 pub mod TakenLemmas
 pub mod FollowedLemmas
 pub mod PlantLemmas
+pub mod ScriptLemmas

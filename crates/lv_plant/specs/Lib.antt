@@ -6,5 +6,6 @@ pub mod Replies
 pub mod Standing
 pub mod Plants
 pub mod Answering
+pub mod Scripts
 pub mod LongLines
 pub mod Laws

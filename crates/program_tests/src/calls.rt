@@ -33,7 +33,7 @@ law v.inn = some
 ";
 
 pub const USAGE: &[u8] =
-    b"usage: livingstone run MODEL SESSION, check MODEL CERT, print MODEL, generate KIND N, drive N, lanes MODEL SESSION
+    b"usage: livingstone run MODEL SESSION, check MODEL CERT, print MODEL, generate KIND N, drive N, lanes MODEL SESSION, plant MODEL SCRIPT
 ";
 
 /// What tells that the model's file could not be read.
