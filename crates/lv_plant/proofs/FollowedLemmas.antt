@@ -1,24 +1,17 @@
 -- Lines and steps: what a line leaves as it was, and what a line that asks for a step is told.
-use Rattle.std.proofs.Common.{◌≡◌, ◌≢◌, ℕ, zero, suc, ◌+◌, ◌<◌, ◌≤◌, Bool, true, false, ◌||◌, cond, nat_eq, nat_le, List, [], ◌∷◌, length, map, slice_get, slice_set, slice_index_or, position, Option, Some, None, is_some, Contains, inl, inr, refl, sym, subst, ◌∙◌, ap, arith}
-use Rattle.std.specs.List.{list_all}
-use Rattle.std.specs.Option.{option_map_or, option_and_then}
-use Rattle.std.proofs.lemmas.Bool.{and_parts, and_from, or_parts, le-leb, leb-false}
+use Rattle.std.proofs.Common.{◌≡◌, ◌≢◌, ℕ, zero, suc, ◌<◌, ◌≤◌, Bool, true, false, cond, nat_le, List, [], ◌∷◌, length, map, slice_get, Option, Some, None, is_some, Contains, inl, inr, refl, sym, subst, ◌∙◌, ap, arith}
+use Rattle.std.specs.Option.{option_map_or}
+use Rattle.std.proofs.lemmas.Bool.{and_parts, and_from, or_parts, le-leb, leb-false, ne_eqb}
 use Rattle.lv_base.specs.declared.ids.ValId.{ValId}
 use Rattle.lv_base.specs.declared.rank.Rank.{Rank}
-use Rattle.lv_base.specs.declared.limits.TheConstants.{LISTED}
-use Rattle.lv_formula.specs.Tree.{Tree}
 use Rattle.lv_model.specs.declared.plant.Plant.{Plant}
-use Rattle.lv_model.specs.declared.plant.Part.{Part}
-use Rattle.lv_model.specs.declared.state.TrackedState.{TrackedState}
 use Rattle.lv_search_walk.specs.declared.outcome.Outcome.{Outcome}
 use Rattle.lv_search_walk.specs.declared.outcome.Outcome.TheVariants.{Settled, Unsettled}
 use Rattle.lv_search_walk.specs.Walk.{Walked}
-use Rattle.lv_meaning.specs.Possible.{value}
 use Rattle.lv_meaning.specs.Commands.{is_command_set}
 use Rattle.lv_meaning.specs.Recovers.{meets_goals, recovers}
 use Rattle.lv_meaning.proofs.Among.{Among, contained}
 use Rattle.lv_meaning.proofs.RecoveryWalks.{walk_found}
-use Rattle.lv_reply.specs.declared.reply.Reply.{Reply}
 use Rattle.lv_reply.specs.declared.reply.Reply.TheVariants.{Settled as SettledReply}
 use Rattle.lv_session_request.specs.declared.goals.Goal.{Goal}
 use Rattle.lv_session_request.specs.Held.{observation_of}
@@ -35,14 +28,14 @@ use Rattle.lv_plant.specs.declared.plant.TheConstants.{STEPS}
 use Rattle.lv_plant.specs.declared.fault.PlantFault.TheVariants.{NoFault, NoMore, NoStep, NoRecovery}
 use Rattle.lv_plant.specs.declared.reply.PlantReply.TheVariants.{Accepted, Refused, Moved}
 use Rattle.lv_plant.specs.declared.reply.StepTold.{StepTold}
-use Rattle.lv_plant.specs.declared.reply.GoalsTold.{GoalsTold}
 use Rattle.lv_plant.specs.declared.reply.GoalsTold.TheVariants.{NoGoals, Met, Open}
 use Rattle.lv_plant.specs.Forms as forms
-use Rattle.lv_plant.specs.Naming.{is_part, fault_at}
+use Rattle.lv_plant.specs.declared.naming.NamedFault.{NamedFault}
+use Rattle.lv_plant.specs.Naming.{named_fault}
 use Rattle.lv_plant.specs.Findings.{is_held, is_met, are_met, goals_among}
-use Rattle.lv_plant.specs.Standing.{Standing, Done, Committed, at_start, with_session, unchanged, with_fault, named_at, named, asked_of, lists_some, told_of, taken, is_over, step, apply, done, done_by}
+use Rattle.lv_plant.specs.Standing.{Standing, Done, Committed, at_start, with_session, unchanged, with_fault, named, asked_of, lists_some, told_of, taken, is_over, step, apply, done, done_by}
 use Rattle.lv_plant.specs.Answering.{next_at}
-use Rattle.lv_plant.specs.Laws.{Aims, IsRunning, Takes, IsOwn, after, AskNoStep, IsBehind, MeetsGoals}
+use Rattle.lv_plant.specs.Laws.{IsRunning, Takes, IsOwn, after, AskNoStep, IsBehind, MeetsGoals}
 use Rattle.lv_plant.proofs.OwnLemmas.{StandsIn, held_place}
 use Rattle.lv_plant.proofs.KeptLemmas.{Stays, stays_same, stays_on, line_stays, apply_stays}
 use Rattle.lv_plant.proofs.TakenLemmas.{came_to, came, comes, taken_is, comes_listing, goals_kept, runs_on, held_behind, lists_then}
@@ -143,16 +136,11 @@ with_state : (s : Standing) (state : SessionState) → Stays s.session.state sta
 with_state s state stays = record { plant = refl; state = stays; time = refl; halted = refl }
 
 named_keeps : (plant : Plant) (s : Standing) (name : List ℕ) (tag : Option ℕ) → Keeps s (named plant s name tag).next
-named_keeps plant s name None = keeps_same s
-named_keeps plant s name (Some line) = by (position (is_part name) plant.parts)
+named_keeps plant s name tag = by (named_fault plant s.modes name tag)
   where
-    fault : (k : ℕ) (o : Option ℕ) → Keeps s (option_map_or (with_fault s k) o (unchanged s (Refused NoFault))).next
-    fault k None = keeps_same s
-    fault k (Some n) = record { plant = refl; state = stays_same s.session.state; time = refl; halted = refl }
-
-    by : (o : Option ℕ) → Keeps s (option_map_or (named_at plant s line) o (unchanged s (Refused NoFault))).next
+    by : (o : Option NamedFault) → Keeps s (option_map_or (λ (n : NamedFault). record { next = with_fault s n; reply = Accepted }) o (unchanged s (Refused NoFault))).next
     by None = keeps_same s
-    by (Some k) = fault k (option_and_then (λ (p : Part). fault_at plant.types p (slice_index_or s.modes k (record { 0 = 0 })).0 line) (slice_get plant.parts k))
+    by (Some n) = record { plant = refl; state = stays_same s.session.state; time = refl; halted = refl }
 
 pub apply_keeps : (s : Standing) → Keeps s (apply s).next
 apply_keeps s = by (recovery_at s.session)
@@ -245,12 +233,12 @@ found_by s u (Diagnosis sum) e h = absurd (cc h)
 found_by s u (Recovery sum) e h =
     let two = values_settled (recovery s.plant s.state sum).outcome (recovery s.plant s.state sum).listed u h in
     let one = first_found (recovery s.plant s.state sum).listed u two.1 in
-    let is = walk_found s.plant (aim_of s.state) sum one.0 two.0 one.1.0 in
+    let is = walk_found s.plant (aim_of s.state) sum one.0 two.0 one.1 in
     record {
       sum = sum;
       query = e;
-      commands = subst (λ (v : List ℕ). is_command_set s.plant v ≡ true) one.1.1 is.set.values;
-      sure = subst (λ (v : List ℕ). recovers s.plant (aim_of s.state) v ≡ true) one.1.1 is.sure;
+      commands = subst (λ (v : List ℕ). is_command_set s.plant v ≡ true) one.2 is.set.values;
+      sure = subst (λ (v : List ℕ). recovers s.plant (aim_of s.state) v ≡ true) one.2 is.sure;
     }
 
 is_found : (s : RunningSession) (u : List ℕ) → recovery_at s ≡ Some u → IsFound s u
@@ -272,8 +260,8 @@ goals_true b (g ∷ gs) h =
     and_from (is_met b g) (are_met b gs) two.0 (goals_true b gs two.1)
 
 all_met : (b : List ValId) (goals : List Goal) → 1 ≤ length goals → are_met b goals ≡ true → goals_among b goals ≡ Met
-all_met b [] some met = absurd (omega (arith, some))
-all_met b (g ∷ gs) some met = ap (λ (c : Bool). cond c Met Open) met
+all_met b goals some met =
+    ap (λ (c : Bool). cond c NoGoals (cond (are_met b goals) Met Open)) (ne_eqb (length goals) 0 (λ e. absurd (omega (arith, some, e)))) ∙ ap (λ (c : Bool). cond c Met Open) met
 
 found_step : (o : Option PlantStep) → is_some o ≡ true → (taking : PlantStep) × (o ≡ Some taking)
 found_step None h = absurd (cc h)

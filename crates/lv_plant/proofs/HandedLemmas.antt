@@ -18,7 +18,7 @@ use Rattle.lv_session_request.specs.declared.words.Word.TheVariants as said
 use Rattle.lv_session_request.specs.Chain.{and_then}
 use Rattle.lv_session_request.specs.Forms.{first_word, number_to}
 use Rattle.lv_session_request.specs.Goals.{goal_of}
-use Rattle.lv_session_request.specs.Requests.{alone, command_of, release_of, retracted_of, request_by, asked_by_first, asked, asked_by as request_by_reading, request_of}
+use Rattle.lv_session_request.specs.Requests.{command_of, release_of, retracted_of, request_by, asked_by_first, asked, asked_by as request_by_reading, request_of}
 use Rattle.lv_plant.specs.declared.fault.PlantFault.TheVariants.{NoForm}
 use Rattle.lv_plant.specs.Forms as forms
 use Rattle.lv_plant.specs.Forms.{goes_to_session, is_naming, is_alone, asked_of, asked_by_reading}

@@ -6,3 +6,4 @@ pub mod TakenLemmas
 pub mod FollowedLemmas
 pub mod PlantLemmas
 pub mod ScriptLemmas
+pub mod RefusedLemmas

@@ -1,7 +1,7 @@
 -- The plant's own moves: they are a candidate of a state with its modes, which is possible where its step meets the facts, and lead to
 -- the modes behind the step.
-use Rattle.std.proofs.Common.{◌≡◌, ℕ, zero, suc, ◌<◌, Bool, true, false, ◌&&◌, ◌||◌, nat_eq, nat_lt, List, [], ◌∷◌, length, map, get_or, slice_get, slice_index_or, Option, Some, None, refl, sym, ap, ap₂, ◌∙◌, arith}
-use Rattle.std.specs.List.{list_all, list_any}
+use Rattle.std.proofs.Common.{◌≡◌, ℕ, suc, ◌<◌, Bool, true, false, ◌&&◌, ◌||◌, nat_eq, nat_lt, List, [], ◌∷◌, length, map, get_or, slice_get, slice_index_or, Option, Some, None, refl, sym, ap, ap₂, ◌∙◌}
+use Rattle.std.specs.List.{list_any}
 use Rattle.std.specs.Option.{option_map_or}
 use Rattle.std.specs.Cmp.Lexicographic.{pointwise}
 use Rattle.std.proofs.lemmas.Bool.{and_parts, and_from, eqb-true, eq-eqb, ltb-true}
@@ -10,7 +10,7 @@ use Rattle.lv_base.specs.declared.ids.ValId.{ValId}
 use Rattle.lv_base.specs.declared.ids.MoveId.{MoveId}
 use Rattle.lv_base.specs.declared.search.Pair.{Pair}
 use Rattle.lv_base.specs.Choices.{picks, contains_all, pairs_of}
-use Rattle.lv_formula.specs.Tree.{number_of, value_of}
+use Rattle.lv_formula.specs.Tree.{number_of}
 use Rattle.lv_model.specs.declared.plant.Plant.{Plant}
 use Rattle.lv_model.specs.declared.plant.ComponentType.{ComponentType}
 use Rattle.lv_model.specs.declared.plant.Part.{Part}
@@ -28,7 +28,7 @@ use Rattle.lv_meaning.specs.Recovers.{has_modes}
 use Rattle.lv_meaning.proofs.Possibility.{possible}
 use Rattle.lv_meaning.proofs.Reasons.{own_pairs}
 use Rattle.lv_tracker.specs.Distinct.{is_same_mode, has_modes as state_has_modes}
-use Rattle.lv_tracker.specs.Targets.{target_mode, target_modes}
+use Rattle.lv_tracker.specs.Targets.{target_modes}
 use Rattle.lv_plant_step.specs.lv_system.Laws.{IsWholeStep}
 use Rattle.lv_plant_step.specs.Finding.{are_values}
 use Rattle.lv_plant_step.proofs.SolutionLemmas.{assignment_values, mv_number, moves_back, moves_below}

@@ -1,5 +1,5 @@
 -- What is observed of a step are observables of the plant with values that they have, and its parts are then in modes that they have.
-use Rattle.std.proofs.Common.{◌≡◌, ◌+◌, ◌<◌, ◌≤◌, ℕ, zero, suc, Bool, true, false, cond, nat_lt, List, [], ◌∷◌, ◌++◌, length, map, take, decimal, slice_get, slice_index_or, Option, Some, None, refl, sym, subst, ap, ◌∙◌, arith, All}
+use Rattle.std.proofs.Common.{◌≡◌, ◌+◌, ◌<◌, ◌≤◌, ℕ, zero, suc, Bool, true, false, cond, List, [], ◌∷◌, ◌++◌, length, map, take, decimal, slice_get, slice_index_or, Option, Some, None, refl, sym, subst, ap, ◌∙◌, arith, All}
 use Rattle.std.specs.List.{flat_map}
 use Rattle.std.specs.Option.{option_map_or}
 use Rattle.std.specs.Cmp.Derive.{both_true}
@@ -9,7 +9,6 @@ use Rattle.std.proofs.lemmas.List.Elements.{All-cons, All-nil, All-append, All-h
 use Rattle.lv_base.specs.declared.ids.ValId.{ValId}
 use Rattle.lv_base.specs.declared.ids.VarId.{VarId}
 use Rattle.lv_base.specs.declared.names.Class.{Class}
-use Rattle.lv_base.specs.declared.names.Class.TheVariants.{Control, Dependent, Observable}
 use Rattle.lv_formula.specs.declared.range.Range.{Range}
 use Rattle.lv_formula.specs.Tree.{number_of, value_of}
 use Rattle.lv_formula.specs.Fits.{has_value}
@@ -23,7 +22,6 @@ use Rattle.lv_model.specs.WellFormed.{is_well_formed, firsts_follow, PartEnds, P
 use Rattle.lv_model.proofs.Reading.{follow_pass, ends-of_well_formed, parts-of_well_formed, length-plant_ranges}
 use Rattle.lv_model_names.specs.Names.{is_observable_class, is_observable, type_classes, part_classes, classes}
 use Rattle.lv_meaning.specs.Ranges.{modes_fit}
-use Rattle.lv_session_request.specs.declared.request.Sighting.{Sighting}
 use Rattle.lv_session_request.specs.Requests.{IsSightingIn}
 use Rattle.lv_plant_step.specs.lv_system.Laws.{IsAssignment}
 use Rattle.lv_plant.specs.declared.seeing.TheConstants.{SEEN}

@@ -1,13 +1,9 @@
 -- A step that is taken: what the session comes to, and what is told.
-use Rattle.std.proofs.Common.{◌≡◌, ℕ, zero, suc, ◌+◌, ◌<◌, ◌≤◌, ◌%◌, Bool, true, false, cond, nat_eq, nat_le, List, [], ◌∷◌, ◌++◌, length, map, take, slice_get, Option, Some, None, Contains, inl, inr, refl, sym, subst, ◌∙◌, ap, ap₂, arith}
-use Rattle.std.specs.List.{list_all, list_any}
-use Rattle.std.specs.Option.{option_map_or}
-use Rattle.std.proofs.lemmas.Bool.{and_parts, and_from, leb-true, le-leb}
+use Rattle.std.proofs.Common.{◌≡◌, ℕ, ◌+◌, ◌<◌, ◌≤◌, ◌%◌, Bool, true, false, cond, nat_eq, nat_le, List, [], ◌∷◌, ◌++◌, length, map, take, slice_get, Some, None, Contains, inl, inr, refl, sym, subst, ◌∙◌, ap, arith}
+use Rattle.std.proofs.lemmas.Bool.{and_parts, and_from, leb-true, le-leb, eqb-true}
 use Rattle.lv_base.specs.declared.ids.ValId.{ValId}
-use Rattle.lv_base.specs.declared.ids.MoveId.{MoveId}
 use Rattle.lv_base.specs.declared.rank.Rank.{Rank}
 use Rattle.lv_base.specs.declared.limits.TheConstants.{COMMITS}
-use Rattle.lv_base.specs.Choices.{pairs_of}
 use Rattle.lv_model.specs.declared.plant.Plant.{Plant}
 use Rattle.lv_model.specs.declared.state.TrackedState.{TrackedState}
 use Rattle.lv_model.specs.Lists.{controls}
@@ -15,42 +11,32 @@ use Rattle.lv_model.specs.Meaning.{is_feasible, parts_step}
 use Rattle.lv_search_walk.specs.declared.outcome.Outcome.{Outcome}
 use Rattle.lv_search_walk.specs.declared.outcome.Outcome.TheVariants.{Settled, Unsettled}
 use Rattle.lv_search_walk.specs.Walk.{Walked}
-use Rattle.lv_meaning.specs.declared.facts.Facts.{Facts}
 use Rattle.lv_meaning.specs.Facts.{meets, commanded, now_facts, meets_facts}
-use Rattle.lv_meaning.specs.Possible.{move_number, is_possible}
 use Rattle.lv_meaning.specs.Candidates.{candidates, is_possible_rank, first_possible}
 use Rattle.lv_meaning.specs.CandidateLaws.{moves_cost, IsCandidate}
 use Rattle.lv_meaning.specs.Recovers.{has_modes as has_modes_before}
 use Rattle.lv_meaning.proofs.Among.{Among, among, contained}
 use Rattle.lv_meaning.proofs.Answering.{answer_law}
 use Rattle.lv_meaning.proofs.DiagnosisWalks.{diagnosis_exact}
-use Rattle.lv_tracker.specs.Distinct.{has_modes, first_of_each}
 use Rattle.lv_tracker.specs.Targets.{target_modes, target_state}
 use Rattle.lv_tracker.specs.Tracked.{advanced}
 use Rattle.lv_tracker.proofs.FirstLemmas.{first_of_each_law}
-use Rattle.lv_reply.specs.declared.reply.Refusal.TheVariants.{NoQuery, NothingListed, TooManyCommits}
-use Rattle.lv_reply.specs.declared.reply.Reply.{Reply}
+use Rattle.lv_reply.specs.declared.reply.Refusal.TheVariants.{NothingListed, TooManyCommits}
 use Rattle.lv_reply.specs.declared.reply.Reply.TheVariants.{Refused as RefusedReply, Settled as SettledReply, Committed as CommittedReply}
 use Rattle.lv_session_request.specs.declared.request.Sighting.{Sighting}
 use Rattle.lv_session_request.specs.Held.{observation_of}
 use Rattle.lv_session.specs.declared.query.Query.{Query}
 use Rattle.lv_session.specs.declared.query.Query.TheVariants.{Absent, Diagnosis, Recovery}
-use Rattle.lv_session.specs.Session.{SessionState, Stepped, unchanged as session_unchanged, facts_of, walked, reply_by, diagnosis_reply, taken_over, advanced_to, commit_by, commit}
+use Rattle.lv_session.specs.Session.{SessionState, unchanged as session_unchanged, facts_of, walked, reply_by, diagnosis_reply, taken_over, advanced_to, commit_by, commit}
 use Rattle.lv_plant_step.specs.declared.asked.PlantStep.{PlantStep}
-use Rattle.lv_plant_step.specs.PlantSteps.{plant_step}
 use Rattle.lv_plant_step.specs.Laws.{IsPlantStep}
 use Rattle.lv_plant_step.proofs.SolutionLemmas.{mv_number}
 use Rattle.lv_plant.specs.declared.plant.TheConstants.{STEPS}
-use Rattle.lv_plant.specs.declared.fault.PlantFault.TheVariants.{NoMore, NoStep}
-use Rattle.lv_plant.specs.declared.reply.PlantReply.{PlantReply}
-use Rattle.lv_plant.specs.declared.reply.PlantReply.TheVariants.{Refused, Moved}
-use Rattle.lv_plant.specs.declared.reply.StepTold.{StepTold}
-use Rattle.lv_plant.specs.Forms as forms
 use Rattle.lv_plant.specs.Findings.{is_held}
 use Rattle.lv_plant.specs.Seeing.{letter, observables, seen, modes_in}
 use Rattle.lv_plant.specs.declared.seeing.TheConstants.{SEEN}
-use Rattle.lv_plant.specs.Standing.{Standing, Done, Committed, unchanged, with_session, asked_of, moved, told, told_by, lists_some, commit_at, committed_by, told_of, after_commit, taken, is_over, step, done, done_by}
-use Rattle.lv_plant.specs.Laws.{Aims, IsRunning, Takes, IsOwn}
+use Rattle.lv_plant.specs.Standing.{Standing, Committed, with_session, asked_of, moved, told, told_by, lists_some, commit_at, committed_by, after_commit, taken}
+use Rattle.lv_plant.specs.Laws.{IsRunning, IsOwn}
 use Rattle.lv_plant.proofs.OwnLemmas.{numbers_back, StandsIn, held_place, targets_are, own_moves, own_possible}
 use Rattle.lv_plant.proofs.KeptLemmas.{IsTold, seen_told}
 
@@ -86,11 +72,7 @@ commit_settled plant state listed some few = by (nat_eq (length listed) 0) (nat_
     by : (a b : Bool) → nat_eq (length listed) 0 ≡ a → nat_le COMMITS state.time ≡ b
         → (cond a (session_unchanged state (RefusedReply NothingListed)) (cond b (session_unchanged state (RefusedReply TooManyCommits))
         (record { state = advanced_to plant state listed; reply = CommittedReply (state.time + 1) (length (advanced plant listed)) }))).state ≡ advanced_to plant state listed
-    by true b e f = absurd (none (length listed) some e)
-      where
-        none : (n : ℕ) → 1 ≤ n → nat_eq n 0 ≡ true → ⊥
-        none zero one is = omega (arith, one)
-        none (suc n) one is = absurd (cc is)
+    by true b e f = let none = eqb-true (length listed) 0 e in absurd (omega (arith, some, none))
     by false true e f = let late = leb-true COMMITS state.time f in absurd (omega (arith, late, few))
     by false false e f = refl
 
@@ -240,7 +222,7 @@ module _ (s : Standing) (taking : PlantStep) where
         ((first_of_each_law (map (target_state plant_of) listed)).covered (target_state plant_of own.rank) (contains_map (target_state plant_of) listed own.rank own.listed))))
 
     -- its own moves from a tracked state with its modes
-    own_rank : StandsIn s.modes s.session.state.tracked → Rank
+    abbrev own_rank : StandsIn s.modes s.session.state.tracked → Rank
     own_rank at = record {
       cost = record { 0 = at.state.cost.0 + moves_cost plant_of.types plant_of.parts (map mv_number made.moves) };
       source = at.place;

@@ -12,7 +12,9 @@ use Rattle.lv_plant_step.specs.Laws.{IsPlantStep}
 use Rattle.lv_session.specs.declared.query.Query.TheVariants.{Recovery}
 use Rattle.lv_session.specs.Session.{SessionState}
 use Rattle.lv_session.specs.Applying.{recovery_at}
-use Rattle.lv_plant.specs.declared.reply.PlantReply.TheVariants.{Moved}
+use Rattle.lv_plant.specs.declared.fault.PlantFault.{PlantFault}
+use Rattle.lv_plant.specs.declared.fault.PlantFault.TheVariants.{NoRecovery}
+use Rattle.lv_plant.specs.declared.reply.PlantReply.TheVariants.{Refused, Moved}
 use Rattle.lv_plant.specs.declared.reply.StepTold.{StepTold}
 use Rattle.lv_plant.specs.declared.reply.GoalsTold.TheVariants.{Met}
 use Rattle.lv_plant.specs.Forms as forms
@@ -45,10 +47,10 @@ pub record Takes (s : Standing) (line : List ℕ) (taken : PlantStep) (told : St
   pub tells : (done s line).reply ≡ Moved told
 
 -- a listed candidate that goes on from a state with the plant's modes by the plant's moves
-pub record IsOwn (s : Standing) (moves : List MoveId) (listed : List Rank) : Type 0 where
+pub record IsOwn (s : Standing) (moves : List MoveId) (ranks : List Rank) : Type 0 where
   pub rank : Rank
   pub state : TrackedState
-  pub listed : Contains listed rank
+  pub listed : Contains ranks rank
   pub source : slice_get s.session.state.tracked rank.source ≡ Some state
   pub modes : state.state.modes ≡ s.modes
   pub choices : map move_number rank.choices ≡ moves
@@ -93,3 +95,11 @@ pub record MeetsGoals (s : Standing) (line : List ℕ) : Type 0 where
 abbrev pub RecoveryIsFollowed : Type 0
 RecoveryIsFollowed = (before : Standing) (u : List ℕ) (lines : List (List ℕ)) (s : Standing) (line : List ℕ) → IsRunning before → IsBehind before u lines s
     → forms.asked_by line ≡ forms.step → MeetsGoals s line
+
+-- a line that the plant refuses changes nothing
+abbrev pub RefusalChangesNothing : Type 0
+RefusalChangesNothing = (s : Standing) (line : List ℕ) (fault : PlantFault) → (done s line).reply ≡ Refused fault → (done s line).next ≡ s
+
+-- at its start a plant has no recovery to apply
+abbrev pub FreshPlantHasNoRecovery : Type 0
+FreshPlantHasNoRecovery = (plant : Plant) (line : List ℕ) → forms.asked_by line ≡ forms.apply → (done (at_start plant) line).reply ≡ Refused NoRecovery

@@ -42,3 +42,7 @@ seen plant odd b = seen_from (letter odd) 1 b (take SEEN (observables plant))
 -- the mode of each part
 abbrev pub modes_in : List Part → List ValId → List ValId
 modes_in ps b = map (λ (p : Part). value_of b p.first.0) ps
+
+-- the mode that each part starts in
+abbrev pub start_modes : List Part → List ValId
+start_modes ps = map (λ (p : Part). p.start) ps

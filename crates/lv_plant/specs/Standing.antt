@@ -1,11 +1,9 @@
 -- Where a plant stands, and what a line does.
-use Rattle.std.specs.Prelude.{ℕ, ◌+◌, Bool, true, false, ◌||◌, nat_eq, nat_le, if◌then◌else◌, List, [], ◌∷◌, length, map, replicate, slice_get, slice_set, slice_index_or, ◌%◌, Option, Some, None}
-use Rattle.std.specs.List.{position}
-use Rattle.std.specs.Option.{option_map_or, option_and_then}
+use Rattle.std.specs.Prelude.{ℕ, ◌+◌, Bool, true, false, ◌||◌, nat_eq, nat_le, if◌then◌else◌, List, [], ◌∷◌, length, replicate, slice_set, ◌%◌, Option, Some, None}
+use Rattle.std.specs.Option.{option_map_or}
 use Rattle.lv_base.specs.declared.ids.ValId.{ValId}
 use Rattle.lv_base.specs.declared.ids.MoveId.{MoveId}
 use Rattle.lv_model.specs.declared.plant.Plant.{Plant}
-use Rattle.lv_model.specs.declared.plant.Part.{Part}
 use Rattle.lv_plant_step.specs.declared.asked.Asked.{Asked}
 use Rattle.lv_plant_step.specs.declared.asked.PlantStep.{PlantStep}
 use Rattle.lv_plant_step.specs.PlantSteps.{plant_step}
@@ -16,15 +14,15 @@ use Rattle.lv_session_request.specs.declared.request.Request.TheVariants.{Observ
 use Rattle.lv_session.specs.Session.{SessionState, RunningSession, Stepped, facts_of, carried_out, stepped}
 use Rattle.lv_session.specs.Answering.{begun}
 use Rattle.lv_session.specs.Applying.{recovery_at, applied}
-use Rattle.lv_plant.specs.declared.fault.PlantFault.{PlantFault}
 use Rattle.lv_plant.specs.declared.fault.PlantFault.TheVariants.{NoFault, NoStep, NoMore, NoRecovery}
 use Rattle.lv_plant.specs.declared.reply.PlantReply.{PlantReply}
 use Rattle.lv_plant.specs.declared.reply.PlantReply.TheVariants.{Silence, Accepted, Refused, Told, Moved}
 use Rattle.lv_plant.specs.declared.reply.StepTold.{StepTold}
 use Rattle.lv_plant.specs.declared.plant.TheConstants.{STEPS}
 use Rattle.lv_plant.specs.Forms as forms
-use Rattle.lv_plant.specs.Naming.{is_part, fault_at}
-use Rattle.lv_plant.specs.Seeing.{seen, modes_in}
+use Rattle.lv_plant.specs.declared.naming.NamedFault.{NamedFault}
+use Rattle.lv_plant.specs.Naming.{named_fault}
+use Rattle.lv_plant.specs.Seeing.{seen, modes_in, start_modes}
 use Rattle.lv_plant.specs.Findings.{is_held, goals_among}
 
 -- the session; the mode that each part is in, and the move that is named of it for the next step; how many steps the plant made; whether
@@ -40,14 +38,11 @@ pub record Standing : Type 0 where
 abbrev pub no_faults : Plant → List (Option MoveId)
 no_faults plant = replicate (length plant.parts) None
 
-abbrev pub start_mode : Part → ValId
-start_mode p = p.start
-
 -- at the start the parts are in their starting modes
 abbrev pub at_start : Plant → Standing
 at_start plant = record {
   session = begun plant;
-  modes = map start_mode plant.parts;
+  modes = start_modes plant.parts;
   faults = no_faults plant;
   time = 0;
   is_halted = false;
@@ -65,20 +60,14 @@ pub record Done : Type 0 where
 abbrev pub unchanged : Standing → PlantReply → Done
 unchanged s reply = record { next = s; reply = reply }
 
--- the move is named of the part of this place
-abbrev pub with_fault : Standing → ℕ → ℕ → Done
-with_fault s k n = record { next = record s { faults = slice_set s.faults k (Some (record { 0 = n })) }; reply = Accepted }
+-- the move is named
+abbrev pub with_fault : Standing → NamedFault → Standing
+with_fault s n = record s { faults = slice_set s.faults n.part (Some n.mv) }
 
--- `fault P N` of the part of this place
-abbrev pub named_at : Plant → Standing → ℕ → ℕ → Done
-named_at plant s line k =
-    option_map_or (with_fault s k)
-    (option_and_then (λ (p : Part). fault_at plant.types p (slice_index_or s.modes k (record { 0 = 0 })).0 line) (slice_get plant.parts k))
-    (unchanged s (Refused NoFault))
-
+-- `fault P N`
 abbrev pub named : Plant → Standing → List ℕ → Option ℕ → Done
-named plant s name None = unchanged s (Refused NoFault)
-named plant s name (Some line) = option_map_or (named_at plant s line) (position (is_part name) plant.parts) (unchanged s (Refused NoFault))
+named plant s name tag =
+    option_map_or (λ (n : NamedFault). record { next = with_fault s n; reply = Accepted }) (named_fault plant s.modes name tag) (unchanged s (Refused NoFault))
 
 -- what is asked of the plant's next step
 abbrev pub asked_of : Standing → Asked
@@ -97,9 +86,12 @@ abbrev pub told : Plant → SessionState → List Sighting → SessionState
 told plant state [] = state
 told plant state (s ∷ ss) = told plant (carried_out plant state (Observe s)).state ss
 
+abbrev pub told_all : Standing → List Sighting → Standing
+told_all s sightings = with_session s (told s.session.plant s.session.state sightings)
+
 -- it is told what is observed of the step
 unfoldable pub told_by : Standing → PlantStep → Standing
-told_by s step = with_session s (told s.session.plant s.session.state (seen s.session.plant (nat_eq (s.time % 2) 1) step.after))
+told_by s step = told_all s (seen s.session.plant (nat_eq (s.time % 2) 1) step.after)
 
 -- it diagnoses
 abbrev pub diagnosed_by : Standing → Stepped

@@ -2,7 +2,7 @@
 //! laws, and a caller that needs one calls it.
 #![tactic(auto)]
 
-ghost use Rattle.lv_plant.specs.Laws.{PlantRunsOn, PlantIsFollowed, RecoveryIsFollowed};
+ghost use Rattle.lv_plant.specs.Laws.{PlantRunsOn, PlantIsFollowed, RecoveryIsFollowed, RefusalChangesNothing, FreshPlantHasNoRecovery};
 
 /// Whatever lines come, the session goes on, lists at least one candidate, and commits at most once in a step.
 pub fn plant_runs_on()
@@ -20,4 +20,14 @@ pub fn plant_is_followed()
 /// states have the plant's modes, the goals are still those, and no control was changed since.
 pub fn recovery_is_followed()
     ensures { RecoveryIsFollowed }
+{}
+
+/// A line that the plant refuses changes nothing.
+pub fn refusal_changes_nothing()
+    ensures { RefusalChangesNothing }
+{}
+
+/// At its start a plant has no recovery to apply, so that `apply` is refused.
+pub fn fresh_plant_has_no_recovery()
+    ensures { FreshPlantHasNoRecovery }
 {}

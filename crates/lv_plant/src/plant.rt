@@ -1,20 +1,26 @@
 //! The plant, and what each line does.
 #![tactic(auto)]
 
-ghost use Rattle.std.specs.Prelude.{◌≡◌, ◌<◌, IfOk, OnOk, OnErr, IsErr, IfSome, true};
+ghost use Rattle.std.specs.Prelude.{◌≡◌, ◌<◌, ◌%◌, All, IfOk, OnOk, OnErr, IsErr, IfSome, None, true, nat_eq, length, replicate};
 ghost use Rattle.lv_plant_step.specs.PlantSteps.{AskedFits, plant_step};
 ghost use Rattle.lv_session_request.specs.Requests.{IsSightingIn};
 ghost use Rattle.lv_plant.specs.Plants.{EndsIn};
+ghost use Rattle.lv_plant.specs.Naming.{NamesMove};
+ghost use Rattle.lv_plant.specs.Seeing.{seen};
+ghost use Rattle.lv_plant.specs.Findings.{goals_among};
 ghost use Rattle.lv_plant.specs.Forms as forms;
-ghost use Rattle.lv_plant.specs.Standing.{at_start, with_session, asked_of, moved, observed_by, told_by, diagnosed_by, lists_some, committed_by, told_of, taken, named, handed_on, step, apply, done};
+ghost use Rattle.lv_plant.specs.Replies.{plant_text};
+ghost use Rattle.lv_plant.specs.Answering.{next_at, SaysAt};
+ghost use Rattle.lv_plant.specs.Standing.{at_start, with_session, with_fault, asked_of, moved, observed_by, told_by, diagnosed_by, lists_some, commit_at, committed_by, told_of, taken, named, handed_on, step, apply, done};
 
 use crate::fault::PlantFault;
 use crate::findings::{goals_told, is_held};
 use crate::form::{PlantLine, asked_by};
-use crate::naming::{fault_at, part_named};
-use crate::reply::{PlantReply, StepTold, plant_text};
-use crate::seeing::{modes_in, seen};
+use crate::naming::{NamedFault, fault_named};
+use crate::reply::{GoalsTold, PlantReply, StepTold, plant_text};
+use crate::seeing::{modes_in, seen, start_modes};
 use lv_base::{MoveId, Seq, ValId};
+use lv_model::Part;
 use lv_plant_step::{Asked, PlantStep, PlantStepper};
 use lv_reply::Reply;
 use lv_serve::Responder;
@@ -34,6 +40,24 @@ fn lists_some(diagnosis: &Reply) -> bool
         Reply::Settled(listed) => !listed.is_empty(),
         _ => false,
     }
+}
+
+/// That no fault is named of any part.
+fn no_faults(alloc: Global, parts: &[Part]) -> Result<Vec<Option<MoveId>>, AllocError>
+    ensures { IfOk result (λ out. out.items ≡ replicate (length parts.now) None) }
+{
+    vec![in alloc; None; parts.len()]
+}
+
+/// What finds the plant's steps. It lies apart from the plant, so that whoever holds one holds little.
+fn stepper_of<'a>(
+    alloc: Global,
+    compiled: &'a CompiledModel<'a>,
+) -> Result<Box<PlantStepper<'a>>, AllocError>
+    ensures { IfOk result (λ stepper. stepper.value ≡ compiled.now) }
+{
+    let stepper = PlantStepper::new(alloc, compiled.model(), compiled.system())?;
+    Ok(Box::new(alloc, stepper)?)
 }
 
 /// A plant and the session that is told what is observed of it.
@@ -70,11 +94,10 @@ impl<'a> Plant<'a> {
     pub fn new(alloc: Global, compiled: &'a CompiledModel<'a>) -> Result<Plant<'a>, AllocError>
         ensures { IfOk result (λ plant. plant ≡ at_start compiled.now) }
     {
-        let model = compiled.model();
-        let parts = model.plant().parts.as_slice();
-        let modes = parts.iter().map(|part| part.start).collect(alloc)?;
-        let faults = vec![in alloc; None; parts.len()]?;
-        let stepper = Box::new(alloc, PlantStepper::new(alloc, model, compiled.system())?)?;
+        let plant = compiled.model().plant();
+        let modes = start_modes(alloc, plant.parts.as_slice())?;
+        let faults = no_faults(alloc, plant.parts.as_slice())?;
+        let stepper = stepper_of(alloc, compiled)?;
         let session = Session::new(alloc, compiled)?;
         Ok(Plant {
             alloc,
@@ -89,21 +112,21 @@ impl<'a> Plant<'a> {
         })
     }
 
+    /// The move is named, for the next step.
+    fn put(&mut self, named: NamedFault)
+        requires { NamesMove self.old.session.plant named }
+        ensures { self.new ≡ with_fault self.old named }
+    {
+        self.faults[named.part] = Some(named.mv);
+    }
+
     /// `fault P N`
     fn name(&mut self, part: &[u8], tag: Option<u128>) -> PlantReply
         ensures { record { next = self.new; reply = result } ≡ named self.old.session.plant self.old part.now tag }
     {
-        let plant = self.compiled.model().plant();
-        let Some(line) = tag else {
-            return PlantReply::Refused(PlantFault::NoFault);
-        };
-        let Some(k) = part_named(plant.parts.as_slice(), part) else {
-            return PlantReply::Refused(PlantFault::NoFault);
-        };
-        let part = &plant.parts.as_slice()[k];
-        match fault_at(plant.types.as_slice(), part, self.modes[k], line) {
-            Some(n) => {
-                self.faults[k] = Some(MoveId(n as u32));
+        match fault_named(self.compiled.model(), self.modes.as_slice(), part, tag) {
+            Some(named) => {
+                self.put(named);
                 PlantReply::Accepted
             }
             None => PlantReply::Refused(PlantFault::NoFault),
@@ -138,9 +161,9 @@ impl<'a> Plant<'a> {
         requires few { self.old.time < STEPS }
         ensures { OnOk result (self.new ≡ moved self.old.session.plant self.old step.now) }
     {
-        let parts = self.compiled.model().plant().parts.as_slice();
-        let modes = modes_in(self.alloc, parts, step.after.as_slice())?;
-        let faults = vec![in self.alloc; None; parts.len()]?;
+        let plant = self.compiled.model().plant();
+        let modes = modes_in(self.alloc, plant.parts.as_slice(), step.after.as_slice())?;
+        let faults = no_faults(self.alloc, plant.parts.as_slice())?;
         self.modes = modes;
         self.faults = faults;
         self.time += 1;
@@ -156,13 +179,24 @@ impl<'a> Plant<'a> {
         Ok(())
     }
 
+    /// What is observed of the step.
+    fn seen(&self, step: &PlantStep) -> Result<Vec<Sighting>, AllocError>
+        requires { EndsIn self.now.session.plant step.now }
+        ensures seen { IfOk result (λ out. out.items ≡ seen self.now.session.plant (nat_eq (self.now.time % 2) 1) step.now.after) }
+        ensures fit { IfOk result (λ out. All (IsSightingIn self.now.session.plant) out.items) }
+    {
+        let odd = self.time % 2 == 1;
+        let b = step.after.as_slice();
+        seen(self.alloc, self.compiled.model(), odd, b)
+    }
+
     /// Tells the session what is observed.
+    #[tactic(auto, unfolding(crate::specs::Standing::told_by))]
     fn tell(&mut self, step: &PlantStep) -> Result<(), AllocError>
         requires { EndsIn self.old.session.plant step.now }
         ensures { OnOk result (self.new ≡ told_by self.old step.now) }
     {
-        let odd = self.time % 2 == 1;
-        let seen = seen(self.alloc, self.compiled.model(), odd, step.after.as_slice())?;
+        let seen = self.seen(step)?;
         for sighting in seen {
             self.observe(sighting)?;
         }
@@ -177,16 +211,39 @@ impl<'a> Plant<'a> {
         self.session.perform(Request::Diagnose)
     }
 
+    /// Has the session commit.
+    fn commit(&mut self) -> Result<Reply, AllocError>
+        ensures reply { IfOk result (λ reply. reply ≡ (commit_at self.old).reply) }
+        ensures state { OnOk result (self.new ≡ with_session self.old (commit_at self.old).state) }
+    {
+        self.session.perform(Request::Commit)
+    }
+
+    fn halt(&mut self)
+        ensures { self.new ≡ record self.old { is_halted = true } }
+    {
+        self.is_halted = true;
+    }
+
     /// Commits a settled diagnosis that lists something; behind any other the plant is halted.
-    fn commit(&mut self, diagnosis: &Reply) -> Result<Option<Reply>, AllocError>
+    #[tactic(auto, unfolding(crate::specs::Standing::committed_by))]
+    fn commit_or_halt(&mut self, diagnosis: &Reply) -> Result<Option<Reply>, AllocError>
         ensures { IfOk result (λ commit. record { next = self.new; commit = commit } ≡ committed_by self.old diagnosis.now) }
     {
         if lists_some(diagnosis) {
-            Ok(Some(self.session.perform(Request::Commit)?))
+            Ok(Some(self.commit()?))
         } else {
-            self.is_halted = true;
+            self.halt();
             Ok(None)
         }
+    }
+
+    /// Whether the goals are met behind a step.
+    fn goals_after(&self, step: &PlantStep) -> GoalsTold
+        requires { EndsIn self.now.session.plant step.now }
+        ensures { result ≡ goals_among step.now.after self.now.session.state.goals }
+    {
+        goals_told(step.after.as_slice(), self.session.goals())
     }
 
     /// What is told of a step.
@@ -203,7 +260,7 @@ impl<'a> Plant<'a> {
         Ok(StepTold {
             time: self.time,
             is_held: is_held(modes, self.session.tracked()),
-            goals: goals_told(step.after.as_slice(), self.session.goals()),
+            goals: self.goals_after(step),
             modes: Seq::from_slice(self.alloc, modes)?,
             diagnosis,
             commit,
@@ -219,7 +276,7 @@ impl<'a> Plant<'a> {
         self.go_to(step)?;
         self.tell(step)?;
         let diagnosis = self.diagnose()?;
-        let commit = self.commit(&diagnosis)?;
+        let commit = self.commit_or_halt(&diagnosis)?;
         Ok(PlantReply::Moved(self.told_of(step, diagnosis, commit)?))
     }
 
@@ -287,6 +344,24 @@ impl<'a> Plant<'a> {
             }
         }
     }
+
+    /// The text of a reply.
+    fn text_of(&self, reply: &PlantReply) -> Result<Vec<u8>, AllocError>
+        ensures { IfOk result (λ text. text.items ≡ plant_text self.now.session.plant reply.now) }
+    {
+        plant_text(self.alloc, self.compiled.model(), reply)
+    }
+
+    /// Does what a line asks for, and answers the text of the reply.
+    pub fn answer_text(&mut self, line: &[u8]) -> Result<Vec<u8>, AllocError>
+        ensures state { OnOk result (self.new ≡ next_at self.old line.now) }
+        ensures text { IfOk result (λ text. SaysAt self.old line.now text.items) }
+    {
+        let reply = self.step(line)?;
+        let text = self.text_of(&reply);
+        drop(reply);
+        text
+    }
 }
 
 /// A plant answers lines one by one. No line ends it.
@@ -302,9 +377,7 @@ impl Responder for Plant<'_> {
     ghost has_ended = { λ _. false };
 
     fn answer(&mut self, line: &[u8]) -> Result<Vec<u8>, AllocError> {
-        let reply = self.step(line)?;
-        let compiled = self.compiled;
-        plant_text(self.alloc, compiled.model(), &reply)
+        self.answer_text(line)
     }
 
     fn is_ended(&self) -> bool {

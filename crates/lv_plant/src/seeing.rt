@@ -4,9 +4,12 @@
 
 ghost use Rattle.std.specs.Prelude.{◌≡◌, ◌+◌, ◌++◌, ◌∷◌, [], ◌<◌, ◌^◌, IfOk, All, length, take, decimal};
 ghost use Rattle.lv_formula.specs.Tree.{value_of};
+ghost use Rattle.lv_model.specs.Lists.{sizes};
 ghost use Rattle.lv_model.specs.WellFormed.{PartEnds};
 ghost use Rattle.lv_model_names.specs.Names.{is_observable_class};
-ghost use Rattle.lv_plant.specs.Seeing.{observables_from, part_observables, observables, letter, seen_from, seen, modes_in};
+ghost use Rattle.lv_session_request.specs.Requests.{IsSightingIn};
+ghost use Rattle.lv_plant_step.specs.lv_system.Laws.{IsAssignment};
+ghost use Rattle.lv_plant.specs.Seeing.{observables_from, part_observables, observables, letter, seen_from, seen, modes_in, start_modes};
 
 use itoa::Buffer;
 use lv_base::{Class, Name, Seq, ValId, VarId};
@@ -129,7 +132,7 @@ fn sightings_of(
 }
 
 /// What is observed of a step that ends so.
-pub fn seen(
+fn sightings(
     alloc: Global,
     model: &Model,
     odd: bool,
@@ -141,6 +144,21 @@ pub fn seen(
     sightings_of(alloc, odd, b, first_of(vars.as_slice(), SEEN))
 }
 
+/// The same, where it ends in values of the model's variables.
+pub fn seen(
+    alloc: Global,
+    model: &Model,
+    odd: bool,
+    b: &[ValId],
+) -> Result<Vec<Sighting>, AllocError>
+    requires { IsAssignment (sizes model.now) b.now }
+    ensures seen { IfOk result (λ out. out.items ≡ seen model.now odd b.now) }
+    ensures fit { IfOk result (λ out. All (IsSightingIn model.now) out.items) }
+{
+    let _plant = model.plant();
+    sightings(alloc, model, odd, b)
+}
+
 /// The mode of each part.
 pub fn modes_in(alloc: Global, parts: &[Part], b: &[ValId]) -> Result<Vec<ValId>, AllocError>
     ensures { IfOk result (λ out. out.items ≡ modes_in parts.now b.now) }
@@ -149,4 +167,11 @@ pub fn modes_in(alloc: Global, parts: &[Part], b: &[ValId]) -> Result<Vec<ValId>
         .iter()
         .map(|part| value_at(b, part.first))
         .collect(alloc)
+}
+
+/// The mode that each part starts in.
+pub fn start_modes(alloc: Global, parts: &[Part]) -> Result<Vec<ValId>, AllocError>
+    ensures { IfOk result (λ out. out.items ≡ start_modes parts.now) }
+{
+    parts.iter().map(|part| part.start).collect(alloc)
 }
