@@ -9,7 +9,8 @@ _livingstone() {
         return
         ;;
     '2 run' | '2 lanes' | '2 plant' | '2 check' | '2 print') suffix=lv ;;
-    '3 run' | '3 lanes' | '3 plant') suffix=ses ;;
+    '3 run' | '3 lanes') suffix=ses ;;
+    '3 plant') suffix=script ;;
     '3 check') suffix=cert ;;
     '2 generate')
         mapfile -t COMPREPLY < <(compgen -W 'model session' -- "$word")
