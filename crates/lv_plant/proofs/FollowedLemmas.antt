@@ -48,15 +48,15 @@ pub record Makes (s : Standing) (taking : PlantStep) (told : StepTold) : Type 0 
   pub few : s.time < STEPS
   pub told_is : told ≡ told_of (comes s taking).next taking (diagnosis_reply (came s taking)) (comes s taking).commit
 
-not_over : (s : Standing) → is_over s ≡ false → (s.is_halted ≡ false) × (s.time < STEPS)
+pub not_over : (s : Standing) → is_over s ≡ false → (s.is_halted ≡ false) × (s.time < STEPS)
 not_over s e = let two = or_parts s.is_halted (nat_le STEPS s.time) e in (two.0, leb-false STEPS s.time two.1)
 
 -- what a line that asks for a step does
-asks_step : (s : Standing) (line : List ℕ) → forms.asked_by line ≡ forms.step → done s line ≡ step s.session.plant s
+pub asks_step : (s : Standing) (line : List ℕ) → forms.asked_by line ≡ forms.step → done s line ≡ step s.session.plant s
 unfolding done
 asks_step s line asks = ap (done_by s.session.plant s line) asks
 
-step_taken : (s : Standing) (taking : PlantStep) → is_over s ≡ false → plant_step s.session.plant (asked_of s) ≡ Some taking → step s.session.plant s ≡ taken s.session.plant s taking
+pub step_taken : (s : Standing) (taking : PlantStep) → is_over s ≡ false → plant_step s.session.plant (asked_of s) ≡ Some taking → step s.session.plant s ≡ taken s.session.plant s taking
 step_taken s taking goes is =
     ap (λ (b : Bool). cond b (unchanged s (Refused NoMore)) (option_map_or (taken s.session.plant s) (plant_step s.session.plant (asked_of s)) (unchanged s (Refused NoStep)))) goes
     ∙ ap (λ (o : Option PlantStep). option_map_or (taken s.session.plant s) o (unchanged s (Refused NoStep))) is
@@ -92,7 +92,7 @@ follows s line taking told listed is t settled made own =
 
 -- the plant is halted for a reason
 
-commits_or : (s : Standing) (taking : PlantStep) → (comes s taking).commit ≡ None → lists_some (diagnosis_reply (came s taking)) ≡ false
+pub commits_or : (s : Standing) (taking : PlantStep) → (comes s taking).commit ≡ None → lists_some (diagnosis_reply (came s taking)) ≡ false
 commits_or s taking none = by (lists_some (diagnosis_reply (came s taking))) refl
   where
     by : (b : Bool) → lists_some (diagnosis_reply (came s taking)) ≡ b → b ≡ false
@@ -150,7 +150,7 @@ apply_keeps s = by (recovery_at s.session)
     by None = keeps_same s
     by (Some values) = with_state s (applied s.session.state values) (apply_stays s.session.plant s.session.state values)
 
-line_keeps_by : (s : Standing) (line : List ℕ) (asked : forms.Asked) → forms.asked_by line ≡ asked → asked ≢ forms.step → Keeps s (done_by s.session.plant s line asked).next
+pub line_keeps_by : (s : Standing) (line : List ℕ) (asked : forms.Asked) → forms.asked_by line ≡ asked → asked ≢ forms.step → Keeps s (done_by s.session.plant s line asked).next
 line_keeps_by s line forms.nothing is no_step = keeps_same s
 line_keeps_by s line (forms.refused fault) is no_step = keeps_same s
 line_keeps_by s line forms.for_session is no_step =
@@ -291,9 +291,10 @@ meets before u lines s line is behind asks =
     let some : 1 ≤ length s.session.state.goals = subst (λ (gs : List Goal). 1 ≤ length gs) (sym behind.goals) (is.aims found.sum found.query) in
     let one = found_step (plant_step s.session.plant (asked_of s)) (recovery_reaches.steps s.session.plant (aim_of s.session.state) u at.state (asked_of s) applied_is) in
     let reached = recovery_reaches.reaches s.session.plant (aim_of s.session.state) u at.state (asked_of s) one.0 applied_is one.1 in
+    let comes_to : done s line ≡ taken s.session.plant s one.0 = asks_step s line asks ∙ step_taken s one.0 behind.goes_on one.1 in
     record {
       told = told_of (comes s one.0).next one.0 (diagnosis_reply (came s one.0)) (comes s one.0).commit;
-      tells = ap (λ (d : Done). d.reply) (asks_step s line asks ∙ step_taken s one.0 behind.goes_on one.1 ∙ taken_is s one.0);
+      tells = ap (λ (d : Done). d.reply) comes_to ∙ ap (λ (d : Done). d.reply) (taken_is s one.0);
       goals =
           ap (goals_among one.0.after) (goals_kept s one.0) ∙ all_met one.0.after s.session.state.goals some (goals_true one.0.after s.session.state.goals reached);
     }

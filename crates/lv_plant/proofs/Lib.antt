@@ -7,3 +7,4 @@ pub mod FollowedLemmas
 pub mod PlantLemmas
 pub mod ScriptLemmas
 pub mod RefusedLemmas
+pub mod SeenLemmas

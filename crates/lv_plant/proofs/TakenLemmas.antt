@@ -146,7 +146,7 @@ module _ (s : Standing) (taking : PlantStep) where
   unfolding committed_by
   comes_halted h = ap (λ (b : Bool). cond b committing halted) h
 
-  committed_state : lists_some (diagnosis_reply came) ≡ true → s.session.state.time < COMMITS → (commit_at at_diagnosis).state ≡ advanced_to plant_of at_diagnosis.session.state came.listed
+  pub committed_state : lists_some (diagnosis_reply came) ≡ true → s.session.state.time < COMMITS → (commit_at at_diagnosis).state ≡ advanced_to plant_of at_diagnosis.session.state came.listed
   committed_state h few =
       let two = lists_listed came.outcome came h in
       let time : told_state.time ≡ s.session.state.time = is_told.time in

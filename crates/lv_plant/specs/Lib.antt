@@ -9,3 +9,4 @@ pub mod Answering
 pub mod Scripts
 pub mod LongLines
 pub mod Laws
+pub mod Seen

@@ -3,6 +3,7 @@
 #![tactic(auto)]
 
 ghost use Rattle.lv_plant.specs.Laws.{PlantRunsOn, PlantIsFollowed, RecoveryIsFollowed, RefusalChangesNothing, FreshPlantHasNoRecovery};
+ghost use Rattle.lv_plant.specs.Seen.{StepsAreSeen};
 
 /// Whatever lines come, the session goes on, lists at least one candidate, and commits at most once in a step.
 pub fn plant_runs_on()
@@ -30,4 +31,9 @@ pub fn refusal_changes_nothing()
 /// At its start a plant has no recovery to apply, so that `apply` is refused.
 pub fn fresh_plant_has_no_recovery()
     ensures { FreshPlantHasNoRecovery }
+{}
+
+/// All that is seen of a step is observed: the session holds it under names of its own, and has room for it.
+pub fn steps_are_seen()
+    ensures { StepsAreSeen }
 {}
