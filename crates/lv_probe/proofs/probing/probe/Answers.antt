@@ -11,7 +11,7 @@ use Rattle.lv_probe.proofs.probing.probe.Goals as goal
 pub returns : goal.returns
 unfolding all_probed
 returns c =
-    let count : c.len.result ≡ length (sizes c.args.model.now) = c.len.ensures ∙ ap (λ (ns : List ℕ). length ns) (c.as_slice.ensures.value ∙ c.in_ok-values.ensures.sizes) in
+    let count : length c.as_slice.result.now ≡ length (sizes c.args.model.now) = ap (λ (ns : List ℕ). length ns) (c.as_slice.ensures.value ∙ c.in_ok-values.ensures.sizes) in
     let variables : c.as_slice-4.result.now ≡ observables c.args.model.now =
     c.as_slice-4.ensures.value ∙ c.in_ok-observables.ensures.observables ∙ (λ i. observables_among (c.requires.kinds i) (count i))
     in
