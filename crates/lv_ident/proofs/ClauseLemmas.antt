@@ -114,7 +114,7 @@ module _ (plant : Plant) where
       (distinct_behind (first_choice plant) (pair_literals c ps) assumed (pairs_from_on c ps) two.0 (pairs_distinct c 0 ps rise have) two.1)
 
   -- what facts say is of booleans of values
-  observed_positive : (b : Booleans) (bound : ℕ) → b.first + sum b.sizes ≤ bound → (os : List Observation) → All (HasValue b.sizes) os → All (IsPositive bound) (observed_literals b os)
+  pub observed_positive : (b : Booleans) (bound : ℕ) → b.first + sum b.sizes ≤ bound → (os : List Observation) → All (HasValue b.sizes) os → All (IsPositive bound) (observed_literals b os)
   observed_positive b bound few [] have = λ k d below. absurd (omega (arith, below))
   observed_positive b bound few (o ∷ os) have =
       let has = (have 0 o (omega arith)).below in

@@ -5,6 +5,7 @@ pub mod RefuteLemmas
 pub mod MeaningLemmas
 pub mod ClauseLemmas
 pub mod TrialLemmas
+pub mod ProbingLemmas
 pub mod ReasonLemmas
 pub mod ReducingLemmas
 pub mod QueryLemmas

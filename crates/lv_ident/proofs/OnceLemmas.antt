@@ -63,7 +63,7 @@ distinct_more (m ∷ ms) l h other =
     right_false false b e = e
 
 -- a literal that stands there says nothing new
-says_no_more : (values : List Bool) (ls : List Lit) (l : Lit) → list_any (is_of l.var.0) ls ≡ true → list_all is_positive ls ≡ true → l.sign ≡ true
+pub says_no_more : (values : List Bool) (ls : List Lit) (l : Lit) → list_any (is_of l.var.0) ls ≡ true → list_all is_positive ls ≡ true → l.sign ≡ true
     → list_all (lit_holds values) ls ≡ (list_all (lit_holds values) ls && lit_holds values l)
 says_no_more values [] l there positive sign = absurd (cc there)
 says_no_more values (m ∷ ms) l there positive sign =
@@ -175,5 +175,6 @@ pub noted_all : (bools : ℕ) (lits : List Lit) (i : ℕ) (seen : Marks) (once :
 noted_all bools lits i seen once done h =
     record {
       clause = and_from (list_all (in_range bools) once) (distinct once) h.in_range_all h.distinct_all;
+      positive = h.positive;
       says = λ values. h.says values ∙ ap (list_all (lit_holds values)) (take_all i lits done);
     }

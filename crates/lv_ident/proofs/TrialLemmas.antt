@@ -66,7 +66,7 @@ impossible_with_more plant facts part whole inside never = false_by (is_possible
 pub impossible_by_part : (plant : Plant) (facts : Facts) (marks : Marks) (ps : List Pair) → is_possible plant facts (marked_pairs (plant_choices plant) marks ps) ≡ false → is_possible plant facts ps ≡ false
 impossible_by_part plant facts marks ps = impossible_with_more plant facts (marked_pairs (plant_choices plant) marks ps) ps (marked_is_one (plant_choices plant) marks ps)
 
-module _ (plant : Plant) (facts : Facts) (set : ClauseMap) (choices : Choices) (assumed : List Lit) (solutions : List (List Bool)) (h : IsTrialOf plant facts set choices assumed solutions) (pairs : List Pair) (partial : IsPartial plant pairs) where
+module _ (plant : Plant) (facts : Facts) (set : ClauseMap) (choices : Choices) (after : Booleans) (assumed : List Lit) (solutions : List (List Bool)) (h : IsTrialOf plant facts set choices after assumed solutions) (pairs : List Pair) (partial : IsPartial plant pairs) where
   bools_are : set.bools ≡ bool_count plant
   bools_are = ap (λ (s : ClauseMap). s.bools) h.clauses.clauses ∙ h.clauses.of_plant.bools
 
@@ -76,7 +76,7 @@ module _ (plant : Plant) (facts : Facts) (set : ClauseMap) (choices : Choices) (
       (λ i. is_clause (bools_are i) (pair_literals (h.choices_are i) pairs ++ assumed))
       ∙ pairs_before_values plant pairs assumed partial.rising partial.moves h.once.clause
 
-  model_possible : HasModel set (pair_literals choices pairs ++ assumed) → is_possible plant facts pairs ≡ true
+  pub model_possible : HasModel set (pair_literals choices pairs ++ assumed) → is_possible plant facts pairs ≡ true
   model_possible m =
       let values : List Bool = m.values in
       let len : length values ≡ h.clauses.system.set.bools = m.model.len ∙ ap (λ (s : ClauseMap). s.bools) h.clauses.clauses in
@@ -113,6 +113,25 @@ module _ (plant : Plant) (facts : Facts) (set : ClauseMap) (choices : Choices) (
                 (h.once.says values ∙ v.seen);
           }))
 
+  -- without a model of all of them they aren't possible together
+  pub all_impossible : HasNoModel set (pair_literals choices pairs ++ assumed) → is_possible plant facts pairs ≡ false
+  all_impossible none = by (is_possible plant facts pairs) refl
+    where
+      by : (b : Bool) → is_possible plant facts pairs ≡ b → b ≡ false
+      by false e = refl
+      by true e =
+          let v : HasValues plant facts pairs h.facts_fit partial.moves h.clauses.system = possible_has_values plant facts pairs h.facts_fit partial.moves h.well_formed h.clauses.system h.clauses.of_plant e in
+          let values : List Bool = v.values in
+          absurd (none values
+          (record {
+            len = v.whole ∙ sym bools_are;
+            all_clauses = ap (λ (s : ClauseMap). satisfies values s.slots) h.clauses.clauses ∙ v.satisfied;
+            all_assumptions =
+                list_all-append (lit_holds values) (pair_literals choices pairs) assumed
+                ∙ and_from (list_all (lit_holds values) (pair_literals choices pairs)) (list_all (lit_holds values) assumed)
+                (ap (λ (c : Choices). list_all (lit_holds values) (pair_literals c pairs)) h.choices_are ∙ v.chosen) (h.once.says values ∙ v.seen);
+          }))
+
   -- what a refutation says of the pairs
   pub answer_possible : (core : Option Marks) → Refutes set (pair_literals choices pairs) assumed core → is_none core ≡ is_possible plant facts pairs
   answer_possible None told = sym (model_possible told)
@@ -123,10 +142,10 @@ module _ (plant : Plant) (facts : Facts) (set : ClauseMap) (choices : Choices) (
   answer_core (Some marks) told = marked_impossible marks told
 
 -- other solutions of the same may be kept
-pub other_solutions : (plant : Plant) (facts : Facts) (set : ClauseMap) (choices : Choices) (assumed : List Lit) (solutions : List (List Bool)) → IsTrialOf plant facts set choices assumed solutions
-    → (more : List (List Bool)) → All (IsModel set assumed) more → IsTrialOf plant facts set choices assumed more
-other_solutions plant facts set choices assumed solutions h more found =
-    record { well_formed = h.well_formed; clauses = h.clauses; choices_are = h.choices_are; facts_fit = h.facts_fit; once = h.once; found = found }
+pub other_solutions : (plant : Plant) (facts : Facts) (set : ClauseMap) (choices : Choices) (after : Booleans) (assumed : List Lit) (solutions : List (List Bool)) → IsTrialOf plant facts set choices after assumed solutions
+    → (more : List (List Bool)) → All (IsModel set assumed) more → IsTrialOf plant facts set choices after assumed more
+other_solutions plant facts set choices after assumed solutions h more found =
+    record { well_formed = h.well_formed; clauses = h.clauses; choices_are = h.choices_are; after_are = h.after_are; facts_fit = h.facts_fit; once = h.once; found = found }
 
 -- the literals of facts are of booleans of values
 pub facts_asked : (plant : Plant) (facts : Facts) → FactsInRange plant facts → (after : Booleans) → after ≡ booleans_next plant → (n : ℕ) → n ≡ after.first + sum after.sizes
@@ -137,14 +156,15 @@ facts_asked plant facts fit after after_is n n_is lits is =
 
 -- what a new trial keeps
 pub trial_of : (plant : Plant) → is_well_formed plant ≡ true → (facts : Facts) → FactsInRange plant facts → (system : SystemValue) → IsSystemOf plant system → (set : ClauseMap) → set ≡ system.set
-    → (choices : Choices) → choices ≡ choices_of system → (n : ℕ) → n ≡ system.after.first + sum system.after.sizes → (lits : List Lit) → lits ≡ fact_literals plant facts
-    → (assumed : List Lit) → IsOnce n lits assumed → (solutions : List (List Bool)) → solutions ≡ [] → IsTrialOf plant facts set choices assumed solutions
-trial_of plant h facts fit system is set set_is choices choices_are n n_is lits lits_are assumed once solutions none =
+    → (choices : Choices) → choices ≡ choices_of system → (after : Booleans) → after ≡ system.after → (n : ℕ) → n ≡ system.after.first + sum system.after.sizes → (lits : List Lit) → lits ≡ fact_literals plant facts
+    → (assumed : List Lit) → IsOnce n lits assumed → (solutions : List (List Bool)) → solutions ≡ [] → IsTrialOf plant facts set choices after assumed solutions
+trial_of plant h facts fit system is set set_is choices choices_are after after_are n n_is lits lits_are assumed once solutions none =
     let first : n ≡ first_choice plant = n_is ∙ ap (λ (b : Booleans). b.first + sum b.sizes) is.after in
     record {
       well_formed = h;
       clauses = record { system = system; of_plant = is; clauses = set_is };
       choices_are = choices_are ∙ (λ i. record { first = is.first_choice i; counts = is.counts i });
+      after_are = after_are ∙ is.after;
       facts_fit = fit;
       once = subst (λ m. IsOnce m (fact_literals plant facts) assumed) first (subst (λ (ls : List Lit). IsOnce n ls assumed) lits_are once);
       found = subst (λ (ms : List (List Bool)). All (IsModel set assumed) ms) (sym none) (All-nil (IsModel set assumed));

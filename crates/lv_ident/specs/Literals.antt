@@ -1,11 +1,12 @@
 -- Facts and choices as literals: each says of one variable, before the step or after it, that it has one value, or of one part that it
 -- makes one move.
-use Rattle.std.specs.Prelude.{◌≡◌, ◌<◌, ℕ, Bool, true, List, ◌++◌, map, filter, slice_index_or}
-use Rattle.std.specs.List.{list_all}
+use Rattle.std.specs.Prelude.{◌≡◌, ◌<◌, ℕ, Bool, true, List, [], ◌∷◌, ◌++◌, map, filter, slice_index_or, if◌then◌else◌}
+use Rattle.std.specs.List.{list_all, list_any}
 use Rattle.lv_base.specs.declared.ids.Lit.{Lit}
 use Rattle.lv_base.specs.declared.search.Pair.{Pair}
 use Rattle.lv_clauses.specs.Literals.{is_clause, lit_holds}
 use Rattle.lv_clauses.specs.Marks.{Marks, is_marked}
+use Rattle.lv_clauses.specs.Noted.{is_of}
 use Rattle.lv_model.specs.declared.plant.Plant.{Plant}
 use Rattle.lv_model.specs.Lists.{move_counts}
 use Rattle.lv_compile.specs.Booleans.{Booleans, value_literal, booleans_now, booleans_next, first_choice}
@@ -51,7 +52,12 @@ pub record IsPositive (bools : ℕ) (l : Lit) : Type 0 where
 -- the literals of a list, each once: they say what the list says
 pub record IsOnce (bools : ℕ) (lits once : List Lit) : Type 0 where
   pub clause : is_clause bools once ≡ true
+  pub positive : list_all is_positive once ≡ true
   pub says : (values : List Bool) → list_all (lit_holds values) once ≡ list_all (lit_holds values) lits
+
+-- the literal, where none of these is of its boolean
+abbrev pub missing : List Lit → Lit → List Lit
+missing lits l = if list_any (is_of l.var.0) lits then [] else l ∷ []
 
 -- of the pairs those whose literals are marked
 abbrev pub marked_pairs : Choices → Marks → List Pair → List Pair

@@ -4,7 +4,7 @@ use Rattle.lv_base.specs.declared.ids.Lit.{Lit}
 use Rattle.lv_clauses.specs.ClauseMap.{ClauseMap}
 use Rattle.lv_model.specs.declared.plant.Plant.{Plant}
 use Rattle.lv_model.specs.WellFormed.{is_well_formed}
-use Rattle.lv_compile.specs.Booleans.{first_choice}
+use Rattle.lv_compile.specs.Booleans.{Booleans, booleans_next, first_choice}
 use Rattle.lv_sat.specs.Answers.{IsModel}
 use Rattle.lv_system.specs.Choices.{Choices}
 use Rattle.lv_system.specs.System.{SystemValue, IsSystemOf}
@@ -23,12 +23,13 @@ pub record HasClausesOf (plant : Plant) (set : ClauseMap) : Type 0 where
   pub of_plant : IsSystemOf plant system
   pub clauses : set ≡ system.set
 
--- the clauses and the numbering of the choices are the plant's, what is assumed are the facts, and the solutions are of these clauses and
+-- the clauses and the numbering of the choices and of the values after the step are the plant's, what is assumed are the facts, and the solutions are of these clauses and
 -- what is assumed
-pub record IsTrialOf (plant : Plant) (facts : Facts) (set : ClauseMap) (choices : Choices) (assumed : List Lit) (solutions : List (List Bool)) : Type 0 where
+pub record IsTrialOf (plant : Plant) (facts : Facts) (set : ClauseMap) (choices : Choices) (after : Booleans) (assumed : List Lit) (solutions : List (List Bool)) : Type 0 where
   pub well_formed : is_well_formed plant ≡ true
   pub clauses : HasClausesOf plant set
   pub choices_are : choices ≡ plant_choices plant
+  pub after_are : after ≡ booleans_next plant
   pub facts_fit : FactsInRange plant facts
   pub once : IsOnce (first_choice plant) (fact_literals plant facts) assumed
   pub found : All (IsModel set assumed) solutions

@@ -2,13 +2,14 @@
 #![tactic(auto)]
 
 ghost use Rattle.std.specs.Prelude.{◌≡◌, ◌++◌, [], ◌∷◌, true, All, IfOk, if◌then◌else◌};
+ghost use Rattle.std.specs.List.{list_any};
 ghost use Rattle.lv_clauses.specs.Marks.{marked};
-ghost use Rattle.lv_clauses.specs.Noted.{is_open};
+ghost use Rattle.lv_clauses.specs.Noted.{is_of, is_open};
 ghost use Rattle.lv_system.specs.System.{IsSystemOf};
 ghost use Rattle.lv_meaning.specs.Facts.{FactsFit, HasValue, FactsInRange};
-ghost use Rattle.lv_ident.specs.Literals.{observed_literals, fact_literals, pair_literals, HasMove, IsPositive, IsOnce};
+ghost use Rattle.lv_ident.specs.Literals.{observed_literals, fact_literals, pair_literals, missing, HasMove, IsPositive, IsOnce};
 
-use lv_base::{Lit, MoveId, Pair, PartId};
+use lv_base::{BoolId, Lit, MoveId, Pair, PartId};
 use lv_clauses::Marks;
 use lv_compile::value_bools::ValueBools;
 use lv_meaning::facts::before_the_step;
@@ -78,6 +79,23 @@ fn push_new(out: &mut Vec<Lit>, seen: &mut Marks, lit: Lit) -> Result<(), AllocE
     if seen.is_open(lit) {
         out.push(lit)?;
         seen.take(lit)?;
+    }
+    Ok(())
+}
+
+/// Whether one of the literals is of this boolean.
+fn has_boolean(lits: &[Lit], of: BoolId) -> bool
+    ensures { result ≡ list_any (is_of of.0) lits.now }
+{
+    lits.iter().any(|lit| lit.var.0 == of.0)
+}
+
+/// Adds the literal where none of these is of its boolean.
+pub fn push_missing(out: &mut Vec<Lit>, lits: &[Lit], lit: Lit) -> Result<(), AllocError>
+    ensures { IfOk result (λ _. out.new.items ≡ out.old.items ++ missing lits.now lit) }
+{
+    if !has_boolean(lits, lit.var) {
+        out.push(lit)?;
     }
     Ok(())
 }

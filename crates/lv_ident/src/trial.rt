@@ -5,23 +5,25 @@
 ghost use Rattle.std.specs.Prelude.{◌≡◌, ◌+◌, ◌<◌, ◌≤◌, ◌++◌, [], false, All, drop, length, IfOk, IfSome, IsTrue, is_none};
 ghost use Rattle.lv_base.specs.Choices.{pairs_of};
 ghost use Rattle.lv_clauses.specs.Marks.{is_marked};
-ghost use Rattle.lv_model.specs.Lists.{move_counts};
+ghost use Rattle.lv_model.specs.Lists.{move_counts, sizes};
 ghost use Rattle.std.specs.List.{sum};
 ghost use Rattle.lv_system.specs.System.{IsSystemOf};
 ghost use Rattle.lv_search_walk.specs.Reason.{reduced};
-ghost use Rattle.lv_meaning.specs.Facts.{FactsFit, FactsInRange};
+ghost use Rattle.lv_meaning.specs.Facts.{FactsFit, FactsInRange, HasValue};
 ghost use Rattle.lv_meaning.specs.Possible.{is_possible};
 ghost use Rattle.lv_meaning.specs.Candidates.{is_possible_candidate};
 ghost use Rattle.lv_meaning.specs.Diagnosis.{reason_of};
 ghost use Rattle.lv_ident.specs.Literals.{HasMove, marked_pairs, pair_literal, plant_choices};
+ghost use Rattle.lv_ident.specs.Probing.{with_next, is_allowed};
 ghost use Rattle.lv_ident.specs.Reducing.{IsPartial, IsReducing};
 ghost use Rattle.lv_search_zones.specs.Moves.{is_full_choice};
 
-use crate::literals::{each_once, fact_literals, push_pairs};
+use crate::literals::{each_once, fact_literals, push_missing, push_pairs};
 use crate::refutation::{Solutions, refute};
-use lv_base::{Candidate, Conflict, Lit, MoveId, Pair, PartId, pairs_of};
+use lv_base::{Candidate, Conflict, Lit, MoveId, Pair, PartId, ValId, VarId, pairs_of};
 use lv_clauses::{Marks, is_marked};
 use lv_compile::plant_clauses::sum_of;
+use lv_compile::value_bools::ValueBools;
 use lv_meaning::Facts;
 use lv_model::Model;
 use lv_sat::{Effort, Solver};
@@ -39,6 +41,7 @@ pub struct IdentTrial<'a> {
     facts: Facts,
     solver: Solver,
     choices: ChoiceBools,
+    after: ValueBools,
     assumed: Vec<Lit>,
     solutions: Solutions,
 }
@@ -54,7 +57,7 @@ impl<'a> marker::Model for IdentTrial<'a> {
 
     ghost view = { λ t. record { plant = t.model.now; facts = t.facts } };
 
-    ghost invariant = { λ t. IsTrialOf t.model.now t.facts t.solver t.choices t.assumed.items t.solutions };
+    ghost invariant = { λ t. IsTrialOf t.model.now t.facts t.solver t.choices t.after t.assumed.items t.solutions };
 }
 
 /// The number of the first boolean that stands for a move.
@@ -99,6 +102,7 @@ impl<'a> IdentTrial<'a> {
         let literals = fact_literals(alloc, model, system, &facts)?;
         let assumed = each_once(alloc, first_of_choices(system), literals.as_slice())?;
         let choices = system.choices().copied(alloc)?;
+        let after = system.bools_at(Moment::Next).copied(alloc)?;
         // What is large comes last, so that no exit lets go of it.
         let solver = Solver::new(alloc, system.clauses())?;
         let solutions = Solutions::new(alloc);
@@ -108,6 +112,7 @@ impl<'a> IdentTrial<'a> {
             facts,
             solver,
             choices,
+            after,
             assumed,
             solutions,
         })
@@ -139,6 +144,49 @@ impl<'a> IdentTrial<'a> {
         ensures same { self.new ≡ self.old }
     {
         Ok(self.refuted(pairs)?.is_none())
+    }
+
+    /// The same where this variable is seen to have this value after the step too: nothing where the pairs are possible
+    /// together. Values that the solver found before are looked at first.
+    fn refuted_with(
+        &mut self,
+        pairs: &[Pair],
+        var: VarId,
+        val: ValId,
+    ) -> Result<Option<Marks>, AllocError>
+        requires partial { IsPartial self.old.plant pairs.now }
+        requires value { HasValue (sizes self.old.plant) (record { var = var; val = val }) }
+        ensures possible { IfOk result (λ core. is_none core ≡ is_possible self.old.plant (with_next self.old.facts (record { var = var; val = val })) pairs.now) }
+        ensures same { self.new ≡ self.old }
+    {
+        let seen = self.after.literal(var.0 as usize, val.0, true);
+        let mut chosen = Vec::new(self.alloc);
+        push_pairs(&mut chosen, &self.choices, pairs)?;
+        push_missing(&mut chosen, self.assumed.as_slice(), seen)?;
+        refute(
+            self.alloc,
+            &mut self.solver,
+            &mut self.solutions,
+            chosen.as_slice(),
+            self.assumed.as_slice(),
+        )
+    }
+
+    /// Whether the candidate's moves are possible together where this variable is seen to have this value after the step
+    /// too.
+    pub fn allows(
+        &mut self,
+        candidate: &Candidate,
+        var: VarId,
+        val: ValId,
+    ) -> Result<bool, AllocError>
+        requires full { IsTrue (is_full_choice self.old.plant candidate.now) }
+        requires value { HasValue (sizes self.old.plant) (record { var = var; val = val }) }
+        ensures answer { IfOk result (λ answer. answer ≡ is_allowed self.old.plant self.old.facts (record { var = var; val = val }) candidate.now) }
+        ensures same { self.new ≡ self.old }
+    {
+        let pairs = self.moves_of(candidate)?;
+        Ok(self.refuted_with(pairs.as_slice(), var, val)?.is_none())
     }
 
     /// What its solver did so far. Takes no memory.

@@ -108,6 +108,7 @@ module _ (plant : Plant) (state : SessionState) where
   request_stays request.States handed is = stays_same state
   request_stays request.Reset handed is = absurd (cc handed)
   request_stays request.Quit handed is = absurd (cc handed)
+  request_stays request.Probe handed is = absurd (cc handed)
 
   -- a line that is handed on
   pub line_stays : (line : List ℕ) → forms.asked_by line ≡ forms.for_session → Stays state (stepped plant state line).state

@@ -5,5 +5,6 @@ pub mod Diagnosis
 pub mod Conflicts
 pub mod Recovery
 pub mod Labels
+pub mod Probes
 pub mod States
 pub mod Texts

@@ -1,4 +1,4 @@
--- The text of a recovery.
+-- The text of a recovery or a test.
 use Rattle.std.specs.Prelude.{ℕ, nat_eq, if◌then◌else◌, List, [], ◌∷◌, ◌++◌, codes, decimal}
 use Rattle.lv_base.specs.declared.ids.VarId.{VarId}
 use Rattle.lv_base.specs.declared.rank.Rank.{Rank}
@@ -21,6 +21,10 @@ shown_settings plant (c ∷ cs) (v ∷ vs) = shown_setting plant c v ++ shown_se
 unfoldable pub recovery_text : Plant → Rank → List ℕ
 recovery_text plant r =
     codes "recovery cost " ++ decimal r.cost.0 ++ codes ": " ++ joined (shown_settings plant (controls plant) r.choices) ++ codes "\n"
+
+-- `test cost C: SETS`
+unfoldable pub test_text : Plant → Rank → List ℕ
+test_text plant r = codes "test cost " ++ decimal r.cost.0 ++ codes ": " ++ joined (shown_settings plant (controls plant) r.choices) ++ codes "\n"
 
 -- `unsettled trials T`
 unfoldable pub undecided_text : ℕ → List ℕ

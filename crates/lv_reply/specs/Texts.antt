@@ -4,11 +4,12 @@ use Rattle.lv_model.specs.declared.plant.Plant.{Plant}
 use Rattle.lv_reply.specs.declared.reply.Refusal.{Refusal}
 use Rattle.lv_reply.specs.declared.reply.Refusal.TheVariants.{UnknownWord, Form, UnknownName, NoControl, NoObservable, NoValue, NameHeld, NameNotHeld, OutOfLimits, NoQuery, NotUnsettled, NothingListed, NoGoal, TooManyHeld, LineTooLong, ByteNotAllowed, TooComplex, TooManyCommits}
 use Rattle.lv_reply.specs.declared.reply.Reply.{Reply}
-use Rattle.lv_reply.specs.declared.reply.Reply.TheVariants.{Nothing, Accepted, Refused, Settled, Unsettled, Conflicts, Committed, States, Recovered, NoRecovery, Undecided, CommandConflicts, Labels, Contradiction, Certificate}
+use Rattle.lv_reply.specs.declared.reply.Reply.TheVariants.{Nothing, Accepted, Refused, Settled, Unsettled, Conflicts, Committed, States, Recovered, NoRecovery, Undecided, CommandConflicts, Labels, Contradiction, Certificate, Probed, Tested, NoTest}
 use Rattle.lv_reply.specs.Diagnosis.{settled_text, unsettled_text}
 use Rattle.lv_reply.specs.Conflicts.{conflicts_text, command_conflicts_text}
-use Rattle.lv_reply.specs.Recovery.{recovery_text, undecided_text}
+use Rattle.lv_reply.specs.Recovery.{recovery_text, test_text, undecided_text}
 use Rattle.lv_reply.specs.Labels.{labels_text}
+use Rattle.lv_reply.specs.Probes.{probe_text}
 use Rattle.lv_reply.specs.States.{committed_text, states_text}
 
 -- the code that a refusal is told by
@@ -53,3 +54,6 @@ reply_text plant (CommandConflicts kept trials) = command_conflicts_text plant k
 reply_text plant (Labels labels) = labels_text plant labels
 reply_text plant Contradiction = codes "contradiction\n"
 reply_text plant Certificate = []
+reply_text plant (Probed listed observables best) = probe_text plant listed observables best
+reply_text plant (Tested rank) = test_text plant rank
+reply_text plant NoTest = codes "no test\n"

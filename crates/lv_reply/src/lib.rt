@@ -2,14 +2,15 @@
 //!
 //! | part | items |
 //! |---|---|
-//! | what a reply says | `Reply`, `Refusal`, `Label`, `Moment` |
+//! | what a reply says | `Reply`, `Refusal`, `Label`, `Moment`, `Probed` |
 //! | its text | `reply_text` |
 //!
 //! | file | the text of |
 //! |---|---|
 //! | `diagnosis` | the candidates that a diagnosis lists, settled or not |
 //! | `conflicts` | the conflicts that it kept, or a recovery |
-//! | `recovery` | a recovery, settled or not |
+//! | `recovery` | a recovery or a test, settled or not |
+//! | `probes` | what observations would leave of a diagnosis |
 //! | `labels` | what propagation finds |
 //! | `states` | the tracked states |
 //! | `moves`, `variables` | moves, variables and values by the names of the plant |
@@ -21,6 +22,7 @@ mod diagnosis;
 pub mod labels;
 mod moves;
 mod pieces;
+pub mod probes;
 mod recovery;
 pub mod reply;
 pub mod states;
@@ -28,5 +30,6 @@ mod text;
 mod variables;
 
 pub use labels::{Label, Moment};
+pub use probes::Probed;
 pub use reply::{Refusal, Reply};
 pub use text::reply_text;

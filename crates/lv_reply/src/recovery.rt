@@ -1,10 +1,10 @@
-//! The text of a recovery: what it costs, and the controls that don't rest.
+//! The text of a recovery or a test: what it costs, and the controls that don't rest.
 #![tactic(auto)]
 
 ghost use Rattle.std.specs.Prelude.{◌≡◌, ◌+◌, ◌++◌, [], ◌∷◌, IfOk, drop, decimal, codes};
 ghost use Rattle.lv_model.specs.Lists.{controls};
 ghost use Rattle.lv_reply.specs.Variables.{setting_text};
-ghost use Rattle.lv_reply.specs.Recovery.{shown_setting, shown_settings, recovery_text, undecided_text};
+ghost use Rattle.lv_reply.specs.Recovery.{shown_setting, shown_settings, recovery_text, test_text, undecided_text};
 
 use crate::pieces::{push_joined, push_number};
 use crate::variables::push_equation;
@@ -81,7 +81,27 @@ pub fn recovery_text(alloc: Global, model: &Model, rank: &Rank) -> Result<Vec<u8
     Ok(out)
 }
 
-/// The text of a recovery that isn't settled after so many trials.
+/// The text of a test by the controls' values that are the choices of the rank.
+#[tactic(auto, unfolding(crate::specs::Recovery::test_text))]
+pub fn test_text(alloc: Global, model: &Model, rank: &Rank) -> Result<Vec<u8>, AllocError>
+    ensures { IfOk result (λ out. out.items ≡ test_text model.now rank.now) }
+{
+    let controls = model.controls(alloc)?;
+    let settings = shown_settings(
+        alloc,
+        model.plant(),
+        controls.as_slice(),
+        rank.choices.as_slice(),
+    )?;
+    let mut out = Vec::from_slice(alloc, b"test cost ")?;
+    push_number(&mut out, rank.cost.0)?;
+    out.extend_from_slice(b": ")?;
+    push_joined(&mut out, settings.as_slice())?;
+    out.extend_from_slice(b"\n")?;
+    Ok(out)
+}
+
+/// The text of a recovery or a test that isn't settled after so many trials.
 #[tactic(auto, unfolding(crate::specs::Recovery::undecided_text))]
 pub fn undecided_text(alloc: Global, trials: u64) -> Result<Vec<u8>, AllocError>
     ensures { IfOk result (λ out. out.items ≡ undecided_text trials) }

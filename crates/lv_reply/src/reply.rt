@@ -6,7 +6,8 @@ ghost use Rattle.std.specs.Prelude.{◌≡◌};
 ghost use Rattle.lv_reply.specs.Texts.{code_of};
 
 use crate::labels::Label;
-use lv_base::{Pair, Rank, Seq};
+use crate::probes::Probed;
+use lv_base::{Pair, Rank, Seq, VarId};
 use lv_model::TrackedState;
 
 /// Why a line was refused. A refused line leaves the session as it was.
@@ -100,9 +101,9 @@ pub enum Reply {
     Recovered(Rank),
     /// No set of commands recovers.
     NoRecovery,
-    /// A recovery whose budget was used up before: the number of trials.
+    /// A recovery, or a test, whose budget was used up before: the number of trials.
     Undecided(u64),
-    /// The conflicts that a recovery kept, in the order of their trials, and the number of all trials. Slots are places
+    /// The conflicts that a recovery, or a test, kept, in the order of their trials, and the number of all trials. Slots are places
     /// among the controls, and choices are values.
     CommandConflicts(Seq<Seq<Pair>>, u64),
     /// What propagation finds.
@@ -111,4 +112,11 @@ pub enum Reply {
     Contradiction,
     /// A certificate of the current query. It is written where the query is.
     Certificate,
+    /// What one observation more would leave of a settled diagnosis: how many candidates it lists, each observable, and the
+    /// one that is best looked at, if some tells anything.
+    Probed(u64, Seq<Probed>, Option<VarId>),
+    /// A set of commands that tells the tracked states apart: what it costs, and a value for each control.
+    Tested(Rank),
+    /// No set of commands does.
+    NoTest,
 }

@@ -7,7 +7,8 @@ ghost use Rattle.lv_reply.specs.Texts.{refusal_text, reply_text};
 use crate::conflicts::{command_conflicts_text, conflicts_text};
 use crate::diagnosis::{settled_text, unsettled_text};
 use crate::labels::labels_text;
-use crate::recovery::{recovery_text, undecided_text};
+use crate::probes::probe_text;
+use crate::recovery::{recovery_text, test_text, undecided_text};
 use crate::reply::{Refusal, Reply};
 use crate::states::{committed_text, states_text};
 use lv_model::Model;
@@ -48,5 +49,10 @@ pub fn reply_text(alloc: Global, model: &Model, reply: &Reply) -> Result<Vec<u8>
         Reply::Labels(labels) => labels_text(alloc, plant, labels.as_slice()),
         Reply::Contradiction => Vec::from_slice(alloc, b"contradiction\n"),
         Reply::Certificate => Ok(Vec::new(alloc)),
+        Reply::Probed(listed, observables, best) => {
+            probe_text(alloc, plant, *listed, observables.as_slice(), *best)
+        }
+        Reply::Tested(rank) => test_text(alloc, model, rank),
+        Reply::NoTest => Vec::from_slice(alloc, b"no test\n"),
     }
 }

@@ -32,7 +32,7 @@ fn variable_of(variables: &[Variable], n: u32) -> Option<&Variable>
 }
 
 /// The names of the values of a type's n-th variable, of which the mode is the first.
-fn own_values<'a>(domains: &'a [Domain], t: &'a ComponentType, n: u32) -> &'a [Name]
+pub fn own_values<'a>(domains: &'a [Domain], t: &'a ComponentType, n: u32) -> &'a [Name]
     ensures { result.now ≡ own_values domains.now t.now n }
 {
     if n == 0 {
@@ -45,7 +45,7 @@ fn own_values<'a>(domains: &'a [Domain], t: &'a ComponentType, n: u32) -> &'a [N
 }
 
 /// Adds the name of a type's n-th variable, of which the mode is the first.
-fn push_own_name(out: &mut Vec<u8>, t: &ComponentType, n: u32) -> Result<(), AllocError>
+pub fn push_own_name(out: &mut Vec<u8>, t: &ComponentType, n: u32) -> Result<(), AllocError>
     ensures { IfOk result (λ _. out.new.items ≡ out.old.items ++ own_name t.now n) }
 {
     if n == 0 {
@@ -95,7 +95,7 @@ fn has_variable(types: &[ComponentType], x: u32, part: &Part) -> bool
 }
 
 /// The part whose variable this is.
-fn owner_of<'a>(types: &[ComponentType], parts: &'a [Part], x: u32) -> Option<&'a Part>
+pub fn owner_of<'a>(types: &[ComponentType], parts: &'a [Part], x: u32) -> Option<&'a Part>
     ensures { option_copied result ≡ find (has_variable types.now x) parts.now }
 {
     parts.iter().find(|part| has_variable(types, x, part))

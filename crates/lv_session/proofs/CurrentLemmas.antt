@@ -14,13 +14,13 @@ use Rattle.lv_reply.specs.declared.reply.Reply.TheVariants.{Refused, Committed, 
 use Rattle.lv_session_request.specs.declared.goals.Goal.{Goal}
 use Rattle.lv_session_request.specs.declared.request.Sighting.{Sighting}
 use Rattle.lv_session_request.specs.declared.request.Request.{Request}
-use Rattle.lv_session_request.specs.declared.request.Request.TheVariants.{Nothing, Track, SetBudget, SetControl, Release, Observe, Retract, SetGoal, DropGoal, Diagnose, Recover, More, Commit, Conflicts, Certificate, Labels, LabelsFrom, States, Reset, Quit}
+use Rattle.lv_session_request.specs.declared.request.Request.TheVariants.{Nothing, Track, SetBudget, SetControl, Release, Observe, Retract, SetGoal, DropGoal, Diagnose, Recover, More, Commit, Conflicts, Certificate, Labels, LabelsFrom, States, Reset, Quit, Probe}
 use Rattle.lv_session.specs.declared.query.Query.{Query}
 use Rattle.lv_session.specs.declared.query.Query.TheVariants.{Absent, Diagnosis, Recovery}
 use Rattle.lv_session.specs.declared.running.Running.{Running}
 use Rattle.lv_session.specs.declared.running.Running.TheVariants as kept
 use Rattle.lv_session_request.specs.Held.{lacks_name}
-use Rattle.lv_session.specs.Session.{SessionState, Stepped, unchanged, cleared, walked, recovery, is_held, has_no_room, observe, retract, is_goal, has_no_goal_room, lacks_goal_name, set_goal, drop_goal, labelled, labelled_from, is_settled, certificate, commit, commit_by, conflicts, taken_over, advanced_to, carried_out}
+use Rattle.lv_session.specs.Session.{SessionState, Stepped, unchanged, cleared, walked, recovery, is_held, has_no_room, observe, retract, is_goal, has_no_goal_room, lacks_goal_name, set_goal, drop_goal, labelled, labelled_from, is_settled, certificate, commit, commit_by, probed_reply, probe_by, probe, conflicts, taken_over, advanced_to, carried_out}
 use Rattle.lv_session.specs.Current.{IsKeptOf, IsCurrent, IsCaredFor}
 
 same_walk : (plant : Plant) (state : SessionState) (budget : ℕ) (ended : Bool) (sum : ℕ) → walked plant (record state { budget = budget; is_ended = ended }) sum ≡ walked plant state sum
@@ -104,6 +104,19 @@ module _ (plant : Plant) (state : SessionState) (running : Running) (is : IsCurr
       by Unsettled = is
   commit_current (Recovery sum) = is
 
+  probe_current : (q : Query) → IsCurrent plant (probe q plant state).state running
+  probe_current Absent = is
+  probe_current (Diagnosis sum) = by (walked plant state sum).outcome
+    where
+      some : (b : Bool) → IsCurrent plant (cond b (unchanged state (Refused NothingListed)) (unchanged state (probed_reply plant state (walked plant state sum).listed))).state running
+      some true = is
+      some false = is
+
+      by : (o : Outcome) → IsCurrent plant (probe_by o plant state (walked plant state sum).listed).state running
+      by Settled = some (nat_eq (length (walked plant state sum).listed) 0)
+      by Unsettled = is
+  probe_current (Recovery sum) = is
+
   conflicts_current : (q : Query) → IsCurrent plant (conflicts q plant state).state running
   conflicts_current Absent = is
   conflicts_current (Diagnosis sum) = is
@@ -141,6 +154,7 @@ module _ (plant : Plant) (old : SessionState) (before after : Running) (is : IsC
   cared_for (LabelsFrom n) care = left (labelled_from plant old n).state (labelled_current plant old before is n) care
   cared_for States care = left old is care
   cared_for Reset care = tt
+  cared_for Probe care = left (probe old.query plant old).state (probe_current plant old before is old.query) care
   cared_for Quit care = left (record old { is_ended = true }) (others_kept plant old before is old.budget true) care
 
   pub stays_current : (next : SessionState) (request : Request) (s : Stepped) → s ≡ carried_out plant old request → next ≡ s.state → IsCaredFor request plant next before after

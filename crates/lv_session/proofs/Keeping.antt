@@ -32,14 +32,14 @@ use Rattle.lv_meaning.specs.Ranges.{StateFits}
 use Rattle.lv_session_request.specs.declared.goals.Goal.{Goal}
 use Rattle.lv_session_request.specs.declared.request.Sighting.{Sighting}
 use Rattle.lv_session_request.specs.declared.request.Request.{Request}
-use Rattle.lv_session_request.specs.declared.request.Request.TheVariants.{Nothing, Track, SetBudget, SetControl, Release, Observe, Retract, SetGoal, DropGoal, Diagnose, Recover, More, Commit, Conflicts, Certificate, Labels, LabelsFrom, States, Reset, Quit}
+use Rattle.lv_session_request.specs.declared.request.Request.TheVariants.{Nothing, Track, SetBudget, SetControl, Release, Observe, Retract, SetGoal, DropGoal, Diagnose, Recover, More, Commit, Conflicts, Certificate, Labels, LabelsFrom, States, Reset, Quit, Probe}
 use Rattle.lv_session_request.specs.Forms.{IsUpTo}
 use Rattle.lv_session_request.specs.Goals.{IsGoalIn}
 use Rattle.lv_session_request.specs.Requests.{IsSightingIn, IsRequestOf}
 use Rattle.lv_session.specs.declared.query.Query.{Query}
 use Rattle.lv_session.specs.declared.query.Query.TheVariants.{Absent, Diagnosis, Recovery}
 use Rattle.lv_session_request.specs.Held.{lacks_name}
-use Rattle.lv_session.specs.Session.{SessionState, Stepped, start, rest, unchanged, cleared, walked, recovery, is_held, observe, retract, is_goal, lacks_goal_name, set_goal, drop_goal, recovered, recover, more, more_by, more_recovery_by, is_settled, certificate, labelled, labelled_from, commit, commit_by, conflicts, taken_over, advanced_to, carried_out}
+use Rattle.lv_session.specs.Session.{SessionState, Stepped, start, rest, unchanged, cleared, walked, recovery, is_held, observe, retract, is_goal, lacks_goal_name, set_goal, drop_goal, recovered, recover, more, more_by, more_recovery_by, is_settled, certificate, labelled, labelled_from, commit, commit_by, probed_reply, probe_by, probe, conflicts, taken_over, advanced_to, carried_out}
 use Rattle.lv_session.specs.States.{StateCosts, RankCosts, IsStateOf, IsListOf}
 use Rattle.lv_session.proofs.Fitting.{start_fits, all_fit}
 use Rattle.lv_session.proofs.Listed.{list_of}
@@ -264,6 +264,19 @@ module _ (plant : Plant) (state : SessionState) (h : is_well_formed plant ≡ tr
       by Unsettled = is
   commit_kept (Recovery sum) = is
 
+  probe_kept : (q : Query) → IsStateOf plant (probe q plant state).state
+  probe_kept Absent = is
+  probe_kept (Diagnosis sum) = by (walked plant state sum).outcome
+    where
+      some : (b : Bool) → IsStateOf plant (cond b (unchanged state (Refused NothingListed)) (unchanged state (probed_reply plant state (walked plant state sum).listed))).state
+      some true = is
+      some false = is
+
+      by : (o : Outcome) → IsStateOf plant (probe_by o plant state (walked plant state sum).listed).state
+      by Settled = some (nat_eq (length (walked plant state sum).listed) 0)
+      by Unsettled = is
+  probe_kept (Recovery sum) = is
+
   pub request_kept : (request : Request) → IsRequestOf plant request → IsStateOf plant (carried_out plant state request).state
   request_kept Nothing within = is
   request_kept (Track n) within = numbers_kept n state.budget Absent state.is_ended within
@@ -285,6 +298,7 @@ module _ (plant : Plant) (state : SessionState) (h : is_well_formed plant ≡ tr
   request_kept States within = is
   request_kept Reset within = start_kept plant h
   request_kept Quit within = numbers_kept state.k state.budget state.query true is.k
+  request_kept Probe within = probe_kept state.query
 
 -- whether a request was carried out or memory was wanting
 pub state_kept : {E : Type 0} (plant : Plant) (old new : SessionState) (request : Request) (result : Result Reply E) → is_well_formed plant ≡ true → IsStateOf plant old → IsRequestOf plant request

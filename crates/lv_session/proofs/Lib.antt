@@ -8,6 +8,7 @@ pub mod Steps
 pub mod Answering
 pub mod TrueAnswers
 pub mod Asking
+pub mod Probing
 pub mod Recovering
 pub mod Labelling
 pub mod CurrentLemmas

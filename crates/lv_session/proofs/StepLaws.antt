@@ -22,12 +22,12 @@ use Rattle.lv_labels.specs.Finding.{labelling}
 use Rattle.lv_session_request.specs.declared.goals.Goal.{Goal}
 use Rattle.lv_session_request.specs.declared.request.Sighting.{Sighting}
 use Rattle.lv_session_request.specs.declared.request.Request.{Request}
-use Rattle.lv_session_request.specs.declared.request.Request.TheVariants.{Nothing, Track, SetBudget, SetControl, Release, Observe, Retract, SetGoal, DropGoal, Diagnose, Recover, More, Commit, Conflicts, Certificate, Labels, LabelsFrom, States, Reset, Quit}
+use Rattle.lv_session_request.specs.declared.request.Request.TheVariants.{Nothing, Track, SetBudget, SetControl, Release, Observe, Retract, SetGoal, DropGoal, Diagnose, Recover, More, Commit, Conflicts, Certificate, Labels, LabelsFrom, States, Reset, Quit, Probe}
 use Rattle.lv_session_request.specs.Requests.{request_of}
 use Rattle.lv_session.specs.declared.query.Query.{Query}
 use Rattle.lv_session.specs.declared.query.Query.TheVariants.{Absent, Diagnosis, Recovery}
 use Rattle.lv_session_request.specs.Held.{lacks_name}
-use Rattle.lv_session.specs.Session.{SessionState, Stepped, unchanged, cleared, walked, recovery, is_held, has_no_room, observe, retract, is_goal, has_no_goal_room, lacks_goal_name, set_goal, drop_goal, reply_by, diagnosis_reply, diagnosed, found, recovery_reply_by, recovery_reply, recovered, recover, more, more_by, more_recovery_by, is_settled, certificate, facts_of, labels_reply, labelled, labelled_from, commit, commit_by, conflicts, taken_over, advanced_to, carried_out, answered, stepped}
+use Rattle.lv_session.specs.Session.{SessionState, Stepped, unchanged, cleared, walked, recovery, is_held, has_no_room, observe, retract, is_goal, has_no_goal_room, lacks_goal_name, set_goal, drop_goal, reply_by, diagnosis_reply, diagnosed, found, recovery_reply_by, recovery_reply, recovered, recover, more, more_by, more_recovery_by, is_settled, certificate, facts_of, labels_reply, labelled, labelled_from, commit, commit_by, probed_reply, probe_by, probe, conflicts, taken_over, advanced_to, carried_out, answered, stepped}
 use Rattle.lv_session.specs.Certificates.{IsDue}
 use Rattle.lv_session.specs.Laws.{is_refused, is_certificate, clears}
 
@@ -201,6 +201,19 @@ module _ (plant : Plant) (state : SessionState) where
       by Unsettled = record { kept = λ _. refl; carried = λ _ e. absurd (cc e); due = tt; told = λ _. refl }
   fair_commit (Recovery sum) = record { kept = λ _. refl; carried = λ _ e. absurd (cc e); due = tt; told = λ _. refl }
 
+  fair_probe : (q : Query) → IsFair plant state false false (probe q plant state)
+  fair_probe Absent = fair_refusal plant state false NoQuery
+  fair_probe (Diagnosis sum) = by (walked plant state sum).outcome
+    where
+      some : (b : Bool) → IsFair plant state false false (cond b (unchanged state (Refused NothingListed)) (unchanged state (probed_reply plant state (walked plant state sum).listed)))
+      some true = fair_refusal plant state false NothingListed
+      some false = record { kept = λ _. refl; carried = λ e _. absurd (cc e); due = tt; told = λ _. refl }
+
+      by : (o : Outcome) → IsFair plant state false false (probe_by o plant state (walked plant state sum).listed)
+      by Settled = some (nat_eq (length (walked plant state sum).listed) 0)
+      by Unsettled = fair_refusal plant state false NoQuery
+  fair_probe (Recovery sum) = fair_refusal plant state false NoQuery
+
   pub fair_request : (request : Request) → IsFair plant state (clears request) (asks_certificate request) (carried_out plant state request)
   fair_request Nothing = record { kept = λ _. refl; carried = λ e _. absurd (cc e); due = tt; told = λ _. refl }
   fair_request (Track n) = fair_clearing plant state (record state { k = n }) true
@@ -222,6 +235,7 @@ module _ (plant : Plant) (state : SessionState) where
   fair_request States = record { kept = λ _. refl; carried = λ e _. absurd (cc e); due = tt; told = λ _. refl }
   fair_request Reset = record { kept = λ e. absurd (cc e); carried = λ _ _. refl; due = tt; told = λ _. refl }
   fair_request Quit = record { kept = λ e. absurd (cc e); carried = λ e _. absurd (cc e); due = tt; told = λ _. refl }
+  fair_request Probe = fair_probe state.query
 
   answered_due : (r : Result Request Refusal) → IsDue plant (answered plant state r).state (answered plant state r).reply
   answered_due (Ok request) = (fair_request request).due

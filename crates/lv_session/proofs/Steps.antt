@@ -190,6 +190,7 @@ module _ (plant : Plant) (ts : List Lexeme) (read : AreRead ts) (shallow : is_to
   by_word said.States r first h = alone_in request.States r tt h
   by_word said.Reset r first h = alone_in request.Reset r tt h
   by_word said.Quit r first h = alone_in request.Quit r tt h
+  by_word said.Probe r first h = alone_in request.Probe r tt h
 
 module _ (plant : Plant) where
   tokens_in : (ts : List Lexeme) (r : Request) → AreRead ts → asked plant (lists_of plant) ts ≡ Ok r → IsRequestOf plant r

@@ -5,7 +5,7 @@ use Rattle.std.proofs.lemmas.Bool.{or_parts}
 use Rattle.lv_io.specs.Whole.{AddsFront}
 use Rattle.lv_model.specs.declared.plant.Plant.{Plant}
 use Rattle.lv_reply.specs.declared.reply.Reply.{Reply}
-use Rattle.lv_reply.specs.declared.reply.Reply.TheVariants.{Nothing, Accepted, Refused, Settled, Unsettled, Conflicts, Committed, States, Recovered, NoRecovery, Undecided, CommandConflicts, Labels, Contradiction, Certificate}
+use Rattle.lv_reply.specs.declared.reply.Reply.TheVariants.{Nothing, Accepted, Refused, Settled, Unsettled, Conflicts, Committed, States, Recovered, NoRecovery, Undecided, CommandConflicts, Labels, Contradiction, Certificate, Probed, Tested, NoTest}
 use Rattle.lv_reply.specs.Texts.{reply_text}
 use Rattle.lv_session.specs.Session.{SessionState, stepped}
 use Rattle.lv_session.specs.Certificates.{IsTextOf}
@@ -30,6 +30,9 @@ one_text plant state (Undecided trials) text none says = says
 one_text plant state (CommandConflicts kept trials) text none says = says
 one_text plant state (Labels labels) text none says = says
 one_text plant state Contradiction text none says = says
+one_text plant state (Probed listed observables best) text none says = says
+one_text plant state (Tested rank) text none says = says
+one_text plant state NoTest text none says = says
 
 pub own_text : (plant : Plant) (state : SessionState) (reply : Reply) → is_certificate reply ≡ false → IsTextOf plant state reply (reply_text plant reply)
 own_text plant state Certificate none = absurd (cc none)
@@ -47,6 +50,9 @@ own_text plant state (Undecided trials) none = refl
 own_text plant state (CommandConflicts kept trials) none = refl
 own_text plant state (Labels labels) none = refl
 own_text plant state Contradiction none = refl
+own_text plant state (Probed listed observables best) none = refl
+own_text plant state (Tested rank) none = refl
+own_text plant state NoTest none = refl
 
 -- none among the replies to lines
 abbrev NoneTold : Plant → SessionState → List (List ℕ) → Type 0

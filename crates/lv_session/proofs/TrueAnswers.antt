@@ -20,12 +20,12 @@ use Rattle.lv_reply.specs.declared.reply.Refusal.{Refusal}
 use Rattle.lv_reply.specs.declared.reply.Refusal.TheVariants.{NameHeld, NameNotHeld, OutOfLimits, NoQuery, NothingListed, NoGoal, TooManyHeld, TooManyCommits}
 use Rattle.lv_reply.specs.declared.reply.Reply.TheVariants.{Nothing as Silence, Refused, Committed, Certificate as Certified}
 use Rattle.lv_session_request.specs.declared.request.Request.{Request}
-use Rattle.lv_session_request.specs.declared.request.Request.TheVariants.{Nothing, Track, SetBudget, SetControl, Release, Observe, Retract, SetGoal, DropGoal, Diagnose, Recover, More, Commit, Conflicts, Certificate, Labels, LabelsFrom, States, Reset, Quit}
+use Rattle.lv_session_request.specs.declared.request.Request.TheVariants.{Nothing, Track, SetBudget, SetControl, Release, Observe, Retract, SetGoal, DropGoal, Diagnose, Recover, More, Commit, Conflicts, Certificate, Labels, LabelsFrom, States, Reset, Quit, Probe}
 use Rattle.lv_session_request.specs.Requests.{request_of}
 use Rattle.lv_session_request.specs.Held.{lacks_name}
 use Rattle.lv_session.specs.declared.query.Query.{Query}
 use Rattle.lv_session.specs.declared.query.Query.TheVariants.{Absent, Diagnosis, Recovery}
-use Rattle.lv_session.specs.Session.{SessionState, Stepped, unchanged, cleared, walked, recovery, aim_of, facts_of, is_held, has_no_room, is_goal, has_no_goal_room, lacks_goal_name, reply_by, diagnosed, found, recovery_reply_by, recovered, more, more_by, more_recovery_by, is_settled, labels_reply, labelled, labelled_from, commit, commit_by, conflicts, taken_over, advanced_to, carried_out, answered, stepped}
+use Rattle.lv_session.specs.Session.{SessionState, Stepped, unchanged, cleared, walked, recovery, aim_of, facts_of, is_held, has_no_room, is_goal, has_no_goal_room, lacks_goal_name, reply_by, diagnosed, found, recovery_reply_by, recovered, more, more_by, more_recovery_by, is_settled, labels_reply, labelled, labelled_from, commit, commit_by, probed_reply, probe_by, probe, conflicts, taken_over, advanced_to, carried_out, answered, stepped}
 use Rattle.lv_session.specs.Transcript.{IsTranscriptFrom, ends, goes_on, AddsTranscript}
 use Rattle.lv_session.specs.Answers.{IsTrueAnswer, IsTrueTranscriptFrom, all_told, told, AddsTrueTranscript}
 
@@ -99,6 +99,17 @@ module _ (plant : Plant) (state : SessionState) where
       by Unsettled = tt
   commit_true (Recovery sum) = tt
 
+  probe_true : (q : Query) → IsTrueAnswer plant state (probe q plant state).reply
+  probe_true Absent = tt
+  probe_true (Diagnosis sum) = by (walked plant state sum).outcome
+    where
+      by : (o : Outcome) → IsTrueAnswer plant state (probe_by o plant state (walked plant state sum).listed).reply
+      by Settled =
+          either (nat_eq (length (walked plant state sum).listed) 0) (unchanged state (Refused NothingListed))
+          (unchanged state (probed_reply plant state (walked plant state sum).listed)) tt tt
+      by Unsettled = tt
+  probe_true (Recovery sum) = tt
+
   conflicts_true : (q : Query) → IsTrueAnswer plant state (conflicts q plant state).reply
   conflicts_true Absent = tt
   conflicts_true (Diagnosis sum) = tt
@@ -131,6 +142,7 @@ module _ (plant : Plant) (state : SessionState) where
   request_true States = tt
   request_true Reset = tt
   request_true Quit = tt
+  request_true Probe = probe_true state.query
 
   answered_true : (r : Result Request Refusal) → IsTrueAnswer plant state (answered plant state r).reply
   answered_true (Ok request) = request_true request

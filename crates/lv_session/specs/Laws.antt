@@ -1,19 +1,23 @@
 -- What holds of every step of a session; and where no certificate is told, a session has exactly one transcript.
-use Rattle.std.specs.Prelude.{◌≡◌, ℕ, ◌+◌, Bool, true, false, List, [], ◌∷◌, ◌++◌, Option}
+use Rattle.std.specs.Prelude.{◌≡◌, ℕ, ◌+◌, ◌<◌, Bool, true, false, List, [], ◌∷◌, ◌++◌, length, map, Option}
 use Rattle.std.specs.List.{list_any, sum}
 use Rattle.lv_io.specs.Whole.{AddsFront}
 use Rattle.lv_text.specs.Lines.{lines_of}
 use Rattle.lv_model.specs.declared.plant.Plant.{Plant}
 use Rattle.lv_model.specs.WellFormed.{is_well_formed}
 use Rattle.lv_search_walk.specs.declared.outcome.Outcome.{Outcome}
-use Rattle.lv_search_walk.specs.declared.outcome.Outcome.TheVariants.{Unsettled}
+use Rattle.lv_search_walk.specs.declared.outcome.Outcome.TheVariants.{Settled, Unsettled}
+use Rattle.lv_search_walk.specs.Walk.{candidate_of}
+use Rattle.lv_probe.specs.Probing.{number_with}
 use Rattle.lv_reply.specs.declared.reply.Reply.{Reply}
 use Rattle.lv_reply.specs.declared.reply.Reply.TheVariants.{Nothing, Refused, Certificate}
 use Rattle.lv_reply.specs.Texts.{reply_text}
+use Rattle.lv_session_request.specs.Held.{observation_of}
+use Rattle.lv_session_request.specs.declared.request.Sighting.{Sighting}
 use Rattle.lv_session_request.specs.declared.request.Request.{Request}
 use Rattle.lv_session_request.specs.declared.request.Request.TheVariants.{Track, SetControl, Release, Observe, Retract, SetGoal, DropGoal, More, Commit, Reset}
 use Rattle.lv_session.specs.declared.query.Query.TheVariants.{Absent, Diagnosis, Recovery}
-use Rattle.lv_session.specs.Session.{SessionState, start, walked, recovery, diagnosis_reply, recovery_reply, is_settled, carried_out, stepped}
+use Rattle.lv_session.specs.Session.{SessionState, start, facts_of, walked, recovery, observe, diagnosis_reply, recovery_reply, is_settled, carried_out, stepped}
 use Rattle.lv_session.specs.States.{IsStateOf}
 use Rattle.lv_session.specs.Transcript.{IsTranscript, AddsFrontOfTranscript}
 
@@ -117,3 +121,9 @@ pub record CertificateChangesNothing : Type 0 where
 pub record EndedIsSilent : Type 0 where
   pub stays : (plant : Plant) (state : SessionState) (line : List ℕ) → state.is_ended ≡ true → (stepped plant state line).state ≡ state
   pub silent : (plant : Plant) (state : SessionState) (line : List ℕ) → state.is_ended ≡ true → (stepped plant state line).reply ≡ Nothing
+
+-- where a settled diagnosis lists fewer than k, as many of the listed go with an observation as a settled diagnosis lists once it is held
+abbrev pub NumbersAreListed : Type 0
+NumbersAreListed = (plant : Plant) (state : SessionState) (sum other : ℕ) (s : Sighting) → (walked plant state sum).outcome ≡ Settled
+    → length (walked plant state sum).listed < state.k → is_refused (observe state s).reply ≡ false → (walked plant (observe state s).state other).outcome ≡ Settled
+    → number_with plant (facts_of state) (map candidate_of (walked plant state sum).listed) (observation_of s) ≡ length (walked plant (observe state s).state other).listed

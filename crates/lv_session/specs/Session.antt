@@ -24,17 +24,18 @@ use Rattle.lv_labels.specs.declared.labelling.Labelling.{Labelling}
 use Rattle.lv_labels.specs.declared.labelling.Labelling.TheVariants as labelling
 use Rattle.lv_labels.specs.Literals.{fact_literals, state_literals}
 use Rattle.lv_labels.specs.Finding.{labelling}
+use Rattle.lv_probe.specs.Probing.{all_probed, best}
 use Rattle.lv_tracker.specs.Tracked.{start_state, advanced}
 use Rattle.lv_reply.specs.declared.reply.Refusal.{Refusal}
 use Rattle.lv_reply.specs.declared.reply.Refusal.TheVariants.{NameHeld, NameNotHeld, OutOfLimits, NoQuery, NotUnsettled, NothingListed, NoGoal, TooManyHeld, TooManyCommits}
 use Rattle.lv_reply.specs.declared.reply.Reply.{Reply}
-use Rattle.lv_reply.specs.declared.reply.Reply.TheVariants.{Nothing as Silence, Accepted, Refused, Settled as SettledReply, Unsettled as UnsettledReply, Conflicts as ConflictsReply, Committed, States as StatesReply, Recovered, NoRecovery, Undecided, CommandConflicts, Labels as LabelsReply, Contradiction, Certificate as CertificateReply}
+use Rattle.lv_reply.specs.declared.reply.Reply.TheVariants.{Nothing as Silence, Accepted, Refused, Settled as SettledReply, Unsettled as UnsettledReply, Conflicts as ConflictsReply, Committed, States as StatesReply, Recovered, NoRecovery, Undecided, CommandConflicts, Labels as LabelsReply, Contradiction, Certificate as CertificateReply, Probed as ProbedReply}
 use Rattle.lv_session_request.specs.Held.{observation_of, has_name, lacks_name}
 use Rattle.lv_session_request.specs.declared.goals.Goal.{Goal}
 use Rattle.lv_session_request.specs.declared.request.Command.{Command}
 use Rattle.lv_session_request.specs.declared.request.Sighting.{Sighting}
 use Rattle.lv_session_request.specs.declared.request.Request.{Request}
-use Rattle.lv_session_request.specs.declared.request.Request.TheVariants.{Nothing, Track, SetBudget, SetControl, Release, Observe, Retract, SetGoal, DropGoal, Diagnose, Recover, More, Commit, Conflicts, Certificate, Labels, LabelsFrom, States, Reset, Quit}
+use Rattle.lv_session_request.specs.declared.request.Request.TheVariants.{Nothing, Track, SetBudget, SetControl, Release, Observe, Retract, SetGoal, DropGoal, Diagnose, Recover, More, Commit, Conflicts, Certificate, Labels, LabelsFrom, States, Reset, Quit, Probe}
 use Rattle.lv_session_request.specs.Requests.{request_of}
 use Rattle.lv_session.specs.declared.query.Query.{Query}
 use Rattle.lv_session.specs.declared.query.Query.TheVariants.{Absent, Diagnosis, Recovery}
@@ -289,6 +290,24 @@ commit Absent plant state = unchanged state (Refused NoQuery)
 commit (Diagnosis sum) plant state = commit_by (walked plant state sum).outcome plant state (walked plant state sum).listed
 commit (Recovery sum) plant state = unchanged state (Refused NoQuery)
 
+-- what one observation more would leave of these candidates
+abbrev pub probed_reply : Plant → SessionState → List Rank → Reply
+probed_reply plant state listed =
+    ProbedReply (length listed) (all_probed plant (facts_of state) listed) (best (length listed) (all_probed plant (facts_of state) listed))
+
+abbrev pub probed : Plant → SessionState → List Rank → Stepped
+probed plant state listed = if nat_eq (length listed) 0 then unchanged state (Refused NothingListed) else unchanged state (probed_reply plant state listed)
+
+abbrev pub probe_by : Outcome → Plant → SessionState → List Rank → Stepped
+probe_by Settled plant state listed = probed plant state listed
+probe_by Unsettled plant state listed = unchanged state (Refused NoQuery)
+
+-- `probe`: of a settled diagnosis that is current, which has to list something
+abbrev pub probe : Query → Plant → SessionState → Stepped
+probe Absent plant state = unchanged state (Refused NoQuery)
+probe (Diagnosis sum) plant state = probe_by (walked plant state sum).outcome plant state (walked plant state sum).listed
+probe (Recovery sum) plant state = unchanged state (Refused NoQuery)
+
 -- what propagation finds, as a reply
 abbrev pub labels_reply : Labelling → Reply
 labels_reply labelling.Contradiction = Contradiction
@@ -333,6 +352,7 @@ carried_out plant state (LabelsFrom n) = labelled_from plant state n
 carried_out plant state States = unchanged state (StatesReply state.time state.tracked)
 carried_out plant state Reset = reset plant
 carried_out plant state Quit = quit state
+carried_out plant state Probe = probe state.query plant state
 
 -- a refused line leaves the whole state
 abbrev pub answered : Plant → SessionState → Result Request Refusal → Stepped

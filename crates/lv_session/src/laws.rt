@@ -1,7 +1,7 @@
 //! What holds of steps and transcripts. The functions do nothing; their clauses are the laws.
 #![tactic(auto)]
 
-ghost use Rattle.lv_session.specs.Laws.{TranscriptIsOne, RefusedLineChangesNothing, NoQuerySurvivesAChange, MoreIsTheSum, SlicesAreTheSum, StatesStayStates, CertificateChangesNothing, EndedIsSilent};
+ghost use Rattle.lv_session.specs.Laws.{TranscriptIsOne, RefusedLineChangesNothing, NoQuerySurvivesAChange, MoreIsTheSum, SlicesAreTheSum, StatesStayStates, CertificateChangesNothing, EndedIsSilent, NumbersAreListed};
 ghost use Rattle.lv_session.specs.Answers.{SettledAnswersAreFirst};
 
 /// Where no certificate is told, a session has exactly one transcript.
@@ -50,4 +50,10 @@ pub fn ended_is_silent()
 /// every tracked state nominally to the goals, and `no recovery` is told exactly where none does.
 pub fn settled_answers_are_first()
     ensures { SettledAnswersAreFirst }
+{}
+
+/// Where a settled diagnosis lists fewer candidates than it might, the number that a probe tells of a value is how many a
+/// settled diagnosis lists once an observation of that value is held.
+pub fn numbers_are_listed()
+    ensures { NumbersAreListed }
 {}

@@ -12,6 +12,7 @@
 //! | `diagnoses` | diagnoses asked for, gone on with and taken over |
 //! | `recoveries` | recoveries asked for and gone on with |
 //! | `applying` | the values that the current recovery gives the controls |
+//! | `probes` | what observations would leave of the current diagnosis |
 //! | `queries` | the current query gone on with, shown and taken over |
 //! | `certificates` | certificates of the current query |
 //! | `labels` | what propagation finds |
@@ -31,6 +32,7 @@ mod goals;
 mod labels;
 pub mod laws;
 mod observations;
+mod probes;
 mod queries;
 pub mod query;
 mod recoveries;

@@ -5,6 +5,7 @@ ghost use Rattle.std.specs.Prelude.{◌≡◌, IfOk, OnOk, OnErr};
 ghost use Rattle.lv_session_request.specs.Requests.{IsRequestOf};
 ghost use Rattle.lv_session.specs.Session.{start, resting, cleared, track, set_budget, set_control, release, commanded, reset, quit, carried_out};
 ghost use Rattle.lv_reply.specs.declared.reply.Reply.TheVariants.{States};
+ghost use Rattle.lv_model_names.specs.Lists.{lists_of};
 ghost use Rattle.lv_system.specs.System.{IsSystemOf};
 ghost use Rattle.lv_session.specs.States.{IsStateOf};
 ghost use Rattle.lv_session.specs.Current.{IsCurrent, IsCaredFor, IsLabellerOf};
@@ -15,6 +16,7 @@ use lv_base::limits::{LISTED, TRIALS};
 use lv_base::{Seq, ValId};
 use lv_labels::Labeller;
 use lv_model::Model;
+use lv_model_names::Lists;
 use lv_reply::Reply;
 use lv_session_request::{Command, Goal, Held, Request};
 use lv_system::StepSystem;
@@ -99,6 +101,7 @@ impl State {
         alloc: Global,
         model: &'a Model,
         system: &StepSystem,
+        lists: &Lists,
         running: &mut Running<'a>,
         labeller: &mut Option<Labeller<'a>>,
         request: Request,
@@ -106,6 +109,7 @@ impl State {
         requires state { IsStateOf model.now self.old }
         requires request { IsRequestOf model.now request }
         requires system { IsSystemOf model.now system.now }
+        requires lists { lists.now ≡ lists_of model.now }
         requires running { IsCurrent model.now self.old running.old }
         requires labeller { IsLabellerOf model.now labeller.old }
         ensures ok { IfOk result (λ reply. record { state = self.new; reply = reply } ≡ carried_out model.now self.old request) }
@@ -137,6 +141,7 @@ impl State {
             Request::States => self.states(alloc),
             Request::Reset => self.reset(alloc, model),
             Request::Quit => Ok(self.quit()),
+            Request::Probe => self.probe(alloc, model, system, lists, running),
         }
     }
 

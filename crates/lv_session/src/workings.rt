@@ -70,6 +70,7 @@ fn carry_out<'a>(
         alloc,
         model,
         &compiled.system,
+        &compiled.lists,
         &mut workings.running,
         &mut workings.labeller,
         request,

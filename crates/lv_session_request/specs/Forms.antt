@@ -8,7 +8,7 @@ use Rattle.lv_text.specs.Lexemes.{Lexeme, is_number, kind_at, word_at, number_at
 use Rattle.lv_reply.specs.declared.reply.Refusal.{Refusal}
 use Rattle.lv_reply.specs.declared.reply.Refusal.TheVariants.{Form, OutOfLimits}
 use Rattle.lv_session_request.specs.declared.words.Word.{Word}
-use Rattle.lv_session_request.specs.declared.words.Word.TheVariants.{Track, Budget, Command, Release, Observe, Retract, Goal, Drop, Diagnose, Recover, More, Commit, Conflicts, Certificate, Labels, States, Reset, Quit}
+use Rattle.lv_session_request.specs.declared.words.Word.TheVariants.{Track, Budget, Command, Release, Observe, Retract, Goal, Drop, Diagnose, Recover, More, Commit, Conflicts, Certificate, Labels, States, Reset, Quit, Probe}
 
 -- the word that a line begins with
 abbrev pub first_word : List Lexeme → Option Word
@@ -31,7 +31,8 @@ first_word line =
     else (if says (codes "states") line 0 then Some States
     else (if says (codes "reset") line 0 then Some Reset
     else (if says (codes "quit") line 0 then Some Quit
-    else None)))))))))))))))))
+    else (if says (codes "probe") line 0 then Some Probe
+    else None))))))))))))))))))
 
 abbrev pub is_dot : TokenKind → Bool
 is_dot Dot = true

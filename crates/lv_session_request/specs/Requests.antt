@@ -16,12 +16,12 @@ use Rattle.lv_model_names.specs.declared.lists.Lists.{Lists}
 use Rattle.lv_model_names.specs.Lists.{lists_of}
 use Rattle.lv_model_names.specs.Names.{classes, is_observable}
 use Rattle.lv_session_request.specs.declared.words.Word.{Word}
-use Rattle.lv_session_request.specs.declared.words.Word.TheVariants.{Track, Budget, Command as CommandWord, Release, Observe, Retract, Goal as GoalWord, Drop as DropWord, Diagnose, Recover, More, Commit, Conflicts, Certificate, Labels, States, Reset, Quit}
+use Rattle.lv_session_request.specs.declared.words.Word.TheVariants.{Track, Budget, Command as CommandWord, Release, Observe, Retract, Goal as GoalWord, Drop as DropWord, Diagnose, Recover, More, Commit, Conflicts, Certificate, Labels, States, Reset, Quit, Probe}
 use Rattle.lv_session_request.specs.declared.names.Controlled.{Controlled}
 use Rattle.lv_session_request.specs.declared.request.Command.{Command}
 use Rattle.lv_session_request.specs.declared.request.Sighting.{Sighting}
 use Rattle.lv_session_request.specs.declared.request.Request.{Request}
-use Rattle.lv_session_request.specs.declared.request.Request.TheVariants.{Nothing, Track as ToTrack, SetBudget, SetControl, Release as ToRelease, Observe as ToObserve, Retract as ToRetract, SetGoal, DropGoal, Diagnose as ToDiagnose, Recover as ToRecover, More as ToGoOn, Commit as ToCommit, Conflicts as ToShowConflicts, Certificate as ToCertify, Labels as ToLabel, LabelsFrom, States as ToShowStates, Reset as ToReset, Quit as ToQuit}
+use Rattle.lv_session_request.specs.declared.request.Request.TheVariants.{Nothing, Track as ToTrack, SetBudget, SetControl, Release as ToRelease, Observe as ToObserve, Retract as ToRetract, SetGoal, DropGoal, Diagnose as ToDiagnose, Recover as ToRecover, More as ToGoOn, Commit as ToCommit, Conflicts as ToShowConflicts, Certificate as ToCertify, Labels as ToLabel, LabelsFrom, States as ToShowStates, Reset as ToReset, Quit as ToQuit, Probe as ToProbe}
 use Rattle.lv_session_request.specs.declared.unread.Unread.{Unread}
 use Rattle.lv_session_request.specs.declared.unread.Unread.TheVariants.{Refused, Memory}
 use Rattle.lv_session_request.specs.Chain.{and_then}
@@ -111,6 +111,7 @@ request_by plant lists Labels line = labels_of line
 request_by plant lists States line = alone ToShowStates line
 request_by plant lists Reset line = alone ToReset line
 request_by plant lists Quit line = alone ToQuit line
+request_by plant lists Probe line = alone ToProbe line
 
 abbrev pub asked_by_first : Plant → Lists → List Lexeme → Option Word → Result Request Refusal
 asked_by_first plant lists line None = Err UnknownWord

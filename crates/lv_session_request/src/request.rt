@@ -76,6 +76,8 @@ pub enum Request {
     States,
     Reset,
     Quit,
+    /// What one observation more would leave of the current diagnosis.
+    Probe,
 }
 
 /// The request of a word that stands alone.
@@ -269,6 +271,7 @@ fn request_by(
         Word::States => Ok(alone(Request::States, line)?),
         Word::Reset => Ok(alone(Request::Reset, line)?),
         Word::Quit => Ok(alone(Request::Quit, line)?),
+        Word::Probe => Ok(alone(Request::Probe, line)?),
     }
 }
 

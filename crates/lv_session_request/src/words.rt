@@ -27,6 +27,7 @@ pub enum Word {
     States,
     Reset,
     Quit,
+    Probe,
 }
 
 /// The word that a line begins with, if it is one of a session.
@@ -69,6 +70,8 @@ pub fn first_word(line: &TokenLine<'_>) -> Option<Word>
         Some(Word::Reset)
     } else if line.says(0, b"quit") {
         Some(Word::Quit)
+    } else if line.says(0, b"probe") {
+        Some(Word::Probe)
     } else {
         None
     }

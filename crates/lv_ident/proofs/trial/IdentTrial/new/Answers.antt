@@ -11,5 +11,5 @@ each_once-requires c =
 pub invariant_of-result : goal.invariant_of-result
 invariant_of-result c =
     trial_of c.args.model.now (rw c.plant-plant.ensures.plant at c.plant-plant.ensures.well_formed) c.args.facts c.requires.in_range c.args.system.now c.requires.system c.in_ok-solver.solver
-    (c.in_ok-solver.ensures ∙ c.clauses.ensures) c.in_ok-choices.choices (c.in_ok-choices.ensures ∙ c.choices.ensures) c.first_of_choices.result c.first_of_choices.ensures c.as_slice.result.now
+    (c.in_ok-solver.ensures ∙ c.clauses.ensures) c.in_ok-choices.choices (c.in_ok-choices.ensures ∙ c.choices.ensures) c.in_ok-after.after (c.in_ok-after.ensures ∙ c.bools_at.ensures) c.first_of_choices.result c.first_of_choices.ensures c.as_slice.result.now
     (c.as_slice.ensures.value ∙ c.in_ok-literals.ensures) c.in_ok-assumed.assumed.items c.in_ok-assumed.ensures c.new-solutions.result c.new-solutions.ensures

@@ -19,7 +19,7 @@ refute-requires-clause-clause c =
     c.as_slice.ensures.value ∙ c.in_ok-push_pairs.ensures ∙ ap (λ (ls : List Lit). ls ++ pair_literals c.self.inside.choices c.args.pairs.now) c.new-chosen.ensures.items
     in
     rw (chosen, c.as_slice-2.ensures.value)
-    (asked_is_clause c.self.inside.model.now c.self.inside.facts c.self.inside.solver c.self.inside.choices c.self.inside.assumed.items c.self.inside.solutions c.self.invariant c.args.pairs.now
+    (asked_is_clause c.self.inside.model.now c.self.inside.facts c.self.inside.solver c.self.inside.choices c.self.inside.after c.self.inside.assumed.items c.self.inside.solutions c.self.invariant c.args.pairs.now
     (subst (λ (p : Plant). IsPartial p c.args.pairs.now) (sym (ap (λ (v : TrialValue). v.plant) c.self.view_is)) c.requires))
 
 pub refute-requires-clause-solutions : goal.refute-requires-clause-solutions
@@ -31,8 +31,8 @@ invariant_of-self c =
     let found : All (IsModel c.self.inside.solver c.self.inside.assumed.items) c.refute.new.solutions =
     subst (λ (ls : List Lit). All (IsModel c.self.inside.solver ls) c.refute.new.solutions) c.as_slice-2.ensures.value c.refute.ensures.solutions
     in
-    subst (λ (set : ClauseMap). IsTrialOf c.self.inside.model.now c.self.inside.facts set c.self.inside.choices c.self.inside.assumed.items c.refute.new.solutions) (sym c.refute.ensures.kept)
-    (other_solutions c.self.inside.model.now c.self.inside.facts c.self.inside.solver c.self.inside.choices c.self.inside.assumed.items c.self.inside.solutions c.self.invariant c.refute.new.solutions found)
+    subst (λ (set : ClauseMap). IsTrialOf c.self.inside.model.now c.self.inside.facts set c.self.inside.choices c.self.inside.after c.self.inside.assumed.items c.refute.new.solutions) (sym c.refute.ensures.kept)
+    (other_solutions c.self.inside.model.now c.self.inside.facts c.self.inside.solver c.self.inside.choices c.self.inside.after c.self.inside.assumed.items c.self.inside.solutions c.self.invariant c.refute.new.solutions found)
 
 pub returns-clause-possible : goal.returns-clause-possible
 returns-clause-possible c =
@@ -41,7 +41,7 @@ returns-clause-possible c =
     in
     IfOk-weaker c.refute.result _ _
     (λ core told. subst (λ (v : TrialValue). is_none core ≡ is_possible v.plant v.facts c.args.pairs.now) c.self.view_is
-    (answer_possible c.self.inside.model.now c.self.inside.facts c.self.inside.solver c.self.inside.choices c.self.inside.assumed.items c.self.inside.solutions c.self.invariant c.args.pairs.now
+    (answer_possible c.self.inside.model.now c.self.inside.facts c.self.inside.solver c.self.inside.choices c.self.inside.after c.self.inside.assumed.items c.self.inside.solutions c.self.invariant c.args.pairs.now
     (subst (λ (p : Plant). IsPartial p c.args.pairs.now) (sym (ap (λ (v : TrialValue). v.plant) c.self.view_is)) c.requires) core
     (subst (λ (ls : List Lit). Refutes c.self.inside.solver ls c.self.inside.assumed.items core) chosen (subst (λ (ls : List Lit). Refutes c.self.inside.solver c.as_slice.result.now ls core) c.as_slice-2.ensures.value told))))
     c.refute.ensures.answer
@@ -53,7 +53,7 @@ returns-clause-core c =
     in
     IfOk-weaker c.refute.result _ _
     (λ core told. subst (λ (v : TrialValue). IfSome core (λ marks. is_possible v.plant v.facts (marked_pairs (plant_choices v.plant) marks c.args.pairs.now) ≡ false)) c.self.view_is
-    (answer_core c.self.inside.model.now c.self.inside.facts c.self.inside.solver c.self.inside.choices c.self.inside.assumed.items c.self.inside.solutions c.self.invariant c.args.pairs.now
+    (answer_core c.self.inside.model.now c.self.inside.facts c.self.inside.solver c.self.inside.choices c.self.inside.after c.self.inside.assumed.items c.self.inside.solutions c.self.invariant c.args.pairs.now
     (subst (λ (p : Plant). IsPartial p c.args.pairs.now) (sym (ap (λ (v : TrialValue). v.plant) c.self.view_is)) c.requires) core
     (subst (λ (ls : List Lit). Refutes c.self.inside.solver ls c.self.inside.assumed.items core) chosen (subst (λ (ls : List Lit). Refutes c.self.inside.solver c.as_slice.result.now ls core) c.as_slice-2.ensures.value told))))
     c.refute.ensures.answer

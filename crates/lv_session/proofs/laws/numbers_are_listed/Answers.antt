@@ -1,0 +1,5 @@
+use Rattle.lv_session.proofs.Probing.{numbers_are}
+use Rattle.lv_session.proofs.laws.numbers_are_listed.Goals as goal
+
+pub returns : goal.returns
+returns c = λ plant state sum other s. numbers_are plant state s sum other
