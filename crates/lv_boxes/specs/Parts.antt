@@ -1,12 +1,10 @@
--- The parts into which a zone is split by a conflict: together its members that don't contain the conflict; and those into which it is
--- split by a target: together its members with another one.
-use Rattle.std.specs.Prelude.{◌≡◌, Bool, true, false, not, nat_eq, nat_lt, ◌&&◌, ℕ, ◌+◌, bit_xor, List, [], ◌∷◌, length, slice_index, slice_set, All, AllPairs, if◌then◌else◌}
+-- The parts into which a zone is split by a conflict: together its members that don't contain the conflict.
+use Rattle.std.specs.Prelude.{◌≡◌, Bool, true, false, not, nat_lt, ◌&&◌, ℕ, List, [], ◌∷◌, length, slice_index, slice_set, All, AllPairs}
 use Rattle.std.specs.List.{list_all, list_any}
 use Rattle.lv_base.specs.declared.ids.Cost.{Cost}
 use Rattle.lv_base.specs.declared.search.Pair.{Pair}
 use Rattle.lv_base.specs.declared.search.Candidate.{Candidate}
 use Rattle.lv_base.specs.Choices.{contains_all}
-use Rattle.lv_search_walk.specs.Groups.{group_of, are_grouped, have_same_groups}
 use Rattle.lv_boxes.specs.Masks.{only_choice, without_choice}
 use Rattle.lv_boxes.specs.Members.{ZoneValue, is_member}
 
@@ -42,46 +40,3 @@ pub record IsSplit (zone : ZoneValue) (conflict : List Pair) (zones : List ZoneV
   pub alike : All (IsAlike zone) zones
   pub disjoint : AllPairs AreDisjoint zones
   pub exact : (slots : List (List Cost)) (candidate : Candidate) → list_any (λ part. is_member slots part candidate) zones ≡ (is_member slots zone candidate && not (contains_all candidate.choices conflict))
-
--- of a mask the choices from n on, of which these are the groups, that aren't of the group are taken out
-abbrev pub without_others : ℕ → ℕ → ℕ → List ℕ → ℕ
-without_others mask group n [] = mask
-without_others mask group n (other ∷ others) = without_others (if nat_eq other group then mask else without_choice mask n) group (n + 1) others
-
--- of a mask the choices of this group alone
-abbrev pub only_group : ℕ → List ℕ → ℕ → ℕ
-only_group mask numbers group = without_others mask group 0 numbers
-
--- a mask with the choices of this group taken out
-abbrev pub without_group : ℕ → List ℕ → ℕ → ℕ
-without_group mask numbers group = bit_xor mask (only_group mask numbers group)
-
--- the masks with this group of choices alone at the slot
-abbrev pub masks_of_group : List ℕ → ℕ → List ℕ → ℕ → List ℕ
-masks_of_group masks slot numbers group = slice_set masks slot (only_group (slice_index masks slot) numbers group)
-
--- the masks with every other group at the slot
-abbrev pub masks_of_others : List ℕ → ℕ → List ℕ → ℕ → List ℕ
-masks_of_others masks slot numbers group = slice_set masks slot (without_group (slice_index masks slot) numbers group)
-
--- one zone for each slot from this one on, in order: with the groups of these choices at the slots before it, and every other group
--- at its own
-abbrev pub parts_from : ZoneValue → ℕ → List (List ℕ) → List ℕ → List ZoneValue
-parts_from zone slot [] choices = []
-parts_from zone slot (numbers ∷ groups) [] = []
-parts_from zone slot (numbers ∷ groups) (choice ∷ choices) =
-    record zone { masks = masks_of_others zone.masks slot numbers (group_of numbers choice) }
-    ∷ parts_from (record zone { masks = masks_of_group zone.masks slot numbers (group_of numbers choice) }) (slot + 1) groups choices
-
--- one zone for each slot
-abbrev pub parts_by_groups : ZoneValue → List (List ℕ) → List ℕ → List ZoneValue
-parts_by_groups zone groups member = parts_from zone 0 groups member
-
--- the zones share no member, and together have exactly the members of the zone that have another target: of such candidates as have a
--- group at each slot
-pub record IsSplitByGroups (zone : ZoneValue) (groups : List (List ℕ)) (member : List ℕ) (zones : List ZoneValue) : Type 0 where
-  pub alike : All (IsAlike zone) zones
-  pub disjoint : AllPairs AreDisjoint zones
-  pub within : (slots : List (List Cost)) (candidate : Candidate) → list_any (λ part. is_member slots part candidate) zones ≡ true → is_member slots zone candidate ≡ true
-  pub exact : (slots : List (List Cost)) (candidate : Candidate) → are_grouped groups candidate.choices ≡ true
-      → list_any (λ part. is_member slots part candidate) zones ≡ (is_member slots zone candidate && not (have_same_groups groups candidate.choices member))
