@@ -27,7 +27,7 @@ loop-s-preserved c =
     ]
     in
     let once_is : c.if-once-2.once ≡ (c.loop-s.once || c.in_ok-shown.shown) = elim c.if-once-2.branch [
-      | then-once-2 w ↦ w.once-is ∙ sym (ap (λ b. b || c.in_ok-shown.shown) w.if-once-2.true)
+      | then-once-2 w ↦ w.once-is ∙ w.if-once-2.true ∙ sym (ap (λ b. b || c.in_ok-shown.shown) w.if-once-2.true)
       | else-once-2 w ↦ w.once-is ∙ sym (ap (λ b. b || c.in_ok-shown.shown) w.if-once-2.false)
     ]
     in
