@@ -10,15 +10,20 @@ import sys
 
 
 def lines_behind(word, first):
-    """How many lines follow the first of a reply to a line that begins with this word; None: up to `end`."""
+    """How many lines follow the first of a reply to a line that begins with this word; None: up to one that is the last."""
     parts = first.split()
-    if parts[0] == "certificate":
+    if parts[0] in ("certificate", "probe"):
         return None
     if parts[0] in ("settled", "conflicts", "labels") or first.startswith("unsettled ") and parts[1] != "trials":
         return int(parts[1])
     if parts[0] == "time" and word == "states":
         return int(parts[3])
     return 0
+
+
+def is_last(line):
+    """Whether this line ends a certificate or a probe."""
+    return line == "end" or line.startswith("best ")
 
 
 class Plant:
@@ -37,7 +42,7 @@ class Plant:
             return []
         reply = [self.read_line()]
         behind = lines_behind(words[0], reply[0])
-        while behind is None and reply[-1] != "end" or behind is not None and len(reply) <= behind:
+        while behind is None and not is_last(reply[-1]) or behind is not None and len(reply) <= behind:
             reply.append(self.read_line())
         return reply
 

@@ -110,6 +110,27 @@ turn 1
 @a states
 """
 
+# A plant that fails, is diagnosed and recovers, and lines that are refused.
+SCRIPT = """\
+track 2
+goal g v.out = some
+recover
+apply
+step
+fault v 5
+step
+fault v 3
+apply
+states
+observe o v.out = zero
+recover
+conflicts
+drop g
+budget 1
+step
+step
+"""
+
 SERIES = "tests/sessions/series.lv"
 
 
@@ -132,6 +153,7 @@ def runs():
     yield "a long session", "run", valve("valve.lv"), GONE_ON.encode()
     yield "two valves in a row", "run", read(SERIES), read("tests/sessions/series.ses")
     yield "lanes with turns", "lanes", valve("valve.lv"), LANED.encode()
+    yield "a plant in the loop", "plant", valve("valve.lv"), SCRIPT.encode()
     yield "a model printed", "print", read(SERIES), None
     yield "a certificate of a recovery that is valid", "check", *recovery_certificate()
 

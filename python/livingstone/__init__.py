@@ -33,6 +33,7 @@ from .replies import (
     Label,
     Labels,
     Move,
+    Probe,
     Recovery,
     Refusal,
     Reply,
@@ -46,7 +47,7 @@ from .transport import PipeTransport, Transport
 
 __all__ = [
     "Accepted", "BadReply", "Candidate", "Certificate", "Committed", "Conflicts", "Diagnosis", "Label", "Labels",
-    "LibraryNotFound", "LibraryTransport", "LivingstoneError", "Model", "ModelRefused", "Move", "PipeTransport", "ProgramFailed", "ProgramNotFound",
+    "LibraryNotFound", "LibraryTransport", "LivingstoneError", "Model", "ModelRefused", "Move", "PipeTransport", "Probe", "ProgramFailed", "ProgramNotFound",
     "Recovery", "Refusal", "Refused", "Reply", "ReplyCut", "Session", "SessionEnded", "Setting", "Silence", "State",
     "States", "Transport",
 ]

@@ -154,6 +154,16 @@ class States(Reply):
 
 
 @dataclass(frozen=True)
+class Probe(Reply):
+    """How many of the candidates listed go with each value of each observable; `best` is the observable that is best looked
+    at, None where none tells anything."""
+
+    listed: int
+    observables: Dict[str, Dict[str, int]]
+    best: Optional[str] = None
+
+
+@dataclass(frozen=True)
 class Certificate(Reply):
     """The text of a certificate, of a `diagnosis` or a `recovery`; in a file each line ends with a line feed."""
 
@@ -165,14 +175,19 @@ _TRACKED = re.compile(r"time (\d+) tracked (\d+)$")
 
 
 def lines_behind(word: str, first: str) -> Optional[int]:
-    """How many lines follow the first of the reply to a line of that word; None: up to a line `end`."""
+    """How many lines follow the first of the reply to a line of that word; None: up to one that `is_last`."""
     counted = _COUNTED.match(first)
     if counted:
         return int(counted.group(1) or counted.group(2))
     if word == "states":
         tracked = _TRACKED.match(first)
         return int(tracked.group(2)) if tracked else 0
-    return None if first.startswith("certificate ") else 0
+    return None if first.startswith(("certificate ", "probe ")) else 0
+
+
+def is_last(line: str) -> bool:
+    """Whether a reply whose lines aren't counted ends with this line: `end` a certificate, `best ..` a probe."""
+    return line == "end" or line.startswith("best ")
 
 
 def parse_reply(asked: str, text: str) -> Reply:
@@ -203,6 +218,8 @@ def _parse(word: str, text: str, first: str, rest: List[str]) -> Reply:
     if head[0] == "labels":
         _counted(int(head[1]), rest)
         return Labels(text, False, tuple(_label(line) for line in rest))
+    if head[0] == "probe":
+        return _probe(text, int(head[1]), rest)
     if head[0] == "certificate" and rest[-1] == "end":
         return Certificate(text, head[1])
     tracked = _TRACKED.fullmatch(first)
@@ -270,6 +287,16 @@ def _recovery(text: str, first: str) -> Recovery:
         return Recovery(text, False, trials=int(unsettled.group(1)))
     found = _matched(r"recovery cost (\d+): (.+)", first)
     return Recovery(text, True, int(found.group(1)), tuple(_setting(item) for item in _items(found.group(2))))
+
+
+def _probe(text: str, listed: int, rest: List[str]) -> Probe:
+    best = _matched(r"best (\S+)", rest[-1]).group(1)
+    return Probe(text, listed, dict(_probed(line) for line in rest[:-1]), None if best == "-" else best)
+
+
+def _probed(line: str) -> Tuple[str, Dict[str, int]]:
+    variable, values = line.split(": ", 1)
+    return variable, {value: int(number) for value, number in (item.split(" ") for item in values.split(", "))}
 
 
 def _label(line: str) -> Label:

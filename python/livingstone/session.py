@@ -21,6 +21,7 @@ from .replies import (
     Conflicts,
     Diagnosis,
     Labels,
+    Probe,
     Recovery,
     Refusal,
     Reply,
@@ -222,6 +223,9 @@ class Session:
 
     def conflicts(self) -> Conflicts:
         return self._expect("conflicts", Conflicts)
+
+    def probe(self) -> Probe:
+        return self._expect("probe", Probe)
 
     def certificate(self) -> Certificate:
         return self._expect("certificate", Certificate)

@@ -31,6 +31,7 @@ FORMS: Dict[str, Tuple[str, ...]] = {
     "states": (),
     "reset": (),
     "quit": (),
+    "probe": (),
 }
 
 

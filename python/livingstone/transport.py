@@ -12,7 +12,7 @@ from typing import List, Optional, Tuple
 
 from .errors import ProgramFailed, ProgramNotFound, ReplyCut, SessionEnded
 from .program import failure, said_of
-from .replies import lines_behind
+from .replies import is_last, lines_behind
 from .text import first_word, is_silent
 
 
@@ -115,7 +115,7 @@ class PipeTransport(Transport):
         word = first_word(line)
         self._got.append(self._line(line))
         behind = lines_behind(word, self._got[0].decode("ascii", "replace"))
-        while behind is None and self._got[-1] != b"end" or behind is not None and len(self._got) <= behind:
+        while behind is None and not is_last(self._got[-1].decode("ascii", "replace")) or behind is not None and len(self._got) <= behind:
             self._got.append(self._line(line))
         return b"".join(got + b"\n" for got in self._got)
 

@@ -23,6 +23,33 @@ SEEDS = range(1, 151)
 NUMBER = 70
 
 
+def telling(rng, lines, parts):
+    """The lines with formulas that give an observable its value in each mode, another one in the next mode where its
+    domain has one, in place of what was said of it, so that what is seen tells which moves were made. Of the laws some
+    are left out."""
+    types = {t.name: t for _, t in parts}
+    out = []
+    current = None
+    told = {}
+    for line in lines:
+        words = line.split(" ")
+        if words[0] == "type":
+            current = types.get(words[1])
+            told = {name: domain[1] for kind, name, domain in (current.variables if current else [])
+                    if kind == "observable" and rng.random() < 0.8}
+        if words[0] == "in" and any(name in told for name in words[2:]):
+            continue
+        if words[0] == "law" and rng.random() < 0.5:
+            continue
+        if words[0] == "end":
+            for name, values in told.items():
+                shift = rng.randrange(len(values))
+                for i, mode in enumerate(current.modes):
+                    out.append("in %s %s = %s" % (mode, name, values[(i + shift) % len(values)]))
+        out.append(line)
+    return out
+
+
 def make_session(rng, parts):
     controls = [(name, v[1], v[2][1]) for name, t in parts for v in t.variables if v[0] == "control"]
     others = [(name, v[1], v[2][1]) for name, t in parts for v in t.variables if v[0] != "control"]
@@ -65,6 +92,7 @@ def main():
     for seed in SEEDS:
         rng = random.Random(7000 + seed)
         lines, parts = models.make_model(rng, NUMBER)
+        lines = telling(rng, lines, parts)
         session = make_session(rng, parts)
         for kind, text in (("lv", models.layout(rng, lines, seed % 3 == 0)), ("ses", models.layout(rng, session, False))):
             with open(os.path.join(HERE, "%03d.%s" % (seed, kind)), "wb") as f:

@@ -1,7 +1,11 @@
 pub mod Forms
-pub mod Standing
+pub mod Naming
+pub mod Seeing
+pub mod Findings
 pub mod Replies
+pub mod Standing
 pub mod Plants
 pub mod Answering
+pub mod Scripts
 pub mod LongLines
 pub mod Laws

@@ -31,16 +31,22 @@ goals_word NoGoals = codes "goals none\n"
 goals_word Met = codes "goals met\n"
 goals_word Open = codes "goals open\n"
 
+-- the number of the step, and the mode of each part
+unfoldable pub front_text : Plant → StepTold → List ℕ
+front_text plant told = codes "plant time " ++ decimal told.time ++ codes ": " ++ joined (part_texts plant.types plant.parts told.modes) ++ codes "\n"
+
 -- the reply of the commit, or that the plant is halted
 abbrev pub commit_text : Plant → Option Reply → List ℕ
 commit_text plant None = codes "halted\n"
 commit_text plant (Some reply) = reply_text plant reply
 
--- the time and the modes, the reply of the diagnosis, that of the commit, whether the modes are tracked, and whether the goals are met
+-- whether the modes are tracked, and whether the goals are met
+abbrev pub findings_text : StepTold → List ℕ
+findings_text told = held_word told.is_held ++ goals_word told.goals
+
+-- of a step: its number and modes, the reply of the diagnosis, that of the commit, and what is found
 abbrev pub step_text : Plant → StepTold → List ℕ
-step_text plant told =
-    codes "plant time " ++ decimal told.time ++ codes ": " ++ joined (part_texts plant.types plant.parts told.modes) ++ codes "\n"
-    ++ reply_text plant told.diagnosis ++ commit_text plant told.commit ++ held_word told.is_held ++ goals_word told.goals
+step_text plant told = front_text plant told ++ reply_text plant told.diagnosis ++ commit_text plant told.commit ++ findings_text told
 
 abbrev pub plant_text : Plant → PlantReply → List ℕ
 plant_text plant Silence = []

@@ -7,12 +7,16 @@
 //! | `form` | what a line asks for |
 //! | `naming` | the fault of a part that a line names |
 //! | `reply` | what is replied to a line, and its text |
-//! | `seeing` | what is observed of a step |
+//! | `seeing` | what is observed of a step, and the modes that it leads to |
+//! | `findings` | whether the plant's modes are tracked, and whether goals are met |
 //! | `plant` | the plant, and what each line does |
+//! | `laws` | what holds of it, whatever lines came |
 #![tactic(auto)]
 
 pub mod fault;
+mod findings;
 pub mod form;
+pub mod laws;
 mod naming;
 pub mod plant;
 pub mod reply;

@@ -1,37 +1,64 @@
 //! The plant, and what each line does.
 #![tactic(auto)]
 
-ghost use Rattle.std.specs.Prelude.{◌≡◌, ◌≤◌, All, IsTrue, IfOk, OnOk, OnErr, IsErr, length, map, true};
-ghost use Rattle.std.specs.Cmp.Lexicographic.{pointwise};
-ghost use Rattle.lv_formula.specs.Tree.{truth_of};
-ghost use Rattle.lv_model.specs.Lists.{sizes};
-ghost use Rattle.lv_model.specs.WellFormed.{Reads};
-ghost use Rattle.lv_meaning.specs.Recovers.{meets_goals};
-ghost use Rattle.lv_plant_step.specs.PlantSteps.{AskedFits};
-ghost use Rattle.lv_session.specs.Session.{formula_of};
-ghost use Rattle.lv_plant.specs.Plants.{EndsIn, GoalReads};
-ghost use Rattle.lv_plant.specs.Standing.{same_value, is_held, goals_among, at_start, asked_of, moved, told_by, committed_by, taken, named, step, apply, done};
+ghost use Rattle.std.specs.Prelude.{◌≡◌, ◌<◌, ◌%◌, All, IfOk, OnOk, OnErr, IsErr, IfSome, None, true, nat_eq, length, replicate};
+ghost use Rattle.lv_plant_step.specs.PlantSteps.{AskedFits, plant_step};
+ghost use Rattle.lv_session_request.specs.Requests.{IsSightingIn};
+ghost use Rattle.lv_plant.specs.Plants.{EndsIn};
+ghost use Rattle.lv_plant.specs.Naming.{NamesMove};
+ghost use Rattle.lv_plant.specs.Seeing.{seen};
+ghost use Rattle.lv_plant.specs.Findings.{goals_among};
+ghost use Rattle.lv_plant.specs.Forms as forms;
+ghost use Rattle.lv_plant.specs.Replies.{plant_text};
+ghost use Rattle.lv_plant.specs.Answering.{next_at, SaysAt};
+ghost use Rattle.lv_plant.specs.Standing.{at_start, with_session, with_fault, asked_of, moved, observed_by, told_by, diagnosed_by, lists_some, commit_at, committed_by, told_of, taken, named, handed_on, step, apply, done};
 
 use crate::fault::PlantFault;
+use crate::findings::{goals_told, is_held};
 use crate::form::{PlantLine, asked_by};
-use crate::naming::{fault_at, part_named};
+use crate::naming::{NamedFault, fault_named};
 use crate::reply::{GoalsTold, PlantReply, StepTold, plant_text};
-use crate::seeing::{modes_in, seen};
+use crate::seeing::{modes_in, seen, start_modes};
 use lv_base::{MoveId, Seq, ValId};
-use lv_model::TrackedState;
+use lv_model::Part;
 use lv_plant_step::{Asked, PlantStep, PlantStepper};
 use lv_reply::Reply;
 use lv_serve::Responder;
 use lv_session::{CompiledModel, Session};
-use lv_session_request::{Goal, Request};
+use lv_session_request::{Request, Sighting};
 use std::alloc::{AllocError, Global};
 use std::marker;
 
 /// How many steps the plant makes at most.
 pub const STEPS: u64 = 1_000_000;
 
-/// How many observables are observed of a step at most.
-pub const SEEN: usize = 512;
+/// Whether a diagnosis is settled and lists something.
+fn lists_some(diagnosis: &Reply) -> bool
+    ensures { result ≡ lists_some diagnosis.now }
+{
+    match diagnosis {
+        Reply::Settled(listed) => !listed.is_empty(),
+        _ => false,
+    }
+}
+
+/// That no fault is named of any part.
+fn no_faults(alloc: Global, parts: &[Part]) -> Result<Vec<Option<MoveId>>, AllocError>
+    ensures { IfOk result (λ out. out.items ≡ replicate (length parts.now) None) }
+{
+    vec![in alloc; None; parts.len()]
+}
+
+/// What finds the plant's steps. It lies apart from the plant, so that whoever holds one holds little.
+fn stepper_of<'a>(
+    alloc: Global,
+    compiled: &'a CompiledModel<'a>,
+) -> Result<Box<PlantStepper<'a>>, AllocError>
+    ensures { IfOk result (λ stepper. stepper.value ≡ compiled.now) }
+{
+    let stepper = PlantStepper::new(alloc, compiled.model(), compiled.system())?;
+    Ok(Box::new(alloc, stepper)?)
+}
 
 /// A plant and the session that is told what is observed of it.
 #[derive(Drop)]
@@ -62,60 +89,15 @@ impl<'a> marker::Model for Plant<'a> {
     ghost invariant = { λ p. IsPlant p.compiled.now p.session p.stepper.value p.modes.items p.faults.items };
 }
 
-/// Whether a state has these modes.
-fn has_modes(state: &TrackedState, modes: &[ValId]) -> bool
-    ensures { result ≡ pointwise same_value state.now.state.modes modes.now }
-{
-    state.state.modes.as_slice() == modes
-}
-
-/// Whether the modes are those of a tracked state.
-fn is_held(modes: &[ValId], tracked: &[TrackedState]) -> bool
-    ensures { result ≡ is_held modes.now tracked.now }
-{
-    tracked.iter().any(|state| has_modes(state, modes))
-}
-
-/// Whether a goal is true in `b`.
-fn is_met(b: &[ValId], goal: &Goal) -> bool
-    requires { GoalReads (length b.now) goal.now }
-    ensures { result ≡ truth_of b.now 0 goal.now.formula }
-{
-    goal.formula.formula().holds(b, 0)
-}
-
-/// Whether all goals are true in `b`.
-fn are_met(b: &[ValId], goals: &[Goal]) -> bool
-    requires { All (GoalReads (length b.now)) goals.now }
-    ensures { result ≡ meets_goals (map formula_of goals.now) b.now }
-{
-    goals.iter().all(|goal| is_met(b, goal))
-}
-
-/// Whether the goals that are held, if any, are all true in `b`.
-fn goals_told(b: &[ValId], goals: &[Goal]) -> GoalsTold
-    requires { All (GoalReads (length b.now)) goals.now }
-    ensures { result ≡ goals_among b.now goals.now }
-{
-    if goals.is_empty() {
-        GoalsTold::NoGoals
-    } else if are_met(b, goals) {
-        GoalsTold::Met
-    } else {
-        GoalsTold::Open
-    }
-}
-
 impl<'a> Plant<'a> {
     /// A plant at its start: its parts in their starting modes, and a session at its own.
     pub fn new(alloc: Global, compiled: &'a CompiledModel<'a>) -> Result<Plant<'a>, AllocError>
         ensures { IfOk result (λ plant. plant ≡ at_start compiled.now) }
     {
-        let model = compiled.model();
-        let parts = model.plant().parts.as_slice();
-        let modes = parts.iter().map(|part| part.start).collect(alloc)?;
-        let faults = vec![in alloc; None; parts.len()]?;
-        let stepper = Box::new(alloc, PlantStepper::new(alloc, model, compiled.system())?)?;
+        let plant = compiled.model().plant();
+        let modes = start_modes(alloc, plant.parts.as_slice())?;
+        let faults = no_faults(alloc, plant.parts.as_slice())?;
+        let stepper = stepper_of(alloc, compiled)?;
         let session = Session::new(alloc, compiled)?;
         Ok(Plant {
             alloc,
@@ -130,21 +112,21 @@ impl<'a> Plant<'a> {
         })
     }
 
+    /// The move is named, for the next step.
+    fn put(&mut self, named: NamedFault)
+        requires { NamesMove self.old.session.plant named }
+        ensures { self.new ≡ with_fault self.old named }
+    {
+        self.faults[named.part] = Some(named.mv);
+    }
+
     /// `fault P N`
     fn name(&mut self, part: &[u8], tag: Option<u128>) -> PlantReply
         ensures { record { next = self.new; reply = result } ≡ named self.old.session.plant self.old part.now tag }
     {
-        let plant = self.compiled.model().plant();
-        let Some(line) = tag else {
-            return PlantReply::Refused(PlantFault::NoFault);
-        };
-        let Some(k) = part_named(plant.parts.as_slice(), part) else {
-            return PlantReply::Refused(PlantFault::NoFault);
-        };
-        let part = &plant.parts.as_slice()[k];
-        match fault_at(plant.types.as_slice(), part, self.modes[k], line) {
-            Some(n) => {
-                self.faults[k] = Some(MoveId(n as u32));
+        match fault_named(self.compiled.model(), self.modes.as_slice(), part, tag) {
+            Some(named) => {
+                self.put(named);
                 PlantReply::Accepted
             }
             None => PlantReply::Refused(PlantFault::NoFault),
@@ -163,69 +145,139 @@ impl<'a> Plant<'a> {
         })
     }
 
+    /// The step that the plant takes next, if there is one.
+    fn next_step(&mut self) -> Result<Option<PlantStep>, AllocError>
+        ensures step { IfOk result (λ step. step ≡ plant_step self.old.session.plant (asked_of self.old)) }
+        ensures ends { IfOk result (λ step. IfSome step (EndsIn self.old.session.plant)) }
+        ensures kept { self.new ≡ self.old }
+    {
+        let asked = self.asked()?;
+        self.stepper.first_step(&asked)
+    }
+
     /// The plant is where the step ends, and the named faults are forgotten.
     fn go_to(&mut self, step: &PlantStep) -> Result<(), AllocError>
-        requires { EndsIn self.old.session.plant step.now }
+        requires ends { EndsIn self.old.session.plant step.now }
+        requires few { self.old.time < STEPS }
         ensures { OnOk result (self.new ≡ moved self.old.session.plant self.old step.now) }
     {
-        let parts = self.compiled.model().plant().parts.as_slice();
-        let modes = modes_in(self.alloc, parts, step.after.as_slice())?;
-        let faults = vec![in self.alloc; None; parts.len()]?;
+        let plant = self.compiled.model().plant();
+        let modes = modes_in(self.alloc, plant.parts.as_slice(), step.after.as_slice())?;
+        let faults = no_faults(self.alloc, plant.parts.as_slice())?;
         self.modes = modes;
         self.faults = faults;
         self.time += 1;
         Ok(())
     }
 
+    /// Tells the session of an observation.
+    fn observe(&mut self, sighting: Sighting) -> Result<(), AllocError>
+        requires { IsSightingIn self.old.session.plant sighting }
+        ensures { OnOk result (self.new ≡ with_session self.old (observed_by self.old sighting).state) }
+    {
+        self.session.perform(Request::Observe(sighting))?;
+        Ok(())
+    }
+
+    /// What is observed of the step.
+    fn seen(&self, step: &PlantStep) -> Result<Vec<Sighting>, AllocError>
+        requires { EndsIn self.now.session.plant step.now }
+        ensures seen { IfOk result (λ out. out.items ≡ seen self.now.session.plant (nat_eq (self.now.time % 2) 1) step.now.after) }
+        ensures fit { IfOk result (λ out. All (IsSightingIn self.now.session.plant) out.items) }
+    {
+        let odd = self.time % 2 == 1;
+        let b = step.after.as_slice();
+        seen(self.alloc, self.compiled.model(), odd, b)
+    }
+
     /// Tells the session what is observed.
+    #[tactic(auto, unfolding(crate::specs::Standing::told_by))]
     fn tell(&mut self, step: &PlantStep) -> Result<(), AllocError>
         requires { EndsIn self.old.session.plant step.now }
         ensures { OnOk result (self.new ≡ told_by self.old step.now) }
     {
-        let seen = seen(
-            self.alloc,
-            self.compiled.model(),
-            self.time % 2 == 1,
-            step.after.as_slice(),
-        )?;
+        let seen = self.seen(step)?;
         for sighting in seen {
-            self.session.perform(Request::Observe(sighting))?;
+            self.observe(sighting)?;
         }
         Ok(())
     }
 
-    /// Commits a settled diagnosis that lists something; else the plant is halted.
-    fn commit(&mut self, diagnosis: &Reply) -> Result<Option<Reply>, AllocError>
+    /// Has the session diagnose.
+    fn diagnose(&mut self) -> Result<Reply, AllocError>
+        ensures reply { IfOk result (λ reply. reply ≡ (diagnosed_by self.old).reply) }
+        ensures state { OnOk result (self.new ≡ with_session self.old (diagnosed_by self.old).state) }
+    {
+        self.session.perform(Request::Diagnose)
+    }
+
+    /// Has the session commit.
+    fn commit(&mut self) -> Result<Reply, AllocError>
+        ensures reply { IfOk result (λ reply. reply ≡ (commit_at self.old).reply) }
+        ensures state { OnOk result (self.new ≡ with_session self.old (commit_at self.old).state) }
+    {
+        self.session.perform(Request::Commit)
+    }
+
+    fn halt(&mut self)
+        ensures { self.new ≡ record self.old { is_halted = true } }
+    {
+        self.is_halted = true;
+    }
+
+    /// Commits a settled diagnosis that lists something; behind any other the plant is halted.
+    #[tactic(auto, unfolding(crate::specs::Standing::committed_by))]
+    fn commit_or_halt(&mut self, diagnosis: &Reply) -> Result<Option<Reply>, AllocError>
         ensures { IfOk result (λ commit. record { next = self.new; commit = commit } ≡ committed_by self.old diagnosis.now) }
     {
-        match diagnosis {
-            Reply::Settled(listed) if !listed.is_empty() => {
-                Ok(Some(self.session.perform(Request::Commit)?))
-            }
-            _ => {
-                self.is_halted = true;
-                Ok(None)
-            }
+        if lists_some(diagnosis) {
+            Ok(Some(self.commit()?))
+        } else {
+            self.halt();
+            Ok(None)
         }
+    }
+
+    /// Whether the goals are met behind a step.
+    fn goals_after(&self, step: &PlantStep) -> GoalsTold
+        requires { EndsIn self.now.session.plant step.now }
+        ensures { result ≡ goals_among step.now.after self.now.session.state.goals }
+    {
+        goals_told(step.after.as_slice(), self.session.goals())
+    }
+
+    /// What is told of a step.
+    fn told_of(
+        &self,
+        step: &PlantStep,
+        diagnosis: Reply,
+        commit: Option<Reply>,
+    ) -> Result<StepTold, AllocError>
+        requires { EndsIn self.now.session.plant step.now }
+        ensures { IfOk result (λ told. told ≡ told_of self.now step.now diagnosis commit) }
+    {
+        let modes = self.modes.as_slice();
+        Ok(StepTold {
+            time: self.time,
+            is_held: is_held(modes, self.session.tracked()),
+            goals: self.goals_after(step),
+            modes: Seq::from_slice(self.alloc, modes)?,
+            diagnosis,
+            commit,
+        })
     }
 
     /// Takes a step, tells the session what is observed of it, and has it diagnose.
     fn take(&mut self, step: &PlantStep) -> Result<PlantReply, AllocError>
-        requires { EndsIn self.old.session.plant step.now }
+        requires ends { EndsIn self.old.session.plant step.now }
+        requires few { self.old.time < STEPS }
         ensures { IfOk result (λ reply. record { next = self.new; reply = reply } ≡ taken self.old.session.plant self.old step.now) }
     {
         self.go_to(step)?;
         self.tell(step)?;
-        let diagnosis = self.session.perform(Request::Diagnose)?;
-        let commit = self.commit(&diagnosis)?;
-        Ok(PlantReply::Moved(StepTold {
-            time: self.time,
-            modes: Seq::from_slice(self.alloc, self.modes.as_slice())?,
-            is_held: is_held(self.modes.as_slice(), self.session.tracked()),
-            goals: goals_told(step.after.as_slice(), self.session.goals()),
-            diagnosis,
-            commit,
-        }))
+        let diagnosis = self.diagnose()?;
+        let commit = self.commit_or_halt(&diagnosis)?;
+        Ok(PlantReply::Moved(self.told_of(step, diagnosis, commit)?))
     }
 
     /// `step`
@@ -235,8 +287,7 @@ impl<'a> Plant<'a> {
         if self.is_halted || self.time >= STEPS {
             return Ok(PlantReply::Refused(PlantFault::NoMore));
         }
-        let asked = self.asked()?;
-        match self.stepper.first_step(&asked)? {
+        match self.next_step()? {
             Some(step) => self.take(&step),
             None => Ok(PlantReply::Refused(PlantFault::NoStep)),
         }
@@ -253,6 +304,14 @@ impl<'a> Plant<'a> {
         Ok(PlantReply::Accepted)
     }
 
+    /// Hands on a line that is the session's.
+    fn hand_on(&mut self, line: &[u8]) -> Result<PlantReply, AllocError>
+        requires { forms.asked_by line.now ≡ forms.for_session }
+        ensures { IfOk result (λ reply. record { next = self.new; reply = reply } ≡ handed_on self.old.session.plant self.old line.now) }
+    {
+        Ok(PlantReply::Told(self.session.step(line)?))
+    }
+
     /// Does what a line asks for.
     fn answered(&mut self, line: &[u8]) -> Result<PlantReply, AllocError>
         ensures { IfOk result (λ reply. record { next = self.new; reply = reply } ≡ done self.old line.now) }
@@ -260,7 +319,7 @@ impl<'a> Plant<'a> {
         match asked_by(self.alloc, line)? {
             PlantLine::Nothing => Ok(PlantReply::Silence),
             PlantLine::Refused(fault) => Ok(PlantReply::Refused(fault)),
-            PlantLine::ForSession => Ok(PlantReply::Told(self.session.step(line)?)),
+            PlantLine::ForSession => self.hand_on(line),
             PlantLine::Name { part, tag } => Ok(self.name(part, tag)),
             PlantLine::Step => self.go_on(),
             PlantLine::Apply => self.apply(),
@@ -285,6 +344,24 @@ impl<'a> Plant<'a> {
             }
         }
     }
+
+    /// The text of a reply.
+    fn text_of(&self, reply: &PlantReply) -> Result<Vec<u8>, AllocError>
+        ensures { IfOk result (λ text. text.items ≡ plant_text self.now.session.plant reply.now) }
+    {
+        plant_text(self.alloc, self.compiled.model(), reply)
+    }
+
+    /// Does what a line asks for, and answers the text of the reply.
+    pub fn answer_text(&mut self, line: &[u8]) -> Result<Vec<u8>, AllocError>
+        ensures state { OnOk result (self.new ≡ next_at self.old line.now) }
+        ensures text { IfOk result (λ text. SaysAt self.old line.now text.items) }
+    {
+        let reply = self.step(line)?;
+        let text = self.text_of(&reply);
+        drop(reply);
+        text
+    }
 }
 
 /// A plant answers lines one by one. No line ends it.
@@ -300,9 +377,7 @@ impl Responder for Plant<'_> {
     ghost has_ended = { λ _. false };
 
     fn answer(&mut self, line: &[u8]) -> Result<Vec<u8>, AllocError> {
-        let reply = self.step(line)?;
-        let compiled = self.compiled;
-        plant_text(self.alloc, compiled.model(), &reply)
+        self.answer_text(line)
     }
 
     fn is_ended(&self) -> bool {

@@ -2,12 +2,13 @@
 #![tactic(auto)]
 
 ghost use Rattle.std.specs.Prelude.{◌≡◌, ◌++◌, IfOk, codes};
-ghost use Rattle.lv_plant.specs.Replies.{fault_code, goals_word, held_word, step_text, plant_text};
+ghost use Rattle.lv_reply.specs.Texts.{reply_text};
+ghost use Rattle.lv_plant.specs.Replies.{fault_code, goals_word, held_word, front_text, commit_text, findings_text, step_text, plant_text};
 
 use crate::fault::PlantFault;
 use itoa::Buffer;
 use lv_base::{Seq, ValId};
-use lv_model::Model;
+use lv_model::{Model, Plant};
 use lv_reply::states::push_modes;
 use lv_reply::{Reply, reply_text};
 use std::alloc::{AllocError, Global};
@@ -83,24 +84,75 @@ fn goals_word(goals: GoalsTold) -> &'static str
     }
 }
 
+/// Adds the line of the time and the modes.
+#[tactic(auto, unfolding(crate::specs::Replies::front_text))]
+fn push_front(
+    alloc: Global,
+    out: &mut Vec<u8>,
+    plant: &Plant,
+    told: &StepTold,
+) -> Result<(), AllocError>
+    ensures { IfOk result (λ _. out.new.items ≡ out.old.items ++ front_text plant.now told.now) }
+{
+    let mut digits = Buffer::new();
+    out.extend_from_slice(b"plant time ")?;
+    out.extend_from_slice(digits.format(told.time).as_bytes())?;
+    out.extend_from_slice(b": ")?;
+    push_modes(alloc, out, plant, told.modes.as_slice())?;
+    out.extend_from_slice(b"\n")?;
+    Ok(())
+}
+
+/// Adds what the session replied.
+fn push_reply(
+    alloc: Global,
+    out: &mut Vec<u8>,
+    model: &Model,
+    reply: &Reply,
+) -> Result<(), AllocError>
+    ensures { IfOk result (λ _. out.new.items ≡ out.old.items ++ reply_text model.now reply.now) }
+{
+    let text = reply_text(alloc, model, reply)?;
+    out.extend_from_slice(text.as_slice())?;
+    Ok(())
+}
+
+/// Adds the reply of the commit, or that the plant is halted.
+fn push_commit(
+    alloc: Global,
+    out: &mut Vec<u8>,
+    model: &Model,
+    commit: &Option<Reply>,
+) -> Result<(), AllocError>
+    ensures { IfOk result (λ _. out.new.items ≡ out.old.items ++ commit_text model.now commit.now) }
+{
+    match commit {
+        Some(reply) => push_reply(alloc, out, model, reply),
+        None => {
+            out.extend_from_slice(b"halted\n")?;
+            Ok(())
+        }
+    }
+}
+
+/// Adds whether the modes are tracked, and whether the goals are met.
+fn push_findings(out: &mut Vec<u8>, told: &StepTold) -> Result<(), AllocError>
+    ensures { IfOk result (λ _. out.new.items ≡ out.old.items ++ findings_text told.now) }
+{
+    out.extend_from_slice(held_word(told.is_held).as_bytes())?;
+    out.extend_from_slice(goals_word(told.goals).as_bytes())?;
+    Ok(())
+}
+
 /// The text of what is told of a step.
 fn step_text(alloc: Global, model: &Model, told: &StepTold) -> Result<Vec<u8>, AllocError>
     ensures { IfOk result (λ text. text.items ≡ step_text model.now told.now) }
 {
-    let plant = model.plant();
-    let mut digits = Buffer::new();
-    let mut text = Vec::from_slice(alloc, b"plant time ")?;
-    text.extend_from_slice(digits.format(told.time).as_bytes())?;
-    text.extend_from_slice(b": ")?;
-    push_modes(alloc, &mut text, plant, told.modes.as_slice())?;
-    text.extend_from_slice(b"\n")?;
-    text.extend_from_slice(reply_text(alloc, model, &told.diagnosis)?.as_slice())?;
-    match &told.commit {
-        Some(commit) => text.extend_from_slice(reply_text(alloc, model, commit)?.as_slice())?,
-        None => text.extend_from_slice(b"halted\n")?,
-    }
-    text.extend_from_slice(held_word(told.is_held).as_bytes())?;
-    text.extend_from_slice(goals_word(told.goals).as_bytes())?;
+    let mut text = Vec::new(alloc);
+    push_front(alloc, &mut text, model.plant(), told)?;
+    push_reply(alloc, &mut text, model, &told.diagnosis)?;
+    push_commit(alloc, &mut text, model, &told.commit)?;
+    push_findings(&mut text, told)?;
     Ok(text)
 }
 

@@ -1,22 +1,28 @@
-//! What is observed of a step: the values of the first observables, under names that no present observation has.
+//! What is observed of a step: the values of the first observables, under names that no present observation has; and the
+//! modes that it leads to.
 #![tactic(auto)]
 
-ghost use Rattle.std.specs.Prelude.{◌≡◌, ◌+◌, ◌++◌, ◌<◌, ◌^◌, IfOk, All, length, map, take, decimal};
-ghost use Rattle.lv_model.specs.Lists.{variable_count};
+ghost use Rattle.std.specs.Prelude.{◌≡◌, ◌+◌, ◌++◌, ◌∷◌, [], ◌<◌, ◌^◌, IfOk, All, length, take, decimal};
+ghost use Rattle.lv_formula.specs.Tree.{value_of};
+ghost use Rattle.lv_model.specs.Lists.{sizes};
 ghost use Rattle.lv_model.specs.WellFormed.{PartEnds};
-ghost use Rattle.lv_model.specs.lv_formula.Tree.{value_of};
-ghost use Rattle.lv_plant.specs.Standing.{is_observable, observables_from, observables, letter, seen_from, seen, modes_in};
+ghost use Rattle.lv_model_names.specs.Names.{is_observable_class};
+ghost use Rattle.lv_session_request.specs.Requests.{IsSightingIn};
+ghost use Rattle.lv_plant_step.specs.lv_system.Laws.{IsAssignment};
+ghost use Rattle.lv_plant.specs.Seeing.{observables_from, part_observables, observables, letter, seen_from, seen, modes_in, start_modes};
 
-use crate::plant::SEEN;
 use itoa::Buffer;
 use lv_base::{Class, Name, Seq, ValId, VarId};
 use lv_model::lookup::type_of;
-use lv_model::{ComponentType, Model, Part, Variable};
+use lv_model::{ComponentType, Model, Part, Plant, Variable};
 use lv_session_request::Sighting;
 use std::alloc::{AllocError, Global};
 
-fn is_observable(class: Class) -> bool
-    ensures { result ≡ is_observable class }
+/// How many observables are observed of a step at most.
+pub const SEEN: usize = 512;
+
+fn is_observed(class: Class) -> bool
+    ensures { result ≡ is_observable_class class }
 {
     match class {
         Class::Control => false,
@@ -35,29 +41,55 @@ fn push_observables(
     ensures { IfOk result (λ _. out.new.items ≡ out.old.items ++ observables_from first variables.now) }
 {
     for (i, v) in variables.iter().enumerate() {
-        if is_observable(v.class) {
+        if is_observed(v.class) {
             out.push(VarId(first + i as u32))?;
         }
     }
     Ok(())
 }
 
-/// The observables of these parts, part by part.
-fn observables_of(
-    alloc: Global,
+/// Adds the observables of the part.
+fn push_part_observables(
+    out: &mut Vec<VarId>,
     types: &[ComponentType],
-    parts: &[Part],
-) -> Result<Vec<VarId>, AllocError>
-    requires { All (PartEnds 4096 types.now) parts.now }
-    ensures { IfOk result (λ out. out.items ≡ observables types.now parts.now) }
+    part: &Part,
+) -> Result<(), AllocError>
+    requires { PartEnds 4096 types.now part.now }
+    ensures { IfOk result (λ _. out.new.items ≡ out.old.items ++ part_observables types.now part.now) }
+{
+    if let Some(t) = type_of(types, part) {
+        push_observables(out, t.variables.as_slice(), part.first.0 + 1)?;
+    }
+    Ok(())
+}
+
+/// The observables in written order, part by part.
+fn all_observables(alloc: Global, plant: &Plant) -> Result<Vec<VarId>, AllocError>
+    requires { All (PartEnds 4096 plant.now.types) plant.now.parts }
+    ensures { IfOk result (λ out. out.items ≡ observables plant.now) }
 {
     let mut out = Vec::new(alloc);
-    for part in parts {
-        if let Some(t) = type_of(types, part) {
-            push_observables(&mut out, t.variables.as_slice(), part.first.0 + 1)?;
-        }
+    for part in plant.parts.as_slice() {
+        push_part_observables(&mut out, plant.types.as_slice(), part)?;
     }
     Ok(out)
+}
+
+/// So many of them, or all if they are fewer.
+fn first_of(vars: &[VarId], most: usize) -> &[VarId]
+    ensures { result.now ≡ take most vars.now }
+{
+    if vars.len() > most {
+        &vars[..most]
+    } else {
+        vars
+    }
+}
+
+fn letter(odd: bool) -> u8
+    ensures { letter odd ≡ result ∷ [] }
+{
+    if odd { b'o' } else { b'e' }
 }
 
 /// The name of the `n`-th observation of an odd or an even step.
@@ -66,9 +98,17 @@ fn name_of(alloc: Global, odd: bool, n: u64) -> Result<Name, AllocError>
 {
     let mut digits = Buffer::new();
     let mut name = Vec::new(alloc);
-    name.push(if odd { b'o' } else { b'e' })?;
+    name.push(letter(odd))?;
     name.extend_from_slice(digits.format(n).as_bytes())?;
     Ok(Seq::from_vec(name))
+}
+
+/// The value of a variable; of one that isn't there the first.
+fn value_at(b: &[ValId], var: VarId) -> ValId
+    ensures { result ≡ value_of b.now var.0 }
+{
+    let index = var.0 as usize;
+    if index < b.len() { b[index] } else { ValId(0) }
 }
 
 /// What is observed of these variables, with their values in `b`.
@@ -91,16 +131,8 @@ fn sightings_of(
     Ok(out)
 }
 
-/// The value of a variable; of one that isn't there the first.
-fn value_at(b: &[ValId], var: VarId) -> ValId
-    ensures { result ≡ value_of b.now var.0 }
-{
-    let index = var.0 as usize;
-    if index < b.len() { b[index] } else { ValId(0) }
-}
-
 /// What is observed of a step that ends so.
-pub fn seen(
+fn sightings(
     alloc: Global,
     model: &Model,
     odd: bool,
@@ -108,14 +140,23 @@ pub fn seen(
 ) -> Result<Vec<Sighting>, AllocError>
     ensures { IfOk result (λ out. out.items ≡ seen model.now odd b.now) }
 {
-    let plant = model.plant();
-    let vars = observables_of(alloc, plant.types.as_slice(), plant.parts.as_slice())?;
-    let some = if vars.len() > SEEN {
-        &vars[..SEEN]
-    } else {
-        vars.as_slice()
-    };
-    sightings_of(alloc, odd, b, some)
+    let vars = all_observables(alloc, model.plant())?;
+    sightings_of(alloc, odd, b, first_of(vars.as_slice(), SEEN))
+}
+
+/// The same, where it ends in values of the model's variables.
+pub fn seen(
+    alloc: Global,
+    model: &Model,
+    odd: bool,
+    b: &[ValId],
+) -> Result<Vec<Sighting>, AllocError>
+    requires { IsAssignment (sizes model.now) b.now }
+    ensures seen { IfOk result (λ out. out.items ≡ seen model.now odd b.now) }
+    ensures fit { IfOk result (λ out. All (IsSightingIn model.now) out.items) }
+{
+    let _plant = model.plant();
+    sightings(alloc, model, odd, b)
 }
 
 /// The mode of each part.
@@ -126,4 +167,11 @@ pub fn modes_in(alloc: Global, parts: &[Part], b: &[ValId]) -> Result<Vec<ValId>
         .iter()
         .map(|part| value_at(b, part.first))
         .collect(alloc)
+}
+
+/// The mode that each part starts in.
+pub fn start_modes(alloc: Global, parts: &[Part]) -> Result<Vec<ValId>, AllocError>
+    ensures { IfOk result (λ out. out.items ≡ start_modes parts.now) }
+{
+    parts.iter().map(|part| part.start).collect(alloc)
 }

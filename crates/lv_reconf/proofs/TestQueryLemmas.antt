@@ -8,7 +8,6 @@ use Rattle.lv_model.specs.declared.plant.Plant.{Plant}
 use Rattle.lv_meaning.specs.declared.aim.Aim.{Aim}
 use Rattle.lv_meaning.specs.Commands.{command_sets}
 use Rattle.lv_search.specs.Standing.{Standing, IsUnderWay}
-use Rattle.lv_search.specs.Search.{SearchValue}
 use Rattle.lv_search_zones.proofs.CommandLemmas.{sets_suit}
 use Rattle.lv_reconf.specs.Judging.{candidate_commands}
 use Rattle.lv_reconf.specs.Tests.{candidate_tests, candidate_test_reason}
@@ -17,9 +16,6 @@ use Rattle.lv_reconf.specs.Trying.{Question, asking}
 
 abbrev start : List Rank → Standing
 start entries = record { k = 1; listed = []; kept = []; left = entries }
-
-abbrev search_from : List Rank → SearchValue
-search_from entries = record { standing = start entries; splits = [] }
 
 started : (suits fits : Candidate → Bool) (reason : Candidate → List Pair) (entries : List Rank) → IsUnderWay suits fits reason entries (start entries)
 started suits fits reason entries = record { walk = λ budget few. refl; trials = omega arith; k = refl; suit = λ suit. suit }
@@ -33,11 +29,11 @@ start_is_query plant aim x =
       one = refl;
     }
 
-pub new_is_query : (plant : Plant) (aim : Aim) (x : VarId) (s : Question) → s ≡ asking plant aim → (t : SearchValue) → t ≡ search_from (command_sets plant)
-    → IsTestQuery (record { plant = s.plant; aim = s.aim; var = x; standing = t.standing })
+pub new_is_query : (plant : Plant) (aim : Aim) (x : VarId) (s : Question) → s ≡ asking plant aim → (t : Standing) → t ≡ start (command_sets plant)
+    → IsTestQuery (record { plant = s.plant; aim = s.aim; var = x; standing = t })
 new_is_query plant aim x s setting t searched =
-    subst (λ (q : Question). IsTestQuery (record { plant = q.plant; aim = q.aim; var = x; standing = t.standing })) (sym setting)
-    (subst (λ (v : SearchValue). IsTestQuery (record { plant = plant; aim = aim; var = x; standing = v.standing })) (sym searched) (start_is_query plant aim x))
+    subst (λ (q : Question). IsTestQuery (record { plant = q.plant; aim = q.aim; var = x; standing = t })) (sym setting)
+    (subst (λ (v : Standing). IsTestQuery (record { plant = plant; aim = aim; var = x; standing = v })) (sym searched) (start_is_query plant aim x))
 
 -- what a search says of its trial it says of the question
 module _ (s t : TestQuestion) (is : t ≡ s) where

@@ -2,5 +2,6 @@ pub mod NextLemmas
 pub mod FollowLemmas
 pub mod TimesLemmas
 pub mod LeftLemmas
+pub mod GuideLemmas
 pub mod RunLemmas
 pub use Rattle.lv_boxes.proofs as lv_boxes

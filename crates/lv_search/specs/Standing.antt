@@ -1,10 +1,9 @@
 -- Where a search stands between two turns, and which walk it is on.
 use Rattle.std.specs.Prelude.{◌≡◌, ℕ, ◌+◌, ◌≤◌, Bool, true, List, [], length, slice_index_or}
-use Rattle.std.specs.List.{list_all}
 use Rattle.lv_base.specs.declared.rank.Rank.{Rank}
 use Rattle.lv_base.specs.declared.search.Pair.{Pair}
 use Rattle.lv_base.specs.declared.search.Candidate.{Candidate}
-use Rattle.lv_search_walk.specs.Walk.{Walked, candidate_of, walk_from, suit_all}
+use Rattle.lv_search_walk.specs.Walk.{Walked, walk_from, suit_all}
 
 -- what a search holds: how many it is to list, what is listed and kept, and the candidates left in the order of their ranks
 pub record Standing : Type 0 where

@@ -8,18 +8,22 @@
 //! | `trial` | `Trial`: what a search wants of its trial |
 //! | `turn` | one turn of a search, and the turns of one run |
 //! | `frontier` | what is left to try, as the turns see it |
-//! | `zones` | what is left to try, as zones in a queue |
+//! | `guide` | what is left to try, as zones that no conflict splits |
+//! | `zones` | what is left to try, as zones that conflicts split |
 //! | `laws` | what the walk's entries are, and where a walk begins |
 #![tactic(auto)]
 
-mod frontier;
+pub mod frontier;
+pub mod guide;
 pub mod laws;
 pub mod search;
 pub mod trial;
 pub mod turn;
-mod zones;
+pub mod zones;
 
+pub use frontier::Frontier;
+pub use guide::Guide;
 pub use lv_search_walk::Outcome;
 pub use search::Search;
 pub use trial::{Trial, Tried};
-pub use turn::{By, Split};
+pub use zones::{By, Split, Zones};

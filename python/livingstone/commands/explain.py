@@ -16,7 +16,7 @@ from ..declarations import read_plant
 from ..notices import Notice, model_refusal, session_refusal
 from ..plant import Plant
 from ..program import file_name, find_program, run_program
-from ..replies import lines_behind
+from ..replies import is_last, lines_behind
 from ..syntax import ModelFault
 from ..text import cut_lines, cut_session, first_word, is_silent
 
@@ -66,7 +66,7 @@ def explained(
         text = line.decode("ascii", "replace")
         refused = re.fullmatch(r"model (\d+) (M\d\d)", text)
         if behind != 0:
-            behind = behind - 1 if behind is not None else 0 if text == "end" else None
+            behind = behind - 1 if behind is not None else 0 if is_last(text) else None
         elif refused:
             yield model_refusal(model, data, int(refused.group(1)), refused.group(2))
         else:
