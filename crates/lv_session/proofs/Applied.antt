@@ -9,6 +9,7 @@ use Rattle.lv_model.specs.declared.plant.Plant.{Plant}
 use Rattle.lv_model.specs.Lists.{sizes, controls}
 use Rattle.lv_search_walk.specs.declared.outcome.Outcome.{Outcome}
 use Rattle.lv_search_walk.specs.declared.outcome.Outcome.TheVariants.{Settled, Unsettled}
+use Rattle.lv_search_walk.specs.Walk.{none_alike}
 use Rattle.lv_meaning.specs.Facts.{commanded, HasValue}
 use Rattle.lv_meaning.specs.Possible.{value}
 use Rattle.lv_meaning.specs.Commands.{is_command_set, command_sets}
@@ -50,7 +51,7 @@ module _ (plant : Plant) (state : SessionState) where
   sets_listed : (sum : ℕ) → All (IsCommandSet plant) (recovery plant state sum).listed
   unfolding recovery
   sets_listed sum =
-      listed_all (IsCommandSet plant) (candidate_recovers plant (aim_of state)) (candidate_reason plant (aim_of state)) 1 sum (command_sets plant) [] []
+      listed_all (IsCommandSet plant) none_alike (candidate_recovers plant (aim_of state)) (candidate_reason plant (aim_of state)) 1 sum (command_sets plant) [] []
       (All-nil (IsCommandSet plant)) all_sets
 
   found_set : (o : Outcome) (rs : List Rank) (u : List ℕ) → All (IsCommandSet plant) rs → values_by o rs ≡ Some u → is_command_set plant u ≡ true
