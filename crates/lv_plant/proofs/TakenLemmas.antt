@@ -1,5 +1,5 @@
 -- A step that is taken: what the session comes to, and what is told.
-use Rattle.std.proofs.Common.{◌≡◌, ℕ, ◌+◌, ◌<◌, ◌≤◌, ◌%◌, Bool, true, false, cond, nat_eq, nat_le, List, [], ◌∷◌, ◌++◌, length, map, take, filter, slice_get, Some, None, Contains, inl, inr, refl, sym, subst, ◌∙◌, ap, arith}
+use Rattle.std.proofs.Common.{◌≡◌, ℕ, zero, suc, ◌+◌, ◌<◌, ◌≤◌, ◌%◌, Bool, true, false, cond, nat_eq, nat_le, List, [], ◌∷◌, ◌++◌, length, map, take, filter, slice_get, Some, None, Contains, inl, inr, refl, sym, subst, ◌∙◌, ap, arith}
 use Rattle.std.proofs.lemmas.Bool.{and_parts, and_from, leb-true, le-leb, eqb-true}
 use Rattle.lv_base.specs.declared.ids.ValId.{ValId}
 use Rattle.lv_base.specs.declared.rank.Rank.{Rank}
@@ -15,11 +15,11 @@ use Rattle.lv_meaning.specs.Facts.{meets, commanded, now_facts, meets_facts}
 use Rattle.lv_meaning.specs.Candidates.{candidates, is_possible_rank, first_possible}
 use Rattle.lv_meaning.specs.CandidateLaws.{moves_cost, IsCandidate}
 use Rattle.lv_meaning.specs.Recovers.{has_modes as has_modes_before}
-use Rattle.lv_meaning.specs.Targets.{have_one_target, answer}
+use Rattle.lv_meaning.specs.Targets.{target_modes, have_one_target, answer}
 use Rattle.lv_meaning.proofs.Among.{Among, among, contained}
 use Rattle.lv_meaning.proofs.Answering.{answer_law}
 use Rattle.lv_meaning.proofs.DiagnosisWalks.{answers}
-use Rattle.lv_tracker.specs.Targets.{target_modes, target_state}
+use Rattle.lv_tracker.specs.Targets.{target_state}
 use Rattle.lv_tracker.specs.Tracked.{advanced}
 use Rattle.lv_tracker.proofs.FirstLemmas.{first_of_each_law}
 use Rattle.lv_reply.specs.declared.reply.Refusal.TheVariants.{NothingListed, TooManyCommits}
@@ -107,7 +107,7 @@ some_or_few (r ∷ rs) k lists f = omega arith
 
 -- the first of some stays where each stands once
 some_once : (alike : Rank → Rank → Bool) (k : ℕ) (rs : List Rank) → 1 ≤ k → 1 ≤ length (take 1 rs) → 1 ≤ length (take k (first_of_each alike rs))
-some_once alike 0 rs lists some = absurd (omega (arith, lists))
+some_once alike zero rs lists some = absurd (omega (arith, lists))
 some_once alike (suc k) [] lists some = absurd (omega (arith, some))
 some_once alike (suc k) (r ∷ rs) lists some = omega arith
 
