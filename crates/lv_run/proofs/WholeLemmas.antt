@@ -1,6 +1,7 @@
 -- Each text that a session may reply is empty or ends with a line feed.
 use Rattle.std.proofs.Common.{◌≡◌, ℕ, ◌+◌, Bool, true, nat_eq, List, [], ◌∷◌, ◌++◌, length, map, refl, ◌∙◌, ap}
-use Rattle.std.specs.Prelude.{codes, decimal, flat_map}
+use Rattle.std.specs.Prelude.{codes, decimal, flat_map, Option}
+use Rattle.lv_base.specs.declared.ids.VarId.{VarId}
 use Rattle.lv_base.specs.declared.rank.Rank.{Rank}
 use Rattle.lv_base.specs.declared.search.Pair.{Pair}
 use Rattle.lv_model.specs.declared.plant.Plant.{Plant}
@@ -12,12 +13,14 @@ use Rattle.lv_certcheck.specs.lv_cert.declared.line.Line.{Line}
 use Rattle.lv_certcheck.specs.lv_cert.Texts.{words_of, joined as joined_words, text_of}
 use Rattle.lv_session.specs.lv_reply.declared.labels.Label.{Label}
 use Rattle.lv_session.specs.lv_reply.declared.reply.Reply.{Reply}
-use Rattle.lv_session.specs.lv_reply.declared.reply.Reply.TheVariants.{Nothing, Accepted, Refused, Settled, Unsettled, Conflicts, Committed, States, Recovered, NoRecovery, Undecided, CommandConflicts, Labels, Contradiction, Certificate}
+use Rattle.lv_session.specs.lv_reply.declared.reply.Reply.TheVariants.{Nothing, Accepted, Refused, Settled, Unsettled, Conflicts, Committed, States, Recovered, NoRecovery, Undecided, CommandConflicts, Labels, Contradiction, Certificate, Probed, Tested, NoTest}
 use Rattle.lv_session.specs.lv_reply.Pieces.{joined}
 use Rattle.lv_session.specs.lv_reply.Variables.{equation}
 use Rattle.lv_session.specs.lv_reply.Diagnosis.{moves_text, listed_lines, settled_text, unsettled_text}
 use Rattle.lv_session.specs.lv_reply.Conflicts.{pair_text, command_text, conflict_lines, conflicts_by, conflicts_text, command_conflicts_text}
-use Rattle.lv_session.specs.lv_reply.Recovery.{shown_settings, recovery_text, undecided_text}
+use Rattle.lv_session.specs.lv_reply.Recovery.{shown_settings, recovery_text, test_text, undecided_text}
+use Rattle.lv_session.specs.lv_reply.declared.probes.Probed.{Probed as ProbedNumbers}
+use Rattle.lv_session.specs.lv_reply.Probes.{probed_line, best_text, probe_text}
 use Rattle.lv_session.specs.lv_reply.Labels.{moment_word, label_line, labels_text}
 use Rattle.lv_session.specs.lv_reply.States.{part_texts, state_lines, committed_text, states_text}
 use Rattle.lv_session.specs.lv_reply.Texts.{code_of, reply_text}
@@ -92,6 +95,15 @@ recovery_whole : (plant : Plant) (r : Rank) → is_whole (recovery_text plant r)
 unfolding recovery_text
 recovery_whole plant r = line_whole (codes "recovery cost " ++ decimal r.cost.0 ++ codes ": " ++ joined (shown_settings plant (controls plant) r.choices))
 
+test_whole : (plant : Plant) (r : Rank) → is_whole (test_text plant r) ≡ true
+unfolding test_text
+test_whole plant r = line_whole (codes "test cost " ++ decimal r.cost.0 ++ codes ": " ++ joined (shown_settings plant (controls plant) r.choices))
+
+probe_whole : (plant : Plant) (listed : ℕ) (observables : List ProbedNumbers) (best : Option VarId) → is_whole (probe_text plant listed observables best) ≡ true
+unfolding probe_text
+probe_whole plant listed observables best =
+    line_whole (codes "probe " ++ decimal listed ++ codes "\n" ++ flat_map (probed_line plant) observables ++ codes "best " ++ best_text plant best)
+
 undecided_whole : (trials : ℕ) → is_whole (undecided_text trials) ≡ true
 unfolding undecided_text
 undecided_whole trials = line_whole (codes "unsettled trials " ++ decimal trials)
@@ -120,6 +132,9 @@ reply_whole plant (CommandConflicts kept trials) = conflicts_of_commands plant k
 reply_whole plant (Labels labels) = labels_whole plant labels
 reply_whole plant Contradiction = refl
 reply_whole plant Certificate = refl
+reply_whole plant (Probed listed observables best) = probe_whole plant listed observables best
+reply_whole plant (Tested rank) = test_whole plant rank
+reply_whole plant NoTest = refl
 
 -- ---- whatever a session may reply
 
@@ -147,6 +162,9 @@ text_whole plant state (CommandConflicts kept trials) text is = other_whole plan
 text_whole plant state (Labels labels) text is = other_whole plant (Labels labels) text is
 text_whole plant state Contradiction text is = other_whole plant Contradiction text is
 text_whole plant state Certificate text is = certified_whole state.query plant state text is
+text_whole plant state (Probed listed observables best) text is = other_whole plant (Probed listed observables best) text is
+text_whole plant state (Tested rank) text is = other_whole plant (Tested rank) text is
+text_whole plant state NoTest text is = other_whole plant NoTest text is
 
 pub replies_are_whole : RepliesAreWhole
 replies_are_whole s line text says = text_whole s.plant (stepped s.plant s.state line).state (stepped s.plant s.state line).reply text says
