@@ -1,19 +1,10 @@
-pub mod BoolLemmas
-pub mod OccurrenceLemmas
-pub mod ArenaLemmas
-pub mod TrailLemmas
-pub mod CountLemmas
-pub mod LabelLemmas
-pub mod SettleLemmas
-pub mod PropagationLemmas
-pub mod SweepLemmas
-pub mod SweepingLemmas
-pub mod SupportLemmas
-pub mod SupportAllLemmas
-pub mod SystemLemmas
-pub mod AddLemmas
-pub mod ShakenLemmas
-pub mod StayLemmas
-pub mod DropLemmas
-pub mod AssumeLemmas
-pub mod CoreLemmas
+mod BoolLemmas
+mod TrailLemmas
+mod CountLemmas
+mod LabelLemmas
+mod RowLemmas
+mod TraverseLemmas
+mod FindLemmas
+mod MeetLemmas
+mod VisitLemmas
+mod CoreLemmas

@@ -20,9 +20,9 @@ mod arena;
 mod labels;
 mod ltms;
 mod network;
-mod occurrences;
 mod propagation;
 mod revision;
+mod watchers;
 
 pub use labels::{Link, Reason};
 pub use ltms::{Label, Ltms, Status};
