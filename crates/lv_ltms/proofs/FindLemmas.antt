@@ -1,5 +1,5 @@
 -- What is found in a list, and what a clause that is there has.
-use Rattle.std.proofs.Common.{◌≡◌, ◌≢◌, Bool, true, false, not, ◌&&◌, List, [], ◌∷◌, cond, find, Option, Some, None, IsSome, IfSome, refl, sym, ap, subst, ◌∙◌, inl, inr, Contains}
+use Rattle.std.proofs.Common.{◌≡◌, ◌≢◌, Bool, true, false, not, ◌&&◌, List, [], ◌∷◌, cond, find, Option, Some, None, IsSome, IfSome, IfNone, refl, sym, ap, subst, ◌∙◌, inl, inr, Contains}
 use Rattle.lv_base.specs.declared.ids.Lit.{Lit}
 use Rattle.lv_clauses.specs.Literals.{neg}
 use Rattle.lv_clauses.specs.Marks.{Marks, is_marked}
@@ -82,3 +82,7 @@ none_open c but marks e m h differs = by_value (is_marked marks (neg m)) refl
     by_value : (b : Bool) → is_marked marks (neg m) ≡ b → is_marked marks (neg m) ≡ true
     by_value true f = f
     by_value false f = absurd (none_passes (is_open_but but marks) c m e h (and_both (not (same_lit m but)) (not (is_marked marks (neg m))) (ap not apart) (ap not f)))
+
+pub if_none : {X : Type 0} {P : Type 0} (o : Option X) → (o ≡ None → P) → IfNone o P
+if_none None h = h refl
+if_none (Some x) h = tt

@@ -7,4 +7,5 @@ mod TraverseLemmas
 mod FindLemmas
 mod MeetLemmas
 mod VisitLemmas
+mod FalsifyLemmas
 mod CoreLemmas
