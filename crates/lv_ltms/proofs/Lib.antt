@@ -8,4 +8,9 @@ mod FindLemmas
 mod MeetLemmas
 mod VisitLemmas
 mod FalsifyLemmas
+mod SweepLemmas
+mod SweepingLemmas
+mod ShakenLemmas
+mod SystemLemmas
+mod StayLemmas
 mod CoreLemmas
