@@ -4,16 +4,16 @@
 //! on. This is the well-known way of truth maintenance systems: a label lives as long as one support of it does.
 #![tactic(auto)]
 
-ghost use Rattle.std.specs.Prelude.{◌≡◌, ◌≢◌, ℕ, ◌<◌, ◌≤◌, ◌&&◌, [], List, true, false, length, not, option_map, vec_capacity, IsTrue, IfSome, IfNone, Bool};
+ghost use Rattle.std.specs.Prelude.{◌≡◌, ◌≢◌, ℕ, ◌<◌, ◌≤◌, ◌&&◌, [], List, true, false, length, not, vec_capacity, IsTrue, IfSome, IfNone, Bool};
 ghost use Rattle.std.specs.List.{list_all};
 ghost use Rattle.lv_base.specs.declared.ids.ClauseId.{ClauseId};
 ghost use Rattle.lv_clauses.specs.Literals.{neg, in_range};
-ghost use Rattle.lv_clauses.specs.ClauseMap.{Slots};
+ghost use Rattle.lv_clauses.specs.ClauseMap.{Slots, clause_at};
 ghost use Rattle.lv_clauses.specs.Marks.{Marks, is_marked};
 ghost use Rattle.lv_ltms.specs.Labelled.{Agrees, AreLabels, Grows};
 ghost use Rattle.lv_ltms.specs.Standing.{true_before};
 ghost use Rattle.lv_ltms.specs.Watching.{lit_at, has_lit, IsThreaded, AreRows, InRow, AllInRow, AreGuarded, AreSettled};
-ghost use Rattle.lv_ltms.specs.Revising.{IsShaken, IsSwept, AreMarked, AreMarkedOrWait, NoneAgainst, IsOneSided, GetsSupport, derives_lit, reason_stands};
+ghost use Rattle.lv_ltms.specs.Revising.{IsShaken, IsSwept, AreMarked, AreMarkedOrWait, NoneAgainst, IsOneSided, GetsSupport, derives_lit, is_other_or_false, reason_stands};
 ghost use Rattle.lv_ltms.specs.Reaching.{IsWithout, StaysOn};
 ghost use Rattle.lv_ltms.specs.Trail.{IsDerivation};
 
@@ -74,20 +74,26 @@ fn stands(link: Link, assumed: &[Option<bool>], arena: &Arena, marks: &[Option<b
     !is_marked(assumed, negation(link.lit))
         && match link.reason {
             Reason::Assumed => is_marked(assumed, link.lit),
-            Reason::Clause(id) => derives(arena.find(id), link.lit, marks),
+            Reason::Clause(id) => derives(id, link.lit, arena, marks),
         }
 }
 
 /// Whether a clause is there whose literals but this one are false.
-fn derives(clause: Option<&[Lit]>, lit: Lit, marks: &[Option<bool>]) -> bool
-    ensures { result ≡ derives_lit (is_marked marks.now) lit (option_map (λ lits. lits.now) clause) }
+fn derives(id: ClauseId, lit: Lit, arena: &Arena, marks: &[Option<bool>]) -> bool
+    ensures { result ≡ derives_lit (is_marked marks.now) lit (clause_at arena.now id.0) }
 {
-    match clause {
-        Some(lits) => lits
-            .iter()
-            .all(|other| *other == lit || is_marked(marks, negation(*other))),
+    match arena.find(id) {
+        Some(lits) => are_false_but(lits, lit, marks),
         None => false,
     }
+}
+
+/// Whether all literals but this one are false.
+fn are_false_but(lits: &[Lit], lit: Lit, marks: &[Option<bool>]) -> bool
+    ensures { result ≡ list_all (is_other_or_false (is_marked marks.now) lit) lits.now }
+{
+    lits.iter()
+        .all(|other| *other == lit || is_marked(marks, negation(*other)))
 }
 
 /// Gives each boolean that lost its label that of an assumption or of a clause of one literal, if there is one.
