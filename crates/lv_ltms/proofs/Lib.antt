@@ -13,4 +13,6 @@ mod SweepingLemmas
 mod ShakenLemmas
 mod SystemLemmas
 mod StayLemmas
+mod ReadLemmas
+mod SupportLemmas
 mod CoreLemmas

@@ -1,5 +1,5 @@
 -- Taking labels away whose support is gone, and finding other supports.
-use Rattle.std.specs.Prelude.{◌≡◌, ◌≢◌, ℕ, ◌<◌, ◌≤◌, Bool, true, false, ◌||◌, List, length, take, Option, Some, None, slice_index_or, Contains}
+use Rattle.std.specs.Prelude.{◌≡◌, ◌≢◌, ℕ, ◌<◌, ◌≤◌, Bool, true, false, ◌||◌, ◌&&◌, not, List, length, take, Option, Some, None, slice_index_or, Contains}
 use Rattle.std.specs.List.{list_all}
 use Rattle.lv_base.specs.declared.ids.Lit.{Lit}
 use Rattle.lv_base.specs.declared.ids.ClauseId.{ClauseId}
@@ -10,7 +10,7 @@ use Rattle.lv_ltms.specs.declared.labels.Link.{Link}
 use Rattle.lv_ltms.specs.declared.labels.Reason.{Reason}
 use Rattle.lv_ltms.specs.declared.labels.Reason.TheVariants.{Assumed, Clause}
 use Rattle.lv_ltms.specs.Trail.{IsDerivation, same_lit}
-use Rattle.lv_ltms.specs.Watching.{Rows, lit_at, is_fallen, has_lit, IsThreaded, AreGuarded}
+use Rattle.lv_ltms.specs.Watching.{Rows, lit_at, is_fallen, has_lit, IsThreaded, AreGuarded, InRow, AllInRow}
 use Rattle.lv_ltms.specs.Labelled.{Labelled, Grows}
 use Rattle.lv_ltms.specs.Standing.{true_before}
 
@@ -50,6 +50,16 @@ pub record IsUnitOf (slots : Slots) (near far : ℕ → Lit) (l : Lit) (id : ℕ
   pub has : Contains clause member
   pub near_lit : near id ≡ l
   pub far_lit : far id ≡ l
+
+-- neither the literal nor its negation is true, and the negation isn't assumed
+abbrev pub is_wanted_by : (Lit → Bool) → (Lit → Bool) → Lit → Bool
+is_wanted_by assumed truth l = not (truth l) && not (truth (neg l)) && not (assumed (neg l))
+
+-- an assumption or a clause of one literal that gives the literal its label, or there is none
+abbrev pub GivesReason : (Lit → Bool) → Rows → Rows → Lit → Option Reason → Type 0
+GivesReason assumed near far l None = (assumed l ≡ false) × AllInRow near l (λ id. lit_at far id.0 ≢ l)
+GivesReason assumed near far l (Some Assumed) = assumed l ≡ true
+GivesReason assumed near far l (Some (Clause id)) = InRow near l id × (lit_at far id.0 ≡ l)
 
 -- a literal got its label, if an assumption or a clause of one literal gives it
 pub record GetsSupport (assumed : Lit → Bool) (near far : Rows) (old new : Labelled) (l : Lit) : Type 0 where

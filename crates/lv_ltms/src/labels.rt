@@ -125,10 +125,11 @@ impl Labels {
         ensures within { result ≤ len }
         ensures clear { true_before result self.now.trail (neg lit) ≡ false }
     {
-        if !is_marked(self.marks.as_slice(), negation(lit)) {
-            return len;
+        if is_marked(self.marks(), negation(lit)) {
+            self.place_of(lit).min(len)
+        } else {
+            len
         }
-        self.place_of(lit).min(len)
     }
 
     /// The reason of a literal or its negation, None where neither is marked.

@@ -13,7 +13,7 @@ ghost use Rattle.lv_clauses.specs.Marks.{Marks, is_marked};
 ghost use Rattle.lv_ltms.specs.Labelled.{Agrees, AreLabels, Grows};
 ghost use Rattle.lv_ltms.specs.Standing.{true_before};
 ghost use Rattle.lv_ltms.specs.Watching.{lit_at, has_lit, IsThreaded, AreRows, InRow, AllInRow, AreGuarded, AreSettled};
-ghost use Rattle.lv_ltms.specs.Revising.{IsShaken, IsSwept, AreMarked, AreMarkedOrWait, NoneAgainst, IsOneSided, GetsSupport, derives_lit, is_other_or_false, reason_stands};
+ghost use Rattle.lv_ltms.specs.Revising.{IsShaken, IsSwept, AreMarked, AreMarkedOrWait, NoneAgainst, IsOneSided, GetsSupport, GivesReason, is_wanted_by, derives_lit, is_other_or_false, reason_stands};
 ghost use Rattle.lv_ltms.specs.Reaching.{IsWithout, StaysOn};
 ghost use Rattle.lv_ltms.specs.Trail.{IsDerivation};
 
@@ -139,24 +139,39 @@ fn support(
     requires against { NoneAgainst (is_marked assumed.now) (is_marked labels.old.marks) }
     ensures { GetsSupport (is_marked assumed.now) near.now far.now labels.old labels.new lit }
 {
-    if is_marked(labels.marks(), lit)
-        || is_marked(labels.marks(), negation(lit))
-        || is_marked(assumed, negation(lit))
-    {
+    if !is_wanted(lit, assumed, labels.marks()) {
         return;
     }
+    if let Some(reason) = reason_for(lit, assumed, near, far) {
+        labels.push(Link { lit, reason });
+    }
+}
+
+/// Whether the literal's boolean is unmarked, and its negation isn't assumed.
+fn is_wanted(lit: Lit, assumed: &[Option<bool>], marks: &[Option<bool>]) -> bool
+    ensures { result ≡ is_wanted_by (is_marked assumed.now) (is_marked marks.now) lit }
+{
+    !is_marked(marks, lit)
+        && !is_marked(marks, negation(lit))
+        && !is_marked(assumed, negation(lit))
+}
+
+/// An assumption or a clause of one literal that gives a literal its label.
+fn reason_for(
+    lit: Lit,
+    assumed: &[Option<bool>],
+    near: &Watchers,
+    far: &Watchers,
+) -> Option<Reason>
+    requires { AreRows near.now far.now }
+    ensures { GivesReason (is_marked assumed.now) near.now far.now lit result }
+{
     if is_marked(assumed, lit) {
-        labels.push(Link {
-            lit,
-            reason: Reason::Assumed,
-        });
-        return;
+        return Some(Reason::Assumed);
     }
-    if let Some(id) = find_unit(lit, near, far) {
-        labels.push(Link {
-            lit,
-            reason: Reason::Clause(id),
-        });
+    match find_unit(lit, near, far) {
+        Some(id) => Some(Reason::Clause(id)),
+        None => None,
     }
 }
 
@@ -172,7 +187,7 @@ fn find_unit(lit: Lit, near: &Watchers, far: &Watchers) -> Option<ClauseId>
         let Some(id) = at else {
             return None;
         };
-        if far.watch(id).lit == lit {
+        if far.is_watch(id, lit) {
             return Some(id);
         }
         at = near.watch(id).next;
@@ -198,8 +213,8 @@ pub fn lower_all(
 {
     let mut looked = done;
     for lit in fallen {
-        looked = lower(*lit, near, far, labels, looked);
-        looked = lower(*lit, far, near, labels, looked);
+        let near_done = lower(*lit, near, far, labels, looked);
+        looked = lower(*lit, far, near, labels, near_done);
     }
     looked
 }
@@ -217,7 +232,8 @@ fn lower(lit: Lit, near: &Watchers, far: &Watchers, labels: &Labels, done: usize
         let Some(id) = at else {
             return looked;
         };
-        looked = labels.before_false(far.watch(id).lit, looked);
+        let other = far.watch(id).lit;
+        looked = labels.before_false(other, looked);
         at = near.watch(id).next;
     }
     looked

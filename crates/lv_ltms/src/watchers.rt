@@ -3,7 +3,8 @@
 #![tactic(auto)]
 
 ghost use Rattle.std.specs.Prelude.{◌≡◌, ◌<◌, [], length, replicate, IfOk, OnOk, None, Some};
-ghost use Rattle.lv_ltms.specs.Watching.{head_of, watch_at, with_head, with_watch, Fits};
+ghost use Rattle.lv_ltms.specs.Trail.{same_lit};
+ghost use Rattle.lv_ltms.specs.Watching.{head_of, watch_at, lit_at, with_head, with_watch, Fits};
 
 use lv_base::{BoolId, ClauseId, Lit};
 use std::alloc::{AllocError, Global};
@@ -90,6 +91,14 @@ impl Watchers {
         ensures { result ≡ watch_at self.now id.0 }
     {
         self.watches[id.0]
+    }
+
+    /// Whether a clause watches this literal.
+    pub fn is_watch(&self, id: ClauseId, lit: Lit) -> bool
+        requires { id.0 < length self.now.watches }
+        ensures { result ≡ same_lit (lit_at self.now id.0) lit }
+    {
+        self.watches[id.0].lit == lit
     }
 
     /// For how many clauses there is room.
