@@ -15,4 +15,6 @@ mod SystemLemmas
 mod StayLemmas
 mod ReadLemmas
 mod SupportLemmas
+mod ReviseLemmas
+mod AddLemmas
 mod CoreLemmas

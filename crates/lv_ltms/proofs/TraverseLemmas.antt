@@ -27,7 +27,7 @@ zero_either false = refl
 waits_here : (a : Lit) (waiting : List ClauseId) (id : ℕ) → waits a waiting a id ≡ times_in waiting id
 waits_here a waiting id = ap (λ (b : Bool). cond b (times_in waiting id) 0) (same_lit-self a)
 
-not_same : (a l : Lit) → a ≢ l → same_lit a l ≡ false
+pub not_same : (a l : Lit) → a ≢ l → same_lit a l ≡ false
 not_same a l differs = not_true (same_lit a l) (λ e. differs (same_lit-equal a l e))
 
 waits_other : (a l : Lit) (waiting : List ClauseId) (id : ℕ) → a ≢ l → waits a waiting l id ≡ 0

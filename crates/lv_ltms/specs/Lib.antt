@@ -6,5 +6,6 @@ pub mod Visiting
 pub mod Revising
 pub mod Reaching
 pub mod Marked
+pub mod Networks
 pub mod System
 pub mod Told

@@ -2,14 +2,15 @@
 //! Its calls find what follows, and take away what no longer does.
 #![tactic(auto)]
 
-ghost use Rattle.std.specs.Prelude.{◌≡◌, ℕ, ◌<◌, ◌≤◌, ◌||◌, [], length, replicate, take, is_some, vec_capacity, IsTrue, IsSome, IfOk, IfSome, OnErr, None, Some};
+ghost use Rattle.std.specs.Prelude.{◌≡◌, ℕ, ◌<◌, ◌≤◌, ◌||◌, [], length, replicate, is_some, slice_set, vec_capacity, IsTrue, IsSome, IfOk, OnErr, None, Some};
 ghost use Rattle.lv_clauses.specs.Literals.{is_clause};
-ghost use Rattle.lv_clauses.specs.ClauseMap.{Slots, clause_at};
+ghost use Rattle.lv_clauses.specs.ClauseMap.{clause_at, AreClauses};
 ghost use Rattle.lv_clauses.specs.Marks.{nothing, is_marked};
 ghost use Rattle.lv_ltms.specs.declared.labels.Reason.TheVariants.{Assumed};
 ghost use Rattle.lv_ltms.specs.Labelled.{GoesOn};
-ghost use Rattle.lv_ltms.specs.Standing.{IsNetwork, IsLooked, Stops, TellsEmpty, PutsSlot};
-ghost use Rattle.lv_ltms.specs.Watching.{lit_at, IsThreaded, AreRows};
+ghost use Rattle.lv_ltms.specs.Standing.{PutsSlot};
+ghost use Rattle.lv_ltms.specs.Networks.{IsAlive, IsRested, KeepsAll};
+ghost use Rattle.lv_ltms.specs.Watching.{lit_at, IsThreaded, AreMembers};
 ghost use Rattle.lv_ltms.specs.Revising.{IsShaken, AreFixed, AreMarked};
 ghost use Rattle.lv_ltms.specs.Reaching.{IsWithout, StaysOn};
 ghost use Rattle.lv_ltms.specs.Trail.{IsDerivation};
@@ -62,20 +63,12 @@ impl Network {
 
     /// Adds a clause, and marks the literal that it leaves.
     pub fn add(&mut self, lits: &[Lit]) -> Result<ClauseId, AllocError>
-        requires network { IsNetwork (length self.old.labels.marks) self.old.arena self.old.near self.old.far self.old.labels }
-        requires looked { IsLooked self.old.arena self.old.near self.old.far self.old.labels self.old.progress.done }
-        requires stops { Stops self.old.arena self.old.labels self.old.progress.done self.old.progress.conflict }
-        requires empty { TellsEmpty self.old.arena self.old.empty }
+        requires alive { IsAlive self.old }
         requires clause { IsTrue (is_clause (length self.old.labels.marks) lits.now) }
         ensures vacant { IfOk result (λ id. clause_at self.old.arena id.0 ≡ None) }
         ensures added { IfOk result (λ id. PutsSlot self.old.arena self.new.arena id.0 (Some lits.now)) }
-        ensures kept { OnErr result (self.new.arena ≡ self.old.arena) }
-        ensures labels_kept { OnErr result (self.new.labels ≡ self.old.labels) }
-        ensures stops_kept { OnErr result (Stops self.new.arena self.new.labels self.new.progress.done self.new.progress.conflict) }
-        ensures network { IsNetwork (length self.old.labels.marks) self.new.arena self.new.near self.new.far self.new.labels }
-        ensures looked { IsLooked self.new.arena self.new.near self.new.far self.new.labels self.new.progress.done }
-        ensures conflict { IfSome self.new.progress.conflict (λ id. Stops self.new.arena self.new.labels self.new.progress.done (Some id)) }
-        ensures empty { TellsEmpty self.new.arena self.new.empty }
+        ensures kept { OnErr result (KeepsAll self.old self.new) }
+        ensures alive { IsAlive self.new }
         ensures goes_on { GoesOn self.new.arena self.old.labels self.new.labels }
         ensures room { vec_capacity self.new.fallen ≡ vec_capacity self.old.fallen }
     {
@@ -93,37 +86,27 @@ impl Network {
 
     /// Takes away a clause that is present.
     pub fn remove(&mut self, id: ClauseId)
-        requires network { IsNetwork (length self.old.labels.marks) self.old.arena self.old.near self.old.far self.old.labels }
-        requires looked { IsLooked self.old.arena self.old.near self.old.far self.old.labels self.old.progress.done }
-        requires empty { TellsEmpty self.old.arena self.old.empty }
+        requires alive { IsAlive self.old }
         requires present { IsSome (clause_at self.old.arena id.0) }
         ensures removed { PutsSlot self.old.arena self.new.arena id.0 None }
-        ensures network { IsNetwork (length self.old.labels.marks) self.new.arena self.new.near self.new.far self.new.labels }
-        ensures looked { IsLooked self.new.arena self.new.near self.new.far self.new.labels self.new.progress.done }
-        ensures empty { TellsEmpty self.new.arena self.new.empty }
+        ensures alive { IsAlive self.new }
         ensures labels { self.new.labels ≡ self.old.labels }
         ensures room { vec_capacity self.new.fallen ≡ vec_capacity self.old.fallen }
     {
-        if !self.arena.get(id).is_empty() {
-            unwatch(&mut self.near, id);
-            unwatch(&mut self.far, id);
-        }
+        unwatch(id, &self.arena, &mut self.near);
+        unwatch(id, &self.arena, &mut self.far);
         self.arena.remove(id);
-        if self.empty == Some(id) {
+        self.progress.conflict = None;
+        if self.empty.is_some() {
             self.empty = self.arena.first_empty();
         }
     }
 
     /// Marks all that follows, unless a clause is known that is false.
     pub fn propagate(&mut self)
-        requires network { IsNetwork (length self.old.labels.marks) self.old.arena self.old.near self.old.far self.old.labels }
-        requires looked { IsLooked self.old.arena self.old.near self.old.far self.old.labels self.old.progress.done }
-        requires conflict { IfSome self.old.progress.conflict (λ id. Stops self.old.arena self.old.labels self.old.progress.done (Some id)) }
+        requires { IsAlive self.old }
+        ensures rested { IsRested self.new }
         ensures arena { self.new.arena ≡ self.old.arena }
-        ensures empty { self.new.empty ≡ self.old.empty }
-        ensures network { IsNetwork (length self.old.labels.marks) self.new.arena self.new.near self.new.far self.new.labels }
-        ensures looked { IsLooked self.new.arena self.new.near self.new.far self.new.labels self.new.progress.done }
-        ensures stops { Stops self.new.arena self.new.labels self.new.progress.done self.new.progress.conflict }
         ensures goes_on { GoesOn self.old.arena self.old.labels self.new.labels }
         ensures room { vec_capacity self.new.fallen ≡ vec_capacity self.old.fallen }
     {
@@ -141,17 +124,14 @@ impl Network {
     /// Labels anew what the labels from a place of the trail on leave: those that lost their support fall, and what
     /// follows from the others is marked.
     pub fn revise(&mut self, from: usize, assumed: &[Option<bool>])
-        requires network { IsNetwork (length self.old.labels.marks) self.old.arena self.old.near self.old.far self.old.labels }
-        requires looked { IsLooked self.old.arena self.old.near self.old.far self.old.labels self.old.progress.done }
+        requires alive { IsAlive self.old }
         requires place { from ≤ length self.old.labels.trail }
         requires shaken { IsShaken (is_marked assumed.now) self.old.arena self.old.labels.trail from }
         requires marked { AreFixed (is_marked assumed.now) self.old.labels }
         requires room { length self.old.labels.marks ≤ vec_capacity self.old.fallen }
+        ensures rested { IsRested self.new }
         ensures arena { self.new.arena ≡ self.old.arena }
-        ensures empty { self.new.empty ≡ self.old.empty }
-        ensures network { IsNetwork (length self.old.labels.marks) self.new.arena self.new.near self.new.far self.new.labels }
-        ensures looked { IsLooked self.new.arena self.new.near self.new.far self.new.labels self.new.progress.done }
-        ensures stops { Stops self.new.arena self.new.labels self.new.progress.done self.new.progress.conflict }
+        ensures marks { length self.new.labels.marks ≡ length self.old.labels.marks }
         ensures derivation { IsDerivation self.old.arena (is_marked assumed.now) self.new.labels.trail }
         ensures marked { AreMarked (is_marked assumed.now) self.new.labels }
         ensures stays { (l : Lit) → IsWithout (is_marked assumed.now) self.old.arena self.old.labels.trail l
@@ -198,14 +178,18 @@ impl Network {
     }
 }
 
-/// Takes a clause out of the list of the literal that it watches.
-fn unwatch(rows: &mut Watchers, id: ClauseId)
-    requires rows { AreRows rows.old rows.old }
-    requires room { id.0 < length rows.old.watches }
-    requires range { (lit_at rows.old id.0).var.0 < length rows.old.of_true }
+/// Takes a clause out of the list of the literal that it watches on one side, if it has a literal.
+fn unwatch(id: ClauseId, arena: &Arena, rows: &mut Watchers)
+    requires threaded { IsThreaded rows.old arena.now (length rows.old.of_true) }
+    requires clauses { AreClauses (length rows.old.of_true) arena.now }
+    requires members { AreMembers arena.now (lit_at rows.old) }
+    requires present { IsSome (clause_at arena.now id.0) }
+    ensures threaded { IsThreaded rows.new (slice_set arena.now id.0 None) (length rows.old.of_true) }
     ensures same { (i : ℕ) → lit_at rows.new i ≡ lit_at rows.old i }
-    ensures threaded { (slots after : Slots) (bools : ℕ) → IsThreaded rows.old slots bools → PutsSlot slots after id.0 None → IsThreaded rows.new after bools }
 {
+    if arena.get(id).is_empty() {
+        return;
+    }
     let lit = rows.watch(id).lit;
     let mut at = rows.take(lit);
     for _ in 0..rows.room() {
@@ -213,7 +197,7 @@ fn unwatch(rows: &mut Watchers, id: ClauseId)
             return;
         };
         at = rows.watch(other).next;
-        if other != id {
+        if other.0 != id.0 {
             rows.put(other, lit);
         }
     }
