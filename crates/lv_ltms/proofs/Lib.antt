@@ -17,4 +17,10 @@ mod ReadLemmas
 mod SupportLemmas
 mod ReviseLemmas
 mod AddLemmas
+mod BlankLemmas
+mod RestLemmas
+mod PickLemmas
+mod NetworkLemmas
+mod KeepLemmas
+mod UnwatchLemmas
 mod CoreLemmas

@@ -1,5 +1,5 @@
 -- Lists that run through the watches: what is written to one clause's watch leaves all lists as they are that it isn't in.
-use Rattle.std.proofs.Common.{◌≡◌, ◌≢◌, ◌⊎◌, ℕ, ◌+◌, ◌-◌, ◌<◌, ◌≤◌, suc, zero, Bool, true, false, not, nat_eq, List, [], ◌∷◌, length, filter, cond, get_or, set, count_by, Option, Some, None, refl, sym, ap, subst, ◌∙◌, arith, inl, inr, Contains}
+use Rattle.std.proofs.Common.{◌≡◌, ◌≢◌, ◌⊎◌, ℕ, ◌+◌, ◌-◌, ◌<◌, ◌≤◌, suc, zero, Bool, true, false, not, nat_eq, List, [], ◌∷◌, ◌++◌, length, filter, cond, get_or, set, count_by, Option, Some, None, refl, sym, ap, subst, ◌∙◌, arith, inl, inr, Contains}
 use Rattle.std.proofs.lemmas.Bool.{cases_eq, cases_lt}
 use Rattle.std.proofs.lemmas.List.{length-set, get_or-set_same, get_or-set_other}
 use Rattle.lv_base.specs.declared.ids.Lit.{Lit}
@@ -8,7 +8,7 @@ use Rattle.lv_clauses.specs.Literals.{same_truth, same_var}
 use Rattle.lv_clauses.proofs.LiteralLemmas.{Contains-head, Contains-tail, Contains-cases, Contains-nil, lit_cases, lit_of}
 use Rattle.lv_ltms.specs.declared.watchers.Watch.{Watch}
 use Rattle.lv_ltms.specs.Trail.{same_lit}
-use Rattle.lv_ltms.specs.Watching.{Rows, heads_of, head_of, watch_at, lit_at, next_at, with_head, with_head_of, with_watch, times_in, has_number, IsRow}
+use Rattle.lv_ltms.specs.Watching.{Rows, blank, heads_of, head_of, lit_at, next_at, with_head, with_head_of, with_watch, times_in, has_number, IsRow}
 use Rattle.lv_ltms.proofs.BoolLemmas.{eq_from, eq_is, not_true}
 use Rattle.lv_ltms.proofs.CountLemmas.{times_in-none, times_same, times_other, same_lit-self, count_yes, count_no}
 use Rattle.lv_ltms.proofs.TrailLemmas.{same_lit-equal}
@@ -190,3 +190,10 @@ module _ (rows : Rows) (id : ClauseId) (l : Lit) (room : id.0 < length rows.watc
       by_sign : (b : Bool) → get_or (heads_of written b) m.var.0 None ≡ get_or (heads_of rows b) m.var.0 None
       by_sign true = refl
       by_sign false = refl
+
+-- a blank watch more changes nothing
+pub blank_behind : (ws : List Watch) (i : ℕ) → get_or (ws ++ blank ∷ []) i blank ≡ get_or ws i blank
+blank_behind [] zero = refl
+blank_behind [] (suc i) = refl
+blank_behind (w ∷ ws) zero = refl
+blank_behind (w ∷ ws) (suc i) = blank_behind ws i

@@ -1,5 +1,5 @@
 -- How far the trail was looked at, and what clauses say there.
-use Rattle.std.specs.Prelude.{◌≡◌, ◌≢◌, ◌⊎◌, ℕ, ◌≤◌, Bool, true, false, List, [], length, take, Option, Some, None, Contains}
+use Rattle.std.specs.Prelude.{◌≡◌, ◌≢◌, ◌⊎◌, ℕ, ◌≤◌, Bool, true, false, nat_eq, List, [], length, take, Option, Some, None, Contains}
 use Rattle.lv_base.specs.declared.ids.Lit.{Lit}
 use Rattle.lv_base.specs.declared.ids.ClauseId.{ClauseId}
 use Rattle.lv_clauses.specs.Literals.{neg}
@@ -18,6 +18,11 @@ use Rattle.lv_ltms.specs.Labelled.{Labelled, AreLabels, Grows}
 pub record PutsSlot (old new : Slots) (id : ℕ) (slot : Option (List Lit)) : Type 0 where
   pub changed : clause_at new id ≡ slot
   pub others : (other : ℕ) → other ≢ id → clause_at new other ≡ clause_at old other
+
+-- a clause is there that has no literal
+abbrev pub has_no_lits : Option (List Lit) → Bool
+has_no_lits None = false
+has_no_lits (Some c) = nat_eq (length c) 0
 
 -- no clause is without literals
 pub record NoneEmpty (slots : Slots) : Type 0 where
@@ -64,6 +69,11 @@ abbrev pub Meets : List Lit → Lit → Marks → Marks → Meeting → Type 0
 Meets c other old new Holds = is_marked new other ≡ true
 Meets c other old new (Moves l) = Contains c l × (l ≢ other) × (is_marked old (neg l) ≡ false) × (new ≡ old)
 Meets c other old new Fails = (is_marked old (neg other) ≡ true) × ((m : Lit) → Contains c m → m ≢ other → is_marked old (neg m) ≡ true) × (new ≡ old)
+
+-- a literal of the clause that is false only where all are
+pub record IsNear (c : List Lit) (marks : Marks) (l : Lit) : Type 0 where
+  pub member : Contains c l
+  pub all_false : is_marked marks (neg l) ≡ true → (m : Lit) → Contains c m → is_marked marks (neg m) ≡ true
 
 -- two literals of the clause, of which the first is false only where all are, and the second only where all others are
 pub record Picks (c : List Lit) (marks : Marks) (pair : Pair) : Type 0 where

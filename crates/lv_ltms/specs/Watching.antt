@@ -23,8 +23,12 @@ heads_of rows false = rows.of_false
 abbrev pub head_of : Rows → Lit → Option ClauseId
 head_of rows l = slice_index_or (heads_of rows l.sign) l.var.0 None
 
+-- what stands in the place of a clause that watches nothing
+abbrev pub blank : Watch
+blank = record { lit = record { var = record { 0 = 0 }; sign = false }; next = None }
+
 abbrev pub watch_at : Rows → ℕ → Watch
-watch_at rows id = slice_index_or rows.watches id (record { lit = record { var = record { 0 = 0 }; sign = false }; next = None })
+watch_at rows id = slice_index_or rows.watches id blank
 
 -- the literal that the clause of this number watches
 abbrev pub lit_at : Rows → ℕ → Lit

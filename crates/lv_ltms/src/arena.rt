@@ -1,10 +1,10 @@
 //! The arena: the clauses present, each with its number.
 #![tactic(auto)]
 
-ghost use Rattle.std.specs.Prelude.{◌≡◌, ◌<◌, [], length, IfOk, IfSome, IfNone, OnErr, IsSome, Some, None, option_map, is_some};
+ghost use Rattle.std.specs.Prelude.{◌≡◌, ◌<◌, [], length, IfOk, OnErr, IsSome, Some, None, option_map};
 ghost use Rattle.lv_clauses.specs.ClauseMap.{clause_at};
 ghost use Rattle.lv_ltms.specs.Watching.{Fits};
-ghost use Rattle.lv_ltms.specs.Standing.{PutsSlot, NoneEmpty};
+ghost use Rattle.lv_ltms.specs.Standing.{PutsSlot, TellsEmpty, has_no_lits};
 
 use super::watchers::Watchers;
 use lv_base::{ClauseId, Lit};
@@ -92,14 +92,25 @@ impl Arena {
         self.clauses[id.0].lits()
     }
 
-    /// A clause of no literals, None exactly where there is none.
-    pub fn first_empty(&self) -> Option<ClauseId>
-        ensures some { IfSome result (λ id. clause_at self.now id.0 ≡ Some []) }
-        ensures none { IfNone result (NoneEmpty self.now) }
+    /// Whether a clause of this number is present that has no literal.
+    pub fn is_blank(&self, id: ClauseId) -> bool
+        ensures { result ≡ has_no_lits (clause_at self.now id.0) }
     {
-        for (key, clause) in self.clauses.iter() {
-            if clause.lits().is_empty() {
-                return Some(ClauseId(key));
+        match self.find(id) {
+            Some(lits) => lits.len() == 0,
+            None => false,
+        }
+    }
+
+    /// A clause of no literals, None exactly where there is none.
+    pub fn first_blank(&self) -> Option<ClauseId>
+        ensures { TellsEmpty self.now result }
+    {
+        let mut bound = self.clauses.capacity();
+        while bound > 0 {
+            bound -= 1;
+            if self.is_blank(ClauseId(bound)) {
+                return Some(ClauseId(bound));
             }
         }
         None

@@ -2,13 +2,13 @@
 //! Its calls find what follows, and take away what no longer does.
 #![tactic(auto)]
 
-ghost use Rattle.std.specs.Prelude.{◌≡◌, ℕ, ◌<◌, ◌≤◌, ◌||◌, [], length, replicate, is_some, slice_set, vec_capacity, IsTrue, IsSome, IfOk, OnErr, None, Some};
+ghost use Rattle.std.specs.Prelude.{◌≡◌, ℕ, ◌<◌, ◌≤◌, ◌||◌, [], length, replicate, is_some, slice_set, vec_capacity, IsTrue, IsSome, IfOk, IfNone, OnErr, None, Some};
 ghost use Rattle.lv_clauses.specs.Literals.{is_clause};
 ghost use Rattle.lv_clauses.specs.ClauseMap.{clause_at, AreClauses};
 ghost use Rattle.lv_clauses.specs.Marks.{nothing, is_marked};
 ghost use Rattle.lv_ltms.specs.declared.labels.Reason.TheVariants.{Assumed};
 ghost use Rattle.lv_ltms.specs.Labelled.{GoesOn};
-ghost use Rattle.lv_ltms.specs.Standing.{PutsSlot};
+ghost use Rattle.lv_ltms.specs.Standing.{PutsSlot, NoneEmpty, TellsEmpty};
 ghost use Rattle.lv_ltms.specs.Networks.{IsAlive, IsRested, KeepsAll};
 ghost use Rattle.lv_ltms.specs.Watching.{lit_at, IsThreaded, AreMembers};
 ghost use Rattle.lv_ltms.specs.Revising.{IsShaken, AreFixed, AreMarked};
@@ -73,14 +73,13 @@ impl Network {
         ensures room { vec_capacity self.new.fallen ≡ vec_capacity self.old.fallen }
     {
         let id = self.arena.add(lits, &mut self.near, &mut self.far)?;
-        match pick(lits, self.labels.marks()) {
-            Some(pair) => {
-                self.near.put(id, pair.near);
-                self.far.put(id, pair.far);
-                self.progress = settle(id, pair, &mut self.labels, self.progress);
-            }
-            None => self.empty = Some(id),
-        }
+        let Some(pair) = pick(lits, self.labels.marks()) else {
+            self.empty = Some(id);
+            return Ok(id);
+        };
+        self.near.put(id, pair.near);
+        self.far.put(id, pair.far);
+        self.progress = settle(id, pair, &mut self.labels, self.progress);
         Ok(id)
     }
 
@@ -97,9 +96,7 @@ impl Network {
         unwatch(id, &self.arena, &mut self.far);
         self.arena.remove(id);
         self.progress.conflict = None;
-        if self.empty.is_some() {
-            self.empty = self.arena.first_empty();
-        }
+        self.empty = blank_left(self.empty, &self.arena);
     }
 
     /// Marks all that follows, unless a clause is known that is false.
@@ -110,15 +107,16 @@ impl Network {
         ensures goes_on { GoesOn self.old.arena self.old.labels self.new.labels }
         ensures room { vec_capacity self.new.fallen ≡ vec_capacity self.old.fallen }
     {
-        if self.progress.conflict.is_none() {
-            self.progress = propagate(
-                self.progress.done,
-                &self.arena,
-                &mut self.near,
-                &mut self.far,
-                &mut self.labels,
-            );
+        if self.progress.conflict.is_some() {
+            return;
         }
+        self.progress = propagate(
+            self.progress.done,
+            &self.arena,
+            &mut self.near,
+            &mut self.far,
+            &mut self.labels,
+        );
     }
 
     /// Labels anew what the labels from a place of the trail on leave: those that lost their support fall, and what
@@ -187,7 +185,7 @@ fn unwatch(id: ClauseId, arena: &Arena, rows: &mut Watchers)
     ensures threaded { IsThreaded rows.new (slice_set arena.now id.0 None) (length rows.old.of_true) }
     ensures same { (i : ℕ) → lit_at rows.new i ≡ lit_at rows.old i }
 {
-    if arena.get(id).is_empty() {
+    if arena.is_blank(id) {
         return;
     }
     let lit = rows.watch(id).lit;
@@ -200,5 +198,16 @@ fn unwatch(id: ClauseId, arena: &Arena, rows: &mut Watchers)
         if other.0 != id.0 {
             rows.put(other, lit);
         }
+    }
+}
+
+/// A clause without literals, where one was known before some clause went.
+fn blank_left(known: Option<ClauseId>, arena: &Arena) -> Option<ClauseId>
+    requires { IfNone known (NoneEmpty arena.now) }
+    ensures { TellsEmpty arena.now result }
+{
+    match known {
+        Some(_) => arena.first_blank(),
+        None => None,
     }
 }

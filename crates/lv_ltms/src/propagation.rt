@@ -3,14 +3,14 @@
 //! touched. It stops at a clause that is false.
 #![tactic(auto)]
 
-ghost use Rattle.std.specs.Prelude.{◌≡◌, ◌<◌, ◌+◌, [], true, length, not, find, IsSome, IfSome, IfNone, Contains};
+ghost use Rattle.std.specs.Prelude.{◌≡◌, ◌<◌, ◌+◌, ◌||◌, [], true, length, not, find, IsSome, IfSome, IfNone, Contains};
 ghost use Rattle.lv_clauses.specs.Literals.{neg};
 ghost use Rattle.lv_clauses.specs.ClauseMap.{clause_at, AreClauses};
 ghost use Rattle.lv_clauses.specs.Marks.{is_marked};
 ghost use Rattle.lv_ltms.specs.Watching.{lit_at, AreMembers};
 ghost use Rattle.lv_ltms.specs.Labelled.{AreLabels, GoesOn};
 ghost use Rattle.lv_ltms.specs.Trail.{same_lit};
-ghost use Rattle.lv_ltms.specs.Standing.{IsNetwork, IsLooked, IsFalsified, Stops, Meets, Picks, Settles};
+ghost use Rattle.lv_ltms.specs.Standing.{IsNetwork, IsLooked, IsFalsified, Stops, Meets, IsNear, Picks, Settles};
 ghost use Rattle.lv_ltms.specs.Visiting.{Visits, is_open_but, is_open};
 
 use super::arena::Arena;
@@ -182,15 +182,31 @@ pub fn pick(lits: &[Lit], marks: &[Option<bool>]) -> Option<Pair>
     ensures some { IfSome result (λ pair. Picks lits.now marks.now pair) }
     ensures none { IfNone result (lits.now ≡ []) }
 {
-    let Some(first) = lits.first() else {
+    if lits.len() == 0 {
         return None;
-    };
-    let near = find_open(lits, marks).unwrap_or(*first);
-    let far = match find_open_but(lits, near, marks) {
-        Some(lit) => lit,
-        None => other_than(lits, near).unwrap_or(near),
-    };
+    }
+    let near = pick_near(lits, lits[0], marks);
+    let far = pick_far(lits, near, marks);
     Some(Pair { near, far })
+}
+
+/// A literal that isn't false, the first one where all are.
+fn pick_near(lits: &[Lit], first: Lit, marks: &[Option<bool>]) -> Lit
+    requires { Contains lits.now first }
+    ensures { IsNear lits.now marks.now result }
+{
+    find_open(lits, marks).unwrap_or(first)
+}
+
+/// Another literal, if there is one, that isn't false, if there is such a one.
+fn pick_far(lits: &[Lit], near: Lit, marks: &[Option<bool>]) -> Lit
+    requires { IsNear lits.now marks.now near }
+    ensures { Picks lits.now marks.now (record { near = near; far = result }) }
+{
+    if let Some(lit) = find_open_but(lits, near, marks) {
+        return lit;
+    }
+    other_than(lits, near).unwrap_or(near)
 }
 
 /// Marks the first literal that a clause watches where no other is left. Where all are false, the whole trail is to be
@@ -206,14 +222,24 @@ pub fn settle(id: ClauseId, pair: Pair, labels: &mut Labels, progress: Progress)
             conflict: Some(id),
         };
     }
-    let is_last = pair.near == pair.far || is_marked(labels.marks(), negation(pair.far));
-    if is_last && !is_marked(labels.marks(), pair.near) {
-        labels.push(Link {
-            lit: pair.near,
-            reason: Reason::Clause(id),
-        });
+    if is_marked(labels.marks(), pair.near) {
+        return progress;
     }
+    if !is_last(pair, labels.marks()) {
+        return progress;
+    }
+    labels.push(Link {
+        lit: pair.near,
+        reason: Reason::Clause(id),
+    });
     progress
+}
+
+/// Whether a pair has no second literal that isn't false.
+fn is_last(pair: Pair, marks: &[Option<bool>]) -> bool
+    ensures { result ≡ (same_lit pair.near pair.far || is_marked marks.now (neg pair.far)) }
+{
+    pair.near == pair.far || is_marked(marks, negation(pair.far))
 }
 
 /// The first literal that isn't this one.

@@ -2,9 +2,9 @@
 //! clause comes to watch another literal without taking memory.
 #![tactic(auto)]
 
-ghost use Rattle.std.specs.Prelude.{◌≡◌, ◌<◌, [], length, replicate, IfOk, OnOk, None, Some};
+ghost use Rattle.std.specs.Prelude.{◌≡◌, ℕ, ◌<◌, ◌≤◌, [], length, slice_index_or, replicate, IfOk, OnOk, None, Some};
 ghost use Rattle.lv_ltms.specs.Trail.{same_lit};
-ghost use Rattle.lv_ltms.specs.Watching.{head_of, watch_at, lit_at, with_head, with_watch, Fits};
+ghost use Rattle.lv_ltms.specs.Watching.{blank, head_of, watch_at, lit_at, with_head, with_watch, Fits};
 
 use lv_base::{BoolId, ClauseId, Lit};
 use std::alloc::{AllocError, Global};
@@ -59,15 +59,10 @@ impl Watchers {
 
     /// Has a place for the watch of a clause. What is watched stays as it was, also after want of memory.
     pub fn fit(&mut self, id: ClauseId) -> Result<(), AllocError>
-        requires { id.0 < 18446744073709551615 }
         ensures room { OnOk result (id.0 < length self.new.watches) }
         ensures kept { Fits self.old self.new }
     {
-        let len = id.0 + 1;
-        if self.watches.len() < len {
-            self.watches.resize(len, BLANK)?;
-        }
-        Ok(())
+        grow(&mut self.watches, id.0)
     }
 
     /// The first clause that watches a literal.
@@ -141,4 +136,16 @@ impl Watchers {
             self.of_false[index] = first;
         }
     }
+}
+
+/// Has a watch at this number, and puts blank ones before it where there are none.
+fn grow(watches: &mut Vec<Watch>, number: usize) -> Result<(), AllocError>
+    ensures room { OnOk result (number < length watches.new.items) }
+    ensures more { length watches.old.items ≤ length watches.new.items }
+    ensures same { (i : ℕ) → slice_index_or watches.new.items i blank ≡ slice_index_or watches.old.items i blank }
+{
+    while watches.len() <= number {
+        watches.push(BLANK)?;
+    }
+    Ok(())
 }

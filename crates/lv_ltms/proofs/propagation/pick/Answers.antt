@@ -1,0 +1,15 @@
+-- it has no literal, or two are picked
+use Rattle.std.proofs.Common.{◌≡◌, ◌≢◌, false, ◌<◌, ℕ, length, get_or, sym, ◌∙◌, arith}
+use Rattle.std.proofs.lemmas.List.Elements.{Contains-get_or}
+use Rattle.lv_base.specs.declared.ids.Lit.{Lit}
+use Rattle.lv_ltms.proofs.PickLemmas.{empty_of}
+use Rattle.lv_ltms.proofs.propagation.pick.Goals as goal
+
+abbrev blank : Lit
+blank = record { var = record { 0 = 0 }; sign = false }
+
+pub returns-then-len-clause-none : goal.returns-then-len-clause-none
+returns-then-len-clause-none c = empty_of c.args.lits.now (sym c.len.ensures ∙ c.if-len.true)
+
+pub pick_near-near-requires : goal.pick_near-near-requires
+pick_near-near-requires c = Contains-get_or c.args.lits.now 0 blank (omega (arith, c.len.ensures, c.if-len.false))
