@@ -15,15 +15,15 @@ pub returns-then-is_blank-clause-threaded : goal.returns-then-is_blank-clause-th
 returns-then-is_blank-clause-threaded c =
     unwatch_empty c.args.arena.now (length c.args.rows.now.of_true) c.args.rows.now c.args.id.0 (blank_is (clause_at c.args.arena.now c.args.id.0) (sym c.is_blank.ensures ∙ c.if-is_blank.true)) c.requires.threaded
 
-pub watch-lit-requires : goal.watch-lit-requires
-watch-lit-requires c = c.requires.threaded.room c.args.id.0 c.requires.present
+pub watch-requires : goal.watch-requires
+watch-requires c = c.requires.threaded.room c.args.id.0 c.requires.present
 
 pub loop-init : goal.loop-init
 loop-init c =
     let has : HasLit (clause_at c.args.arena.now c.args.id.0) = lit_there (clause_at c.args.arena.now c.args.id.0) c.requires.present (sym c.is_blank.ensures ∙ c.if-is_blank.false) in
     let range : (lit_at c.args.rows.now c.args.id.0).var.0 < length c.args.rows.now.of_true =
     clause_range (length c.args.rows.now.of_true) has.clause (lit_at c.args.rows.now c.args.id.0) (c.requires.clauses c.args.id.0 has.clause has.present) (c.requires.members.member c.args.id.0 has.clause has.lit has.present has.has) in
-    let lit : c.watch-lit.result.lit ≡ lit_at c.args.rows.now c.args.id.0 = ap (λ (w : Watch). w.lit) c.watch-lit.ensures in
+    let lit : c.watch.result.lit ≡ lit_at c.args.rows.now c.args.id.0 = ap (λ (w : Watch). w.lit) c.watch.ensures in
     subst (λ (l : Lit). IsUnwatching (set c.args.arena.now c.args.id.0 None) (length c.args.rows.now.of_true) c.args.rows.now c.args.id l c.room-end.result 0 c.take-at.new.self c.take-at.result) (sym lit)
     (subst (λ (n : ℕ). IsUnwatching (set c.args.arena.now c.args.id.0 None) (length c.args.rows.now.of_true) c.args.rows.now c.args.id (lit_at c.args.rows.now c.args.id.0) n 0 c.take-at.new.self c.take-at.result)
     (sym (c.room-end.ensures ∙ ap (λ (r : Rows). length r.watches) (c.take-at.ensures.taken ∙ ap (λ (l : Lit). with_head c.args.rows.now l None) lit)))
@@ -42,12 +42,19 @@ watch-at-requires c = unwatch_room c.loop.invariant c.in-Some.other c.in-Some.is
 pub put-requires-clause-room : goal.put-requires-clause-room
 put-requires-clause-room c = unwatch_room c.loop.invariant c.in-Some.other c.in-Some.is
 
+pub take-at-requires : goal.take-at-requires
+take-at-requires c =
+    let has : HasLit (clause_at c.args.arena.now c.args.id.0) = lit_there (clause_at c.args.arena.now c.args.id.0) c.requires.present (sym c.is_blank.ensures ∙ c.if-is_blank.false) in
+    let range : (lit_at c.args.rows.now c.args.id.0).var.0 < length c.args.rows.now.of_true =
+    clause_range (length c.args.rows.now.of_true) has.clause (lit_at c.args.rows.now c.args.id.0) (c.requires.clauses c.args.id.0 has.clause has.present) (c.requires.members.member c.args.id.0 has.clause has.lit has.present has.has) in
+    omega (arith, range, ap (λ (w : Watch). w.lit.var.0) c.watch.ensures)
+
 pub put-requires-clause-range : goal.put-requires-clause-range
 put-requires-clause-range c =
     let has : HasLit (clause_at c.args.arena.now c.args.id.0) = lit_there (clause_at c.args.arena.now c.args.id.0) c.requires.present (sym c.is_blank.ensures ∙ c.if-is_blank.false) in
     let range : (lit_at c.args.rows.now c.args.id.0).var.0 < length c.args.rows.now.of_true =
     clause_range (length c.args.rows.now.of_true) has.clause (lit_at c.args.rows.now c.args.id.0) (c.requires.clauses c.args.id.0 has.clause has.present) (c.requires.members.member c.args.id.0 has.clause has.lit has.present has.has) in
-    omega (arith, range, ap (λ (w : Watch). w.lit.var.0) c.watch-lit.ensures, c.loop.invariant.traversing.of_true)
+    omega (arith, range, ap (λ (w : Watch). w.lit.var.0) c.watch.ensures, c.loop.invariant.traversing.of_true)
 
 pub loop-preserved : goal.loop-preserved
 loop-preserved c =
@@ -57,7 +64,7 @@ loop-preserved c =
     elim c.if-other-id.branch [
       | then-other-id w ↦
           unwatch_same (w.rows-is ∙ w.put.ensures) (ap (λ (x : Watch). x.next) c.watch-at.ensures)
-          (unwatch_put c.loop.invariant c.in-Some.other c.in-Some.is w.if-other-id.true (omega (arith, range, ap (λ (x : Watch). x.lit.var.0) c.watch-lit.ensures)))
+          (unwatch_put c.loop.invariant c.in-Some.other c.in-Some.is w.if-other-id.true (omega (arith, range, ap (λ (x : Watch). x.lit.var.0) c.watch.ensures)))
       | else-other-id w ↦
           unwatch_same w.rows-is (ap (λ (x : Watch). x.next) c.watch-at.ensures)
           (unwatch_skip c.loop.invariant c.in-Some.other c.in-Some.is w.if-other-id.false)

@@ -8,8 +8,8 @@ use Rattle.lv_ltms.proofs.propagation.pick.Goals as goal
 abbrev blank : Lit
 blank = record { var = record { 0 = 0 }; sign = false }
 
-pub returns-then-len-clause-none : goal.returns-then-len-clause-none
-returns-then-len-clause-none c = empty_of c.args.lits.now (sym c.len.ensures ∙ c.if-len.true)
+pub returns-then-lits-eq0-clause-none : goal.returns-then-lits-eq0-clause-none
+returns-then-lits-eq0-clause-none c = empty_of c.args.lits.now c.if-lits-eq0.true
 
 pub pick_near-near-requires : goal.pick_near-near-requires
-pick_near-near-requires c = Contains-get_or c.args.lits.now 0 blank (omega (arith, c.len.ensures, c.if-len.false))
+pick_near-near-requires c = Contains-get_or c.args.lits.now 0 blank (omega (arith, c.if-lits-eq0.false))

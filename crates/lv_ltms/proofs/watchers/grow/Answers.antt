@@ -6,5 +6,5 @@ use Rattle.lv_ltms.specs.Watching.{blank}
 use Rattle.lv_ltms.proofs.RowLemmas.{blank_behind}
 use Rattle.lv_ltms.proofs.watchers.grow.Goals as goal
 
-pub loop-init : goal.loop-init
-loop-init c = record { more = omega arith; same = λ i. refl }
+pub loop-watches-init : goal.loop-watches-init
+loop-watches-init c = record { more = omega arith; same = λ i. refl }

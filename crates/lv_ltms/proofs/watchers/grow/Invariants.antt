@@ -3,12 +3,12 @@ use Rattle.std.proofs.Common.{◌≡◌, ℕ, ◌+◌, ◌-◌, ◌≤◌, lengt
 use Rattle.lv_ltms.specs.Watching.{blank}
 use Rattle.lv_ltms.proofs.watchers.grow.Given as goal
 
-abbrev pub invariant-loop : goal.invariant-loop
-invariant-loop l =
+abbrev pub invariant-loop-watches : goal.invariant-loop-watches
+invariant-loop-watches l =
     record {
       more : length l.fn.watches.items ≤ length l.watches.items;
       same : (i : ℕ) → get_or l.watches.items i blank ≡ get_or l.fn.watches.items i blank;
     }
 
-abbrev pub decreases-loop : goal.decreases-loop
-decreases-loop l = l.number + 1 - length l.watches.items
+abbrev pub decreases-loop-watches : goal.decreases-loop-watches
+decreases-loop-watches l = l.number + 1 - length l.watches.items

@@ -45,15 +45,6 @@ revise-requires-clause-marked c =
 pub revise-requires-clause-room : goal.revise-requires-clause-room
 revise-requires-clause-room c = omega (arith, c.self.invariant.room, c.self.invariant.network.are_labels.marks)
 
-pub invariant_of-self-2 : goal.invariant_of-self-2
-invariant_of-self-2 c =
-    kept_of c.revise.new.self c.self.inside.bools (marked c.self.inside.assumed.items c.args.lit) (vec_capacity c.revise.new.self.fallen) c.revise.ensures.rested
-    (c.revise.ensures.marks ∙ c.self.invariant.network.are_labels.marks) (length-set c.self.inside.assumed.items c.args.lit.var.0 (Some c.args.lit.sign) ∙ c.self.invariant.assumed)
-    (subst (λ (a : Slots). IsDerivation a (is_marked (marked c.self.inside.assumed.items c.args.lit)) c.revise.new.self.labels.trail) (sym c.revise.ensures.arena)
-    (subst (λ (m : Marks). IsDerivation c.self.inside.network.arena (is_marked m) c.revise.new.self.labels.trail) c.as_slice.ensures.value c.revise.ensures.derivation))
-    (subst (λ (m : Marks). AreMarked (is_marked m) c.revise.new.self.labels) c.as_slice.ensures.value c.revise.ensures.marked)
-    (omega (arith, c.self.invariant.room, c.revise.ensures.room))
-
 pub propagate-requires : goal.propagate-requires
 propagate-requires c =
     let range : IsTrue (in_range c.self.inside.bools c.args.lit) = subst (λ (s : System). IsTrue (in_range s.bools c.args.lit)) (sym c.self.view_is) c.requires.range in
@@ -67,8 +58,8 @@ propagate-requires c =
       tells_empty = c.self.invariant.tells_empty;
     }
 
-pub invariant_of-self-3 : goal.invariant_of-self-3
-invariant_of-self-3 c =
+pub invariant_of-self-2 : goal.invariant_of-self-2
+invariant_of-self-2 c =
     let range : IsTrue (in_range c.self.inside.bools c.args.lit) = subst (λ (s : System). IsTrue (in_range s.bools c.args.lit)) (sym c.self.view_is) c.requires.range in
     let free : IsTrue (is_free c.self.inside.assumed.items c.args.lit) = subst (λ (s : System). IsTrue (is_free s.assumed c.args.lit)) (sym c.self.view_is) c.requires.free in
     let p : is_marked c.self.inside.network.labels.marks c.args.lit ≡ false = ap (λ (m : Marks). is_marked m c.args.lit) (sym c.marks.ensures) ∙ sym c.if-is_marked.ensures in

@@ -7,12 +7,13 @@ use Rattle.lv_clauses.specs.Marks.{Marks}
 use Rattle.lv_ltms.specs.declared.propagation.Pair.{Pair}
 use Rattle.lv_ltms.specs.Watching.{Rows, with_watch}
 use Rattle.lv_ltms.specs.Standing.{IsNetwork, IsLooked, IsFalsified, TellsEmpty, Picks}
+use Rattle.lv_ltms.proofs.FindLemmas.{on_err}
 use Rattle.lv_ltms.proofs.MeetLemmas.{clause_range, goes_on_self}
 use Rattle.lv_ltms.proofs.NetworkLemmas.{fitted_network, fitted_looked, blank_network, blank_looked, blank_told, kept_falsified, pair_network, pair_looked, pair_falsified, pair_told}
 use Rattle.lv_ltms.proofs.network.Network.add.Goals as goal
 
 pub returns-in_err-id-clause-kept : goal.returns-in_err-id-clause-kept
-returns-in_err-id-clause-kept c = record { arena = c.in_err-id.ensures.kept; labels = refl; progress = refl; empty = refl }
+returns-in_err-id-clause-kept c = on_err c.from_residual.result (record { arena = c.in_err-id.ensures.kept; labels = refl; progress = refl; empty = refl })
 
 pub returns-in_err-id-clause-alive : goal.returns-in_err-id-clause-alive
 returns-in_err-id-clause-alive c =
@@ -57,11 +58,11 @@ put-requires-2-clause-range c =
     subst (λ (m : Marks). Picks c.args.lits.now m c.in-Some.pair) c.marks.ensures (subst (λ (o : Option Pair). IfSome o (Picks c.args.lits.now c.marks.result.now)) c.in-Some.is c.pick.ensures.some) in
     omega (arith, clause_range (length c.args.self.now.labels.marks) c.args.lits.now c.in-Some.pair.far c.requires.clause picks.far, (fitted_network (length c.args.self.now.labels.marks) c.args.self.now.arena c.args.self.now.near c.args.self.now.far c.args.self.now.labels c.args.self.now.progress.done c.requires.alive.network c.requires.alive.looked c.add.new.near c.add.new.far c.in_ok-id.ensures.near c.in_ok-id.ensures.far).far_rows.of_true)
 
-pub settle-requires-clause-labels : goal.settle-requires-clause-labels
-settle-requires-clause-labels c = c.requires.alive.network.are_labels
+pub settle-self-requires-clause-labels : goal.settle-self-requires-clause-labels
+settle-self-requires-clause-labels c = c.requires.alive.network.are_labels
 
-pub settle-requires-clause-range : goal.settle-requires-clause-range
-settle-requires-clause-range c =
+pub settle-self-requires-clause-range : goal.settle-self-requires-clause-range
+settle-self-requires-clause-range c =
     let picks : Picks c.args.lits.now c.args.self.now.labels.marks c.in-Some.pair =
     subst (λ (m : Marks). Picks c.args.lits.now m c.in-Some.pair) c.marks.ensures (subst (λ (o : Option Pair). IfSome o (Picks c.args.lits.now c.marks.result.now)) c.in-Some.is c.pick.ensures.some) in
     clause_range (length c.args.self.now.labels.marks) c.args.lits.now c.in-Some.pair.near c.requires.clause picks.near
@@ -72,19 +73,19 @@ returns-clause-alive c =
     subst (λ (m : Marks). Picks c.args.lits.now m c.in-Some.pair) c.marks.ensures (subst (λ (o : Option Pair). IfSome o (Picks c.args.lits.now c.marks.result.now)) c.in-Some.is c.pick.ensures.some) in
     record {
       network =
-          subst (λ (r : Rows). IsNetwork (length c.settle.new.labels.marks) c.add.new.self r c.put-2.new.self c.settle.new.labels) (sym c.put.ensures)
-          (subst (λ (r : Rows). IsNetwork (length c.settle.new.labels.marks) c.add.new.self (with_watch c.add.new.near c.in_ok-id.id c.in-Some.pair.near) r c.settle.new.labels) (sym c.put-2.ensures)
-          (pair_network (length c.args.self.now.labels.marks) c.args.self.now.arena c.args.self.now.near c.args.self.now.far c.args.self.now.labels c.args.self.now.progress.done c.requires.alive.network c.requires.alive.looked c.add.new.near c.add.new.far c.in_ok-id.ensures.near c.in_ok-id.ensures.far c.add.new.self c.in_ok-id.id c.args.lits.now c.in_ok-id.ensures.vacant c.in_ok-id.ensures.added c.requires.clause c.in_ok-id.ensures.near_room c.in_ok-id.ensures.far_room c.in-Some.pair picks c.settle.new.labels c.args.self.now.progress c.settle.result refl c.settle.ensures));
+          subst (λ (r : Rows). IsNetwork (length c.settle-self.new.labels.marks) c.add.new.self r c.put-2.new.self c.settle-self.new.labels) (sym c.put.ensures)
+          (subst (λ (r : Rows). IsNetwork (length c.settle-self.new.labels.marks) c.add.new.self (with_watch c.add.new.near c.in_ok-id.id c.in-Some.pair.near) r c.settle-self.new.labels) (sym c.put-2.ensures)
+          (pair_network (length c.args.self.now.labels.marks) c.args.self.now.arena c.args.self.now.near c.args.self.now.far c.args.self.now.labels c.args.self.now.progress.done c.requires.alive.network c.requires.alive.looked c.add.new.near c.add.new.far c.in_ok-id.ensures.near c.in_ok-id.ensures.far c.add.new.self c.in_ok-id.id c.args.lits.now c.in_ok-id.ensures.vacant c.in_ok-id.ensures.added c.requires.clause c.in_ok-id.ensures.near_room c.in_ok-id.ensures.far_room c.in-Some.pair picks c.settle-self.new.labels c.args.self.now.progress c.settle-self.result refl c.settle-self.ensures));
       looked =
-          subst (λ (r : Rows). IsLooked c.add.new.self r c.put-2.new.self c.settle.new.labels c.settle.result.done) (sym c.put.ensures)
-          (subst (λ (r : Rows). IsLooked c.add.new.self (with_watch c.add.new.near c.in_ok-id.id c.in-Some.pair.near) r c.settle.new.labels c.settle.result.done) (sym c.put-2.ensures)
-          (pair_looked (length c.args.self.now.labels.marks) c.args.self.now.arena c.args.self.now.near c.args.self.now.far c.args.self.now.labels c.args.self.now.progress.done c.requires.alive.network c.requires.alive.looked c.add.new.near c.add.new.far c.in_ok-id.ensures.near c.in_ok-id.ensures.far c.add.new.self c.in_ok-id.id c.args.lits.now c.in_ok-id.ensures.vacant c.in_ok-id.ensures.added c.requires.clause c.in_ok-id.ensures.near_room c.in_ok-id.ensures.far_room c.in-Some.pair picks c.settle.new.labels c.args.self.now.progress c.settle.result refl c.settle.ensures));
-      falsified = pair_falsified (length c.args.self.now.labels.marks) c.args.self.now.arena c.args.self.now.near c.args.self.now.far c.args.self.now.labels c.args.self.now.progress.done c.requires.alive.network c.requires.alive.looked c.add.new.near c.add.new.far c.in_ok-id.ensures.near c.in_ok-id.ensures.far c.add.new.self c.in_ok-id.id c.args.lits.now c.in_ok-id.ensures.vacant c.in_ok-id.ensures.added c.requires.clause c.in_ok-id.ensures.near_room c.in_ok-id.ensures.far_room c.in-Some.pair picks c.settle.new.labels c.args.self.now.progress c.settle.result refl c.settle.ensures c.requires.alive.falsified;
-      tells_empty = pair_told (length c.args.self.now.labels.marks) c.args.self.now.arena c.args.self.now.near c.args.self.now.far c.args.self.now.labels c.args.self.now.progress.done c.requires.alive.network c.requires.alive.looked c.add.new.near c.add.new.far c.in_ok-id.ensures.near c.in_ok-id.ensures.far c.add.new.self c.in_ok-id.id c.args.lits.now c.in_ok-id.ensures.vacant c.in_ok-id.ensures.added c.requires.clause c.in_ok-id.ensures.near_room c.in_ok-id.ensures.far_room c.in-Some.pair picks c.settle.new.labels c.args.self.now.progress c.settle.result refl c.settle.ensures c.args.self.now.empty c.requires.alive.tells_empty;
+          subst (λ (r : Rows). IsLooked c.add.new.self r c.put-2.new.self c.settle-self.new.labels c.settle-self.result.done) (sym c.put.ensures)
+          (subst (λ (r : Rows). IsLooked c.add.new.self (with_watch c.add.new.near c.in_ok-id.id c.in-Some.pair.near) r c.settle-self.new.labels c.settle-self.result.done) (sym c.put-2.ensures)
+          (pair_looked (length c.args.self.now.labels.marks) c.args.self.now.arena c.args.self.now.near c.args.self.now.far c.args.self.now.labels c.args.self.now.progress.done c.requires.alive.network c.requires.alive.looked c.add.new.near c.add.new.far c.in_ok-id.ensures.near c.in_ok-id.ensures.far c.add.new.self c.in_ok-id.id c.args.lits.now c.in_ok-id.ensures.vacant c.in_ok-id.ensures.added c.requires.clause c.in_ok-id.ensures.near_room c.in_ok-id.ensures.far_room c.in-Some.pair picks c.settle-self.new.labels c.args.self.now.progress c.settle-self.result refl c.settle-self.ensures));
+      falsified = pair_falsified (length c.args.self.now.labels.marks) c.args.self.now.arena c.args.self.now.near c.args.self.now.far c.args.self.now.labels c.args.self.now.progress.done c.requires.alive.network c.requires.alive.looked c.add.new.near c.add.new.far c.in_ok-id.ensures.near c.in_ok-id.ensures.far c.add.new.self c.in_ok-id.id c.args.lits.now c.in_ok-id.ensures.vacant c.in_ok-id.ensures.added c.requires.clause c.in_ok-id.ensures.near_room c.in_ok-id.ensures.far_room c.in-Some.pair picks c.settle-self.new.labels c.args.self.now.progress c.settle-self.result refl c.settle-self.ensures c.requires.alive.falsified;
+      tells_empty = pair_told (length c.args.self.now.labels.marks) c.args.self.now.arena c.args.self.now.near c.args.self.now.far c.args.self.now.labels c.args.self.now.progress.done c.requires.alive.network c.requires.alive.looked c.add.new.near c.add.new.far c.in_ok-id.ensures.near c.in_ok-id.ensures.far c.add.new.self c.in_ok-id.id c.args.lits.now c.in_ok-id.ensures.vacant c.in_ok-id.ensures.added c.requires.clause c.in_ok-id.ensures.near_room c.in_ok-id.ensures.far_room c.in-Some.pair picks c.settle-self.new.labels c.args.self.now.progress c.settle-self.result refl c.settle-self.ensures c.args.self.now.empty c.requires.alive.tells_empty;
     }
 
 pub returns-clause-goes_on : goal.returns-clause-goes_on
 returns-clause-goes_on c =
     let picks : Picks c.args.lits.now c.args.self.now.labels.marks c.in-Some.pair =
     subst (λ (m : Marks). Picks c.args.lits.now m c.in-Some.pair) c.marks.ensures (subst (λ (o : Option Pair). IfSome o (Picks c.args.lits.now c.marks.result.now)) c.in-Some.is c.pick.ensures.some) in
-    record { grows = c.settle.ensures.grows; derivation = λ assumed d. c.settle.ensures.derivation c.add.new.self assumed c.args.lits.now c.in_ok-id.ensures.added.changed picks d }
+    record { grows = c.settle-self.ensures.grows; derivation = λ assumed d. c.settle-self.ensures.derivation c.add.new.self assumed c.args.lits.now c.in_ok-id.ensures.added.changed picks d }

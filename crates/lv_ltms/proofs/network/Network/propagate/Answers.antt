@@ -15,10 +15,10 @@ returns-clause-rested c =
     record {
       alive =
           record {
-            network = network_sized c.args.self.now.arena c.propagate.new.near c.propagate.new.far c.args.self.now.labels c.propagate.new.labels c.propagate.ensures.goes_on c.propagate.ensures.network;
-            looked = c.propagate.ensures.looked;
-            falsified = stops_falsified c.args.self.now.arena c.propagate.new.labels c.propagate.result.done c.propagate.result.conflict c.propagate.ensures.stops;
+            network = network_sized c.args.self.now.arena c.propagate-self.new.near c.propagate-self.new.far c.args.self.now.labels c.propagate-self.new.labels c.propagate-self.ensures.goes_on c.propagate-self.ensures.network;
+            looked = c.propagate-self.ensures.looked;
+            falsified = stops_falsified c.args.self.now.arena c.propagate-self.new.labels c.propagate-self.result.done c.propagate-self.result.conflict c.propagate-self.ensures.stops;
             tells_empty = c.requires.tells_empty;
           };
-      stops = c.propagate.ensures.stops;
+      stops = c.propagate-self.ensures.stops;
     }

@@ -28,8 +28,8 @@ pub unwatch-requires-2-clause-members : goal.unwatch-requires-2-clause-members
 unwatch-requires-2-clause-members c =
     near_members c.args.self.now.arena (lit_at c.args.self.now.far) (lit_at c.args.self.now.near) (true_before c.args.self.now.progress.done c.args.self.now.labels.trail) c.args.self.now.labels.marks [] c.requires.alive.looked.watching.far_side
 
-pub blank_left-requires : goal.blank_left-requires
-blank_left-requires c = tells_left c.args.self.now.arena c.remove.new.self c.args.id.0 c.args.self.now.empty c.remove.ensures c.requires.alive.tells_empty
+pub blank_left-self-requires : goal.blank_left-self-requires
+blank_left-self-requires c = tells_left c.args.self.now.arena c.remove.new.self c.args.id.0 c.args.self.now.empty c.remove.ensures c.requires.alive.tells_empty
 
 pub returns-clause-alive : goal.returns-clause-alive
 returns-clause-alive c =
@@ -41,5 +41,5 @@ returns-clause-alive c =
       looked =
           gone_looked (length c.args.self.now.labels.marks) c.args.self.now.arena c.remove.new.self c.args.self.now.near c.args.self.now.far c.unwatch.new.rows c.unwatch-2.new.rows c.args.self.now.labels c.args.self.now.progress.done c.args.id.0 c.requires.alive.network c.requires.alive.looked c.remove.ensures near_is far_is c.unwatch.ensures.same c.unwatch-2.ensures.same;
       falsified = tt;
-      tells_empty = c.blank_left.ensures;
+      tells_empty = c.blank_left-self.ensures;
     }

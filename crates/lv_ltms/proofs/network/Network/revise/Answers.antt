@@ -49,11 +49,11 @@ lower_all-done-requires-clause-far c =
 pub lower_all-done-requires-clause-agrees : goal.lower_all-done-requires-clause-agrees
 lower_all-done-requires-clause-agrees c = c.support_all.ensures.grows.agrees
 
-pub propagate-requires-clause-network : goal.propagate-requires-clause-network
-propagate-requires-clause-network c = revised_network (is_marked c.args.assumed.now) c.args.self.now.arena (length c.args.self.now.labels.marks) c.args.self.now.near c.args.self.now.far c.args.self.now.labels c.sweep-looked.new.labels c.support_all.new.labels c.sweep-looked.new.fallen.items c.args.self.now.progress.done c.sweep-looked.result c.lower_all-done.result c.requires.alive.network c.requires.alive.looked c.sweep-looked.ensures.swept c.sweep-looked.ensures.labels c.sweep-looked.ensures.looked c.sweep-looked.ensures.within c.support_all.ensures.grows c.lower_all-done.ensures.within
+pub propagate-self-requires-clause-network : goal.propagate-self-requires-clause-network
+propagate-self-requires-clause-network c = revised_network (is_marked c.args.assumed.now) c.args.self.now.arena (length c.args.self.now.labels.marks) c.args.self.now.near c.args.self.now.far c.args.self.now.labels c.sweep-looked.new.labels c.support_all.new.labels c.sweep-looked.new.fallen.items c.args.self.now.progress.done c.sweep-looked.result c.lower_all-done.result c.requires.alive.network c.requires.alive.looked c.sweep-looked.ensures.swept c.sweep-looked.ensures.labels c.sweep-looked.ensures.looked c.sweep-looked.ensures.within c.support_all.ensures.grows c.lower_all-done.ensures.within
 
-pub propagate-requires-clause-looked : goal.propagate-requires-clause-looked
-propagate-requires-clause-looked c =
+pub propagate-self-requires-clause-looked : goal.propagate-self-requires-clause-looked
+propagate-self-requires-clause-looked c =
     revised_looked (is_marked c.args.assumed.now) c.args.self.now.arena (length c.args.self.now.labels.marks) c.args.self.now.near c.args.self.now.far c.args.self.now.labels c.sweep-looked.new.labels c.support_all.new.labels c.sweep-looked.new.fallen.items c.args.self.now.progress.done c.sweep-looked.result c.lower_all-done.result c.requires.alive.network c.requires.alive.looked c.sweep-looked.ensures.swept c.sweep-looked.ensures.labels c.sweep-looked.ensures.looked c.sweep-looked.ensures.within c.support_all.ensures.grows c.lower_all-done.ensures.within
     (c.support_all.ensures.settled c.args.self.now.arena (length c.args.self.now.labels.marks) c.requires.alive.network.near_rows
     (subst (AreSettled c.args.self.now.arena (lit_at c.args.self.now.near) (lit_at c.args.self.now.far) c.sweep-looked.new.labels.marks) (sym c.as_slice.ensures.value) (revised_settled (is_marked c.args.assumed.now) c.args.self.now.arena (length c.args.self.now.labels.marks) c.args.self.now.near c.args.self.now.far c.args.self.now.labels c.sweep-looked.new.labels c.support_all.new.labels c.sweep-looked.new.fallen.items c.args.self.now.progress.done c.sweep-looked.result c.lower_all-done.result c.requires.alive.network c.requires.alive.looked c.sweep-looked.ensures.swept c.sweep-looked.ensures.labels c.sweep-looked.ensures.looked c.sweep-looked.ensures.within c.support_all.ensures.grows c.lower_all-done.ensures.within)))
@@ -65,29 +65,29 @@ returns-clause-rested c =
     record {
       alive =
           record {
-            network = network_sized c.args.self.now.arena c.propagate.new.near c.propagate.new.far c.support_all.new.labels c.propagate.new.labels c.propagate.ensures.goes_on c.propagate.ensures.network;
-            looked = c.propagate.ensures.looked;
-            falsified = stops_falsified c.args.self.now.arena c.propagate.new.labels c.propagate.result.done c.propagate.result.conflict c.propagate.ensures.stops;
+            network = network_sized c.args.self.now.arena c.propagate-self.new.near c.propagate-self.new.far c.support_all.new.labels c.propagate-self.new.labels c.propagate-self.ensures.goes_on c.propagate-self.ensures.network;
+            looked = c.propagate-self.ensures.looked;
+            falsified = stops_falsified c.args.self.now.arena c.propagate-self.new.labels c.propagate-self.result.done c.propagate-self.result.conflict c.propagate-self.ensures.stops;
             tells_empty = c.requires.alive.tells_empty;
           };
-      stops = c.propagate.ensures.stops;
+      stops = c.propagate-self.ensures.stops;
     }
 
 pub returns-clause-marks : goal.returns-clause-marks
-returns-clause-marks c = c.propagate.ensures.goes_on.grows.marks ∙ c.support_all.ensures.grows.marks ∙ c.sweep-looked.ensures.labels.marks
+returns-clause-marks c = c.propagate-self.ensures.goes_on.grows.marks ∙ c.support_all.ensures.grows.marks ∙ c.sweep-looked.ensures.labels.marks
 
 pub returns-clause-derivation : goal.returns-clause-derivation
 returns-clause-derivation c =
-    c.propagate.ensures.goes_on.derivation (is_marked c.args.assumed.now)
+    c.propagate-self.ensures.goes_on.derivation (is_marked c.args.assumed.now)
     (c.support_all.ensures.derivation c.args.self.now.arena (length c.args.self.now.labels.marks) (true_before c.args.self.now.progress.done c.args.self.now.labels.trail) c.sweep-looked.new.labels.marks c.requires.alive.network.near_rows
     (subst (AreGuarded c.args.self.now.arena (lit_at c.args.self.now.near) (lit_at c.args.self.now.far) (true_before c.args.self.now.progress.done c.args.self.now.labels.trail) c.sweep-looked.new.labels.marks) (sym c.as_slice.ensures.value) (revised_guarded (is_marked c.args.assumed.now) c.args.self.now.arena (length c.args.self.now.labels.marks) c.args.self.now.near c.args.self.now.far c.args.self.now.labels c.sweep-looked.new.labels c.support_all.new.labels c.sweep-looked.new.fallen.items c.args.self.now.progress.done c.sweep-looked.result c.lower_all-done.result c.requires.alive.network c.requires.alive.looked c.sweep-looked.ensures.swept c.sweep-looked.ensures.labels c.sweep-looked.ensures.looked c.sweep-looked.ensures.within c.support_all.ensures.grows c.lower_all-done.ensures.within))
     c.sweep-looked.ensures.swept.derivation)
 
 pub returns-clause-marked : goal.returns-clause-marked
-returns-clause-marked c = record { marked = λ l a. c.propagate.ensures.goes_on.grows.kept l (c.support_all.ensures.marked.marked l a) }
+returns-clause-marked c = record { marked = λ l a. c.propagate-self.ensures.goes_on.grows.kept l (c.support_all.ensures.marked.marked l a) }
 
 pub returns-clause-stays : goal.returns-clause-stays
 returns-clause-stays c =
     λ l without.
-    stays_grown c.args.self.now.arena c.args.self.now.labels.trail l c.args.self.now.labels.trail c.support_all.new.labels c.propagate.new.labels c.propagate.ensures.goes_on.grows
+    stays_grown c.args.self.now.arena c.args.self.now.labels.trail l c.args.self.now.labels.trail c.support_all.new.labels c.propagate-self.new.labels c.propagate-self.ensures.goes_on.grows
     (stays_grown c.args.self.now.arena c.args.self.now.labels.trail l c.args.self.now.labels.trail c.sweep-looked.new.labels c.support_all.new.labels c.support_all.ensures.grows (c.sweep-looked.ensures.stays l without))
