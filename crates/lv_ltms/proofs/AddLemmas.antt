@@ -1,5 +1,5 @@
 -- A clause more or less, and the literals that it watches.
-use Rattle.std.proofs.Common.{◌≡◌, ◌≢◌, ◌⊎◌, ℕ, ◌+◌, ◌<◌, ◌≤◌, Bool, true, false, nat_eq, List, [], ◌∷◌, length, set, get_or, cond, Option, Some, None, IsSome, IsTrue, IfSome, refl, sym, ap, subst, ◌∙◌, arith, inl, inr, Contains}
+use Rattle.std.proofs.Common.{◌≡◌, ◌≢◌, ◌⊎◌, ℕ, ◌+◌, ◌<◌, ◌≤◌, Bool, true, false, List, [], ◌∷◌, length, set, get_or, cond, Option, Some, None, IsSome, IsTrue, IfSome, refl, sym, ap, subst, ◌∙◌, arith, inl, inr, Contains}
 use Rattle.std.proofs.lemmas.Bool.{cases_eq, cases_lt}
 use Rattle.std.proofs.lemmas.List.{length-set, get_or-set_same, get_or-set_other, get_or_past}
 use Rattle.lv_base.specs.declared.ids.Lit.{Lit}
@@ -13,11 +13,10 @@ use Rattle.lv_ltms.specs.declared.propagation.Pair.{Pair}
 use Rattle.lv_ltms.specs.declared.propagation.Progress.{Progress}
 use Rattle.lv_ltms.specs.Trail.{same_lit}
 use Rattle.lv_ltms.specs.Labelled.{Labelled, AreLabels, Grows}
-use Rattle.lv_ltms.specs.Watching.{Rows, heads_of, head_of, watch_at, lit_at, next_at, with_watch, times_in, Fits, IsRow, watch_count, IsThreaded, IsGuarded, AreGuarded, AreSettled, IsWatching, AreMembers}
-use Rattle.lv_ltms.specs.Standing.{PutsSlot, NoneEmpty, TellsEmpty, IsNetwork, IsLooked, IsFalsified, Picks, Settles, true_before}
-use Rattle.lv_ltms.proofs.BoolLemmas.{eq_is, eq_isnt}
+use Rattle.lv_ltms.specs.Watching.{Rows, heads_of, head_of, lit_at, next_at, with_watch, times_in, Fits, IsRow, watch_count, IsThreaded, IsGuarded, AreGuarded, IsWatching}
+use Rattle.lv_ltms.specs.Standing.{PutsSlot, NoneEmpty, TellsEmpty, IsFalsified, Picks, Settles, true_before}
 use Rattle.lv_ltms.proofs.CountLemmas.{times_in-none, times_same, times_other, same_lit-self}
-use Rattle.lv_ltms.proofs.FindLemmas.{some_is, is_there}
+use Rattle.lv_ltms.proofs.FindLemmas.{some_is}
 use Rattle.lv_ltms.proofs.LabelLemmas.{before_has, has_not_free, neg_not_free, Grows-len, before_kept}
 use Rattle.lv_ltms.proofs.RowLemmas.{row_same, put_lit_same, put_lit_other, put_next_same, put_next_other, put_head_same, put_head_other, put_size, written, head_of_true, head_of_false}
 use Rattle.lv_ltms.proofs.TraverseLemmas.{not_same, count_yes, count_other, heads_within}
@@ -91,11 +90,10 @@ module _ (rows : Rows) (slots after : Slots) (bools : ℕ) (id : ClauseId) (is :
 
     row_at : (l : Lit) → (k ≡ l) ⊎ (k ≢ l) → IsRow (next_at (with_watch rows id k)) (head_of (with_watch rows id k) l) (cond (same_lit k l) (id ∷ is.list l) (is.list l))
     row_at l (inl e) =
-        subst (IsRow (next_at (with_watch rows id k)) (head_of (with_watch rows id k) l)) (sym (list_here l e))
-        (
+        subst (IsRow (next_at (with_watch rows id k)) (head_of (with_watch rows id k) l)) (sym (list_here l e)) (
           ap (head_of (with_watch rows id k)) (sym e) ∙ put_head_same rows id k room (heads_within rows slots bools is k range),
           subst (λ (s : Option ClauseId). IsRow (next_at (with_watch rows id k)) s (is.list l)) (sym (put_next_same rows id k room ∙ ap (head_of rows) e))
-          (row_same (next_at rows) (next_at (with_watch rows id k)) (head_of rows l) (is.list l) (frame l) (is.row l)),
+              (row_same (next_at rows) (next_at (with_watch rows id k)) (head_of rows l) (is.list l) (frame l) (is.row l)),
         )
     row_at l (inr differs) =
         subst (IsRow (next_at (with_watch rows id k)) (head_of (with_watch rows id k) l)) (sym (list_other l differs))
@@ -213,24 +211,22 @@ module _ (slots after : Slots) (id : ClauseId) (c : List Lit) (pair : Pair) (old
       by_near : (b : Bool) → is_marked old.marks (neg pair.near) ≡ b → (is.done ≤ length new.trail) × IsWatching after near far (true_before is.done new.trail) (true_before is.done new.trail) new.marks []
       by_near true e =
           let zero_done : is.done ≡ 0 = ap (λ (p : Progress). p.done) (settles.closed e).0 in
-          let nothing : (l : Lit) → true_before is.done new.trail l ≡ true → ⊥ = λ l f. cc (ap (λ (n : ℕ). true_before n new.trail l) (sym zero_done) ∙ f) in
-          (
+          let nothing : (l : Lit) → true_before is.done new.trail l ≡ true → ⊥ = λ l f. cc (ap (λ (n : ℕ). true_before n new.trail l) (sym zero_done) ∙ f) in (
             omega (arith, zero_done),
             over_watching slots after id.0 old_near old_far near far (true_before was.done old.trail) (true_before is.done new.trail) old new puts.others same_near same_far (λ l f. absurd (nothing l f)) settles.grows watching
-            (guard_with (true_before is.done new.trail) (λ f. absurd (nothing (neg pair.near) f))) (guard_back (true_before is.done new.trail) (λ f. absurd (nothing (neg pair.far) f)))
-            (λ d m at h g. ap (is_free new.marks) near_is ∙ neg_not_free new.marks pair.near (settles.grows.kept (neg pair.near) e)),
+                (guard_with (true_before is.done new.trail) (λ f. absurd (nothing (neg pair.near) f))) (guard_back (true_before is.done new.trail) (λ f. absurd (nothing (neg pair.far) f)))
+                (λ d m at h g. ap (is_free new.marks) near_is ∙ neg_not_free new.marks pair.near (settles.grows.kept (neg pair.near) e)),
           )
       by_near false e =
           let same_done : is.done ≡ was.done = ap (λ (p : Progress). p.done) (settles.left_open e) in
           let within : is.done ≤ length old.trail = omega (arith, same_done, place) in
           let fewer : (l : Lit) → true_before is.done new.trail l ≡ true → true_before was.done old.trail l ≡ true =
-          λ l f. sym (before_kept old new was.done settles.grows place l) ∙ ap (λ (n : ℕ). true_before n new.trail l) (sym same_done) ∙ f in
-          (
+          λ l f. sym (before_kept old new was.done settles.grows place l) ∙ ap (λ (n : ℕ). true_before n new.trail l) (sym same_done) ∙ f in (
             omega (arith, within, Grows-len old new settles.grows),
             over_watching slots after id.0 old_near old_far near far (true_before was.done old.trail) (true_before is.done new.trail) old new puts.others same_near same_far fewer settles.grows watching
-            (guard_with (true_before is.done new.trail) (λ f. absurd (cc (front_true is.done within (neg pair.near) f, e))))
-            (guard_back (true_before is.done new.trail) (λ f. settles.last e (inr (front_true is.done within (neg pair.far) f))))
-            (λ d m at h g. ap (is_free new.marks) near_is ∙ has_not_free new.marks pair.near (settles.last e (inl (sym near_is ∙ g ∙ far_is)))),
+                (guard_with (true_before is.done new.trail) (λ f. absurd (cc (front_true is.done within (neg pair.near) f, e))))
+                (guard_back (true_before is.done new.trail) (λ f. settles.last e (inr (front_true is.done within (neg pair.far) f))))
+                (λ d m at h g. ap (is_free new.marks) near_is ∙ has_not_free new.marks pair.near (settles.last e (inl (sym near_is ∙ g ∙ far_is)))),
           )
 
   -- a clause known as false still is, or the one that came is

@@ -1,5 +1,5 @@
 -- One link more of the trail is looked at: the clauses that watch its negation are gone along on both sides.
-use Rattle.std.proofs.Common.{◌≡◌, ◌⊎◌, ℕ, ◌+◌, ◌<◌, ◌≤◌, Bool, true, false, ◌||◌, List, [], length, take, get_or, Option, Some, None, refl, sym, ap, subst, ◌∙◌, arith, inl, inr, Contains}
+use Rattle.std.proofs.Common.{◌≡◌, ℕ, ◌+◌, ◌<◌, ◌≤◌, Bool, true, false, ◌||◌, List, [], length, get_or, Option, Some, None, refl, sym, ap, ◌∙◌, arith, inl, inr, Contains}
 use Rattle.lv_base.specs.declared.ids.Lit.{Lit}
 use Rattle.lv_base.specs.declared.ids.ClauseId.{ClauseId}
 use Rattle.lv_clauses.specs.Literals.{neg}
@@ -7,9 +7,9 @@ use Rattle.lv_clauses.specs.ClauseMap.{Slots, clause_at}
 use Rattle.lv_clauses.specs.Marks.{Marks, is_marked}
 use Rattle.lv_clauses.proofs.LiteralLemmas.{neg_neg}
 use Rattle.lv_ltms.specs.declared.labels.Link.{Link}
-use Rattle.lv_ltms.specs.Trail.{same_lit, trail_has}
-use Rattle.lv_ltms.specs.Labelled.{Labelled, AreLabels, Grows, GoesOn}
-use Rattle.lv_ltms.specs.Watching.{Rows, lit_at, has_lit, IsGuarded, AreGuarded, AreSettled, IsWatching, AreMembers}
+use Rattle.lv_ltms.specs.Trail.{same_lit}
+use Rattle.lv_ltms.specs.Labelled.{Labelled, Grows, GoesOn}
+use Rattle.lv_ltms.specs.Watching.{Rows, lit_at, IsGuarded, AreGuarded, IsWatching, AreMembers}
 use Rattle.lv_ltms.specs.Standing.{IsNetwork, IsLooked, AreTrue, true_before}
 use Rattle.lv_ltms.specs.Visiting.{Visits}
 use Rattle.lv_ltms.proofs.CountLemmas.{HasMore, same_lit-self}

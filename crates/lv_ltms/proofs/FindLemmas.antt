@@ -1,11 +1,11 @@
 -- What is found in a list, and what a clause that is there has.
-use Rattle.std.proofs.Common.{◌≡◌, ◌≢◌, Bool, true, false, not, ◌&&◌, List, [], ◌∷◌, cond, find, Option, Some, None, IsSome, IfSome, IfNone, Result, Ok, Err, OnErr, refl, sym, ap, subst, ◌∙◌, inl, inr, Contains}
+use Rattle.std.proofs.Common.{◌≡◌, ◌≢◌, Bool, true, false, not, List, [], ◌∷◌, cond, find, Option, Some, None, IsSome, IfSome, IfNone, Result, Ok, Err, OnErr, refl, sym, ap, subst, ◌∙◌, inl, inr, Contains}
 use Rattle.lv_base.specs.declared.ids.Lit.{Lit}
 use Rattle.lv_clauses.specs.Literals.{neg}
 use Rattle.lv_clauses.specs.Marks.{Marks, is_marked}
 use Rattle.lv_clauses.proofs.LiteralLemmas.{Contains-head, Contains-tail, Contains-cases, Contains-nil, and_left, and_right, and_both}
 use Rattle.lv_ltms.specs.Trail.{same_lit}
-use Rattle.lv_ltms.specs.Visiting.{is_open, is_open_but}
+use Rattle.lv_ltms.specs.Visiting.{is_open_but}
 use Rattle.lv_ltms.proofs.BoolLemmas.{from_not, not_true}
 use Rattle.lv_ltms.proofs.CountLemmas.{same_lit-self}
 use Rattle.lv_ltms.proofs.TrailLemmas.{same_lit-equal}

@@ -1,5 +1,5 @@
 -- From a system to its network, and back.
-use Rattle.std.proofs.Common.{◌≡◌, ℕ, ◌<◌, ◌≤◌, Bool, true, false, nat_lt, List, [], length, get_or, replicate, count_by, is_none, suc, zero, Option, Some, None, IsTrue, IsSome, IfSome, refl, sym, ap, subst, ◌∙◌, arith, inl, inr, Contains}
+use Rattle.std.proofs.Common.{◌≡◌, ℕ, ◌<◌, ◌≤◌, Bool, true, false, nat_lt, List, [], length, get_or, replicate, count_by, is_none, suc, zero, Option, Some, None, IsTrue, IsSome, IfSome, refl, sym, ap, subst, ◌∙◌, arith, inl, inr}
 use Rattle.std.proofs.lemmas.Bool.Decides.{nat_tests}
 use Rattle.std.proofs.lemmas.List.{length-set, length-replicate}
 use Rattle.lv_base.specs.declared.ids.Lit.{Lit}
@@ -16,7 +16,7 @@ use Rattle.lv_ltms.specs.declared.network.Network.{Network}
 use Rattle.lv_ltms.specs.Trail.{IsDerivation, IsReason, start, next}
 use Rattle.lv_ltms.specs.Labelled.{Labelled, Grows, GoesOn, with_link}
 use Rattle.lv_ltms.specs.Watching.{Rows, lit_at, heads_of, IsThreaded}
-use Rattle.lv_ltms.specs.Standing.{IsNetwork, IsLooked, IsFalsified, Stops, TellsEmpty, PutsSlot, true_before}
+use Rattle.lv_ltms.specs.Standing.{IsNetwork, IsLooked, IsFalsified, PutsSlot, true_before}
 use Rattle.lv_ltms.specs.Networks.{IsAlive, IsRested}
 use Rattle.lv_ltms.specs.Revising.{AreMarked, AreFixed}
 use Rattle.lv_ltms.specs.System.{System, IsKept}

@@ -1,10 +1,10 @@
-mod BoolLemmas
-mod TrailLemmas
-mod CountLemmas
-mod LabelLemmas
+pub mod BoolLemmas
+pub mod TrailLemmas
+pub mod CountLemmas
+pub mod LabelLemmas
 mod RowLemmas
 mod TraverseLemmas
-mod FindLemmas
+pub mod FindLemmas
 mod MeetLemmas
 mod VisitLemmas
 mod FalsifyLemmas

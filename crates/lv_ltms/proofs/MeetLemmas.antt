@@ -1,11 +1,11 @@
 -- What a clause comes to of which one watched literal is false.
-use Rattle.std.proofs.Common.{◌≡◌, ◌≢◌, ℕ, ◌<◌, Bool, true, false, nat_lt, List, length, Some, IsTrue, refl, sym, ap, subst, ◌∙◌, arith, Contains}
+use Rattle.std.proofs.Common.{◌≡◌, ◌≢◌, ℕ, ◌<◌, true, false, nat_lt, List, length, Some, IsTrue, refl, sym, subst, ◌∙◌, arith, Contains}
 use Rattle.std.specs.List.{list_all}
 use Rattle.std.proofs.lemmas.Bool.Decides.{nat_tests}
 use Rattle.lv_base.specs.declared.ids.Lit.{Lit}
 use Rattle.lv_base.specs.declared.ids.ClauseId.{ClauseId}
 use Rattle.lv_clauses.specs.Literals.{neg, in_range, distinct, is_clause}
-use Rattle.lv_clauses.specs.ClauseMap.{Slots, clause_at, AreClauses}
+use Rattle.lv_clauses.specs.ClauseMap.{Slots, clause_at}
 use Rattle.lv_clauses.specs.Marks.{is_marked}
 use Rattle.lv_clauses.proofs.LiteralLemmas.{all_member, and_left}
 use Rattle.lv_ltms.specs.declared.labels.Link.{Link}

@@ -1,16 +1,16 @@
 -- A network with a clause more or less.
-use Rattle.std.proofs.Common.{◌≡◌, ◌≢◌, ℕ, ◌<◌, ◌≤◌, List, [], length, set, Option, Some, None, IsSome, IsTrue, IfSome, refl, sym, ap, subst, ◌∙◌, arith, Contains}
+use Rattle.std.proofs.Common.{◌≡◌, ℕ, ◌<◌, ◌≤◌, List, [], length, set, Option, Some, None, IsTrue, IfSome, refl, sym, ap, subst, ◌∙◌, Contains}
 use Rattle.lv_base.specs.declared.ids.Lit.{Lit}
 use Rattle.lv_base.specs.declared.ids.ClauseId.{ClauseId}
 use Rattle.lv_clauses.specs.Literals.{is_clause}
-use Rattle.lv_clauses.specs.ClauseMap.{Slots, clause_at, AreClauses}
+use Rattle.lv_clauses.specs.ClauseMap.{Slots, clause_at}
 use Rattle.lv_clauses.proofs.LiteralLemmas.{Contains-nil}
 use Rattle.lv_ltms.specs.declared.watchers.Watch.{Watch}
 use Rattle.lv_ltms.specs.declared.propagation.Pair.{Pair}
 use Rattle.lv_ltms.specs.declared.propagation.Progress.{Progress}
-use Rattle.lv_ltms.specs.Labelled.{Labelled, AreLabels, Grows}
+use Rattle.lv_ltms.specs.Labelled.{Labelled}
 use Rattle.lv_ltms.specs.Watching.{Rows, lit_at, with_watch, Fits, IsThreaded, IsWatching}
-use Rattle.lv_ltms.specs.Standing.{PutsSlot, NoneEmpty, TellsEmpty, IsNetwork, IsLooked, IsFalsified, Picks, Settles, true_before}
+use Rattle.lv_ltms.specs.Standing.{PutsSlot, TellsEmpty, IsNetwork, IsLooked, IsFalsified, Picks, Settles, true_before}
 use Rattle.lv_ltms.proofs.AddLemmas.{threaded_same, threaded_fits, threaded_empty, threaded_added, added_clauses, over_watching, added_watching, added_falsified, tells_added, gone_is, gone_set, gone_watching}
 use Rattle.lv_ltms.proofs.FindLemmas.{some_is}
 use Rattle.lv_ltms.proofs.LabelLemmas.{Grows-self}

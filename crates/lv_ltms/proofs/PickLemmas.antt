@@ -3,9 +3,8 @@ use Rattle.std.proofs.Common.{◌≡◌, ◌≢◌, ◌⊎◌, ◌<◌, Bool, tr
 use Rattle.lv_base.specs.declared.ids.Lit.{Lit}
 use Rattle.lv_base.specs.declared.ids.ClauseId.{ClauseId}
 use Rattle.lv_clauses.specs.Literals.{neg}
-use Rattle.lv_clauses.specs.ClauseMap.{Slots, clause_at}
 use Rattle.lv_clauses.specs.Marks.{Marks, is_marked}
-use Rattle.lv_clauses.proofs.LiteralLemmas.{lit_cases, or_right}
+use Rattle.lv_clauses.proofs.LiteralLemmas.{lit_cases}
 use Rattle.lv_ltms.specs.declared.labels.Link.{Link}
 use Rattle.lv_ltms.specs.declared.labels.Reason.TheVariants.{Clause}
 use Rattle.lv_ltms.specs.declared.propagation.Pair.{Pair}
@@ -14,11 +13,11 @@ use Rattle.lv_ltms.specs.Trail.{same_lit, next}
 use Rattle.lv_ltms.specs.Labelled.{Labelled, AreLabels, with_link}
 use Rattle.lv_ltms.specs.Standing.{IsNear, Picks, Settles}
 use Rattle.lv_ltms.specs.Visiting.{is_open, is_open_but}
-use Rattle.lv_ltms.proofs.BoolLemmas.{from_not, or_left, or_parts}
+use Rattle.lv_ltms.proofs.BoolLemmas.{from_not, or_parts}
 use Rattle.lv_ltms.proofs.CountLemmas.{same_lit-self}
 use Rattle.lv_ltms.proofs.TrailLemmas.{same_lit-equal, or_cases}
 use Rattle.lv_ltms.proofs.LabelLemmas.{Grows-push, Grows-self, pushed_has, room_left}
-use Rattle.lv_ltms.proofs.FindLemmas.{found_passes, none_passes, some_is, open_found, none_open}
+use Rattle.lv_ltms.proofs.FindLemmas.{found_passes, none_passes, open_found, none_open}
 
 -- the first literal picked isn't false, or all are
 pub near_picked : (c : List Lit) (marks : Marks) (first near : Lit) → Contains c first → near ≡ unwrap_or (find (is_open marks) c) first → IsNear c marks near

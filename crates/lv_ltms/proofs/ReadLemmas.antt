@@ -1,5 +1,5 @@
 -- Going along the list of a literal without a change to it.
-use Rattle.std.proofs.Common.{◌≡◌, ◌⊎◌, ℕ, ◌+◌, ◌<◌, ◌≤◌, true, false, List, [], ◌∷◌, length, take, get_or, position, unwrap_or, Option, Some, None, refl, sym, ap, subst, ◌∙◌, arith, inl, inr, Contains}
+use Rattle.std.proofs.Common.{◌≡◌, ◌⊎◌, ℕ, ◌+◌, ◌<◌, ◌≤◌, true, false, List, [], length, take, get_or, position, unwrap_or, Option, Some, None, refl, sym, ap, subst, ◌∙◌, arith, inl, inr, Contains}
 use Rattle.std.proofs.lemmas.List.Folds.{list_any_more}
 use Rattle.lv_base.specs.declared.ids.Lit.{Lit}
 use Rattle.lv_base.specs.declared.ids.ClauseId.{ClauseId}
@@ -7,7 +7,7 @@ use Rattle.lv_clauses.specs.Literals.{neg, same_var}
 use Rattle.lv_clauses.specs.Marks.{is_marked}
 use Rattle.lv_clauses.proofs.LiteralLemmas.{Contains-head, Contains-tail, Contains-cases, Contains-nil, any_member}
 use Rattle.lv_ltms.specs.declared.labels.Link.{Link}
-use Rattle.lv_ltms.specs.Trail.{same_lit, trail_has}
+use Rattle.lv_ltms.specs.Trail.{same_lit}
 use Rattle.lv_ltms.specs.Labelled.{Labelled, Agrees}
 use Rattle.lv_ltms.specs.Watching.{Rows, head_of, next_at, lit_at, has_lit, IsRow, AreRows, InRow, AllInRow}
 use Rattle.lv_ltms.specs.Standing.{true_before}

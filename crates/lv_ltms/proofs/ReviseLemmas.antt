@@ -1,12 +1,11 @@
 -- What stands of the lists of watched literals after labels were taken away.
-use Rattle.std.proofs.Common.{◌≡◌, ◌⊎◌, ℕ, ◌≤◌, Bool, true, false, List, [], length, Option, Some, None, IfSome, refl, sym, ap, subst, ◌∙◌, arith, inl, inr, Contains}
+use Rattle.std.proofs.Common.{◌≡◌, ℕ, ◌≤◌, Bool, true, false, List, [], length, Some, refl, sym, subst, ◌∙◌, arith, Contains}
 use Rattle.lv_base.specs.declared.ids.Lit.{Lit}
-use Rattle.lv_base.specs.declared.ids.ClauseId.{ClauseId}
 use Rattle.lv_clauses.specs.Literals.{neg}
 use Rattle.lv_clauses.specs.ClauseMap.{Slots, clause_at}
 use Rattle.lv_clauses.specs.Marks.{Marks, is_marked}
 use Rattle.lv_ltms.specs.Labelled.{Labelled, AreLabels, Grows}
-use Rattle.lv_ltms.specs.Watching.{Rows, lit_at, has_lit, IsThreaded, IsGuarded, AreGuarded, AreSettled, IsWatching, AllInRow}
+use Rattle.lv_ltms.specs.Watching.{Rows, lit_at, has_lit, IsThreaded, IsGuarded, AreGuarded, AreSettled, AllInRow}
 use Rattle.lv_ltms.specs.Standing.{IsNetwork, IsLooked, true_before}
 use Rattle.lv_ltms.specs.Revising.{IsSwept}
 use Rattle.lv_ltms.proofs.LabelLemmas.{Grows-len, before_kept}

@@ -1,17 +1,14 @@
 -- Lists that run through the watches: what is written to one clause's watch leaves all lists as they are that it isn't in.
-use Rattle.std.proofs.Common.{◌≡◌, ◌≢◌, ◌⊎◌, ℕ, ◌+◌, ◌-◌, ◌<◌, ◌≤◌, suc, zero, Bool, true, false, not, nat_eq, List, [], ◌∷◌, ◌++◌, length, filter, cond, get_or, set, count_by, Option, Some, None, refl, sym, ap, subst, ◌∙◌, arith, inl, inr, Contains}
-use Rattle.std.proofs.lemmas.Bool.{cases_eq, cases_lt}
+use Rattle.std.proofs.Common.{◌≡◌, ◌≢◌, ◌⊎◌, ℕ, ◌+◌, ◌<◌, ◌≤◌, suc, zero, Bool, true, false, not, nat_eq, List, [], ◌∷◌, ◌++◌, length, filter, cond, get_or, set, Option, Some, None, refl, sym, ap, subst, ◌∙◌, arith, inl, inr, Contains}
+use Rattle.std.proofs.lemmas.Bool.{cases_eq}
 use Rattle.std.proofs.lemmas.List.{length-set, get_or-set_same, get_or-set_other}
 use Rattle.lv_base.specs.declared.ids.Lit.{Lit}
 use Rattle.lv_base.specs.declared.ids.ClauseId.{ClauseId}
-use Rattle.lv_clauses.specs.Literals.{same_truth, same_var}
-use Rattle.lv_clauses.proofs.LiteralLemmas.{Contains-head, Contains-tail, Contains-cases, Contains-nil, lit_cases, lit_of}
+use Rattle.lv_clauses.proofs.LiteralLemmas.{Contains-head, Contains-tail, Contains-cases, Contains-nil, lit_of}
 use Rattle.lv_ltms.specs.declared.watchers.Watch.{Watch}
-use Rattle.lv_ltms.specs.Trail.{same_lit}
 use Rattle.lv_ltms.specs.Watching.{Rows, blank, heads_of, head_of, lit_at, next_at, with_head, with_head_of, with_watch, times_in, has_number, IsRow}
-use Rattle.lv_ltms.proofs.BoolLemmas.{eq_from, eq_is, not_true}
-use Rattle.lv_ltms.proofs.CountLemmas.{times_in-none, times_same, times_other, same_lit-self, count_yes, count_no}
-use Rattle.lv_ltms.proofs.TrailLemmas.{same_lit-equal}
+use Rattle.lv_ltms.proofs.BoolLemmas.{eq_is}
+use Rattle.lv_ltms.proofs.CountLemmas.{count_yes, count_no}
 
 pub row_same : (next after : ℕ → Option ClauseId) (start : Option ClauseId) (ids : List ClauseId) → ((id : ClauseId) → Contains ids id → after id.0 ≡ next id.0) → IsRow next start ids → IsRow after start ids
 row_same next after start [] same row = row
@@ -107,7 +104,7 @@ fits_below (suc n) ids once below =
       length_parts n ids,
       once n,
       fits_below n (filter (λ (i : ClauseId). not (nat_eq i.0 n)) ids) (λ id. omega (arith, once id, filter_times n ids id))
-      (filter_below n ids (λ id h. omega (arith, below id h))),
+          (filter_below n ids (λ id h. omega (arith, below id h))),
     )
 
 -- what another first clause of a literal changes

@@ -1,7 +1,6 @@
 -- Another support of a boolean that lost its label.
-use Rattle.std.proofs.Common.{◌≡◌, ◌≢◌, ◌⊎◌, ℕ, ◌<◌, Bool, true, false, not, ◌&&◌, ◌||◌, List, [], ◌∷◌, length, Option, Some, None, refl, sym, ap, ap₂, subst, ◌∙◌, arith, inl, inr, Contains}
+use Rattle.std.proofs.Common.{◌≡◌, ◌⊎◌, ℕ, ◌<◌, Bool, true, false, not, ◌&&◌, ◌||◌, List, [], ◌∷◌, length, Some, None, refl, sym, ap, ap₂, subst, ◌∙◌, inl, inr, Contains}
 use Rattle.lv_base.specs.declared.ids.Lit.{Lit}
-use Rattle.lv_base.specs.declared.ids.ClauseId.{ClauseId}
 use Rattle.lv_clauses.specs.Literals.{neg, same_truth, same_var}
 use Rattle.lv_clauses.specs.ClauseMap.{Slots, clause_at}
 use Rattle.lv_clauses.specs.Marks.{Marks, is_marked, is_free}
@@ -12,7 +11,7 @@ use Rattle.lv_ltms.specs.declared.labels.Reason.{Reason}
 use Rattle.lv_ltms.specs.declared.labels.Reason.TheVariants.{Assumed, Clause}
 use Rattle.lv_ltms.specs.Trail.{same_lit, IsReason, IsDerivation, next}
 use Rattle.lv_ltms.specs.Labelled.{Labelled, Agrees, AreLabels, Grows, with_link}
-use Rattle.lv_ltms.specs.Watching.{Rows, lit_at, is_fallen, has_lit, IsThreaded, IsGuarded, AreGuarded, AreSettled, AllInRow}
+use Rattle.lv_ltms.specs.Watching.{Rows, lit_at, is_fallen, has_lit, IsThreaded, IsGuarded, AreGuarded, AreSettled}
 use Rattle.lv_ltms.specs.Revising.{NoneAgainst, IsOneSided, is_wanted_by, GivesReason, GetsSupport, IsUnitOf, AreMarkedOrWait, AreMarked, AreFixed, IsSwept}
 use Rattle.lv_ltms.proofs.BoolLemmas.{eq_from, not_true, or_left, or_right_only}
 use Rattle.lv_ltms.proofs.LabelLemmas.{Grows-push, Grows-self, Grows-then, pushed_has, has_not_free, neg_not_free, not_free_cases}

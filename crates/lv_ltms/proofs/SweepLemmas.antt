@@ -1,5 +1,5 @@
 -- Going along the trail: what stands stays, what doesn't is taken out.
-use Rattle.std.proofs.Common.{◌≡◌, ◌≢◌, ◌⊎◌, ℕ, ◌+◌, ◌<◌, Bool, true, false, not, ◌&&◌, ◌||◌, nat_eq, List, [], ◌∷◌, ◌++◌, length, take, drop, get_or, set, Option, Some, None, is_none, cond, refl, sym, ap, ap₂, ◌∙◌, arith, inl, inr, subst, Contains}
+use Rattle.std.proofs.Common.{◌≡◌, ◌≢◌, ◌⊎◌, ℕ, ◌<◌, Bool, true, false, not, ◌&&◌, ◌||◌, nat_eq, List, [], ◌∷◌, ◌++◌, length, take, drop, get_or, set, Option, Some, None, is_none, cond, refl, sym, ap, ap₂, ◌∙◌, arith, inl, inr, subst, Contains}
 use Rattle.std.specs.List.{list_any, list_all}
 use Rattle.std.proofs.lemmas.Bool.{cases_eq}
 use Rattle.std.proofs.lemmas.List.{length-append, length-set, get_or-set_same, get_or-set_other, take-append-drop}
@@ -10,7 +10,7 @@ use Rattle.lv_base.specs.declared.ids.Lit.{Lit}
 use Rattle.lv_clauses.specs.Literals.{neg, same_truth, same_var}
 use Rattle.lv_clauses.specs.ClauseMap.{Slots, clause_at}
 use Rattle.lv_clauses.specs.Marks.{Marks, is_marked, mark_is}
-use Rattle.lv_clauses.proofs.LiteralLemmas.{Contains-tail, and_left, and_right, and_both, all_member, same_or_neg, lit_cases, neg_neg}
+use Rattle.lv_clauses.proofs.LiteralLemmas.{Contains-tail, and_left, and_right, and_both, all_member, same_or_neg}
 use Rattle.lv_ltms.specs.declared.labels.Link.{Link}
 use Rattle.lv_ltms.specs.declared.labels.Reason.{Reason}
 use Rattle.lv_ltms.specs.declared.labels.Reason.TheVariants.{Assumed, Clause}
@@ -22,7 +22,7 @@ use Rattle.lv_ltms.specs.Revising.{IsBacked, reason_stands, derives_lit, is_othe
 use Rattle.lv_ltms.proofs.CountLemmas.{HasMore, same_lit-self}
 use Rattle.lv_ltms.proofs.TrailLemmas.{same_lit-equal, or_cases}
 use Rattle.lv_ltms.proofs.LabelLemmas.{trail_boolean, contained_has, has_within, has_not_neg}
-use Rattle.lv_ltms.proofs.BoolLemmas.{eq_from, eq_is, eq_isnt, eq_swap, from_not, not_true, or_false, or_left, or_parts}
+use Rattle.lv_ltms.proofs.BoolLemmas.{eq_from, eq_isnt, eq_swap, from_not, not_true, or_false, or_left, or_parts}
 
 -- a link in the middle of a trail on which no boolean stands twice: its boolean isn't before or behind it
 pub record IsAlone (front rest : List Link) (link : Link) : Type 0 where

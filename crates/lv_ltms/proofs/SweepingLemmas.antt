@@ -1,5 +1,5 @@
 -- The loop of the sweep: what it keeps true from link to link.
-use Rattle.std.proofs.Common.{◌≡◌, ◌⊎◌, ℕ, suc, zero, ◌+◌, ◌<◌, ◌≤◌, Bool, true, false, not, ◌&&◌, ◌||◌, nat_lt, List, min, cond, [], ◌∷◌, ◌++◌, length, take, drop, get_or, set, None, refl, sym, ap, ap₂, subst, ◌∙◌, arith, inl, inr}
+use Rattle.std.proofs.Common.{◌≡◌, ◌⊎◌, ℕ, suc, zero, ◌+◌, ◌<◌, ◌≤◌, Bool, true, false, not, ◌&&◌, ◌||◌, nat_lt, List, min, [], ◌∷◌, ◌++◌, length, take, drop, get_or, set, None, refl, sym, ap, ap₂, subst, ◌∙◌, arith, inl, inr}
 use Rattle.std.specs.List.{list_all}
 use Rattle.std.proofs.lemmas.Grind.{drop_more_same}
 use Rattle.std.proofs.lemmas.List.{length-append, length-set, take-append-drop, take_more_set, drop_more, drop_all, drop-set-lt, length-take-le, take-set-le, take-take, append_assoc, append-nil}

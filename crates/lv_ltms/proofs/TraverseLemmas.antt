@@ -10,7 +10,7 @@ use Rattle.lv_ltms.specs.Trail.{same_lit}
 use Rattle.lv_ltms.specs.Watching.{Rows, heads_of, head_of, lit_at, next_at, with_head, with_watch, times_in, IsRow, watch_count, IsThreaded, AreRows}
 use Rattle.lv_ltms.proofs.BoolLemmas.{not_true}
 use Rattle.lv_ltms.proofs.CountLemmas.{times_in-none, times_some, times_same, times_other, same_lit-self}
-use Rattle.lv_ltms.proofs.RowLemmas.{row_same, row_one, row_ends, head_watches, head_same, head_other, head_next, head_lit, head_of_true, head_of_false, put_lit_same, put_lit_other, put_next_same, put_next_other, put_head_same, put_head_other, put_size, written, fits_below}
+use Rattle.lv_ltms.proofs.RowLemmas.{row_same, row_ends, head_watches, head_same, head_other, head_next, head_lit, head_of_true, head_of_false, put_lit_same, put_lit_other, put_next_same, put_next_other, put_head_same, put_head_other, put_size, written, fits_below}
 use Rattle.lv_ltms.proofs.TrailLemmas.{same_lit-equal}
 
 -- how often the number waits in the list of the literal that is gone along
@@ -262,11 +262,10 @@ module _ (rows : Rows) (slots : Slots) (bools : ℕ) (a : Lit) (skip : ℕ → B
 
         row_at : (l : Lit) → (k ≡ l) ⊎ (k ≢ l) → IsRow (next_at (with_watch rows id k)) (head_of (with_watch rows id k) l) (cond (same_lit k l) (id ∷ is.list l) (is.list l))
         row_at l (inl e) =
-            subst (IsRow (next_at (with_watch rows id k)) (head_of (with_watch rows id k) l)) (sym (list_here l e))
-            (
+            subst (IsRow (next_at (with_watch rows id k)) (head_of (with_watch rows id k) l)) (sym (list_here l e)) (
               ap (head_of (with_watch rows id k)) (sym e) ∙ put_head_same rows id k here heads,
               subst (λ (s : Option ClauseId). IsRow (next_at (with_watch rows id k)) s (is.list l)) (sym (put_next_same rows id k here ∙ ap (head_of rows) e))
-              (row_same (next_at rows) (next_at (with_watch rows id k)) (head_of rows l) (is.list l) (λ i h. frame i (is.list l) h (nowhere l)) (is.row l)),
+                  (row_same (next_at rows) (next_at (with_watch rows id k)) (head_of rows l) (is.list l) (λ i h. frame i (is.list l) h (nowhere l)) (is.row l)),
             )
         row_at l (inr differs) =
             subst (IsRow (next_at (with_watch rows id k)) (head_of (with_watch rows id k) l)) (sym (list_other l differs))

@@ -5,16 +5,16 @@ use Rattle.std.proofs.lemmas.Bool.{cases_eq}
 use Rattle.lv_base.specs.declared.ids.Lit.{Lit}
 use Rattle.lv_base.specs.declared.ids.ClauseId.{ClauseId}
 use Rattle.lv_clauses.specs.Literals.{neg}
-use Rattle.lv_clauses.specs.ClauseMap.{Slots, clause_at, AreClauses}
+use Rattle.lv_clauses.specs.ClauseMap.{Slots, clause_at}
 use Rattle.lv_clauses.specs.Marks.{Marks, is_marked, is_free}
 use Rattle.lv_clauses.proofs.LiteralLemmas.{neg_neg, lit_cases, Contains-head}
 use Rattle.lv_ltms.specs.declared.propagation.Meeting.{Meeting}
 use Rattle.lv_ltms.specs.declared.propagation.Meeting.TheVariants.{Holds, Moves, Fails}
-use Rattle.lv_ltms.specs.Labelled.{Labelled, Agrees, AreLabels, Grows, GoesOn}
-use Rattle.lv_ltms.specs.Watching.{Rows, head_of, lit_at, next_at, with_head, with_watch, times_in, IsRow, has_lit, is_fallen, IsThreaded, IsGuarded, AreGuarded, AreSettled, IsWatching, AreMembers}
+use Rattle.lv_ltms.specs.Labelled.{Labelled, AreLabels, Grows, GoesOn}
+use Rattle.lv_ltms.specs.Watching.{Rows, head_of, lit_at, next_at, with_head, with_watch, times_in, IsRow, has_lit, is_fallen, IsGuarded, AreGuarded, AreSettled, IsWatching}
 use Rattle.lv_ltms.specs.Standing.{IsNetwork, IsFalsified, AreTrue, Meets}
 use Rattle.lv_ltms.specs.Visiting.{Visits}
-use Rattle.lv_ltms.proofs.CountLemmas.{times_same, times_other}
+use Rattle.lv_ltms.proofs.CountLemmas.{times_other}
 use Rattle.lv_ltms.proofs.LabelLemmas.{Grows-then, Grows-self, has_not_neg, has_not_free, not_free_cases, neg_not_free}
 use Rattle.lv_ltms.proofs.FindLemmas.{some_is}
 use Rattle.lv_ltms.proofs.RowLemmas.{Begins, row_begins, head_lit, row_ends, put_lit_same, put_lit_other, put_size}

@@ -92,8 +92,7 @@ fn derives(id: ClauseId, lit: Lit, arena: &Arena, marks: &[Option<bool>]) -> boo
 fn are_false_but(lits: &[Lit], lit: Lit, marks: &[Option<bool>]) -> bool
     ensures { result ≡ list_all (is_other_or_false (is_marked marks.now) lit) lits.now }
 {
-    lits.iter()
-        .all(|other| *other == lit || is_marked(marks, negation(*other)))
+    lits.iter().all(|other| *other == lit || is_marked(marks, negation(*other)))
 }
 
 /// Gives each boolean that lost its label that of an assumption or of a clause of one literal, if there is one.
@@ -125,13 +124,7 @@ pub fn support_all(
 
 /// Marks a literal where it is assumed, or a clause has no other; unless its boolean is marked, or its negation is
 /// assumed.
-fn support(
-    lit: Lit,
-    assumed: &[Option<bool>],
-    near: &Watchers,
-    far: &Watchers,
-    labels: &mut Labels,
-)
+fn support(lit: Lit, assumed: &[Option<bool>], near: &Watchers, far: &Watchers, labels: &mut Labels)
     requires rows { AreRows near.now far.now }
     requires labels { AreLabels (length labels.old.marks) labels.old }
     requires range { lit.var.0 < length labels.old.marks }
@@ -151,18 +144,11 @@ fn support(
 fn is_wanted(lit: Lit, assumed: &[Option<bool>], marks: &[Option<bool>]) -> bool
     ensures { result ≡ is_wanted_by (is_marked assumed.now) (is_marked marks.now) lit }
 {
-    !is_marked(marks, lit)
-        && !is_marked(marks, negation(lit))
-        && !is_marked(assumed, negation(lit))
+    !is_marked(marks, lit) && !is_marked(marks, negation(lit)) && !is_marked(assumed, negation(lit))
 }
 
 /// An assumption or a clause of one literal that gives a literal its label.
-fn reason_for(
-    lit: Lit,
-    assumed: &[Option<bool>],
-    near: &Watchers,
-    far: &Watchers,
-) -> Option<Reason>
+fn reason_for(lit: Lit, assumed: &[Option<bool>], near: &Watchers, far: &Watchers) -> Option<Reason>
     requires { AreRows near.now far.now }
     ensures { GivesReason (is_marked assumed.now) near.now far.now lit result }
 {

@@ -1,10 +1,9 @@
 -- each is put back or passed over
-use Rattle.std.proofs.Common.{◌≡◌, ◌≤◌, ◌<◌, ℕ, true, length, set, Option, None, IsSome, IsTrue, refl, sym, ap, subst, ◌∙◌, arith, Contains}
+use Rattle.std.proofs.Common.{◌≡◌, ◌<◌, ℕ, length, set, None, sym, ap, subst, ◌∙◌, arith}
 use Rattle.lv_base.specs.declared.ids.Lit.{Lit}
-use Rattle.lv_base.specs.declared.ids.ClauseId.{ClauseId}
 use Rattle.lv_clauses.specs.ClauseMap.{clause_at}
 use Rattle.lv_ltms.specs.declared.watchers.Watch.{Watch}
-use Rattle.lv_ltms.specs.Watching.{Rows, head_of, lit_at, with_head, with_watch, IsThreaded}
+use Rattle.lv_ltms.specs.Watching.{Rows, head_of, lit_at, with_head}
 use Rattle.lv_ltms.proofs.MeetLemmas.{clause_range}
 use Rattle.lv_ltms.proofs.BlankLemmas.{blank_is, HasLit, lit_there}
 use Rattle.lv_ltms.proofs.UnwatchLemmas.{IsUnwatching, unwatch_start, unwatch_over, unwatch_end, unwatch_room, unwatch_skip, unwatch_put, unwatch_same, unwatch_empty, set_gone}

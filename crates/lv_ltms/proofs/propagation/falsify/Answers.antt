@@ -1,12 +1,11 @@
 -- first one side, then the other
-use Rattle.std.proofs.Common.{◌≡◌, false, List, [], length, get_or, Option, Some, None, IfNone, refl, ap, subst, ◌∙◌}
+use Rattle.std.proofs.Common.{◌≡◌, false, List, [], length, get_or, refl, ap, subst, ◌∙◌}
 use Rattle.lv_base.specs.declared.ids.Lit.{Lit}
-use Rattle.lv_base.specs.declared.ids.ClauseId.{ClauseId}
 use Rattle.lv_clauses.specs.Literals.{neg}
 use Rattle.lv_ltms.specs.declared.labels.Link.{Link}
 use Rattle.lv_ltms.specs.declared.labels.Reason.TheVariants.{Assumed}
 use Rattle.lv_ltms.specs.Watching.{lit_at}
-use Rattle.lv_ltms.specs.Standing.{IsLooked, true_before}
+use Rattle.lv_ltms.specs.Standing.{true_before}
 use Rattle.lv_ltms.specs.Visiting.{Visits}
 use Rattle.lv_ltms.proofs.FindLemmas.{if_none}
 use Rattle.lv_ltms.proofs.FalsifyLemmas.{near_members, first_looked, first_members, second_looked, second_further}

@@ -1,5 +1,5 @@
 -- the other literal is true, or another one isn't false, or the other one is false or marked now
-use Rattle.std.proofs.Common.{◌≡◌, ◌≢◌, ◌<◌, true, false, length, find, List, Some, None, Contains, refl, sym, ap, subst, ◌∙◌}
+use Rattle.std.proofs.Common.{◌≡◌, ◌<◌, true, false, length, find, Some, None, Contains, refl, sym, ap, subst, ◌∙◌}
 use Rattle.lv_base.specs.declared.ids.Lit.{Lit}
 use Rattle.lv_clauses.specs.Literals.{neg}
 use Rattle.lv_clauses.specs.ClauseMap.{clause_at}
@@ -9,7 +9,7 @@ use Rattle.lv_ltms.specs.Labelled.{Labelled, GoesOn}
 use Rattle.lv_ltms.specs.Standing.{Meets}
 use Rattle.lv_ltms.specs.Visiting.{is_open_but}
 use Rattle.lv_ltms.proofs.FindLemmas.{if_some, from_some, open_found, none_open}
-use Rattle.lv_ltms.proofs.MeetLemmas.{clause_range, unit_room, unit_inside, unit_marked, unit_goes_on}
+use Rattle.lv_ltms.proofs.MeetLemmas.{clause_range, unit_room, unit_marked, unit_goes_on}
 use Rattle.lv_ltms.proofs.propagation.meet.Goals as goal
 
 pub returns-in-Some-clause-meets : goal.returns-in-Some-clause-meets

@@ -1,5 +1,5 @@
 -- it has no literal, or two are picked
-use Rattle.std.proofs.Common.{◌≡◌, ◌≢◌, false, ◌<◌, ℕ, length, get_or, sym, ◌∙◌, arith}
+use Rattle.std.proofs.Common.{false, arith}
 use Rattle.std.proofs.lemmas.List.Elements.{Contains-get_or}
 use Rattle.lv_base.specs.declared.ids.Lit.{Lit}
 use Rattle.lv_ltms.proofs.PickLemmas.{empty_of}

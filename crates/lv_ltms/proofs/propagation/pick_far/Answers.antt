@@ -1,5 +1,5 @@
 -- another one that isn't false was found, or all others are false
-use Rattle.std.proofs.Common.{◌≡◌, find, unwrap_or, Option, sym, ap, ◌∙◌}
+use Rattle.std.proofs.Common.{unwrap_or, Option, sym, ap, ◌∙◌}
 use Rattle.lv_base.specs.declared.ids.Lit.{Lit}
 use Rattle.lv_ltms.proofs.PickLemmas.{picks_open, picks_other}
 use Rattle.lv_ltms.proofs.propagation.pick_far.Goals as goal

@@ -1,5 +1,5 @@
 -- one that isn't false was found, or all are false
-use Rattle.std.proofs.Common.{◌≡◌, find, unwrap_or, Option, ap, ◌∙◌}
+use Rattle.std.proofs.Common.{unwrap_or, Option, ap, ◌∙◌}
 use Rattle.lv_base.specs.declared.ids.Lit.{Lit}
 use Rattle.lv_ltms.proofs.PickLemmas.{near_picked}
 use Rattle.lv_ltms.proofs.propagation.pick_near.Goals as goal

@@ -1,12 +1,12 @@
 -- the clause is false, has its first literal true or another one left, or its first literal is marked
-use Rattle.std.proofs.Common.{◌≡◌, ◌||◌, true, false, length, sym, ap, subst, ◌∙◌}
+use Rattle.std.proofs.Common.{◌≡◌, ◌||◌, true, false, sym, ap, subst, ◌∙◌}
 use Rattle.lv_base.specs.declared.ids.Lit.{Lit}
 use Rattle.lv_clauses.specs.Literals.{neg}
 use Rattle.lv_clauses.specs.Marks.{Marks, is_marked}
 use Rattle.lv_ltms.specs.Trail.{same_lit}
 use Rattle.lv_ltms.specs.Labelled.{Labelled}
 use Rattle.lv_ltms.specs.Standing.{Settles}
-use Rattle.lv_ltms.proofs.PickLemmas.{settles_false, settles_kept, not_last, settled_room, settled_inside, settles_marked}
+use Rattle.lv_ltms.proofs.PickLemmas.{settles_false, settles_kept, not_last, settled_room, settles_marked}
 use Rattle.lv_ltms.proofs.propagation.settle.Goals as goal
 
 pub returns-then-is_marked : goal.returns-then-is_marked

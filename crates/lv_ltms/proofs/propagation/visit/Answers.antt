@@ -1,12 +1,12 @@
 -- each clause gone over is put into a list again
-use Rattle.std.proofs.Common.{◌≡◌, ℕ, ◌<◌, ◌≤◌, length, Option, Some, None, IsSome, refl, sym, ap, subst, ◌∙◌, arith, Contains}
+use Rattle.std.proofs.Common.{ℕ, length, Option, None, refl, sym, ap, subst, ◌∙◌, arith, Contains}
 use Rattle.lv_base.specs.declared.ids.Lit.{Lit}
 use Rattle.lv_base.specs.declared.ids.ClauseId.{ClauseId}
 use Rattle.lv_clauses.specs.Literals.{neg}
 use Rattle.lv_clauses.specs.ClauseMap.{clause_at, AreClauses}
 use Rattle.lv_ltms.specs.declared.watchers.Watch.{Watch}
-use Rattle.lv_ltms.specs.declared.propagation.Meeting.TheVariants.{Holds, Moves, Fails}
-use Rattle.lv_ltms.specs.Watching.{Rows, lit_at, head_of, with_head}
+use Rattle.lv_ltms.specs.declared.propagation.Meeting.TheVariants.{Moves}
+use Rattle.lv_ltms.specs.Watching.{Rows, lit_at, with_head}
 use Rattle.lv_ltms.specs.Standing.{Meets}
 use Rattle.lv_ltms.proofs.LabelLemmas.{has_within}
 use Rattle.lv_ltms.proofs.FindLemmas.{if_some, from_some, is_there}

@@ -1,5 +1,5 @@
 -- the first that does is found
-use Rattle.std.proofs.Common.{◌≡◌, ◌≢◌, ◌≤◌, ◌+◌, true, false, length, Option, Some, None, sym, ap, subst, ◌∙◌, arith}
+use Rattle.std.proofs.Common.{◌≡◌, ◌≢◌, ◌+◌, false, length, Option, sym, ap, subst, ◌∙◌, arith}
 use Rattle.lv_base.specs.declared.ids.Lit.{Lit}
 use Rattle.lv_base.specs.declared.ids.ClauseId.{ClauseId}
 use Rattle.lv_ltms.specs.declared.watchers.Watch.{Watch}

@@ -1,5 +1,5 @@
 -- each that is lowers the place
-use Rattle.std.proofs.Common.{◌≡◌, ◌≤◌, ◌+◌, false, length, Option, Some, None, sym, ap, subst, ◌∙◌, arith}
+use Rattle.std.proofs.Common.{◌≡◌, ◌+◌, false, length, Option, sym, ap, subst, ◌∙◌, arith}
 use Rattle.lv_base.specs.declared.ids.Lit.{Lit}
 use Rattle.lv_base.specs.declared.ids.ClauseId.{ClauseId}
 use Rattle.lv_clauses.specs.Literals.{neg}
@@ -13,9 +13,9 @@ pub loop-init : goal.loop-init
 loop-init c =
     record {
       reading =
-    subst (λ n. IsReading c.args.near.now c.args.lit n 0 c.first-at.result (λ (id : ClauseId). true_before c.args.done c.args.labels.now.trail (neg (lit_at c.args.far.now id.0)) ≡ false)) (sym c.room-end.ensures)
-    (subst (λ (s : Option ClauseId). IsReading c.args.near.now c.args.lit (length c.args.near.now.watches) 0 s (λ (id : ClauseId). true_before c.args.done c.args.labels.now.trail (neg (lit_at c.args.far.now id.0)) ≡ false)) (sym c.first-at.ensures)
-    (reading_start c.args.near.now c.args.far.now c.args.lit (λ (id : ClauseId). true_before c.args.done c.args.labels.now.trail (neg (lit_at c.args.far.now id.0)) ≡ false) c.requires.rows));
+          subst (λ n. IsReading c.args.near.now c.args.lit n 0 c.first-at.result (λ (id : ClauseId). true_before c.args.done c.args.labels.now.trail (neg (lit_at c.args.far.now id.0)) ≡ false)) (sym c.room-end.ensures)
+          (subst (λ (s : Option ClauseId). IsReading c.args.near.now c.args.lit (length c.args.near.now.watches) 0 s (λ (id : ClauseId). true_before c.args.done c.args.labels.now.trail (neg (lit_at c.args.far.now id.0)) ≡ false)) (sym c.first-at.ensures)
+          (reading_start c.args.near.now c.args.far.now c.args.lit (λ (id : ClauseId). true_before c.args.done c.args.labels.now.trail (neg (lit_at c.args.far.now id.0)) ≡ false) c.requires.rows));
       less = omega arith;
     }
 

@@ -1,5 +1,5 @@
 -- one more on both sides
-use Rattle.std.proofs.Common.{◌≡◌, ◌≤◌, ◌+◌, false, List, take, get_or, length, ap, subst, sym, ◌∙◌, arith}
+use Rattle.std.proofs.Common.{false, List, subst, arith}
 use Rattle.std.proofs.lemmas.List.{take_all}
 use Rattle.lv_base.specs.declared.ids.Lit.{Lit}
 use Rattle.lv_ltms.proofs.ReadLemmas.{IsCleared, cleared_none, cleared_more}

@@ -1,5 +1,5 @@
 -- none is wanted, a support was found, or there is none
-use Rattle.std.proofs.Common.{◌≡◌, ◌<◌, true, false, Some, None, sym, ap, subst, ◌∙◌, arith}
+use Rattle.std.proofs.Common.{sym, ap, subst, ◌∙◌, arith}
 use Rattle.lv_clauses.specs.Marks.{Marks, is_marked}
 use Rattle.lv_ltms.specs.Labelled.{Labelled}
 use Rattle.lv_ltms.specs.Revising.{GetsSupport, GivesReason, is_wanted_by}

@@ -1,13 +1,11 @@
 -- one boolean fewer waits
-use Rattle.std.proofs.Common.{◌≡◌, ℕ, ◌+◌, ◌<◌, true, get_or, drop, length, false, List, [], refl, sym, ap, subst, ◌∙◌, arith}
+use Rattle.std.proofs.Common.{◌+◌, get_or, drop, length, false, List, subst, arith}
 use Rattle.std.proofs.lemmas.List.{drop_more, drop_all}
 use Rattle.lv_base.specs.declared.ids.Lit.{Lit}
-use Rattle.lv_clauses.specs.ClauseMap.{Slots}
 use Rattle.lv_clauses.specs.Marks.{is_marked}
 use Rattle.lv_ltms.specs.Watching.{lit_at, AreSettled}
 use Rattle.lv_ltms.specs.Revising.{GetsSupport}
 use Rattle.lv_ltms.proofs.SupportLemmas.{IsSupporting, supporting_start, supporting_end, both_supported}
-use Rattle.lv_ltms.proofs.VisitLemmas.{labels_grown}
 use Rattle.lv_ltms.proofs.revision.support_all.Goals as goal
 
 abbrev blank : Lit

@@ -1,8 +1,8 @@
 -- one number fewer is to be looked at
-use Rattle.std.proofs.Common.{◌≡◌, ◌⊎◌, ℕ, ◌<◌, ◌≤◌, ◌-◌, true, false, length, [], IsSome, Some, sym, ap, ◌∙◌, arith, inl, inr, subst}
+use Rattle.std.proofs.Common.{ℕ, ◌-◌, length, [], sym, ap, ◌∙◌, arith, inl, inr}
 use Rattle.std.proofs.lemmas.Bool.{cases_eq}
 use Rattle.lv_clauses.specs.ClauseMap.{Slots, clause_at}
-use Rattle.lv_ltms.specs.Standing.{has_no_lits, NoneEmpty}
+use Rattle.lv_ltms.specs.Standing.{has_no_lits}
 use Rattle.lv_ltms.proofs.BlankLemmas.{blank_is, no_blank, some_within}
 use Rattle.lv_ltms.proofs.FindLemmas.{is_there}
 use Rattle.lv_ltms.proofs.arena.Arena.first_blank.Goals as goal

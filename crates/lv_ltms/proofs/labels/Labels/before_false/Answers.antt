@@ -1,9 +1,8 @@
 -- before its place the literal isn't false, and where it isn't marked as false it is nowhere
-use Rattle.std.proofs.Common.{◌≡◌, ◌≤◌, false, List, length, position, unwrap_or, sym, ap, subst, ◌∙◌, arith}
+use Rattle.std.proofs.Common.{◌≡◌, false, sym, ap, ◌∙◌, arith}
 use Rattle.lv_base.specs.declared.ids.Lit.{Lit}
-use Rattle.lv_clauses.specs.Literals.{neg, same_var}
+use Rattle.lv_clauses.specs.Literals.{neg}
 use Rattle.lv_clauses.specs.Marks.{Marks, is_marked}
-use Rattle.lv_ltms.specs.declared.labels.Link.{Link}
 use Rattle.lv_ltms.proofs.ReadLemmas.{clear_before, clear_unmarked}
 use Rattle.lv_ltms.proofs.labels.Labels.before_false.Goals as goal
 

@@ -1,6 +1,5 @@
 -- the clause is watched, and what follows is propagated
-use Rattle.std.proofs.Common.{◌≡◌, ◌≤◌, ℕ, Option, List, length, vec_capacity, sym, ap, subst, ◌∙◌, IsTrue}
-use Rattle.lv_base.specs.declared.ids.ClauseId.{ClauseId}
+use Rattle.std.proofs.Common.{◌≤◌, ℕ, length, vec_capacity, sym, ap, subst, ◌∙◌, IsTrue}
 use Rattle.lv_clauses.specs.Literals.{is_clause}
 use Rattle.lv_clauses.specs.ClauseMap.{Slots}
 use Rattle.lv_clauses.specs.Marks.{is_marked}

@@ -1,5 +1,5 @@
 -- the literal is marked, or its negation's label falls
-use Rattle.std.proofs.Common.{◌≡◌, ◌≤◌, ℕ, List, length, set, Some, true, false, IsTrue, IfSome, vec_capacity, sym, ap, subst, ◌∙◌, arith}
+use Rattle.std.proofs.Common.{◌≡◌, length, Some, true, false, IsTrue, IfSome, vec_capacity, sym, ap, subst, ◌∙◌, arith}
 use Rattle.std.proofs.lemmas.List.{length-set}
 use Rattle.lv_base.specs.declared.ids.Lit.{Lit}
 use Rattle.lv_clauses.specs.Literals.{neg, in_range, same_var}
@@ -10,7 +10,7 @@ use Rattle.lv_ltms.specs.declared.labels.Reason.TheVariants.{Assumed}
 use Rattle.lv_ltms.specs.Trail.{IsDerivation}
 use Rattle.lv_ltms.specs.Labelled.{Labelled, GoesOn, with_link}
 use Rattle.lv_ltms.specs.Standing.{IsNetwork, IsLooked, IsFalsified}
-use Rattle.lv_ltms.specs.Revising.{IsShaken, AreFixed, AreMarked}
+use Rattle.lv_ltms.specs.Revising.{IsShaken, AreFixed}
 use Rattle.lv_ltms.specs.System.{System}
 use Rattle.lv_ltms.proofs.ShakenLemmas.{shaken_assume, place_within}
 use Rattle.lv_ltms.proofs.KeepLemmas.{alive_of, kept_of, assume_within, known_kept, assume_fixed, assume_network, assume_looked, assume_falsified, assume_grows, assume_derivation, assume_marked}

@@ -1,5 +1,5 @@
 -- the clause goes out of the lists, and what it supported falls
-use Rattle.std.proofs.Common.{◌≡◌, ◌≤◌, ℕ, List, length, position, unwrap_or, vec_capacity, IsSome, sym, ap, subst, ◌∙◌, arith}
+use Rattle.std.proofs.Common.{◌≡◌, ℕ, List, length, position, unwrap_or, vec_capacity, IsSome, sym, ap, subst, ◌∙◌, arith}
 use Rattle.lv_clauses.specs.ClauseMap.{Slots, clause_at}
 use Rattle.lv_clauses.specs.Marks.{Marks, is_marked}
 use Rattle.lv_ltms.specs.declared.labels.Link.{Link}

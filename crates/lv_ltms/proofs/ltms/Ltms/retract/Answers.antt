@@ -1,5 +1,5 @@
 -- what the assumption supported falls
-use Rattle.std.proofs.Common.{◌≡◌, ◌≤◌, true, List, length, set, position, unwrap_or, None, vec_capacity, refl, sym, ap, subst, ◌∙◌, arith}
+use Rattle.std.proofs.Common.{◌≡◌, true, length, None, vec_capacity, refl, sym, ap, subst, ◌∙◌, arith}
 use Rattle.std.proofs.lemmas.List.{length-set}
 use Rattle.lv_clauses.specs.Literals.{same_var}
 use Rattle.lv_clauses.specs.ClauseMap.{Slots}

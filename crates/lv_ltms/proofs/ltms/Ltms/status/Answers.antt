@@ -1,5 +1,5 @@
 -- a clause is false or without literals, or what is marked is closed
-use Rattle.std.proofs.Common.{Some, sym, subst}
+use Rattle.std.proofs.Common.{sym, subst}
 use Rattle.lv_ltms.specs.System.{System, IsRefuted, IsWholeTrail}
 use Rattle.lv_ltms.proofs.SystemLemmas.{some_refutes, consistent, whole_trail}
 use Rattle.lv_ltms.proofs.ltms.Ltms.status.Goals as goal

@@ -1,7 +1,5 @@
 -- want of memory, a clause without literals, or one that watches two
-use Rattle.std.proofs.Common.{◌≡◌, ◌<◌, ℕ, List, [], length, Option, Some, None, IfSome, IfNone, refl, sym, ap, subst, ◌∙◌, arith}
-use Rattle.lv_base.specs.declared.ids.Lit.{Lit}
-use Rattle.lv_base.specs.declared.ids.ClauseId.{ClauseId}
+use Rattle.std.proofs.Common.{◌≡◌, [], length, Option, IfSome, IfNone, refl, sym, subst, arith}
 use Rattle.lv_clauses.specs.ClauseMap.{Slots}
 use Rattle.lv_clauses.specs.Marks.{Marks}
 use Rattle.lv_ltms.specs.declared.propagation.Pair.{Pair}

@@ -1,5 +1,5 @@
 -- a clause is known to be false, or all is looked at
-use Rattle.std.proofs.Common.{◌≡◌, true, length, is_some, sym, ap, ◌∙◌}
+use Rattle.std.proofs.Common.{sym, ◌∙◌}
 use Rattle.lv_ltms.proofs.RestLemmas.{stops_falsified, falsified_stops, network_sized}
 use Rattle.lv_ltms.proofs.network.Network.propagate.Goals as goal
 

@@ -1,5 +1,5 @@
 -- it goes out of both lists
-use Rattle.std.proofs.Common.{◌≡◌, ℕ, [], length, set, None, sym, subst, ◌∙◌}
+use Rattle.std.proofs.Common.{ℕ, [], length, set, None, sym, subst}
 use Rattle.lv_clauses.specs.ClauseMap.{AreClauses}
 use Rattle.lv_ltms.specs.Standing.{true_before}
 use Rattle.lv_ltms.specs.Watching.{lit_at, IsThreaded}

@@ -1,5 +1,5 @@
 -- what lost its support falls, and what follows from the rest is marked
-use Rattle.std.proofs.Common.{◌≡◌, ℕ, true, false, List, [], length, IsTrue, sym, ap, subst, ◌∙◌}
+use Rattle.std.proofs.Common.{◌≡◌, ℕ, true, false, List, length, IsTrue, sym, subst, ◌∙◌}
 use Rattle.std.specs.List.{list_all}
 use Rattle.lv_base.specs.declared.ids.Lit.{Lit}
 use Rattle.lv_clauses.specs.Literals.{neg, in_range}
