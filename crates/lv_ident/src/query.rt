@@ -17,14 +17,14 @@ use lv_base::{Conflict, Rank, Seq};
 use lv_meaning::Facts;
 use lv_model::{Model, TrackedState};
 use lv_sat::Effort;
-use lv_search::{Guide, Outcome, Search};
+use lv_search::{Outcome, Search, Zones};
 use lv_search_zones::{move_grid, zones_of};
 use lv_system::StepSystem;
 use std::alloc::{AllocError, Global};
 use std::marker;
 
 /// What a query did, in counts that no clause speaks of: for measuring. The zones are those that it began with and those
-/// that candidates listed gave, the ones without members too.
+/// that splits gave, the ones without members too.
 #[derive(Clone, Copy, Debug, PartialEq, Eq)]
 pub struct QueryEffort {
     pub trials: u64,
@@ -39,7 +39,7 @@ pub struct Query<'a> {
     model: &'a Model,
     facts: Facts,
     trial: IdentTrial<'a>,
-    search: Search<Guide>,
+    search: Search<Zones>,
 }
 
 impl<'a> marker::Model for Query<'a> {
@@ -88,7 +88,7 @@ pub fn identify<'a>(
     let grid = move_grid(alloc, model)?;
     let zones = zones_of(alloc, model, tracked)?;
     let asked = copied(alloc, &facts)?;
-    let left = Guide::new(alloc, grid, zones)?;
+    let left = Zones::new(alloc, grid, zones)?;
     let search = Search::new(alloc, left, k)?;
     match IdentTrial::new(alloc, model, system, asked) {
         Ok(trial) => Ok(Query {

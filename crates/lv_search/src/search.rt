@@ -123,4 +123,10 @@ impl Search<Zones> {
     {
         self.frontier.splits()
     }
+
+    /// How many zones there were so far: those that the search began with and those that splits gave, the ones without
+    /// members too. Takes no memory.
+    pub fn zones(&self) -> u64 {
+        self.frontier.made()
+    }
 }

@@ -148,6 +148,11 @@ impl Zones {
         })
     }
 
+    /// How many zones there were so far, those without members too.
+    pub(crate) fn made(&self) -> u64 {
+        self.made as u64
+    }
+
     /// The splits made, in order.
     pub(crate) fn splits(&self) -> &[Split]
         ensures { result.now ≡ self.now.splits }

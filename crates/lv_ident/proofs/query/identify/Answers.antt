@@ -13,9 +13,9 @@ invariant_of-result c = start_is_tried c.args.model.now c.args.facts c.in-Ok.tri
 
 pub returns-in-Ok-clause-start : goal.returns-in-Ok-clause-start
 returns-in-Ok-clause-start c =
-    start_of c.args.model.now c.args.facts c.args.tracked.now c.in_ok-grid.grid c.in_ok-grid.ensures c.in_ok-zones.zones.items c.in_ok-zones.ensures c.args.k c.in_ok-left.left c.in_ok-left.ensures c.in_ok-search.search.standing (ap (λ s. s.standing) c.in_ok-search.ensures)
+    start_of c.args.model.now c.args.facts c.args.tracked.now c.in_ok-grid.grid c.in_ok-grid.ensures c.in_ok-zones.zones.items c.in_ok-zones.ensures c.args.k c.in_ok-left.left.left (ap (λ z. z.left) c.in_ok-left.ensures) c.in_ok-search.search.standing (ap (λ s. s.standing) c.in_ok-search.ensures)
 
 pub returns-in-Ok-clause-query : goal.returns-in-Ok-clause-query
 returns-in-Ok-clause-query c =
     start_is_query c.args.model.now c.args.facts c.args.tracked.now c.args.k _
-    (start_of c.args.model.now c.args.facts c.args.tracked.now c.in_ok-grid.grid c.in_ok-grid.ensures c.in_ok-zones.zones.items c.in_ok-zones.ensures c.args.k c.in_ok-left.left c.in_ok-left.ensures c.in_ok-search.search.standing (ap (λ s. s.standing) c.in_ok-search.ensures))
+    (start_of c.args.model.now c.args.facts c.args.tracked.now c.in_ok-grid.grid c.in_ok-grid.ensures c.in_ok-zones.zones.items c.in_ok-zones.ensures c.args.k c.in_ok-left.left.left (ap (λ z. z.left) c.in_ok-left.ensures) c.in_ok-search.search.standing (ap (λ s. s.standing) c.in_ok-search.ensures))
