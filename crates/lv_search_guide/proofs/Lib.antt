@@ -4,3 +4,4 @@ pub mod LowestLemmas
 pub mod FreeLemmas
 pub mod NarrowLemmas
 pub mod PriceLemmas
+pub mod DearLemmas

@@ -14,6 +14,7 @@ use Rattle.lv_boxes.specs.Parts.{masks_with}
 use Rattle.lv_boxes.proofs.MemberLemmas.{length-are_left}
 use Rattle.lv_search_guide.specs.declared.look.Member.{Member}
 use Rattle.lv_search_guide.specs.Boxes.{is_free, CostsAtLeast}
+use Rattle.lv_search_guide.specs.Dear.{KeepsUnder}
 use Rattle.lv_search_guide.specs.Cheapest.{IsCheapest, IsCheapestUnder}
 use Rattle.lv_search_guide.specs.Lowest.{IsLowest, NoneHas, OneHas, NoneBelow, IsFirstAt, IsNarrowed}
 use Rattle.lv_search_guide.proofs.BoxLemmas.{left_with, free_with, free_is_left, length-left, choice_is}
@@ -104,17 +105,16 @@ alike_more s xs ys long long_too alike same =
     rw (add-one s, take-suc xs s 0 long, take-suc ys s 0 long_too) (ap₂ (λ (front : List ℕ) (x : ℕ). front ++ (x ∷ [])) alike same)
 
 -- no slot is settled yet
-pub narrowed_begins : (slots : List (List Cost)) (conflicts : List (List Pair)) (whole part : List ℕ) (member : Member) → part ≡ whole → IsCheapest slots conflicts whole member
+pub narrowed_begins : (slots : List (List Cost)) (conflicts : List (List Pair)) (whole part : List ℕ) (member : Member) → KeepsUnder slots conflicts (member.cost + 1) whole part → IsCheapest slots conflicts whole member
     → IsNarrowed slots conflicts whole member.cost 0 part member.choices
-narrowed_begins slots conflicts whole part member is m =
-    subst (λ ms. IsNarrowed slots conflicts whole member.cost 0 ms member.choices) (sym is)
-    (record {
-      free = m.free;
+narrowed_begins slots conflicts whole part member k m =
+    record {
+      free = k.keeps member.choices m.free (let same = m.costs in omega (arith, same));
       costs = m.costs;
-      inside = λ others free. free;
+      inside = k.inside;
       alike = λ one other here there. refl;
-      after = λ others free same gone one here. absurd (clash _ free gone);
-    })
+      after = λ others free same gone one here. absurd (clash _ (k.keeps others free (omega (arith, same))) gone);
+    }
 
 pub narrowed_low : (slots : List (List Cost)) (conflicts : List (List Pair)) (whole : List ℕ) (cost slot : ℕ) (part choices : List ℕ) → IsNarrowed slots conflicts whole cost slot part choices
     → CostsAtLeast slots conflicts whole cost → CostsAtLeast slots conflicts part cost

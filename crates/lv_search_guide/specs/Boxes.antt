@@ -2,7 +2,7 @@
 use Rattle.std.specs.Prelude.{◌≡◌, ℕ, ◌≤◌, Bool, true, false, not, nat_lt, nat_eq, ◌&&◌, List, length, slice_index}
 use Rattle.lv_base.specs.declared.ids.Cost.{Cost}
 use Rattle.lv_base.specs.declared.search.Pair.{Pair}
-use Rattle.lv_boxes.specs.Masks.{only_choice}
+use Rattle.lv_boxes.specs.Masks.{has_choice, only_choice}
 use Rattle.lv_boxes.specs.Members.{are_left, choices_cost}
 use Rattle.lv_search_walk.specs.Walk.{is_ruled_out}
 
@@ -21,3 +21,7 @@ pub record HasNone (slots : List (List Cost)) (conflicts : List (List Pair)) (ma
 -- the pair's choice is not all that its slot has left
 abbrev pub is_open : List ℕ → Pair → Bool
 is_open masks p = nat_lt p.slot (length masks) && not (nat_eq (only_choice (slice_index masks p.slot) p.choice) (slice_index masks p.slot))
+
+-- the box has the pair's choice
+abbrev pub has_left : List ℕ → Pair → Bool
+has_left masks p = nat_lt p.slot (length masks) && has_choice (slice_index masks p.slot) p.choice

@@ -4,4 +4,5 @@ pub mod Cheapest
 pub mod Lowest
 pub mod Narrow
 pub mod Prices
+pub mod Dear
 pub use Rattle.lv_boxes.specs as lv_boxes

@@ -14,9 +14,6 @@ use lv_base::{Conflict, Pair};
 use lv_boxes::Grid;
 use std::alloc::{AllocError, Global};
 
-/// More than any member costs: a choice costs at most 1,000,000, and there are at most 4,096 slots.
-pub(crate) const ABOVE_ALL: u64 = 4_096_000_001;
-
 /// The cheapest member found so far, and what a member has to cost less than to be of interest still.
 #[derive(Debug, Drop)]
 pub(crate) struct Best {

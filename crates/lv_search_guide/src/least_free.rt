@@ -5,10 +5,11 @@ ghost use Rattle.std.specs.Prelude.{◌≡◌, ◌+◌, ◌*◌, ◌≤◌, IfOk
 ghost use Rattle.lv_search_guide.specs.Free.{LeastFreeTells};
 ghost use Rattle.lv_search_guide.specs.Lowest.{LowestTells};
 
-use super::cheapest::{ABOVE_ALL, cheapest};
-use super::look::Member;
+use super::cheapest::cheapest;
+use super::look::{ABOVE_ALL, Member};
 use super::lowest::lowest;
 use super::masks::Masks;
+use super::prices::low_of;
 use lv_base::{Conflict, Cost, Rank};
 use lv_boxes::{Grid, Zone};
 use std::alloc::{AllocError, Global};
@@ -41,7 +42,8 @@ fn first_in(
     ensures bound { IfOk result (λ first. IfSome first (λ member. member.cost ≤ 4096 * 1000000)) }
 {
     let _slots = grid.slots();
-    match cheapest(alloc, grid, conflicts, masks, 0, ABOVE_ALL)? {
+    let low = low_of(alloc, grid, conflicts, masks)?;
+    match cheapest(alloc, grid, conflicts, masks, low, ABOVE_ALL)? {
         Some(member) => Ok(Some(lowest(alloc, grid, conflicts, masks, member)?)),
         None => Ok(None),
     }

@@ -15,10 +15,12 @@
 //! | `masks` | a box: of each slot the choices left |
 //! | `narrow` | what conflicts leave of a box |
 //! | `prices` | what a member of a box costs at least |
+//! | `dear` | choices that are too dear |
 //! | `laws` | that there is one answer |
 #![tactic(auto)]
 
 mod cheapest;
+mod dear;
 pub mod laws;
 pub mod least_free;
 mod look;

@@ -2,12 +2,12 @@
 //! falls into two smaller boxes.
 #![tactic(auto)]
 
-ghost use Rattle.std.specs.Prelude.{◌≡◌, ◌<◌, ℕ, List, length, IfOk, IfSome, None};
+ghost use Rattle.std.specs.Prelude.{◌≡◌, ◌<◌, ℕ, true, List, length, IfOk, IfSome, None};
 ghost use Rattle.std.specs.List.{find};
 ghost use Rattle.std.specs.Option.{option_copied};
 ghost use Rattle.lv_base.specs.declared.ids.Cost.{Cost};
 ghost use Rattle.lv_base.specs.Choices.{contains_all};
-ghost use Rattle.lv_search_guide.specs.Boxes.{is_open};
+ghost use Rattle.lv_search_guide.specs.Boxes.{is_open, CostsAtLeast};
 ghost use Rattle.lv_search_guide.specs.Cheapest.{CheapestLeftTells, IsCheapestLeft, HasNoneLeft, LookTells, splits_of};
 
 use super::masks::Masks;
@@ -16,6 +16,9 @@ use lv_base::{Conflict, Pair, Seq, contains};
 use lv_boxes::least::write_least;
 use lv_boxes::{Grid, mask};
 use std::alloc::{AllocError, Global};
+
+/// More than any member costs: a choice costs at most 1,000,000, and there are at most 4,096 slots.
+pub(crate) const ABOVE_ALL: u64 = 4_096_000_001;
 
 /// A member of a box, and what its choices cost together.
 #[derive(Debug, Drop)]
@@ -46,14 +49,29 @@ pub(crate) fn look(
 ) -> Result<Looked, AllocError>
     ensures { IfOk result (λ looked. LookTells grid.now conflicts.now masks.now under looked) }
 {
-    let low = low_of(alloc, grid, conflicts, masks)?;
-    if low >= under {
+    if is_too_dear(alloc, grid, conflicts, masks, under)? {
         return Ok(Looked::Nothing);
     }
     match cheapest_left(alloc, grid, masks)? {
         Some(member) if member.cost < under => Ok(look_at(conflicts, masks, member)),
         _ => Ok(Looked::Nothing),
     }
+}
+
+/// Whether prices tell that no member costs less than `under`. They aren't asked where any member costs less.
+fn is_too_dear(
+    alloc: Global,
+    grid: &Grid,
+    conflicts: &[Conflict],
+    masks: &Masks,
+    under: u64,
+) -> Result<bool, AllocError>
+    ensures { IfOk result (λ dear. dear ≡ true → CostsAtLeast grid.now conflicts.now masks.now under) }
+{
+    if under >= ABOVE_ALL {
+        return Ok(false);
+    }
+    Ok(low_of(alloc, grid, conflicts, masks)? >= under)
 }
 
 /// A cheapest member of a box, whatever the conflicts.

@@ -1,5 +1,6 @@
-//! Of the cheapest members of a box the first in the order of slots. Slot by slot it is asked whether a member as cheap
-//! has a lower choice there; then that slot keeps the choice of the lowest found.
+//! Of the cheapest members of a box the first in the order of slots. Choices that are too dear are taken out of the box;
+//! then, slot by slot, it is asked whether a member as cheap has a lower choice there, and that slot keeps the choice of
+//! the lowest found.
 #![tactic(auto)]
 
 ghost use Rattle.std.specs.Prelude.{◌≡◌, ◌<◌, ◌≤◌, ◌*◌, true, length, slice_index, IfOk};
@@ -9,6 +10,7 @@ ghost use Rattle.lv_search_guide.specs.Cheapest.{IsCheapest};
 ghost use Rattle.lv_search_guide.specs.Lowest.{IsLowest, IsFirstAt, LowerTells, HasTells};
 
 use super::cheapest::cheapest;
+use super::dear::drop_dear;
 use super::look::Member;
 use super::masks::Masks;
 use lv_base::{Conflict, Pair, Seq};
@@ -30,6 +32,7 @@ pub(crate) fn lowest(
 {
     let cost = member.cost;
     let mut part = Masks::from_slice(alloc, masks.as_slice())?;
+    drop_dear(alloc, grid, conflicts, &mut part, cost + 1)?;
     let mut choices = member.choices;
     for slot in 0..grid.len() {
         let first = first_at(alloc, grid, conflicts, &part, slot, choices, cost)?;
@@ -112,6 +115,9 @@ fn member_with(
     requires within { pair.slot < length masks.now }
     ensures { IfOk result (λ choices. HasTells grid.now conflicts.now masks.now pair cost choices) }
 {
+    if !masks.has(pair) {
+        return Ok(None);
+    }
     let part = masks.with(alloc, pair)?;
     match cheapest(alloc, grid, conflicts, &part, cost, cost + 1)? {
         Some(member) => Ok(Some(member.choices)),

@@ -3,6 +3,7 @@
 
 ghost use Rattle.std.specs.Prelude.{◌≡◌, IfOk};
 ghost use Rattle.lv_boxes.specs.Parts.{masks_with, masks_without};
+ghost use Rattle.lv_search_guide.specs.Boxes.{has_left};
 
 use lv_base::Pair;
 use lv_boxes::mask;
@@ -37,6 +38,14 @@ impl Masks {
         ensures { result.now ≡ self.now }
     {
         self.words.as_slice()
+    }
+
+    /// Whether the box has the pair's choice at its slot.
+    pub(crate) fn has(&self, pair: Pair) -> bool
+        ensures { result ≡ has_left self.now pair }
+    {
+        let slot = pair.slot as usize;
+        slot < self.words.len() && mask::has(self.words[slot], pair.choice as usize)
     }
 
     /// The box of the members that have the pair's choice at its slot. A slot that the box hasn't is passed over.

@@ -24,8 +24,15 @@ const NO_CHOICE: u32 = 64;
 
 /// Of a slot what its choices are still priced at.
 #[derive(Debug, Drop)]
-struct Row {
+pub(crate) struct Row {
     prices: Vec<Cost>,
+}
+
+/// A bound of what members cost, and of each slot what its choices are still priced at.
+#[derive(Debug, Drop)]
+pub(crate) struct Priced {
+    pub(crate) low: u64,
+    pub(crate) rows: Vec<Row>,
 }
 
 impl Model for Row {
@@ -46,7 +53,7 @@ impl Row {
         })
     }
 
-    fn as_slice(&self) -> &[Cost]
+    pub(crate) fn as_slice(&self) -> &[Cost]
         ensures { result.now ≡ self.now }
     {
         self.prices.as_slice()
@@ -121,7 +128,8 @@ fn lesser(least: Option<u64>, price: u64) -> u64
     }
 }
 
-/// The least price of what breaks a conflict, if something in the box breaks it and none of its slots is out of range.
+/// The least price of what breaks a conflict, if something in the box breaks it, none of its slots is out of range, and
+/// nothing that breaks it is free.
 fn least_break(masks: &[u64], pairs: &[Pair], rows: &[Row]) -> Option<u64>
     requires { length masks.now ≡ length rows.now }
     ensures { IfSome result (λ by. AllByRecursion (FallsBy masks.now rows.now by) pairs.now) }
@@ -132,6 +140,9 @@ fn least_break(masks: &[u64], pairs: &[Pair], rows: &[Row]) -> Option<u64>
             return None;
         }
         least = least_at(masks, *pair, rows, least);
+        if least == Some(0) {
+            return None;
+        }
     }
     least
 }
@@ -243,22 +254,24 @@ pub(crate) fn low_of(
 ) -> Result<u64, AllocError>
     ensures { IfOk result (λ low. CostsAtLeast grid.now conflicts.now masks.now low) }
 {
-    low_in(alloc, grid, conflicts, masks.as_slice())
+    let priced = priced_in(alloc, grid, conflicts, masks.as_slice())?;
+    Ok(priced.low)
 }
 
-/// As `low_of`, of the masks themselves.
-fn low_in(
+/// What a member of a box that contains no conflict costs at least, and what its choices cost beside that.
+pub(crate) fn priced_in(
     alloc: Global,
     grid: &Grid,
     conflicts: &[Conflict],
     masks: &[u64],
-) -> Result<u64, AllocError>
-    ensures { IfOk result (λ low. CostsAtLeast grid.now conflicts.now masks.now low) }
+) -> Result<Priced, AllocError>
+    ensures { IfOk result (λ priced. IsBound grid.now conflicts.now masks.now priced.low priced.rows.items) }
 {
     let mut rows = rows_of(alloc, grid.slots())?;
     if masks.len() != rows.len() {
-        return Ok(0);
+        return Ok(Priced { low: 0, rows });
     }
-    let low = raise_by_slots(masks, &mut rows);
-    Ok(raise_by_conflicts(masks, conflicts, low, &mut rows))
+    let by_slots = raise_by_slots(masks, &mut rows);
+    let low = raise_by_conflicts(masks, conflicts, by_slots, &mut rows);
+    Ok(Priced { low, rows })
 }

@@ -1,7 +1,13 @@
 -- one slot after the other keeps the choice of the first
-use Rattle.std.proofs.Common.{◌<◌, ◌≤◌, subst}
-use Rattle.lv_search_guide.proofs.LowestLemmas.{slot_in_choices, narrowed_more, narrowed_ends}
+use Rattle.std.proofs.Common.{ℕ, ◌+◌, ◌<◌, ◌≤◌, List, subst, ◌∙◌}
+use Rattle.lv_search_guide.specs.Dear.{KeepsUnder}
+use Rattle.lv_search_guide.proofs.LowestLemmas.{slot_in_choices, narrowed_begins, narrowed_more, narrowed_ends}
 use Rattle.lv_search_guide.proofs.lowest.lowest.Goals as goal
+
+pub loop-slot-init : goal.loop-slot-init
+loop-slot-init c =
+    narrowed_begins c.args.grid.now c.args.conflicts.now c.args.masks.now c.drop_dear.new.masks c.args.member
+    (subst (λ (masks : List ℕ). KeepsUnder c.args.grid.now c.args.conflicts.now (c.args.member.cost + 1) masks c.drop_dear.new.masks) (c.in_ok-part.ensures ∙ c.as_slice.ensures) c.in_ok-drop_dear.ensures) c.requires.cheapest
 
 pub choice_at-requires : goal.choice_at-requires
 choice_at-requires c =

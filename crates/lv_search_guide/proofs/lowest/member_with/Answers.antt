@@ -1,4 +1,6 @@
 -- what the search among the members with the pair's choice tells
+use Rattle.std.proofs.Common.{sym}
+use Rattle.lv_search_guide.proofs.DearLemmas.{none_where_out}
 use Rattle.lv_search_guide.proofs.LowestLemmas.{with_at_least, has_none, has_one}
 use Rattle.lv_search_guide.proofs.lowest.member_with.Goals as goal
 
@@ -14,3 +16,6 @@ pub returns : goal.returns
 returns c =
     has_none c.args.grid.now c.args.conflicts.now c.args.masks.now c.in_ok-part.part c.args.pair c.args.cost c.requires.within c.in_ok-part.ensures
     (rw c.in-None.is at c.in_ok-member.ensures)
+
+pub returns-then-not-has : goal.returns-then-not-has
+returns-then-not-has c = none_where_out c.args.grid.now c.args.conflicts.now c.args.masks.now c.args.pair c.args.cost c.requires.within (sym (rw c.if-not-has.true at c.has.ensures))
