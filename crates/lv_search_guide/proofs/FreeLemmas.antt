@@ -1,5 +1,5 @@
 -- From the free members of a box to those of a zone, and that the first of these is one alone.
-use Rattle.std.proofs.Common.{◌≡◌, ℕ, ◌+◌, ◌*◌, ◌<◌, ◌≤◌, Bool, true, false, not, nat_eq, List, [], ◌∷◌, Option, Some, None, length, ◌⊎◌, inl, inr, refl, sym, ap, subst, arith}
+use Rattle.std.proofs.Common.{◌≡◌, ℕ, ◌+◌, ◌*◌, ◌<◌, ◌≤◌, Bool, true, false, not, nat_eq, List, [], ◌∷◌, Option, Some, None, length, ◌⊎◌, inl, inr, refl, sym, ◌∙◌, ap, subst, arith}
 use Rattle.std.specs.Prelude.{All}
 use Rattle.std.proofs.lemmas.Bool.{and_from, and_parts, eq-eqb, false_from_ne_true, cases_eq, cases_lt}
 use Rattle.std.proofs.lemmas.List.{get_or_past}
@@ -16,7 +16,8 @@ use Rattle.lv_search_walk.proofs.RankedLemmas.{neither_is_same}
 use Rattle.lv_search_guide.specs.declared.look.Member.{Member}
 use Rattle.lv_search_guide.specs.Free.{is_free_member, IsLeastFree, HasNoFree, LeastFreeTells}
 use Rattle.lv_search_guide.specs.Boxes.{is_free, CostsAtLeast, HasNone}
-use Rattle.lv_search_guide.specs.Lowest.{IsLowest}
+use Rattle.lv_search_guide.specs.Lowest.{IsLowest, LowestTells}
+use Rattle.lv_search_guide.specs.Narrow.{IsNoMoreBy}
 
 clash : (b : Bool) → b ≡ true → b ≡ false → ⊥
 clash b p q = cc
@@ -101,3 +102,16 @@ least_is_one slots zone conflicts (Some r) (Some s) t u =
     ap Some (neither_is_same r s
     (subst (λ (x : Rank). ranks_before x s ≡ false) (sym t.is) (u.first (candidate_of r) t.member))
     (subst (λ (x : Rank). ranks_before x r ≡ false) (sym u.is) (t.first (candidate_of s) u.member)))
+
+-- the lowest of a box is that of another with the same free members
+pub lowest_by_narrowed : (slots : List (List Cost)) (conflicts : List (List Pair)) (old new : List ℕ) (first : Option Member) → IsNoMoreBy conflicts old new → LowestTells slots conflicts new first → LowestTells slots conflicts old first
+lowest_by_narrowed slots conflicts old new None less t = record { none = λ choices. sym (less.free.same slots choices) ∙ t.none choices }
+lowest_by_narrowed slots conflicts old new (Some member) less t =
+    record {
+      cheapest = record {
+        free = sym (less.free.same slots member.choices) ∙ t.cheapest.free;
+        costs = t.cheapest.costs;
+        least = record { least = λ choices free. t.cheapest.least.least choices (less.free.same slots choices ∙ free) };
+      };
+      first = λ others free same. t.first others (less.free.same slots others ∙ free) same;
+    }

@@ -9,6 +9,7 @@ use super::cheapest::cheapest;
 use super::look::{ABOVE_ALL, Member};
 use super::lowest::lowest;
 use super::masks::Masks;
+use super::narrow::narrow;
 use super::prices::low_of;
 use lv_base::{Conflict, Cost, Rank};
 use lv_boxes::{Grid, Zone};
@@ -25,7 +26,7 @@ pub fn least_free(
     ensures { IfOk result (λ least. LeastFreeTells grid.now zone.now conflicts.now least) }
 {
     let masks = Masks::from_slice(alloc, zone.masks())?;
-    match first_in(alloc, grid, conflicts, &masks)? {
+    match first_in(alloc, grid, conflicts, masks)? {
         Some(member) => Ok(Some(rank_of(zone, member))),
         None => Ok(None),
     }
@@ -33,6 +34,22 @@ pub fn least_free(
 
 /// Of the members of a box that contain no conflict the first among the cheapest.
 fn first_in(
+    alloc: Global,
+    grid: &Grid,
+    conflicts: &[Conflict],
+    mut masks: Masks,
+) -> Result<Option<Member>, AllocError>
+    ensures first { IfOk result (λ first. LowestTells grid.now conflicts.now masks first) }
+    ensures bound { IfOk result (λ first. IfSome first (λ member. member.cost ≤ 4096 * 1000000)) }
+{
+    if !narrow(conflicts, &mut masks) {
+        return Ok(None);
+    }
+    first_left(alloc, grid, conflicts, &masks)
+}
+
+/// As `first_in`, of a box from which nothing more can be taken out.
+fn first_left(
     alloc: Global,
     grid: &Grid,
     conflicts: &[Conflict],
