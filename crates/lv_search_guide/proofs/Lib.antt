@@ -5,3 +5,4 @@ pub mod FreeLemmas
 pub mod NarrowLemmas
 pub mod PriceLemmas
 pub mod DearLemmas
+pub mod SlotLemmas

@@ -5,4 +5,5 @@ pub mod Lowest
 pub mod Narrow
 pub mod Prices
 pub mod Dear
+pub mod Slots
 pub use Rattle.lv_boxes.specs as lv_boxes
