@@ -15,21 +15,19 @@ use Rattle.lv_search_walk.specs.Groups.{group_of, groups_of, have_same_groups}
 use Rattle.lv_meaning.specs.Candidates.{type_moves}
 use Rattle.lv_meaning.specs.Targets.{target_mode, target_modes, have_one_target, are_alike, move_targets, targets_of_moves}
 
-same_mode : ValId → ValId → Bool
-same_mode a b = nat_eq a.0 b.0
+same_modes : List ValId → List ValId → Bool
+same_modes xs ys = pointwise (λ (a b : ValId). nat_eq a.0 b.0) xs ys
 
-joined : (as bs cs : List ValId) → pointwise (λ (a b : ValId). nat_eq a.0 b.0) as bs ≡ true → pointwise (λ (a b : ValId). nat_eq a.0 b.0) bs cs ≡ true → pointwise (λ (a b : ValId). nat_eq a.0 b.0) as cs ≡ true
+joined : (xs ys zs : List ValId) → same_modes xs ys ≡ true → same_modes ys zs ≡ true → same_modes xs zs ≡ true
 joined [] [] [] h k = refl
-joined [] [] (c ∷ cs) h k = absurd (cc k)
-joined [] (b ∷ bs) cs h k = absurd (cc h)
-joined (a ∷ as) [] cs h k = absurd (cc h)
-joined (a ∷ as) (b ∷ bs) [] h k = absurd (cc k)
-joined (a ∷ as) (b ∷ bs) (c ∷ cs) h k =
-    let one = and_parts (nat_eq a.0 b.0) (pointwise (λ (a b : ValId). nat_eq a.0 b.0) as bs) h in
-    let two = and_parts (nat_eq b.0 c.0) (pointwise (λ (a b : ValId). nat_eq a.0 b.0) bs cs) k in
-    and_from (nat_eq a.0 c.0) (pointwise (λ (a b : ValId). nat_eq a.0 b.0) as cs)
-    (eq-eqb a.0 c.0 (eqb-true a.0 b.0 one.0 ∙ eqb-true b.0 c.0 two.0))
-    (joined as bs cs one.1 two.1)
+joined [] [] (z ∷ zs) h k = absurd (cc k)
+joined [] (y ∷ ys) zs h k = absurd (cc h)
+joined (x ∷ xs) [] zs h k = absurd (cc h)
+joined (x ∷ xs) (y ∷ ys) [] h k = absurd (cc k)
+joined (x ∷ xs) (y ∷ ys) (z ∷ zs) h k =
+    let one = and_parts (nat_eq x.0 y.0) (same_modes xs ys) h in
+    let two = and_parts (nat_eq y.0 z.0) (same_modes ys zs) k in
+    and_from (nat_eq x.0 z.0) (same_modes xs zs) (eq-eqb x.0 z.0 (eqb-true x.0 y.0 one.0 ∙ eqb-true y.0 z.0 two.0)) (joined xs ys zs one.1 two.1)
 
 pub targets_join : (plant : Plant) → IsTransitive (have_one_target plant)
 targets_join plant r q p h k =
