@@ -70,22 +70,22 @@ module _ (slots : List (List Cost)) (candidate : Candidate) (zone : ZoneValue) (
   abbrev chosen : ℕ
   chosen = slice_index candidate.choices s
 
-  member_of_group : is_member slots (record zone { masks = masks_of_group zone.masks s numbers group }) candidate ≡ (is_member slots zone candidate && has_choice (only_group mask numbers group) chosen)
+  pub member_of_group : is_member slots (record zone { masks = masks_of_group zone.masks s numbers group }) candidate ≡ (is_member slots zone candidate && has_choice (only_group mask numbers group) chosen)
   member_of_group =
       set_member slots zone s (only_group mask numbers group) (has_choice (only_group mask numbers group) chosen) candidate here
       (both_or_none (has_choice (only_group mask numbers group) chosen) (has_choice mask chosen) (of_group_within mask numbers group chosen))
 
-  member_of_others : is_member slots (record zone { masks = masks_of_others zone.masks s numbers group }) candidate
+  pub member_of_others : is_member slots (record zone { masks = masks_of_others zone.masks s numbers group }) candidate
       ≡ (is_member slots zone candidate && not (has_choice (only_group mask numbers group) chosen))
   member_of_others =
       set_member slots zone s (without_group mask numbers group) (not (has_choice (only_group mask numbers group) chosen)) candidate here (has_choice-of_others mask numbers group chosen)
 
   module _ (grouped : chosen < length numbers) where
-    in_group : is_member slots (record zone { masks = masks_of_group zone.masks s numbers group }) candidate ≡ (is_member slots zone candidate && nat_eq (group_of numbers chosen) group)
+    pub in_group : is_member slots (record zone { masks = masks_of_group zone.masks s numbers group }) candidate ≡ (is_member slots zone candidate && nat_eq (group_of numbers chosen) group)
     in_group =
         set_member slots zone s (only_group mask numbers group) (nat_eq (group_of numbers chosen) group) candidate here (has_choice-of_group mask numbers group chosen grouped)
 
-    in_others : is_member slots (record zone { masks = masks_of_others zone.masks s numbers group }) candidate ≡ (is_member slots zone candidate && not (nat_eq (group_of numbers chosen) group))
+    pub in_others : is_member slots (record zone { masks = masks_of_others zone.masks s numbers group }) candidate ≡ (is_member slots zone candidate && not (nat_eq (group_of numbers chosen) group))
     in_others =
         set_member slots zone s (without_group mask numbers group) (not (nat_eq (group_of numbers chosen) group)) candidate here
         (has_choice-of_others mask numbers group chosen
@@ -93,13 +93,13 @@ module _ (slots : List (List Cost)) (candidate : Candidate) (zone : ZoneValue) (
         ∙ not_both (has_choice mask chosen) (nat_eq (group_of numbers chosen) group))
 
 -- there are as many choices as slots
-grouped_all : (groups : List (List ℕ)) (choices : List ℕ) → are_grouped groups choices ≡ true → length choices ≡ length groups
+pub grouped_all : (groups : List (List ℕ)) (choices : List ℕ) → are_grouped groups choices ≡ true → length choices ≡ length groups
 grouped_all [] [] h = refl
 grouped_all [] (c ∷ cs) h = absurd (cc h)
 grouped_all (numbers ∷ groups) [] h = absurd (cc h)
 grouped_all (numbers ∷ groups) (c ∷ cs) h = ap suc (grouped_all groups cs (and_parts (nat_lt c (length numbers)) (are_grouped groups cs) h).1)
 
-reaches : (choices : List ℕ) (s n : ℕ) → length (drop s choices) ≡ suc n → s < length choices
+pub reaches : (choices : List ℕ) (s n : ℕ) → length (drop s choices) ≡ suc n → s < length choices
 reaches [] zero n h = absurd (omega arith)
 reaches [] (suc s) n h = absurd (omega arith)
 reaches (c ∷ cs) zero n h = omega arith
@@ -253,3 +253,10 @@ other_lengths (costs ∷ slots) (numbers ∷ groups) other =
     and_none : (b : Bool) → (b && false) ≡ false
     and_none true = refl
     and_none false = refl
+
+-- with one shape they have one length
+pub one_length : (slots : List (List Cost)) (groups : List (List ℕ)) → have_shape slots groups ≡ true → length slots ≡ length groups
+one_length [] [] shape = refl
+one_length [] (numbers ∷ groups) shape = absurd (cc shape)
+one_length (costs ∷ slots) [] shape = absurd (cc shape)
+one_length (costs ∷ slots) (numbers ∷ groups) shape = ap suc (one_length slots groups (and_parts (nat_eq (length costs) (length numbers)) (have_shape slots groups) shape).1)

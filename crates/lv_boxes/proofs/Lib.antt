@@ -6,4 +6,5 @@ pub mod LeastLemmas
 pub mod MemberLemmas
 pub mod Among
 pub mod RankedMemberLemmas
+pub mod GroupTimesLemmas
 pub use Rattle.lv_search_walk.proofs as lv_search_walk

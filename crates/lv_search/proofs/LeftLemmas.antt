@@ -53,7 +53,7 @@ none_before_on r e m p q = false_from_ne_true (ranks_before r m) (λ h. by (rank
     by true s h = both_ways (ranks_before e m) q (transitive (rank_key e) (rank_key r) (rank_key m) s h)
     by false s h = both_ways (ranks_before e m) q (subst (λ (t : Rank). ranks_before t m ≡ true) (neither_is_same r e p s) h)
 
-filter_among : (keeps : Rank → Bool) (r : Rank) (xs : List Rank) → is_among r (filter keeps xs) ≡ (keeps r && is_among r xs)
+pub filter_among : (keeps : Rank → Bool) (r : Rank) (xs : List Rank) → is_among r (filter keeps xs) ≡ (keeps r && is_among r xs)
 filter_among keeps r [] = sym (never (keeps r))
   where
     never : (b : Bool) → (b && false) ≡ false
@@ -78,7 +78,7 @@ all_filtered p keeps (r ∷ rs) h = by (keeps r) (all_filtered p keeps rs (and_p
     by true rest = and_from (p r) (list_all p (filter keeps rs)) (and_parts (p r) (list_all p rs) h).0 rest
     by false rest = rest
 
-rises_filtered : (keeps : Rank → Bool) (rs : List Rank) → rises rs ≡ true → rises (filter keeps rs) ≡ true
+pub rises_filtered : (keeps : Rank → Bool) (rs : List Rank) → rises rs ≡ true → rises (filter keeps rs) ≡ true
 rises_filtered keeps [] h = refl
 rises_filtered keeps (r ∷ rs) h = by (keeps r) (rises_filtered keeps rs parts.1)
   where
@@ -102,7 +102,7 @@ module _ (slots : List (List Cost)) where
   left_of entries = ranked_members slots (zones_of entries)
 
   -- no entry's key ranks before this
-  abbrev NoKeyBefore : Rank → List (Rank × Open) → Type 0
+  abbrev pub NoKeyBefore : Rank → List (Rank × Open) → Type 0
   NoKeyBefore m entries = AllByRecursion (λ d. ranks_before d.0 m ≡ false) entries
 
   none_before : (m r : Rank) (entries : List (Rank × Open)) → AllByRecursion (IsKeptByLeast slots) entries → NoKeyBefore m entries
@@ -123,7 +123,7 @@ module _ (slots : List (List Cost)) where
       by false here h later = later (sym (ap (λ b. b || nat_lt 0 (times_in slots r (zones_of es))) here) ∙ h)
 
   -- the first entry's key is the first of what is left
-  first_is_key : (e : Rank × Open) (es : List (Rank × Open)) → AreKept slots (e ∷ es) → NoKeyBefore e.0 es → slice_get (left_of (e ∷ es)) 0 ≡ Some e.0
+  pub first_is_key : (e : Rank × Open) (es : List (Rank × Open)) → AreKept slots (e ∷ es) → NoKeyBefore e.0 es → slice_get (left_of (e ∷ es)) 0 ≡ Some e.0
   first_is_key e es kept keys =
       first_of_rising (left_of (e ∷ es)) e.0
       (among_ranked_members slots e.0 (zones_of (e ∷ es)) ∙ some_by_first slots e.0 e.1.zone (zones_of es) ∙ or_left (ranks_in slots e.0 e.1.zone) (nat_lt 0 (times_in slots e.0 (zones_of es))) (has_least_rank slots e.1.zone e.0 kept.least.0))
@@ -202,7 +202,7 @@ module _ (slots : List (List Cost)) where
       (sym (ap (λ m. nat_lt p.slot m) len) ∙ (and_parts (nat_lt p.slot (length choices)) (nat_eq (slice_index choices p.slot) p.choice) parts.0).0)
       (slots_within choices n ps len parts.1)
 
-  least_left : (e : Rank × Open) → IsKeptByLeast slots e → are_left slots e.1.zone.masks e.0.choices ≡ true
+  pub least_left : (e : Rank × Open) → IsKeptByLeast slots e → are_left slots e.1.zone.masks e.0.choices ≡ true
   least_left e l = (and_parts (nat_eq e.1.zone.source e.1.zone.source) (are_left slots e.1.zone.masks e.0.choices) l.least.member).1
 
   choices_per_slot : (costs : List (List Cost)) (masks choices : List ℕ) → are_left costs masks choices ≡ true → length choices ≡ length costs
@@ -221,7 +221,7 @@ module _ (slots : List (List Cost)) where
   pub has_each_slot : (e : Rank × Open) (es : List (Rank × Open)) → AreKept slots (e ∷ es) → length e.0.choices ≡ length slots
   has_each_slot e es kept = choices_per_slot slots e.1.zone.masks e.0.choices (least_left e kept.least.0)
 
-  some_with : (n : ℕ) (b : Bool) → nat_lt 0 (n + cond b 1 0) ≡ (nat_lt 0 n || b)
+  pub some_with : (n : ℕ) (b : Bool) → nat_lt 0 (n + cond b 1 0) ≡ (nat_lt 0 n || b)
   some_with n true = lt-ltb 0 (n + 1) (omega arith) ∙ sym (or_right (nat_lt 0 n) true refl)
   some_with n false = let same : n + 0 ≡ n = omega arith in ap (nat_lt 0) same ∙ sym (or_false (nat_lt 0 n))
     where
