@@ -1,13 +1,13 @@
 -- Facts and choices as literals: each says of one variable, before the step or after it, that it has one value, or of one part that it
 -- makes one move.
-use Rattle.std.specs.Prelude.{◌≡◌, ◌<◌, ℕ, Bool, true, List, ◌++◌, map, filter, All, slice_index_or}
+use Rattle.std.specs.Prelude.{◌≡◌, ◌<◌, ℕ, Bool, true, List, ◌++◌, map, filter, slice_index_or}
 use Rattle.std.specs.List.{list_all}
 use Rattle.lv_base.specs.declared.ids.Lit.{Lit}
 use Rattle.lv_base.specs.declared.search.Pair.{Pair}
 use Rattle.lv_clauses.specs.Literals.{is_clause, lit_holds}
 use Rattle.lv_clauses.specs.Marks.{Marks, is_marked}
 use Rattle.lv_model.specs.declared.plant.Plant.{Plant}
-use Rattle.lv_model.specs.Lists.{sizes, move_counts}
+use Rattle.lv_model.specs.Lists.{move_counts}
 use Rattle.lv_compile.specs.Booleans.{Booleans, value_literal, booleans_now, booleans_next, first_choice}
 use Rattle.lv_system.specs.Choices.{Choices, choice_literal}
 use Rattle.lv_meaning.specs.declared.facts.Observation.{Observation}

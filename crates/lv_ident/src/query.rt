@@ -17,14 +17,14 @@ use lv_base::{Conflict, Rank, Seq};
 use lv_meaning::Facts;
 use lv_model::{Model, TrackedState};
 use lv_sat::Effort;
-use lv_search::{By, Outcome, Search, Split, Zones};
+use lv_search::{Guide, Outcome, Search};
 use lv_search_zones::{move_grid, zones_of};
 use lv_system::StepSystem;
 use std::alloc::{AllocError, Global};
 use std::marker;
 
 /// What a query did, in counts that no clause speaks of: for measuring. The zones are those that it began with and those
-/// that splits gave, the ones without members too.
+/// that candidates listed gave, the ones without members too.
 #[derive(Clone, Copy, Debug, PartialEq, Eq)]
 pub struct QueryEffort {
     pub trials: u64,
@@ -39,8 +39,7 @@ pub struct Query<'a> {
     model: &'a Model,
     facts: Facts,
     trial: IdentTrial<'a>,
-    search: Search<Zones>,
-    first_zones: usize,
+    search: Search<Guide>,
 }
 
 impl<'a> marker::Model for Query<'a> {
@@ -88,16 +87,15 @@ pub fn identify<'a>(
 {
     let grid = move_grid(alloc, model)?;
     let zones = zones_of(alloc, model, tracked)?;
-    let first_zones = zones.len();
     let asked = copied(alloc, &facts)?;
-    let search = Search::new(alloc, Zones::new(alloc, grid, zones)?, k)?;
+    let left = Guide::new(alloc, grid, zones)?;
+    let search = Search::new(alloc, left, k)?;
     match IdentTrial::new(alloc, model, system, asked) {
         Ok(trial) => Ok(Query {
             model,
             facts,
             trial,
             search,
-            first_zones,
         }),
         Err(error) => {
             drop(search);
@@ -145,35 +143,12 @@ impl<'a> Query<'a> {
         self.search.trials()
     }
 
-    /// The splits made, in order. Takes no memory.
-    pub fn splits(&self) -> &[Split] {
-        self.search.splits()
-    }
-
     /// What it did so far. Takes no memory.
     pub fn effort(&self) -> QueryEffort {
-        let mut zones = self.first_zones as u64;
-        for split in self.search.splits() {
-            zones = zones.wrapping_add(self.parts_of(split.by) as u64);
-        }
         QueryEffort {
             trials: self.search.trials(),
-            zones,
+            zones: self.search.zones(),
             solver: self.trial.effort(),
-        }
-    }
-
-    /// How many zones a split by this gives.
-    fn parts_of(&self, by: By) -> usize {
-        match by {
-            By::Conflict(place) => match self.search.conflicts().get(place) {
-                Some(conflict) => conflict.pairs().len(),
-                None => 0,
-            },
-            By::Listed(place) => match self.search.listed().get(place) {
-                Some(rank) => rank.choices.len(),
-                None => 0,
-            },
         }
     }
 }

@@ -33,7 +33,7 @@ use Rattle.lv_boxes.proofs.RankedMemberLemmas.{among_ranked_members, ranked_memb
 use Rattle.lv_search.proofs.TimesLemmas.{times_one}
 
 -- of a rising list what none ranks before is the first
-first_of_rising : (rs : List Rank) (m : Rank) → is_among m rs ≡ true → rises rs ≡ true → ((r : Rank) → is_among r rs ≡ true → ranks_before r m ≡ false) → slice_get rs 0 ≡ Some m
+pub first_of_rising : (rs : List Rank) (m : Rank) → is_among m rs ≡ true → rises rs ≡ true → ((r : Rank) → is_among r rs ≡ true → ranks_before r m ≡ false) → slice_get rs 0 ≡ Some m
 first_of_rising [] m is up least = absurd (cc is)
 first_of_rising (r ∷ rs) m is up least = by (is_rank m r) refl
   where
@@ -46,7 +46,7 @@ first_of_rising (r ∷ rs) m is up least = by (is_rank m r) refl
         absurd (both_ways (ranks_before r m) never before)
 
 -- neither comes before the one behind it
-none_before_on : (r e m : Rank) → ranks_before r e ≡ false → ranks_before e m ≡ false → ranks_before r m ≡ false
+pub none_before_on : (r e m : Rank) → ranks_before r e ≡ false → ranks_before e m ≡ false → ranks_before r m ≡ false
 none_before_on r e m p q = false_from_ne_true (ranks_before r m) (λ h. by (ranks_before e r) refl h)
   where
     by : (b : Bool) → ranks_before e r ≡ b → ranks_before r m ≡ true → ⊥
@@ -90,7 +90,7 @@ rises_filtered keeps (r ∷ rs) h = by (keeps r) (rises_filtered keeps rs parts.
     by false rest = rest
 
 -- behind the first the others are left
-among_behind : (h r : Rank) (rs : List Rank) → list_all (ranks_before h) rs ≡ true → is_among r rs ≡ (not (is_rank r h) && is_among r (h ∷ rs))
+pub among_behind : (h r : Rank) (rs : List Rank) → list_all (ranks_before h) rs ≡ true → is_among r rs ≡ (not (is_rank r h) && is_among r (h ∷ rs))
 among_behind h r rs before = by (is_rank r h) refl
   where
     by : (b : Bool) → is_rank r h ≡ b → is_among r rs ≡ (not b && (b || is_among r rs))
@@ -160,10 +160,10 @@ module _ (slots : List (List Cost)) where
   rest_kept e es kept = record { least = kept.least.1; apart = λ r. let few = kept.apart r in omega (arith, few) }
 
   -- how many parts have a rank
-  abbrev stays : Rank → ZoneValue → List Pair → Bool
+  abbrev pub stays : Rank → ZoneValue → List Pair → Bool
   stays r zone pairs = ranks_in slots r zone && not (contains_all r.choices pairs)
 
-  parts_times : (r : Rank) (n : ℕ) (zone : ZoneValue) (pairs : List Pair) → length zone.masks ≡ n → list_all (λ (p : Pair). nat_lt p.slot n) pairs ≡ true
+  pub parts_times : (r : Rank) (n : ℕ) (zone : ZoneValue) (pairs : List Pair) → length zone.masks ≡ n → list_all (λ (p : Pair). nat_lt p.slot n) pairs ≡ true
       → times_in slots r (parts_of zone pairs) ≡ cond (stays r zone pairs) 1 0
   parts_times r n zone [] len below = by (ranks_in slots r zone)
     where
@@ -205,7 +205,7 @@ module _ (slots : List (List Cost)) where
   pub least_left : (e : Rank × Open) → IsKeptByLeast slots e → are_left slots e.1.zone.masks e.0.choices ≡ true
   least_left e l = (and_parts (nat_eq e.1.zone.source e.1.zone.source) (are_left slots e.1.zone.masks e.0.choices) l.least.member).1
 
-  choices_per_slot : (costs : List (List Cost)) (masks choices : List ℕ) → are_left costs masks choices ≡ true → length choices ≡ length costs
+  pub choices_per_slot : (costs : List (List Cost)) (masks choices : List ℕ) → are_left costs masks choices ≡ true → length choices ≡ length costs
   choices_per_slot [] [] [] h = refl
   choices_per_slot [] [] (choice ∷ choices) h = absurd (cc h)
   choices_per_slot [] (mask ∷ masks) [] h = absurd (cc h)
@@ -434,7 +434,7 @@ module _ (slots : List (List Cost)) where
           absurd (both_ways (nat_eq zone.source source) parts.0 (eq-eqb zone.source source (sym same ∙ from)))
       by false here later = omega (arith, later)
 
-  sources_apart : (r : Rank) (zones : List ZoneValue) → sources_differ zones ≡ true → times_in slots r zones ≤ 1
+  pub sources_apart : (r : Rank) (zones : List ZoneValue) → sources_differ zones ≡ true → times_in slots r zones ≤ 1
   sources_apart r [] differ = omega arith
   sources_apart r (zone ∷ zones) differ = by (ranks_in slots r zone) refl (sources_apart r zones parts.1)
     where

@@ -9,6 +9,7 @@ ghost use Rattle.lv_search_walk.specs.Groups.{alike_by};
 ghost use Rattle.lv_search.specs.Standing.{trials_of, all_suit, first_fitting, AreSame, IsUnderWay};
 
 use super::frontier::Frontier;
+use super::guide::Guide;
 use super::trial::Trial;
 use super::turn::{Held, take_turns};
 use super::zones::{Split, Zones};
@@ -128,6 +129,14 @@ impl<F: Frontier + Drop> Search<F> {
         ensures { result ≡ trials_of self.now.standing }
     {
         self.held.trials()
+    }
+}
+
+impl Search<Guide> {
+    /// How many zones there were so far: those that the search began with, and for each candidate listed as many as there
+    /// are slots. Takes no memory.
+    pub fn zones(&self) -> u64 {
+        self.frontier.opened()
     }
 }
 

@@ -62,7 +62,7 @@ impl Model for Zones {
 }
 
 /// The rank of the zone's least member, if it has members.
-fn least_of(alloc: Global, grid: &Grid, zone: &Zone) -> Result<Option<Rank>, AllocError>
+pub(crate) fn least_of(alloc: Global, grid: &Grid, zone: &Zone) -> Result<Option<Rank>, AllocError>
     ensures none { IfOk result (λ least. is_none least ≡ lacks_choice grid.now zone.now.masks) }
     ensures least { IfOk result (λ least. IfSome least (λ rank. IsLeastRank grid.now zone.now rank)) }
 {
@@ -256,7 +256,7 @@ impl Frontier for Zones {
 }
 
 /// All choices of a candidate with a choice for each slot, as a conflict.
-fn own_choices(alloc: Global, grid: &Grid, rank: &Rank) -> Result<Conflict, AllocError>
+pub(crate) fn own_choices(alloc: Global, grid: &Grid, rank: &Rank) -> Result<Conflict, AllocError>
     requires { length rank.now.choices ≡ length grid.now }
     ensures { IfOk result (λ conflict. conflict ≡ pairs_of rank.now.choices) }
 {

@@ -3,4 +3,4 @@ use Rattle.lv_reconf.proofs.QueryLemmas.{new_is_query}
 use Rattle.lv_reconf.proofs.query.recover.Goals as goal
 
 pub returns-clause-query : goal.returns-clause-query
-returns-clause-query c = new_is_query c.args.model.now c.args.aim c.in_ok-setting.setting c.in_ok-setting.ensures c.in_ok-search.search c.in_ok-search.ensures
+returns-clause-query c = new_is_query c.args.model.now c.args.aim c.in_ok-setting.setting c.in_ok-setting.ensures c.in_ok-search.search.standing c.in_ok-search.ensures
