@@ -5,11 +5,11 @@ _livingstone() {
     COMPREPLY=()
     case "$COMP_CWORD ${COMP_WORDS[1]}" in
     "1 ${COMP_WORDS[1]}")
-        mapfile -t COMPREPLY < <(compgen -W 'run check print generate drive lanes' -- "$word")
+        mapfile -t COMPREPLY < <(compgen -W 'run check print generate drive lanes plant' -- "$word")
         return
         ;;
-    '2 run' | '2 lanes' | '2 check' | '2 print') suffix=lv ;;
-    '3 run' | '3 lanes') suffix=ses ;;
+    '2 run' | '2 lanes' | '2 plant' | '2 check' | '2 print') suffix=lv ;;
+    '3 run' | '3 lanes' | '3 plant') suffix=ses ;;
     '3 check') suffix=cert ;;
     '2 generate')
         mapfile -t COMPREPLY < <(compgen -W 'model session' -- "$word")

@@ -4,7 +4,7 @@
 
 # The program's own line, which stands here once more; both callers print it.
 # shellcheck disable=SC2034
-usage='usage: livingstone run MODEL SESSION, check MODEL CERT, print MODEL, generate KIND N, drive N, lanes MODEL SESSION'
+usage='usage: livingstone run MODEL SESSION, check MODEL CERT, print MODEL, generate KIND N, drive N, lanes MODEL SESSION, plant MODEL SCRIPT'
 
 # is_number WORD: digits alone, of a number from 1 to 1,000,000.
 is_number() {
@@ -37,7 +37,7 @@ are_accepted() {
         fi
     done
     case "$command ${#names[@]}" in
-    'run 2' | 'lanes 2' | 'check 2' | 'print 1') ;;
+    'run 2' | 'lanes 2' | 'plant 2' | 'check 2' | 'print 1') ;;
     'generate 2') [[ "${names[0]}" == model || "${names[0]}" == session ]] && is_number "${names[1]}" ;;
     'drive 1') is_number "${names[0]}" ;;
     *) return 1 ;;

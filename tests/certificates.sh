@@ -95,7 +95,7 @@ mkdir folder
 : >locked
 chmod 000 locked
 run check "$model" </dev/null
-expect 'no certificate' 2 '' 'usage: livingstone run MODEL SESSION, check MODEL CERT, print MODEL, generate KIND N, drive N, lanes MODEL SESSION'
+expect 'no certificate' 2 '' 'usage: livingstone run MODEL SESSION, check MODEL CERT, print MODEL, generate KIND N, drive N, lanes MODEL SESSION, plant MODEL SCRIPT'
 run check refused.lv absent.cert </dev/null
 expect 'a text that is no model, whose certificate is not opened' 3 '' 'model 1 M04'
 run check absent.lv long.cert </dev/null

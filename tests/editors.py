@@ -164,7 +164,7 @@ def completions(words):
 
 def try_completions():
     rows = [
-        (["livingstone", ""], ["check", "drive", "generate", "lanes", "print", "run"]),
+        (["livingstone", ""], ["check", "drive", "generate", "lanes", "plant", "print", "run"]),
         (["livingstone", "pr"], ["print"]),
         (["livingstone", "generate", ""], ["model", "session"]),
         (["livingstone", "run", "examples/va"], ["examples/valve.lv"]),

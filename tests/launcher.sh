@@ -9,7 +9,7 @@ trap 'rm -rf "$work"' EXIT
 passed=0
 failed=0
 top="$work/top"
-usage='usage: livingstone run MODEL SESSION, check MODEL CERT, print MODEL, generate KIND N, drive N, lanes MODEL SESSION'
+usage='usage: livingstone run MODEL SESSION, check MODEL CERT, print MODEL, generate KIND N, drive N, lanes MODEL SESSION, plant MODEL SCRIPT'
 mkdir -p "$top/shell" "$top/crates/livingstone_cli/out" "$work/kit" "$work/caller"
 cp "$root/livingstone" "$root/first-look" "$top"
 cp "$root/shell/words.sh" "$top/shell"

@@ -5,7 +5,7 @@
 
 model="$root/examples/valve.lv"
 session="$root/examples/first.ses"
-usage='usage: livingstone run MODEL SESSION, check MODEL CERT, print MODEL, generate KIND N, drive N, lanes MODEL SESSION'
+usage='usage: livingstone run MODEL SESSION, check MODEL CERT, print MODEL, generate KIND N, drive N, lanes MODEL SESSION, plant MODEL SCRIPT'
 cd "$work" || exit 1
 : >empty
 echo 'no model' >refused.lv

@@ -17,36 +17,10 @@ use lv_reconf::{Query, recover};
 use lv_search_walk::Outcome;
 use lv_system::{StepSystem, compile};
 use std::alloc::{AllocError, Global};
-
-/// One valve. What flows out of it is its fourth variable.
-const VALVE: &str = "model valve
-domain flow zero some
-domain order none open close
-type valve
-control cmd order
-variable inn flow
-observable out flow
-mode closed
-mode open
-mode stuck_closed
-mode stuck_open
-in closed out = zero
-in open out = inn
-in stuck_closed out = zero
-in stuck_open out = inn
-step closed -> open when cmd = open
-step open -> closed when cmd = close
-fault closed -> stuck_closed cost 3
-fault open -> stuck_open cost 5
-fault open -> stuck_closed cost 4
-fault closed -> stuck_open cost 8
-end
-part v valve closed
-law v.inn = some
-";
+use test_texts::VALVE;
 
 /// Three of them. What flows out of the second is the eighth variable.
-const THREE: &str = "model valves
+const THREE: &[u8] = b"model valves
 domain flow zero some
 domain order none open close
 type valve
@@ -90,8 +64,8 @@ struct Wanted<'a> {
     values: &'a [u32],
 }
 
-fn model(alloc: Global, text: &str) -> Result<Model, AllocError> {
-    match model_of(alloc, text.as_bytes()) {
+fn model(alloc: Global, text: &[u8]) -> Result<Model, AllocError> {
+    match model_of(alloc, text) {
         Ok(model) => Ok(model),
         Err(_) => Err(AllocError),
     }
@@ -221,7 +195,7 @@ fn model_comes_to(
     Ok(false)
 }
 
-fn comes_to(alloc: Global, text: &str, aim: Aim, wanted: Wanted<'_>) -> Result<bool, AllocError> {
+fn comes_to(alloc: Global, text: &[u8], aim: Aim, wanted: Wanted<'_>) -> Result<bool, AllocError> {
     let model = model(alloc, text)?;
     model_comes_to(alloc, &model, aim, wanted)
 }

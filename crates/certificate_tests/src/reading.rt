@@ -1,11 +1,12 @@
 //! Each public call with ample memory, and the first line out of form of small texts.
-use super::texts::{DIAGNOSIS, RECOVERY};
+use super::texts::RECOVERY;
 use lv_cert::laws::{
     certificate_is_one, every_text_is_read, fault_is_no_certificate, fault_is_one, line_reads_back,
 };
 use lv_cert::{CertFault, Head, Line, Literal, read_cert, write_cert};
 use std::alloc::Global;
 use std::test::Fail;
+use test_texts::STUCK_CLOSED;
 
 /// Whether bytes are a certificate that is written as these same bytes.
 fn stays(alloc: Global, bytes: &[u8]) -> Result<bool, Fail> {
@@ -40,7 +41,7 @@ fn certificates_are_read_and_written(rt: HostRuntime) -> Result<(), Fail> {
     fault_is_one();
     fault_is_no_certificate();
     every_text_is_read();
-    assert!(rt; stays(rt.alloc(), DIAGNOSIS)?);
+    assert!(rt; stays(rt.alloc(), STUCK_CLOSED)?);
     assert!(rt; stays(rt.alloc(), RECOVERY)?);
     Ok(())
 }

@@ -1,30 +1,6 @@
 //! Texts of certificates that have their form.
 #![tactic(auto)]
 
-/// A diagnosis of a valve that should open and shows no flow: it is stuck closed.
-pub const DIAGNOSIS: &[u8] = b"\
-certificate diagnosis
-model valve
-k 4
-state 0 1
-control 2
-fact next 4 1
-listed 1 3
-now 1 2 2 1
-next 3 1 2 1
-conflict 1 1
-clause 0 117 92 116 39 44 35 0
-conflict 1 2
-clause 0 117 115 96 0
-conflict 1 4
-clause 0 117 100 116 42 44 35 0
-split 1 conflict 1
-split 2 conflict 2
-split 3 listed 1
-split 4 conflict 3
-end
-";
-
 /// A recovery with each kind of line that one can have.
 pub const RECOVERY: &[u8] = b"\
 certificate recovery

@@ -3,5 +3,6 @@ pub mod Standing
 pub mod Replies
 pub mod Plants
 pub mod Answering
+pub mod Scripts
 pub mod LongLines
 pub mod Laws

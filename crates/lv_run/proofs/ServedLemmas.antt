@@ -8,7 +8,7 @@ use Rattle.lv_serve.specs.declared.fault.ServeFault.{ServeFault}
 use Rattle.lv_serve.specs.declared.fault.ServeFault.TheVariants.{Read, Write, TooLong, Memory}
 use Rattle.lv_session.proofs.Answering.{adds_transcript, adds_front}
 use Rattle.lv_run_words.specs.declared.commands.Service.{Service}
-use Rattle.lv_run_words.specs.declared.commands.Service.TheVariants.{Single, Lanes}
+use Rattle.lv_run_words.specs.declared.commands.Service.TheVariants.{Single, Lanes, Simulation}
 use Rattle.lv_run.specs.Services.{Serves, fits, AddsReplies}
 use Rattle.lv_run.proofs.ServiceLemmas.{no_replies, none_quit, none_written}
 use Rattle.lv_run.specs.Expected.{ServesTold}
@@ -23,6 +23,7 @@ pub told_done : (service : Service) (plant : Plant) (text : List ℕ) (out out_a
     → (fits service plant text ≡ true) × AddsReplies service plant text out out_after
 told_done Single plant text out out_after served = (served.0, adds_transcript plant text out out_after served.1)
 told_done Lanes plant text out out_after served = served
+told_done Simulation plant text out out_after served = served
 
 -- or its serving ended with a fault
 pub told_ended : (service : Service) (plant : Plant) (text : List ℕ) (out out_after : Option (List ℕ)) (fault : ServeFault)
@@ -47,6 +48,10 @@ told_ended Lanes plant text out out_after Read served = record { count = served.
 told_ended Lanes plant text out out_after Write served = record { of_all = served.of_all; of_lines = served.of_lines }
 told_ended Lanes plant text out out_after TooLong served = served
 told_ended Lanes plant text out out_after Memory served = record { of_all = served.of_all; of_lines = served.of_lines }
+told_ended Simulation plant text out out_after Read served = record { count = served.count; within = served.within; goes_on = served.goes_on; written = served.written }
+told_ended Simulation plant text out out_after Write served = record { of_all = served.of_all; of_lines = served.of_lines }
+told_ended Simulation plant text out out_after TooLong served = served
+told_ended Simulation plant text out out_after Memory served = record { of_all = served.of_all; of_lines = served.of_lines }
 
 -- what a fault came to is what the run did
 pub handed_told : (service : Service) (plant : Plant) (text : List ℕ) (before after : Option (List ℕ)) (result : Result Ended RunFault) (fault : RunFault)

@@ -47,7 +47,7 @@ model_line code line = codes "model " ++ decimal line ++ codes " M" ++ two_digit
 
 -- the line that tells the fault on standard error; a failure of the output has none
 unfoldable pub line_of : RunFault → List ℕ
-line_of BadWords = line (codes "usage: livingstone run MODEL SESSION, check MODEL CERT, print MODEL, generate KIND N, drive N, lanes MODEL SESSION")
+line_of BadWords = line (codes "usage: livingstone run MODEL SESSION, check MODEL CERT, print MODEL, generate KIND N, drive N, lanes MODEL SESSION, plant MODEL SCRIPT")
 line_of (BadModel code at) = model_line code at
 line_of NoModel = line (codes "cannot read model")
 line_of NoSession = line (codes "cannot read session")

@@ -3,6 +3,7 @@ pub mod Faults
 pub mod Inputs
 pub mod Judged
 pub mod OfLanes
+pub mod OfPlants
 pub mod Opens
 pub mod Printed
 pub mod Services

@@ -25,8 +25,8 @@ use Rattle.lv_run.specs.declared.fault.RunFault.{RunFault}
 use Rattle.lv_run.specs.declared.status.Status.{Status}
 use Rattle.lv_run.specs.declared.status.Status.TheVariants.{OutOfMemory}
 
--- the words ask for a run of this session, or of sessions in lanes, over this model, both of which the files hold: the model's text is
--- accepted, and the session is no longer than its limit, or a `quit` that is accepted, where it is one session, ends within it
+-- the words ask for a run of this session, of sessions in lanes or of a plant's script, over this model, both of which the files hold: the
+-- model's text is accepted, and the session is no longer than its limit, or a `quit` that is accepted, where it is one session, ends within it
 pub record Asks (service : Service) (file : List ℕ → Option (List ℕ)) (words : List (List ℕ)) (plant : Plant) (session : List ℕ) : Type 0 where
   pub model_name : List ℕ
   pub session_name : List ℕ

@@ -21,7 +21,7 @@ use lv_io::{Shelf, Sink};
 use lv_run_words::{Kind, Service};
 use std::alloc::Global;
 
-/// Reads a model, then serves a session, or sessions in lanes, over it.
+/// Reads a model, then serves a session, sessions in lanes, or a plant's script over it.
 pub fn run<F: Shelf, O: Sink>(
     alloc: Global,
     service: Service,

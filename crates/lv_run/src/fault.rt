@@ -15,7 +15,7 @@ use std::alloc::{AllocError, Global};
 
 /// The line that tells which words are taken.
 const USAGE: &str =
-    "usage: livingstone run MODEL SESSION, check MODEL CERT, print MODEL, generate KIND N, drive N, lanes MODEL SESSION\n";
+    "usage: livingstone run MODEL SESSION, check MODEL CERT, print MODEL, generate KIND N, drive N, lanes MODEL SESSION, plant MODEL SCRIPT\n";
 
 /// The line for want of memory, which is written without taking any.
 pub const OUT_OF_MEMORY: &str = "out of memory\n";

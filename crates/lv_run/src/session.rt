@@ -15,6 +15,7 @@ use crate::status::{Ended, Status};
 use lv_io::{IoFault, Role, Shelf, Sink, Slot};
 use lv_lanes::Lanes;
 use lv_model::Model;
+use lv_plant::Plant;
 use lv_run_words::Service;
 use lv_serve::{ServeFault, serve};
 use lv_session::{CompiledModel, Session};
@@ -71,7 +72,7 @@ fn serve_opened<F: Shelf, O: Sink>(
     serve_compiled(alloc, service, &compiled, shelf, slot, out)
 }
 
-/// Serves all lines by one session, or each by the session of its lane.
+/// Serves all lines by one session, each by the session of its lane, or all by a simulated plant.
 fn serve_compiled<F: Shelf, O: Sink>(
     alloc: Global,
     service: Service,
@@ -88,10 +89,19 @@ fn serve_compiled<F: Shelf, O: Sink>(
     ensures others { (r : Role) → r ≢ slot.role → F.faults shelf.new r ≡ F.faults shelf.old r }
     ensures sink_cause { HasSinkCause (O.faults out.old) (O.faults out.new) result }
 {
-    let session = Session::new(alloc, compiled)?;
     match service {
-        Service::Single => serve(alloc, session, shelf, slot, out),
-        Service::Lanes => serve(alloc, Lanes::new(alloc, session), shelf, slot, out),
+        Service::Single => {
+            let session = Session::new(alloc, compiled)?;
+            serve(alloc, session, shelf, slot, out)
+        }
+        Service::Lanes => {
+            let first = Session::new(alloc, compiled)?;
+            serve(alloc, Lanes::new(alloc, first), shelf, slot, out)
+        }
+        Service::Simulation => {
+            let plant = Plant::new(alloc, compiled)?;
+            serve(alloc, plant, shelf, slot, out)
+        }
     }
 }
 

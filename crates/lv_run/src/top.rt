@@ -7,8 +7,9 @@ ghost use Rattle.lv_io.specs.declared.Role.{Role};
 ghost use Rattle.lv_io.specs.declared.Role.TheVariants.{Model as OfModel, Second as OfSecond};
 ghost use Rattle.lv_run_words.specs.Words.{command_of};
 ghost use Rattle.lv_run_words.specs.declared.commands.Service.{Service};
-ghost use Rattle.lv_run_words.specs.declared.commands.Service.TheVariants.{Single, Lanes};
+ghost use Rattle.lv_run_words.specs.declared.commands.Service.TheVariants.{Single, Lanes, Simulation};
 ghost use Rattle.lv_run.specs.OfLanes.{AddsLanes, AddsOwnParts};
+ghost use Rattle.lv_run.specs.OfPlants.{AddsScript};
 ghost use Rattle.lv_run.specs.Faults.{ended_status};
 ghost use Rattle.lv_run.specs.Inputs.{opens_of};
 ghost use Rattle.lv_run.specs.Expected.{Expected, Expects, status_expected, Meets, Follows, TellsVerdict, is_silent, keeps_shelf};
@@ -67,6 +68,15 @@ pub fn livingstone<F: Shelf, O: Sink, E: Sink>(
     ensures lanes_bytes { (plant : Plant) (lines : List ℕ) → Asks Lanes (F.file shelf.old) (map string_bytes words.items) plant lines → result ≡ Status.Done
         → AddsOwnParts plant lines (O.text out.old) (O.text out.new) }
     ensures lanes_complete { (plant : Plant) (lines : List ℕ) → Asks Lanes (F.file shelf.old) (map string_bytes words.items) plant lines
+        → HasNoFault (F.faults shelf.old) (F.faults shelf.new) (O.faults out.old) (O.faults out.new) (E.faults err.old) (E.faults err.new)
+        → (result ≡ Status.Done) ⊎ (result ≡ Status.OutOfMemory) }
+
+    // Of a simulated plant in the loop what is written are the texts of the replies to its script's lines, in order; what
+    // each step replies, and what that promises of the diagnosis and of a recovery that is applied, is said of
+    // `lv_plant::Plant::step`.
+    ensures plant { (plant : Plant) (script : List ℕ) → Asks Simulation (F.file shelf.old) (map string_bytes words.items) plant script → result ≡ Status.Done
+        → AddsScript plant script (O.text out.old) (O.text out.new) × (E.text err.new ≡ E.text err.old) }
+    ensures plant_complete { (plant : Plant) (script : List ℕ) → Asks Simulation (F.file shelf.old) (map string_bytes words.items) plant script
         → HasNoFault (F.faults shelf.old) (F.faults shelf.new) (O.faults out.old) (O.faults out.new) (E.faults err.old) (E.faults err.new)
         → (result ≡ Status.Done) ⊎ (result ≡ Status.OutOfMemory) }
 

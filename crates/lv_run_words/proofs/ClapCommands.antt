@@ -78,6 +78,14 @@ module _ (k m : Option ValueParser) where
   unfolding clap_on_literals
   lanes_entered program words = ap (λ (w : Walk). entered (built app) w.stopped) (name_walk top below_top start (codes "lanes") [] words)
 
+  plant_told : (program : Text) (words : List Text) → fault_of app (program ∷ codes "plant" ∷ words) ≡ or_else (faults (two (codes "plant") None None) start words) []
+  unfolding clap_on_literals
+  plant_told program words = ap₂ told_by (name_fault top below_top start (codes "plant") [] words) (name_walk top below_top start (codes "plant") [] words)
+
+  plant_entered : (program : Text) (words : List Text) → subcommand_of app (program ∷ codes "plant" ∷ words) ≡ Some (codes "plant", all_rows (two (codes "plant") None None) start words)
+  unfolding clap_on_literals
+  plant_entered program words = ap (λ (w : Walk). entered (built app) w.stopped) (name_walk top below_top start (codes "plant") [] words)
+
   check_told : (program : Text) (words : List Text) → fault_of app (program ∷ codes "check" ∷ words) ≡ or_else (faults (two (codes "check") None None) start words) []
   unfolding clap_on_literals
   check_told program words = ap₂ told_by (name_fault top below_top start (codes "check") [] words) (name_walk top below_top start (codes "check") [] words)
@@ -266,6 +274,9 @@ module _ (k m : Option ValueParser) (tests : AreTests k m) (program : Text) (wor
     lanes_judged : JudgedAs (codes "lanes")
     lanes_judged = two_judged (codes "lanes") None None (lanes_told k m program words) (lanes_entered k m program words) (λ a. refl) (λ a b bad. absurd (cc bad))
 
+    plant_judged : JudgedAs (codes "plant")
+    plant_judged = two_judged (codes "plant") None None (plant_told k m program words) (plant_entered k m program words) (λ a. refl) (λ a b bad. absurd (cc bad))
+
     check_judged : JudgedAs (codes "check")
     check_judged = two_judged (codes "check") None None (check_told k m program words) (check_entered k m program words) (λ a. refl) (λ a b bad. absurd (cc bad))
 
@@ -280,26 +291,27 @@ module _ (k m : Option ValueParser) (tests : AreTests k m) (program : Text) (wor
 
 -- ---- a word that is no command's name
 
-module _ (k m : Option ValueParser) (word : Text) (run : is_word (codes "run") word ≡ false) (lanes : is_word (codes "lanes") word ≡ false) (check : is_word (codes "check") word ≡ false)
+module _ (k m : Option ValueParser) (word : Text) (run : is_word (codes "run") word ≡ false) (lanes : is_word (codes "lanes") word ≡ false) (plant : is_word (codes "plant") word ≡ false) (check : is_word (codes "check") word ≡ false)
     (print : is_word (codes "print") word ≡ false) (generate : is_word (codes "generate") word ≡ false) (drive : is_word (codes "drive") word ≡ false) where
-  met_by : Bool → Bool → Bool → Bool → Bool → Bool → Option Text
-  met_by a b c d e f =
+  met_by : Bool → Bool → Bool → Bool → Bool → Bool → Bool → Option Text
+  met_by a b p c d e f =
       option_map (λ (s : Text × List Text). s.0)
-      (cond (a || false) (Some (codes "run", [])) (cond (b || false) (Some (codes "lanes", [])) (cond (c || false) (Some (codes "check", []))
-      (cond (d || false) (Some (codes "print", [])) (cond (f || false) (Some (codes "drive", [])) (cond (e || false) (Some (codes "generate", [])) None))))))
+      (cond (a || false) (Some (codes "run", [])) (cond (b || false) (Some (codes "lanes", [])) (cond (p || false) (Some (codes "plant", [])) (cond (c || false) (Some (codes "check", []))
+      (cond (d || false) (Some (codes "print", [])) (cond (f || false) (Some (codes "drive", [])) (cond (e || false) (Some (codes "generate", [])) None)))))))
 
   met_none : subcommand_met (below_top k m) idle word ≡ None
   unfolding met_by
   met_none = met_is ∙ all_none
     where
       met_is : subcommand_met (below_top k m) idle word
-          ≡ met_by (bytes_eq (codes "run") word) (bytes_eq (codes "lanes") word) (bytes_eq (codes "check") word) (bytes_eq (codes "print") word) (bytes_eq (codes "generate") word) (bytes_eq (codes "drive") word)
+          ≡ met_by (bytes_eq (codes "run") word) (bytes_eq (codes "lanes") word) (bytes_eq (codes "plant") word) (bytes_eq (codes "check") word) (bytes_eq (codes "print") word) (bytes_eq (codes "generate") word) (bytes_eq (codes "drive") word)
       met_is = refl
 
-      all_none : met_by (bytes_eq (codes "run") word) (bytes_eq (codes "lanes") word) (bytes_eq (codes "check") word) (bytes_eq (codes "print") word) (bytes_eq (codes "generate") word) (bytes_eq (codes "drive") word) ≡ None
+      all_none : met_by (bytes_eq (codes "run") word) (bytes_eq (codes "lanes") word) (bytes_eq (codes "plant") word) (bytes_eq (codes "check") word) (bytes_eq (codes "print") word) (bytes_eq (codes "generate") word) (bytes_eq (codes "drive") word) ≡ None
       all_none = rw (
         is_not_named (codes "run") word run,
         is_not_named (codes "lanes") word lanes,
+        is_not_named (codes "plant") word plant,
         is_not_named (codes "check") word check,
         is_not_named (codes "print") word print,
         is_not_named (codes "generate") word generate,
@@ -310,7 +322,7 @@ module _ (k m : Option ValueParser) (word : Text) (run : is_word (codes "run") w
   says_none None = refl
   says_none (Some []) = refl
   says_none (Some (a ∷ [])) = rw (print, drive) refl
-  says_none (Some (a ∷ b ∷ [])) = rw (run, check, generate, lanes) refl
+  says_none (Some (a ∷ b ∷ [])) = rw (run, check, generate, lanes, plant) refl
   says_none (Some (a ∷ b ∷ c ∷ more)) = refl
 
 -- ---- all words
@@ -326,30 +338,34 @@ module _ (k m : Option ValueParser) (tests : AreTests k m) where
           let command_is = named name command is in
           subst (JudgedAs k m tests program words) (sym command_is) (judged (lone_parts command words (ap is_dashes command_is ∙ other) lone).1)
 
-      drive_or_not : (run : is_word (codes "run") command ≡ false) (lanes : is_word (codes "lanes") command ≡ false) (check : is_word (codes "check") command ≡ false)
+      drive_or_not : (run : is_word (codes "run") command ≡ false) (lanes : is_word (codes "lanes") command ≡ false) (plant : is_word (codes "plant") command ≡ false) (check : is_word (codes "check") command ≡ false)
           (print : is_word (codes "print") command ≡ false) (generate : is_word (codes "generate") command ≡ false) (f : Bool) → is_word (codes "drive") command ≡ f → JudgedAs k m tests program words command
-      drive_or_not run lanes check print generate true is = so (codes "drive") is refl (λ none. drive_judged k m tests program words none flags)
-      drive_or_not run lanes check print generate false drive =
-          not_read (other_told k m program command words (met_none k m command run lanes check print generate drive) lone flag)
-          (says_none k m command run lanes check print generate drive (values_among words))
+      drive_or_not run lanes plant check print generate true is = so (codes "drive") is refl (λ none. drive_judged k m tests program words none flags)
+      drive_or_not run lanes plant check print generate false drive =
+          not_read (other_told k m program command words (met_none k m command run lanes plant check print generate drive) lone flag)
+          (says_none k m command run lanes plant check print generate drive (values_among words))
 
-      generate_or_not : (run : is_word (codes "run") command ≡ false) (lanes : is_word (codes "lanes") command ≡ false) (check : is_word (codes "check") command ≡ false)
+      generate_or_not : (run : is_word (codes "run") command ≡ false) (lanes : is_word (codes "lanes") command ≡ false) (plant : is_word (codes "plant") command ≡ false) (check : is_word (codes "check") command ≡ false)
           (print : is_word (codes "print") command ≡ false) (e : Bool) → is_word (codes "generate") command ≡ e → JudgedAs k m tests program words command
-      generate_or_not run lanes check print true is = so (codes "generate") is refl (λ none. generate_judged k m tests program words none flags)
-      generate_or_not run lanes check print false generate = drive_or_not run lanes check print generate (is_word (codes "drive") command) refl
+      generate_or_not run lanes plant check print true is = so (codes "generate") is refl (λ none. generate_judged k m tests program words none flags)
+      generate_or_not run lanes plant check print false generate = drive_or_not run lanes plant check print generate (is_word (codes "drive") command) refl
 
-      print_or_not : (run : is_word (codes "run") command ≡ false) (lanes : is_word (codes "lanes") command ≡ false) (check : is_word (codes "check") command ≡ false)
+      print_or_not : (run : is_word (codes "run") command ≡ false) (lanes : is_word (codes "lanes") command ≡ false) (plant : is_word (codes "plant") command ≡ false) (check : is_word (codes "check") command ≡ false)
           (d : Bool) → is_word (codes "print") command ≡ d → JudgedAs k m tests program words command
-      print_or_not run lanes check true is = so (codes "print") is refl (λ none. print_judged k m tests program words none flags)
-      print_or_not run lanes check false print = generate_or_not run lanes check print (is_word (codes "generate") command) refl
+      print_or_not run lanes plant check true is = so (codes "print") is refl (λ none. print_judged k m tests program words none flags)
+      print_or_not run lanes plant check false print = generate_or_not run lanes plant check print (is_word (codes "generate") command) refl
 
-      check_or_not : (run : is_word (codes "run") command ≡ false) (lanes : is_word (codes "lanes") command ≡ false) (c : Bool) → is_word (codes "check") command ≡ c → JudgedAs k m tests program words command
-      check_or_not run lanes true is = so (codes "check") is refl (λ none. check_judged k m tests program words none flags)
-      check_or_not run lanes false check = print_or_not run lanes check (is_word (codes "print") command) refl
+      check_or_not : (run : is_word (codes "run") command ≡ false) (lanes : is_word (codes "lanes") command ≡ false) (plant : is_word (codes "plant") command ≡ false) (c : Bool) → is_word (codes "check") command ≡ c → JudgedAs k m tests program words command
+      check_or_not run lanes plant true is = so (codes "check") is refl (λ none. check_judged k m tests program words none flags)
+      check_or_not run lanes plant false check = print_or_not run lanes plant check (is_word (codes "print") command) refl
+
+      plant_or_not : (run : is_word (codes "run") command ≡ false) (lanes : is_word (codes "lanes") command ≡ false) (p : Bool) → is_word (codes "plant") command ≡ p → JudgedAs k m tests program words command
+      plant_or_not run lanes true is = so (codes "plant") is refl (λ none. plant_judged k m tests program words none flags)
+      plant_or_not run lanes false plant = check_or_not run lanes plant (is_word (codes "check") command) refl
 
       lanes_or_not : (run : is_word (codes "run") command ≡ false) (b : Bool) → is_word (codes "lanes") command ≡ b → JudgedAs k m tests program words command
       lanes_or_not run true is = so (codes "lanes") is refl (λ none. lanes_judged k m tests program words none flags)
-      lanes_or_not run false lanes = check_or_not run lanes (is_word (codes "check") command) refl
+      lanes_or_not run false lanes = plant_or_not run lanes (is_word (codes "plant") command) refl
 
       run_or_not : (a : Bool) → is_word (codes "run") command ≡ a → JudgedAs k m tests program words command
       run_or_not true is = so (codes "run") is refl (λ none. run_judged k m tests program words none flags)

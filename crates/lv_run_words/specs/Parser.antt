@@ -74,9 +74,10 @@ pub record IsGenerate (command : Command) : Type 0 where
 -- the whole, by what the kind and the number of a generated text have to be
 abbrev pub livingstone : Option ValueParser → Option ValueParser → App
 livingstone kind number =
-    with_subcommand (with_subcommand (with_subcommand (with_subcommand (with_subcommand (with_subcommand no_commands
+    with_subcommand (with_subcommand (with_subcommand (with_subcommand (with_subcommand (with_subcommand (with_subcommand no_commands
     (over_two (codes "run") None None).top)
     (over_two (codes "lanes") None None).top)
+    (over_two (codes "plant") None None).top)
     (over_two (codes "check") None None).top)
     (over_one (codes "print") None).top)
     (over_one (codes "drive") number).top)

@@ -6,9 +6,9 @@ use Rattle.lv_run_words.specs.Numbers.{number_of}
 use Rattle.lv_run_words.specs.declared.commands.Kind.{Kind}
 use Rattle.lv_run_words.specs.declared.commands.Kind.TheVariants.{Model, Session}
 use Rattle.lv_run_words.specs.declared.commands.Service.{Service}
-use Rattle.lv_run_words.specs.declared.commands.Service.TheVariants.{Single, Lanes}
+use Rattle.lv_run_words.specs.declared.commands.Service.TheVariants.{Single, Lanes, Simulation}
 
--- a command with its values: what serves a session and the names of files, or the kind and the number of a generated text
+-- a command with its values: what serves a file of lines and the names of files, or the kind and the number of a generated text
 pub data Said : Type 0 where
   runs : Service → List ℕ → List ℕ → Said
   checks : List ℕ → List ℕ → Said
@@ -57,7 +57,8 @@ said_of_two command first second =
     if is_word (codes "run") command then Some (runs Single first second)
     else if is_word (codes "check") command then Some (checks first second)
     else if is_word (codes "generate") command then made_of first second
-    else if is_word (codes "lanes") command then Some (runs Lanes first second) else None
+    else if is_word (codes "lanes") command then Some (runs Lanes first second)
+    else if is_word (codes "plant") command then Some (runs Simulation first second) else None
 
 abbrev pub said_of_one : List ℕ → List ℕ → Option Said
 said_of_one command first =

@@ -16,13 +16,13 @@ use std::alloc::Global;
 /// What the program is asked to do.
 #[derive(Drop, Debug)]
 pub enum Command {
-    /// A session, or sessions in lanes, over a model.
+    /// A session, sessions in lanes, or a plant's script over a model.
     Run {
-        /// What serves the session's lines.
+        /// What serves the lines.
         service: Service,
         /// The name of the model's file.
         model: String,
-        /// The name of the session's file.
+        /// The name of the file of lines.
         session: String,
     },
     /// A certificate checked over a model.
@@ -55,6 +55,8 @@ pub enum Service {
     Single,
     /// Sessions side by side, each in a lane of its own.
     Lanes,
+    /// A simulated plant in the loop with a session.
+    Simulation,
 }
 
 /// Which of the texts that a number stands for.
@@ -95,6 +97,7 @@ fn command_of_two(
         "check" => check_command(alloc, first, second),
         "generate" => generate_command(first, second),
         "lanes" => run_command(alloc, Service::Lanes, first, second),
+        "plant" => run_command(alloc, Service::Simulation, first, second),
         _ => Err(WordsFault::Refused),
     }
 }
@@ -111,7 +114,7 @@ fn command_of_one(alloc: Global, command: &str, first: &str) -> Result<Command, 
     }
 }
 
-/// The command `run` or `lanes` over two files.
+/// The command `run`, `lanes` or `plant` over two files.
 fn run_command(
     alloc: Global,
     service: Service,

@@ -91,6 +91,7 @@ fn parser<'a>(alloc: Global) -> Result<Parser<'a>, AllocError>
         .subcommand_required(true);
     let parser = with_command(parser, over_files(alloc, "run"))?;
     let parser = with_command(parser, over_files(alloc, "lanes"))?;
+    let parser = with_command(parser, over_files(alloc, "plant"))?;
     let parser = with_command(parser, over_files(alloc, "check"))?;
     let parser = with_command(parser, over_file(alloc, "print"))?;
     let parser = with_command(parser, drive(alloc))?;

@@ -1,5 +1,5 @@
 -- What a session answers, as a conversation and as a transcript.
-use Rattle.std.proofs.Common.{◌≡◌, ℕ, false, List, [], ◌∷◌, ◌++◌, Option, refl, subst}
+use Rattle.std.proofs.Common.{ℕ, false, List, [], ◌∷◌, ◌++◌, Option, refl, subst}
 use Rattle.lv_text.specs.Lines.{lines_of}
 use Rattle.lv_model.specs.declared.plant.Plant.{Plant}
 use Rattle.lv_serve.specs.Conversation.{IsConversation, ends as ends_lines, goes_on as goes_on_with}

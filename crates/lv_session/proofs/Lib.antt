@@ -12,6 +12,7 @@ pub mod Recovering
 pub mod Labelling
 pub mod CurrentLemmas
 pub mod Certifying
+pub mod Applied
 pub use Rattle.lv_io.proofs as lv_io
 pub use Rattle.lv_serve.proofs as lv_serve
 pub use Rattle.lv_session_request.proofs as lv_session_request

@@ -28,7 +28,7 @@ use Rattle.lv_session.specs.States.{most_cost, StateCosts, RankCosts, IsStateOf,
 
 -- what holds of all entries holds of those that a walk lists
 module _ (P : Rank → Type 0) (fits : Candidate → Bool) (reason : Candidate → List Pair) (k budget : ℕ) where
-  listed_all : (left listed : List Rank) (kept : List (List Pair)) → All P listed → All P left → All P (walk_from fits reason k budget listed kept left).listed
+  pub listed_all : (left listed : List Rank) (kept : List (List Pair)) → All P listed → All P left → All P (walk_from fits reason k budget listed kept left).listed
   listed_all [] listed kept before all = before
   listed_all (r ∷ rs) listed kept before all =
       let rest : All P rs = All-tail P r rs all in

@@ -1,29 +1,23 @@
 -- What a line asks for is of the plant, so that each step from a state of the plant leads to one.
-use Rattle.std.proofs.Common.{◌≡◌, ℕ, Bool, true, false, ◌&&◌, cond, nat_eq, nat_le, List, [], ◌∷◌, length, drop, take, Option, None, Some, Result, Ok, Err, refl, sym, ◌∙◌, ap, subst}
+use Rattle.std.proofs.Common.{◌≡◌, ℕ, Bool, true, false, ◌&&◌, cond, nat_eq, nat_le, List, [], ◌∷◌, length, drop, take, Option, None, Some, Result, Ok, Err, refl, ap, subst}
 use Rattle.std.specs.List.{list_all}
 use Rattle.std.specs.Option.{ok_or, option_map_or}
 use Rattle.std.proofs.lemmas.Bool.{and_parts, and_from, leb-true}
-use Rattle.lv_base.specs.declared.ids.ValId.{ValId}
-use Rattle.lv_base.specs.declared.ids.VarId.{VarId}
 use Rattle.lv_base.specs.declared.limits.TheConstants.{TRACKED, BUDGET}
 use Rattle.lv_text.specs.declared.lexer.TokenKind.{TokenKind}
 use Rattle.lv_text.specs.declared.lexer.TokenKind.TheVariants as kind
-use Rattle.lv_text.specs.Lexemes.{Lexeme, Reading, reads, has_bad_byte, is_too_long, line_reading, number_at, word_at}
-use Rattle.lv_formula.specs.Tree.{Tree}
-use Rattle.lv_model_names.specs.lv_formula_text.PhraseTree.{PhraseTree}
+use Rattle.lv_text.specs.Lexemes.{Lexeme, Reading, reads, has_bad_byte, is_too_long, line_reading, number_at}
 use Rattle.lv_model_names.specs.lv_formula_text.Canonical.{canonical_text}
 use Rattle.lv_model_names.specs.lv_formula_text.Descent.{phrase_of}
 use Rattle.lv_model_names.specs.lv_formula_text.Laws.{is_flat}
 use Rattle.lv_model_names.specs.lv_formula_text.Nesting.{is_too_deep}
 use Rattle.lv_model.specs.declared.plant.Plant.{Plant}
 use Rattle.lv_model.specs.WellFormed.{is_well_formed}
-use Rattle.lv_model_names.specs.declared.lists.Lists.{Lists}
 use Rattle.lv_model_names.specs.Lists.{lists_of}
 use Rattle.lv_reply.specs.declared.reply.Refusal.{Refusal}
 use Rattle.lv_reply.specs.declared.reply.Refusal.TheVariants.{Form, OutOfLimits, TooComplex}
 use Rattle.lv_reply.specs.declared.reply.Reply.TheVariants.{Nothing as Silence}
 use Rattle.lv_session_request.specs.declared.goals.Goal.{Goal}
-use Rattle.lv_session_request.specs.declared.names.Controlled.{Controlled}
 use Rattle.lv_session_request.specs.declared.request.Command.{Command}
 use Rattle.lv_session_request.specs.declared.request.Sighting.{Sighting}
 use Rattle.lv_session_request.specs.declared.request.Request.{Request}
@@ -32,9 +26,9 @@ use Rattle.lv_session_request.specs.declared.words.Word.{Word}
 use Rattle.lv_session_request.specs.declared.words.Word.TheVariants as said
 use Rattle.lv_session_request.specs.Chain.{and_then}
 use Rattle.lv_session_request.specs.Forms.{first_word, has_number_form, has_command_signs, has_observe_signs, name_at, from_1_to, number_to, IsUpTo}
-use Rattle.lv_session_request.specs.Goals.{phrase_in, formula_of, simple, goal_as, goal_of, AreRead, ReadsBack, IsGoalIn}
+use Rattle.lv_session_request.specs.Goals.{phrase_in, formula_of, simple, goal_of, AreRead, IsGoalIn}
 use Rattle.lv_session_request.specs.Names.{control_of, observable_of, value_in}
-use Rattle.lv_session_request.specs.Requests.{word, alone, command_to, command_of, release_of, seen_as, sighting_of, retracted_of, labels_of, request_by, asked_by_first, asked, asked_by, request_of, IsCommandIn, IsSightingIn, IsRequestOf}
+use Rattle.lv_session_request.specs.Requests.{word, alone, command_of, release_of, sighting_of, retracted_of, labels_of, request_by, asked_by_first, asked, asked_by, request_of, IsCommandIn, IsSightingIn, IsRequestOf}
 use Rattle.lv_session_request.proofs.GoalLaws.{reads_back, goal_is_in}
 use Rattle.lv_session_request.proofs.RequestLaws.{command_fits, sighting_fits}
 use Rattle.lv_session.specs.Session.{SessionState, unchanged, answered, stepped}

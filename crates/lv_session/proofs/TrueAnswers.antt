@@ -18,17 +18,14 @@ use Rattle.lv_labels.specs.Literals.{fact_literals, state_literals}
 use Rattle.lv_labels.specs.Finding.{labelling}
 use Rattle.lv_reply.specs.declared.reply.Refusal.{Refusal}
 use Rattle.lv_reply.specs.declared.reply.Refusal.TheVariants.{NameHeld, NameNotHeld, OutOfLimits, NoQuery, NothingListed, NoGoal, TooManyHeld, TooManyCommits}
-use Rattle.lv_reply.specs.declared.reply.Reply.{Reply}
 use Rattle.lv_reply.specs.declared.reply.Reply.TheVariants.{Nothing as Silence, Refused, Committed, Certificate as Certified}
-use Rattle.lv_session_request.specs.declared.goals.Goal.{Goal}
-use Rattle.lv_session_request.specs.declared.request.Sighting.{Sighting}
 use Rattle.lv_session_request.specs.declared.request.Request.{Request}
 use Rattle.lv_session_request.specs.declared.request.Request.TheVariants.{Nothing, Track, SetBudget, SetControl, Release, Observe, Retract, SetGoal, DropGoal, Diagnose, Recover, More, Commit, Conflicts, Certificate, Labels, LabelsFrom, States, Reset, Quit}
 use Rattle.lv_session_request.specs.Requests.{request_of}
 use Rattle.lv_session_request.specs.Held.{lacks_name}
 use Rattle.lv_session.specs.declared.query.Query.{Query}
 use Rattle.lv_session.specs.declared.query.Query.TheVariants.{Absent, Diagnosis, Recovery}
-use Rattle.lv_session.specs.Session.{SessionState, Stepped, start, unchanged, cleared, walked, recovery, aim_of, facts_of, is_held, has_no_room, is_goal, has_no_goal_room, lacks_goal_name, reply_by, diagnosed, found, recovery_reply_by, recovered, more, more_by, more_recovery_by, is_settled, labels_reply, labelled, labelled_from, commit, commit_by, conflicts, taken_over, advanced_to, carried_out, answered, stepped}
+use Rattle.lv_session.specs.Session.{SessionState, Stepped, unchanged, cleared, walked, recovery, aim_of, facts_of, is_held, has_no_room, is_goal, has_no_goal_room, lacks_goal_name, reply_by, diagnosed, found, recovery_reply_by, recovered, more, more_by, more_recovery_by, is_settled, labels_reply, labelled, labelled_from, commit, commit_by, conflicts, taken_over, advanced_to, carried_out, answered, stepped}
 use Rattle.lv_session.specs.Transcript.{IsTranscriptFrom, ends, goes_on, AddsTranscript}
 use Rattle.lv_session.specs.Answers.{IsTrueAnswer, IsTrueTranscriptFrom, all_told, told, AddsTrueTranscript}
 

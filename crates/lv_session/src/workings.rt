@@ -3,7 +3,7 @@
 
 ghost use Rattle.std.specs.Prelude.{◌≡◌, IfOk, None, OnOk, OnErr};
 ghost use Rattle.lv_session_request.specs.Requests.{IsRequestOf};
-ghost use Rattle.lv_session.specs.Session.{stepped};
+ghost use Rattle.lv_session.specs.Session.{carried_out, stepped};
 ghost use Rattle.lv_session.specs.Applying.{performed};
 ghost use Rattle.lv_session.specs.States.{IsStateOf};
 ghost use Rattle.lv_session.specs.Current.{IsCurrent, IsLabellerOf};
@@ -45,6 +45,37 @@ impl<'a> Workings<'a> {
     }
 }
 
+/// Does what is asked for in a session that hasn't ended, and answers the reply. After want of memory the state is as it was,
+/// and what is kept of the current query may be lost.
+fn carry_out<'a>(
+    alloc: Global,
+    compiled: &'a CompiledModel<'a>,
+    workings: &mut Workings<'a>,
+    state: &mut State,
+    request: Request,
+) -> Result<Reply, AllocError>
+    requires state { IsStateOf compiled.now state.old }
+    requires request { IsRequestOf compiled.now request }
+    requires running { IsCurrent compiled.now state.old workings.old.running }
+    requires labeller { IsLabellerOf compiled.now workings.old.labeller }
+    ensures ok { IfOk result (λ reply. record { state = state.new; reply = reply } ≡ carried_out compiled.now state.old request) }
+    ensures err { OnErr result (state.new ≡ state.old) }
+    ensures kept { IsStateOf compiled.now state.new }
+    ensures running { OnOk result (IsCurrent compiled.now state.new workings.new.running) }
+    ensures labeller { IsLabellerOf compiled.now workings.new.labeller }
+{
+    let model = compiled.model;
+    let _plant = model.plant();
+    state.carry_out(
+        alloc,
+        model,
+        &compiled.system,
+        &mut workings.running,
+        &mut workings.labeller,
+        request,
+    )
+}
+
 /// Does what a line asks for, which is given without its end, and answers the reply. After want of memory the state is
 /// as it was, and what is kept of the current query may be lost.
 #[tactic(auto, unfolding(crate::specs::Session::stepped))]
@@ -68,16 +99,8 @@ pub(crate) fn answer<'a>(
         return Ok(Reply::Nothing);
     }
     let model = compiled.model;
-    let _plant = model.plant();
     match request_of(alloc, model, &compiled.lists, &mut workings.room, line) {
-        Ok(request) => state.carry_out(
-            alloc,
-            model,
-            &compiled.system,
-            &mut workings.running,
-            &mut workings.labeller,
-            request,
-        ),
+        Ok(request) => carry_out(alloc, compiled, workings, state, request),
         Err(Unread::Refused(refusal)) => Ok(Reply::Refused(refusal)),
         Err(Unread::Memory) => Err(AllocError),
     }
@@ -104,14 +127,5 @@ pub(crate) fn perform<'a>(
     if state.is_ended() {
         return Ok(Reply::Nothing);
     }
-    let model = compiled.model;
-    let _plant = model.plant();
-    state.carry_out(
-        alloc,
-        model,
-        &compiled.system,
-        &mut workings.running,
-        &mut workings.labeller,
-        request,
-    )
+    carry_out(alloc, compiled, workings, state, request)
 }

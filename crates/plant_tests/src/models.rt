@@ -5,32 +5,7 @@ use lv_checker::model_of;
 use lv_model::Model;
 use lv_reader::ModelFault;
 use std::alloc::{AllocError, Global};
-
-const VALVE: &[u8] = b"model valve
-domain flow zero some
-domain order none open close
-type valve
-control cmd order
-variable inn flow
-observable out flow
-mode closed
-mode open
-mode stuck_closed
-mode stuck_open
-in closed out = zero
-in open out = inn
-in stuck_closed out = zero
-in stuck_open out = inn
-step closed -> open when cmd = open
-step open -> closed when cmd = close
-fault closed -> stuck_closed cost 3
-fault open -> stuck_open cost 5
-fault open -> stuck_closed cost 4
-fault closed -> stuck_open cost 8
-end
-part v valve closed
-law v.inn = some
-";
+use test_texts::VALVE;
 
 #[test]
 fn reads_a_valve(rt: HostRuntime) -> Result<(), AllocError> {

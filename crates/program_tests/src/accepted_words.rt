@@ -119,9 +119,11 @@ fn names_of_a_run(rt: HostRuntime) -> Result<(), AllocError> {
     let alloc = rt.alloc();
     assert!(rt; runs(alloc, &["run", "m", "s", "--"], "s", "m")?);
     assert!(rt; runs(alloc, &["lanes", "m", "--", "-"], "-", "m")?);
+    assert!(rt; runs(alloc, &["plant", "--", "m", "-s"], "-s", "m")?);
     assert!(rt; runs(alloc, &["run", "--", "help", "-h"], "-h", "help")?);
     assert!(rt; is_refused(alloc, &["run", "m", "-"])?);
     assert!(rt; is_refused(alloc, &["run", "--help"])?);
+    assert!(rt; is_refused(alloc, &["plant", "m"])?);
     assert!(rt; is_refused(alloc, &["help"])?);
     assert!(rt; is_refused(alloc, &["run", "m", "--", "--", "s", "t"])?);
     Ok(())

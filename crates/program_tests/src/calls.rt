@@ -4,36 +4,10 @@
 use lv_io::{MemShelf, MemSink, Role};
 use lv_run::{Status, livingstone};
 use std::alloc::{AllocError, Global};
-
-/// A valve that follows its command or is stuck, with its inflow present.
-pub const VALVE: &[u8] = b"model valve
-domain flow zero some
-domain order none open close
-type valve
-control cmd order
-variable inn flow
-observable out flow
-mode closed
-mode open
-mode stuck_closed
-mode stuck_open
-in closed out = zero
-in open out = inn
-in stuck_closed out = zero
-in stuck_open out = inn
-step closed -> open when cmd = open
-step open -> closed when cmd = close
-fault closed -> stuck_closed cost 3
-fault open -> stuck_open cost 5
-fault open -> stuck_closed cost 4
-fault closed -> stuck_open cost 8
-end
-part v valve closed
-law v.inn = some
-";
+use test_texts::VALVE;
 
 pub const USAGE: &[u8] =
-    b"usage: livingstone run MODEL SESSION, check MODEL CERT, print MODEL, generate KIND N, drive N, lanes MODEL SESSION
+    b"usage: livingstone run MODEL SESSION, check MODEL CERT, print MODEL, generate KIND N, drive N, lanes MODEL SESSION, plant MODEL SCRIPT
 ";
 
 /// What tells that the model's file could not be read.

@@ -4,31 +4,9 @@
 use crate::calls::{BYTES, Call, Case, End, Fails, NOTHING, USAGE, WHOLE, Wanted, is_met};
 use lv_run::Status;
 use std::alloc::AllocError;
+use test_texts::STUCK_CLOSED;
 
 pub const CHECK: &[&str] = &["livingstone", "check", "valve.lv", "a.ses"];
-
-/// The only diagnosis of an open command without an outflow: the valve is stuck closed.
-pub const WORKED: &[u8] = b"certificate diagnosis
-model valve
-k 4
-state 0 1
-control 2
-fact next 4 1
-listed 1 3
-now 1 2 2 1
-next 3 1 2 1
-conflict 1 1
-clause 0 117 92 116 39 44 35 0
-conflict 1 2
-clause 0 117 115 96 0
-conflict 1 4
-clause 0 117 100 116 42 44 35 0
-split 1 conflict 1
-split 2 conflict 2
-split 3 listed 1
-split 4 conflict 3
-end
-";
 
 /// The same without its last line but one: what is left of the candidates is not looked at.
 const UNSPLIT: &[u8] = b"certificate diagnosis
@@ -59,7 +37,7 @@ const CERTIFICATES: &[Case] = &[
         name: "a valid certificate",
         call: Call {
             words: CHECK,
-            second: WORKED,
+            second: STUCK_CLOSED,
             fails: NOTHING,
         },
         wanted: Wanted::Just(End {
@@ -101,7 +79,7 @@ const CALLS: &[Case] = &[
         name: "too few words",
         call: Call {
             words: &["livingstone", "check", "valve.lv"],
-            second: WORKED,
+            second: STUCK_CLOSED,
             fails: NOTHING,
         },
         wanted: Wanted::Just(End {
@@ -114,7 +92,7 @@ const CALLS: &[Case] = &[
         name: "a refused model",
         call: Call {
             words: &["livingstone", "check", "bad.lv", "absent"],
-            second: WORKED,
+            second: STUCK_CLOSED,
             fails: NOTHING,
         },
         wanted: Wanted::Just(End {
@@ -127,7 +105,7 @@ const CALLS: &[Case] = &[
         name: "a certificate that is not there",
         call: Call {
             words: &["livingstone", "check", "valve.lv", "absent"],
-            second: WORKED,
+            second: STUCK_CLOSED,
             fails: NOTHING,
         },
         wanted: Wanted::Just(End {
@@ -143,7 +121,7 @@ const WRITES: &[Case] = &[
         name: "the write fails",
         call: Call {
             words: CHECK,
-            second: WORKED,
+            second: STUCK_CLOSED,
             fails: Fails {
                 shelf: &[],
                 out: &[1],
@@ -177,7 +155,7 @@ const WRITES: &[Case] = &[
         name: "the line on standard error fails",
         call: Call {
             words: &["livingstone", "check", "bad.lv", "a.ses"],
-            second: WORKED,
+            second: STUCK_CLOSED,
             fails: Fails {
                 shelf: &[],
                 out: &[],

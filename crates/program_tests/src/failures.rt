@@ -2,10 +2,11 @@
 //! sinks take a byte at a time or all.
 #![tactic(auto)]
 
-use crate::calls::{Call, Fails, NOTHING, Pieces, VALVE, Wanted, status_of};
-use crate::checks::{CHECK, UNREAD, WORKED};
+use crate::calls::{Call, Fails, NOTHING, Pieces, Wanted, status_of};
+use crate::checks::{CHECK, UNREAD};
 use lv_run::Status;
 use std::alloc::{AllocError, Global};
+use test_texts::{STUCK_CLOSED, VALVE};
 
 const RUN: &[&str] = &["livingstone", "run", "valve.lv", "a.ses"];
 
@@ -63,7 +64,7 @@ const RUNS: Row = Row {
 const CHECKS: Row = Row {
     name: "check",
     words: CHECK,
-    second: WORKED,
+    second: STUCK_CLOSED,
     status: Status::Done,
     wanted: Wanted::OrFault {
         out: VERDICT,

@@ -17,4 +17,6 @@ mod generated;
 #[cfg(test)]
 mod lanes;
 #[cfg(test)]
+mod plants;
+#[cfg(test)]
 mod whole_calls;

@@ -6,33 +6,7 @@ use lv_checker::model_of;
 use lv_model::Model;
 use lv_session::{CompiledModel, Session};
 use std::alloc::{AllocError, Global};
-
-/// A valve that follows its command or is stuck, with its inflow present.
-const VALVE: &str = "model valve
-domain flow zero some
-domain order none open close
-type valve
-control cmd order
-variable inn flow
-observable out flow
-mode closed
-mode open
-mode stuck_closed
-mode stuck_open
-in closed out = zero
-in open out = inn
-in stuck_closed out = zero
-in stuck_open out = inn
-step closed -> open when cmd = open
-step open -> closed when cmd = close
-fault closed -> stuck_closed cost 3
-fault open -> stuck_open cost 5
-fault open -> stuck_closed cost 4
-fault closed -> stuck_open cost 8
-end
-part v valve closed
-law v.inn = some
-";
+use test_texts::VALVE;
 
 const OPENED: &str = "settled 3
 1 cost 0 from 1: v closed>open #1
@@ -47,7 +21,7 @@ const CONFLICTS: &str = "conflicts 3 trials 4
 ";
 
 fn valve(alloc: Global) -> Result<Model, AllocError> {
-    match model_of(alloc, VALVE.as_bytes()) {
+    match model_of(alloc, VALVE) {
         Ok(model) => Ok(model),
         Err(_) => Err(AllocError),
     }

@@ -6,8 +6,8 @@ use Rattle.lv_run.specs.Inputs.{opens_of}
 use Rattle.lv_run.specs.Expected.{Meets, serves, judges, shows}
 use Rattle.lv_run.specs.Faults.{ended_status}
 use Rattle.lv_run.specs.declared.status.Status.{Status}
-use Rattle.lv_run_words.specs.declared.commands.Service.TheVariants.{Single, Lanes}
-use Rattle.lv_run.proofs.ServiceLemmas.{adds_lanes, adds_own_parts}
+use Rattle.lv_run_words.specs.declared.commands.Service.TheVariants.{Single, Lanes, Simulation}
+use Rattle.lv_run.proofs.ServiceLemmas.{adds_lanes, adds_own_parts, adds_script}
 use Rattle.lv_run.proofs.TopLemmas.{reported_meets, status_due, expected_run, expected_check, expected_text, told_verdict, ended_done, session_not_long, certificate_not_long, output_cause}
 use Rattle.lv_certcheck.proofs.ProvingLemmas.{exists}
 use Rattle.lv_run.proofs.OpenLemmas.{all_opened}
@@ -66,6 +66,20 @@ pub returns-clause-lanes_complete : goal.returns-clause-lanes_complete
 returns-clause-lanes_complete g c =
     λ plant lines asks none. returns-clause-exact g c (serves Lanes plant lines)
     (expected_run Lanes (g.F.Shelf.file c.args.shelf.now) (map (string_bytes {Z = Global}) c.args.words.items) plant lines asks) none
+
+pub returns-clause-plant : goal.returns-clause-plant
+returns-clause-plant g c =
+    λ plant script asks done. (
+      adds_script plant script (g.O.Sink.text c.args.out.now) (g.O.Sink.text c.carry_out-ended.new.out)
+          (subst (λ (s : Status). Meets (serves Simulation plant script) (g.O.Sink.text c.args.out.now) (g.O.Sink.text c.carry_out-ended.new.out) s) done
+          (returns-clause-meets g c (serves Simulation plant script) (expected_run Simulation (g.F.Shelf.file c.args.shelf.now) (map (string_bytes {Z = Global}) c.args.words.items) plant script asks))).1,
+      ended_done c.carry_out-ended.result _ _ c.tell_end.result c.tell_end.ensures.status c.tell_end.ensures.told done,
+    )
+
+pub returns-clause-plant_complete : goal.returns-clause-plant_complete
+returns-clause-plant_complete g c =
+    λ plant script asks none. returns-clause-exact g c (serves Simulation plant script)
+    (expected_run Simulation (g.F.Shelf.file c.args.shelf.now) (map (string_bytes {Z = Global}) c.args.words.items) plant script asks) none
 
 pub returns-clause-answers : goal.returns-clause-answers
 returns-clause-answers g c =

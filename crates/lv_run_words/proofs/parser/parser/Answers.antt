@@ -14,12 +14,13 @@ returns c =
     let more = (λ (command before : App). with_subcommand before command.top) in
     let run = c.in_ok-parser.ensures (over_two (codes "run") None None) c.over_files.ensures ∙ ap (more (over_two (codes "run") None None)) d in
     let lanes = c.in_ok-parser-2.ensures (over_two (codes "lanes") None None) c.over_files-2.ensures ∙ ap (more (over_two (codes "lanes") None None)) run in
-    let check = c.in_ok-parser-3.ensures (over_two (codes "check") None None) c.over_files-3.ensures ∙ ap (more (over_two (codes "check") None None)) lanes in
-    let print = c.in_ok-parser-4.ensures (over_one (codes "print") None) c.over_file.ensures ∙ ap (more (over_one (codes "print") None)) check in
-    let drive = c.in_ok-parser-5.ensures (over_one (codes "drive") (Some number_parser)) c.drive.ensures ∙ ap (more (over_one (codes "drive") (Some number_parser))) print in
+    let plant = c.in_ok-parser-3.ensures (over_two (codes "plant") None None) c.over_files-3.ensures ∙ ap (more (over_two (codes "plant") None None)) lanes in
+    let check = c.in_ok-parser-4.ensures (over_two (codes "check") None None) c.over_files-4.ensures ∙ ap (more (over_two (codes "check") None None)) plant in
+    let print = c.in_ok-parser-5.ensures (over_one (codes "print") None) c.over_file.ensures ∙ ap (more (over_one (codes "print") None)) check in
+    let drive = c.in_ok-parser-6.ensures (over_one (codes "drive") (Some number_parser)) c.drive.ensures ∙ ap (more (over_one (codes "drive") (Some number_parser))) print in
     let generate = c.in_ok-generate.ensures in
     IfOk-weaker c.subcommand.result _ _ (λ whole added. record {
       kind = generate.kind;
       is_kind = generate.is_kind;
-      app_is = adds c.in_ok-parser-5.parser whole _ drive c.in_ok-generate.field-0 (over_two (codes "generate") (Some generate.kind) (Some number_parser)) generate.is added;
+      app_is = adds c.in_ok-parser-6.parser whole _ drive c.in_ok-generate.field-0 (over_two (codes "generate") (Some generate.kind) (Some number_parser)) generate.is added;
     }) c.subcommand.ensures

@@ -3,24 +3,25 @@ use Rattle.std.proofs.Common.{◌≡◌, true, subst, sym}
 use Rattle.std.specs.Prelude.{OnOk}
 use Rattle.lv_model.specs.declared.plant.Plant.{Plant}
 use Rattle.lv_model.specs.WellFormed.{is_well_formed}
+use Rattle.lv_session_request.specs.Requests.{IsRequestOf}
 use Rattle.lv_session.specs.States.{IsStateOf}
 use Rattle.lv_session.specs.Current.{IsCurrent}
 use Rattle.lv_session.proofs.Keeping.{state_kept}
 use Rattle.lv_session.proofs.CurrentLemmas.{current_kept}
-use Rattle.lv_session.proofs.workings.answer.Goals as goal
+use Rattle.lv_session.proofs.workings.carry_out.Goals as goal
 
-pub returns-in-Ok-clause-kept : goal.returns-in-Ok-clause-kept
-returns-in-Ok-clause-kept c =
+pub returns-clause-kept : goal.returns-clause-kept
+returns-clause-kept c =
     let well : is_well_formed c.compiled.inside.model.now ≡ true =
     subst (λ (p : Plant). is_well_formed p ≡ true) c.plant-plant.ensures.plant c.plant-plant.ensures.well_formed in
     subst (λ (p : Plant). IsStateOf p c.carry_out.new.self) c.compiled.view_is
-    (state_kept c.compiled.inside.model.now c.args.state.now c.carry_out.new.self c.in-Ok.request c.carry_out.result well
+    (state_kept c.compiled.inside.model.now c.args.state.now c.carry_out.new.self c.args.request c.carry_out.result well
     (subst (λ (p : Plant). IsStateOf p c.args.state.now) (sym c.compiled.view_is) c.requires.state)
-    c.in-Ok.ensures.within c.carry_out.ensures.ok c.carry_out.ensures.err)
+    (subst (λ (p : Plant). IsRequestOf p c.args.request) (sym c.compiled.view_is) c.requires.request) c.carry_out.ensures.ok c.carry_out.ensures.err)
 
-pub returns-in-Ok-clause-running : goal.returns-in-Ok-clause-running
-returns-in-Ok-clause-running c =
+pub returns-clause-running : goal.returns-clause-running
+returns-clause-running c =
     subst (λ (p : Plant). OnOk c.carry_out.result (IsCurrent p c.carry_out.new.self c.carry_out.new.running)) c.compiled.view_is
-    (current_kept c.compiled.inside.model.now c.args.state.now c.carry_out.new.self c.args.workings.now.running c.carry_out.new.running c.in-Ok.request c.carry_out.result
+    (current_kept c.compiled.inside.model.now c.args.state.now c.carry_out.new.self c.args.workings.now.running c.carry_out.new.running c.args.request c.carry_out.result
     (subst (λ (p : Plant). IsCurrent p c.args.state.now c.args.workings.now.running) (sym c.compiled.view_is) c.requires.running)
     c.carry_out.ensures.ok c.carry_out.ensures.running)
