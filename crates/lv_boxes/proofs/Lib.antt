@@ -1,5 +1,6 @@
 pub mod MaskLemmas
 pub mod PartsLemmas
+pub mod GroupPartsLemmas
 pub mod CheapestLemmas
 pub mod LeastLemmas
 pub mod MemberLemmas

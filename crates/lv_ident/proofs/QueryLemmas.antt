@@ -13,7 +13,6 @@ use Rattle.lv_meaning.specs.Candidates.{candidates, is_possible_candidate}
 use Rattle.lv_meaning.specs.Diagnosis.{reason_of}
 use Rattle.lv_search.specs.lv_boxes.RankedMembers.{ranked_members}
 use Rattle.lv_search.specs.Standing.{Standing, IsUnderWay, AreSame}
-use Rattle.lv_search.specs.Search.{SearchValue}
 use Rattle.lv_search_zones.specs.Moves.{move_slots, zones_from, is_full_choice}
 use Rattle.lv_ident.specs.Trial.{TrialValue}
 use Rattle.lv_ident.specs.Query.{QueryValue, IsQueryOf, IsTriedBy}
@@ -37,12 +36,12 @@ at_standing plant facts s = record { plant = plant; facts = facts; standing = s 
 
 -- a query that has tried nothing
 pub start_of : (plant : Plant) (facts : Facts) (tracked : List TrackedState) (grid : List (List Cost)) → grid ≡ move_slots plant → (zones : List ZoneValue) → zones ≡ zones_from plant 0 tracked → (k : ℕ)
-    → (s : SearchValue) → s ≡ record { standing = record { k = k; listed = []; kept = []; left = ranked_members grid zones }; splits = [] }
-    → at_standing plant facts s.standing ≡ at_standing plant facts (record { k = k; listed = []; kept = []; left = candidates plant tracked })
-start_of plant facts tracked grid grid_is zones zones_are k s is =
-    ap (λ (v : SearchValue). at_standing plant facts v.standing) is
+    → (left : List Rank) → left ≡ ranked_members grid zones → (s : Standing) → s ≡ record { k = k; listed = []; kept = []; left = left }
+    → at_standing plant facts s ≡ at_standing plant facts (record { k = k; listed = []; kept = []; left = candidates plant tracked })
+start_of plant facts tracked grid grid_is zones zones_are k left left_is s is =
+    ap (at_standing plant facts) is
     ∙ ap (λ (rs : List Rank). at_standing plant facts (record { k = k; listed = []; kept = []; left = rs }))
-    ((λ i. ranked_members (grid_is i) (zones_are i)) ∙ zones_have_candidates plant tracked)
+    (left_is ∙ (λ i. ranked_members (grid_is i) (zones_are i)) ∙ zones_have_candidates plant tracked)
 
 started : (suits fits : Candidate → Bool) (reason : Candidate → List Pair) (k : ℕ) (entries : List Rank) → IsUnderWay suits fits reason entries (record { k = k; listed = []; kept = []; left = entries })
 started suits fits reason k entries = record { walk = λ budget few. refl; trials = omega arith; k = refl; suit = λ suit. suit }

@@ -17,7 +17,7 @@ use lv_base::{Conflict, Rank, Seq};
 use lv_meaning::Facts;
 use lv_model::{Model, TrackedState};
 use lv_sat::Effort;
-use lv_search::{By, Outcome, Search, Split};
+use lv_search::{By, Outcome, Search, Split, Zones};
 use lv_search_zones::{move_grid, zones_of};
 use lv_system::StepSystem;
 use std::alloc::{AllocError, Global};
@@ -39,7 +39,7 @@ pub struct Query<'a> {
     model: &'a Model,
     facts: Facts,
     trial: IdentTrial<'a>,
-    search: Search,
+    search: Search<Zones>,
     first_zones: usize,
 }
 
@@ -90,7 +90,7 @@ pub fn identify<'a>(
     let zones = zones_of(alloc, model, tracked)?;
     let first_zones = zones.len();
     let asked = copied(alloc, &facts)?;
-    let search = Search::new(alloc, grid, zones, k)?;
+    let search = Search::new(alloc, Zones::new(alloc, grid, zones)?, k)?;
     match IdentTrial::new(alloc, model, system, asked) {
         Ok(trial) => Ok(Query {
             model,

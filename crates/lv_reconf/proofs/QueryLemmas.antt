@@ -13,7 +13,6 @@ use Rattle.lv_meaning.specs.Commands.{command_sets}
 use Rattle.lv_meaning.specs.Recovery.{candidate_recovers, candidate_reason}
 use Rattle.lv_search.specs.lv_boxes.RankedMembers.{ranked_members}
 use Rattle.lv_search.specs.Standing.{Standing, IsUnderWay}
-use Rattle.lv_search.specs.Search.{SearchValue}
 use Rattle.lv_search_zones.specs.Commands.{control_slots, command_zone}
 use Rattle.lv_reconf.specs.Judging.{candidate_commands}
 use Rattle.lv_reconf.specs.Query.{IsQuery}
@@ -23,13 +22,10 @@ use Rattle.lv_search_zones.proofs.CommandLemmas.{zone_has_sets, sets_suit}
 abbrev start : List Rank → Standing
 start entries = record { k = 1; listed = []; kept = []; left = entries }
 
-abbrev search_from : List Rank → SearchValue
-search_from entries = record { standing = start entries; splits = [] }
-
 -- the zone's members are the command sets
 pub search_is : (plant : Plant) → is_well_formed plant ≡ true → (grid : List (List Cost)) → grid ≡ control_slots plant → (zones : List ZoneValue) → zones ≡ command_zone plant ∷ []
-    → (s : SearchValue) → s ≡ search_from (ranked_members grid zones) → s ≡ search_from (command_sets plant)
-search_is plant well grid grid_is zones zones_are s is = is ∙ ap search_from ((λ i. ranked_members (grid_is i) (zones_are i)) ∙ zone_has_sets plant well)
+    → (left : List Rank) → left ≡ ranked_members grid zones → (s : Standing) → s ≡ start left → s ≡ start (command_sets plant)
+search_is plant well grid grid_is zones zones_are left left_is s is = is ∙ ap start (left_is ∙ (λ i. ranked_members (grid_is i) (zones_are i)) ∙ zone_has_sets plant well)
 
 started : (suits fits : Candidate → Bool) (reason : Candidate → List Pair) (entries : List Rank) → IsUnderWay suits fits reason entries (start entries)
 started suits fits reason entries = record { walk = λ budget few. refl; trials = omega arith; k = refl; suit = λ suit. suit }
@@ -43,11 +39,11 @@ start_is_query plant aim =
       one = refl;
     }
 
-pub new_is_query : (plant : Plant) (aim : Aim) (s : Question) → s ≡ asking plant aim → (t : SearchValue) → t ≡ search_from (command_sets plant)
-    → IsQuery (record { plant = s.plant; aim = s.aim; standing = t.standing })
+pub new_is_query : (plant : Plant) (aim : Aim) (s : Question) → s ≡ asking plant aim → (t : Standing) → t ≡ start (command_sets plant)
+    → IsQuery (record { plant = s.plant; aim = s.aim; standing = t })
 new_is_query plant aim s setting t searched =
-    subst (λ (q : Question). IsQuery (record { plant = q.plant; aim = q.aim; standing = t.standing })) (sym setting)
-    (subst (λ (v : SearchValue). IsQuery (record { plant = plant; aim = aim; standing = v.standing })) (sym searched) (start_is_query plant aim))
+    subst (λ (q : Question). IsQuery (record { plant = q.plant; aim = q.aim; standing = t })) (sym setting)
+    (subst (λ (v : Standing). IsQuery (record { plant = plant; aim = aim; standing = v })) (sym searched) (start_is_query plant aim))
 
 -- what a search says of its trial it says of the plant and the aim
 module _ (s t : Question) (is : t ≡ s) where

@@ -5,7 +5,13 @@ use Rattle.lv_base.specs.declared.ids.Cost.{Cost}
 use Rattle.lv_base.specs.declared.rank.Rank.{Rank}
 use Rattle.lv_boxes.specs.Members.{ZoneValue}
 use Rattle.lv_search.specs.declared.zones.Open.{Open}
+use Rattle.lv_search.specs.declared.zones.Split.{Split}
 use Rattle.lv_boxes.specs.RankedMembers.{times_in, IsLeastRank, AreApart}
+
+-- what is left, and by what zones were split
+pub record ZonesValue : Type 0 where
+  pub left : List Rank
+  pub splits : List Split
 
 -- the open zones
 abbrev pub zones_of : List (Rank × Open) → List ZoneValue

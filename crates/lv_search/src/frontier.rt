@@ -10,22 +10,21 @@ ghost use Rattle.lv_search.specs.Frontier.{FirstContains, Thins};
 use lv_base::{Conflict, Rank};
 use std::alloc::AllocError;
 
-/// The candidates left. A call that changes them tells the number of the zone that it split. After want of memory a
-/// frontier is only dropped.
-pub(crate) trait Frontier {
+/// The candidates left. After want of memory a frontier is only dropped.
+pub trait Frontier {
     ghost left: { Self → List Rank };
 
     /// The first of what is left. Takes no memory.
     fn first(&self) -> Option<&Rank>
         ensures { option_copied result ≡ slice_get (left self.now) 0 };
 
-    /// Leaves out the first.
-    fn drop_first(&mut self) -> Result<usize, AllocError>
+    /// Leaves out the first, the listed candidate of this number.
+    fn drop_first(&mut self, number: usize) -> Result<(), AllocError>
         requires { left self.old ≢ [] }
         ensures { IfOk result (λ _. left self.new ≡ drop 1 (left self.old)) };
 
-    /// Leaves out the first, which contains the conflict, and maybe others that contain it.
-    fn split_first(&mut self, conflict: &Conflict) -> Result<usize, AllocError>
+    /// Leaves out the first, which contains the kept conflict of this number, and maybe others that contain it.
+    fn split_first(&mut self, number: usize, conflict: &Conflict) -> Result<(), AllocError>
         requires { FirstContains conflict.now (left self.old) }
         ensures { IfOk result (λ _. Thins conflict.now (left self.old) (left self.new)) };
 }

@@ -12,14 +12,15 @@
 //! | `laws` | what the walk's entries are, and where a walk begins |
 #![tactic(auto)]
 
-mod frontier;
+pub mod frontier;
 pub mod laws;
 pub mod search;
 pub mod trial;
 pub mod turn;
-mod zones;
+pub mod zones;
 
+pub use frontier::Frontier;
 pub use lv_search_walk::Outcome;
 pub use search::Search;
 pub use trial::{Trial, Tried};
-pub use turn::{By, Split};
+pub use zones::{By, Split, Zones};

@@ -5,54 +5,49 @@ ghost use Rattle.std.specs.Prelude.{◌≡◌, ◌+◌, ◌<◌, ◌≤◌, ◌^
 ghost use Rattle.lv_base.specs.declared.rank.Rank.{Rank};
 ghost use Rattle.lv_search_walk.specs.declared.outcome.Outcome.TheVariants.{Settled};
 ghost use Rattle.lv_search_walk.specs.Walk.{candidate_of, walk, suit_all};
-ghost use Rattle.lv_boxes.specs.RankedMembers.{ranked_members, sources_differ};
 ghost use Rattle.lv_search.specs.Standing.{trials_of, all_suit, AreSame, IsUnderWay};
 
+use super::frontier::Frontier;
 use super::trial::Trial;
-use super::turn::{Held, Split, take_turns};
-use super::zones::Zones;
+use super::turn::{Held, take_turns};
+use super::zones::{Split, Zones};
 use lv_base::{Conflict, Rank, Seq};
-use lv_boxes::{Grid, Zone};
 use lv_conflicts::Store;
 use lv_search_walk::Outcome;
 use std::alloc::{AllocError, Global};
 use std::marker::Model;
 
 /// A search for the first `k` candidates that fit. Contracts see where it stands: how many it is to list, what is listed
-/// and kept, and the candidates left in the order of their ranks; and by what zones were split.
+/// and kept, and the candidates left in the order of their ranks; and the frontier that these are left in.
 #[derive(Drop)]
-pub struct Search {
+pub struct Search<F: Frontier + Drop> {
     alloc: Global,
-    zones: Zones,
     held: Held,
+    frontier: F,
 }
 
-impl Model for Search {
+impl<F: Frontier + Drop> Model for Search<F> {
     ghost use Rattle.lv_search.specs.Search.{SearchValue};
     ghost use Rattle.lv_search.specs.Turn.{standing};
 
-    ghost Value = { SearchValue };
+    ghost Value = { SearchValue F };
 
-    ghost view = { λ s. record { standing = standing s.zones s.held; splits = s.held.splits } };
+    ghost view = { λ s. record { standing = standing (F.left s.frontier) s.held; frontier = s.frontier } };
 }
 
-impl Search {
-    /// A search that has tried nothing, for the members of these zones, of which no two have one source. The grid tells
-    /// what choices cost.
-    pub fn new(alloc: Global, grid: Grid, zones: Vec<Zone>, k: u32) -> Result<Search, AllocError>
-        requires { sources_differ zones.items ≡ true }
-        ensures { IfOk result (λ search. search ≡ record { standing = record { k = k; listed = []; kept = []; left = ranked_members grid zones.items }; splits = [] }) }
+impl<F: Frontier + Drop> Search<F> {
+    /// A search that has tried nothing, for the candidates left in the frontier.
+    pub fn new(alloc: Global, frontier: F, k: u32) -> Result<Search<F>, AllocError>
+        ensures { IfOk result (λ search. search ≡ record { standing = record { k = k; listed = []; kept = []; left = F.left frontier }; frontier = frontier }) }
     {
-        let zones = Zones::new(alloc, grid, zones)?;
         Ok(Search {
             alloc,
-            zones,
             held: Held {
                 k,
                 listed: Seq::new(alloc),
                 conflicts: Store::new(alloc)?,
-                splits: Seq::new(alloc),
             },
+            frontier,
         })
     }
 
@@ -79,7 +74,13 @@ impl Search {
         ensures same { AreSame T.suits T.fits T.reason trial.old trial.new }
     {
         let budget = self.held.trials() + more;
-        take_turns(self.alloc, &mut self.zones, trial, &mut self.held, budget)
+        take_turns(
+            self.alloc,
+            &mut self.frontier,
+            trial,
+            &mut self.held,
+            budget,
+        )
     }
 
     /// The candidates listed, in the order of their ranks. Takes no memory.
@@ -102,13 +103,15 @@ impl Search {
     {
         self.held.trials()
     }
+}
 
+impl Search<Zones> {
     /// The splits made, in order: each a zone and the kept conflict or listed candidate that split it. Zones are numbered
     /// from 0, first those that the search began with; a split closes its zone and gives one zone for each pair of the
     /// conflict, or for each choice of the candidate, the next numbers, those without members too. Takes no memory.
     pub fn splits(&self) -> &[Split]
-        ensures { result.now ≡ self.now.splits }
+        ensures { result.now ≡ self.now.frontier.splits }
     {
-        self.held.splits.as_slice()
+        self.frontier.splits()
     }
 }

@@ -16,27 +16,12 @@ use lv_conflicts::Store;
 use lv_search_walk::Outcome;
 use std::alloc::{AllocError, Global};
 
-/// By what a zone was split: the kept conflict of this number, or the listed candidate of this number, counted from 0.
-#[derive(Clone, Copy, Debug, PartialEq, Eq)]
-pub enum By {
-    Conflict(usize),
-    Listed(usize),
-}
-
-/// That a zone was split, and by what.
-#[derive(Clone, Copy, Debug, PartialEq, Eq)]
-pub struct Split {
-    pub zone: usize,
-    pub by: By,
-}
-
 /// What a search holds beside the candidates left.
 #[derive(Debug, Drop)]
 pub(crate) struct Held {
     pub(crate) k: u32,
     pub(crate) listed: Seq<Rank>,
     pub(crate) conflicts: Store,
-    pub(crate) splits: Seq<Split>,
 }
 
 impl Held {
@@ -114,21 +99,12 @@ fn look<F: Frontier>(
     }
 }
 
-/// Splits the zone of the first candidate by the kept conflict of this number, which rules it out.
-fn pass_over<F: Frontier>(
-    frontier: &mut F,
-    held: &mut Held,
-    number: usize,
-) -> Result<(), AllocError>
-    requires { PassesOver number (standing (F.left frontier.old) held.old) }
-    ensures thins { IfOk result (λ _. Thins (conflict_at held.old.conflicts number) (F.left frontier.old) (F.left frontier.new)) }
-    ensures same { IfOk result (λ _. (left : List Rank) → standing left held.new ≡ standing left held.old) }
+/// Leaves out the first candidate, which the kept conflict of this number rules out.
+fn pass_over<F: Frontier>(frontier: &mut F, held: &Held, number: usize) -> Result<(), AllocError>
+    requires { PassesOver number (standing (F.left frontier.old) held.now) }
+    ensures { IfOk result (λ _. Thins (conflict_at held.now.conflicts number) (F.left frontier.old) (F.left frontier.new)) }
 {
-    let zone = frontier.split_first(held.conflicts.get(number))?;
-    held.splits.push(Split {
-        zone,
-        by: By::Conflict(number),
-    })
+    frontier.split_first(number, held.conflicts.get(number))
 }
 
 /// Lists the first candidate, and leaves it out of what is left.
@@ -136,11 +112,7 @@ fn list_first<F: Frontier>(frontier: &mut F, held: &mut Held, rank: Rank) -> Res
     requires { F.left frontier.old ≢ [] }
     ensures { IfOk result (λ _. standing (F.left frontier.new) held.new ≡ record { k = held.old.k; listed = held.old.listed ++ rank ∷ []; kept = held.old.conflicts; left = drop 1 (F.left frontier.old) }) }
 {
-    let zone = frontier.drop_first()?;
-    held.splits.push(Split {
-        zone,
-        by: By::Listed(held.listed.len()),
-    })?;
+    frontier.drop_first(held.listed.len())?;
     held.listed.push(rank)
 }
 

@@ -17,6 +17,20 @@ use std::alloc::{AllocError, Global};
 use std::collections::BTreeMap;
 use std::marker::Model;
 
+/// By what a zone was split: the kept conflict of this number, or the listed candidate of this number, counted from 0.
+#[derive(Clone, Copy, Debug, PartialEq, Eq)]
+pub enum By {
+    Conflict(usize),
+    Listed(usize),
+}
+
+/// That a zone was split, and by what.
+#[derive(Clone, Copy, Debug, PartialEq, Eq)]
+pub struct Split {
+    pub zone: usize,
+    pub by: By,
+}
+
 /// A zone that is open, and its number.
 #[derive(Debug, Drop)]
 struct Open {
@@ -24,24 +38,24 @@ struct Open {
     zone: Zone,
 }
 
-/// The candidates left. Contracts see the list of them, each as its rank, in the order of their ranks.
+/// The candidates left. Contracts see the list of them, each as its rank, in the order of their ranks, and by what zones
+/// were split.
 #[derive(Drop)]
-pub(crate) struct Zones {
+pub struct Zones {
     alloc: Global,
     grid: Grid,
     queue: BTreeMap<Rank, Open>,
     made: usize,
+    splits: Seq<Split>,
 }
 
 impl Model for Zones {
-    ghost use Rattle.std.specs.Prelude.{List};
-    ghost use Rattle.lv_base.specs.declared.rank.Rank.{Rank};
     ghost use Rattle.lv_boxes.specs.RankedMembers.{ranked_members};
-    ghost use Rattle.lv_search.specs.Zones.{zones_of, AreKept};
+    ghost use Rattle.lv_search.specs.Zones.{ZonesValue, zones_of, AreKept};
 
-    ghost Value = { List Rank };
+    ghost Value = { ZonesValue };
 
-    ghost view = { λ z. ranked_members z.grid (zones_of z.queue.entries) };
+    ghost view = { λ z. record { left = ranked_members z.grid (zones_of z.queue.entries); splits = z.splits } };
 
     ghost invariant = { λ z. AreKept z.grid z.queue.entries };
 }
@@ -117,10 +131,10 @@ fn open_parts(
 }
 
 impl Zones {
-    /// The members of these zones, whose sources differ, with what their choices cost.
-    pub(crate) fn new(alloc: Global, grid: Grid, zones: Vec<Zone>) -> Result<Zones, AllocError>
+    /// The members of these zones, of which no two have one source. The grid tells what choices cost.
+    pub fn new(alloc: Global, grid: Grid, zones: Vec<Zone>) -> Result<Zones, AllocError>
         requires { sources_differ zones.items ≡ true }
-        ensures { IfOk result (λ left. left ≡ ranked_members grid zones.items) }
+        ensures { IfOk result (λ all. all ≡ record { left = ranked_members grid zones.items; splits = [] }) }
     {
         let mut queue = BTreeMap::new(alloc);
         let mut made = 0;
@@ -130,12 +144,20 @@ impl Zones {
             grid,
             queue,
             made,
+            splits: Seq::new(alloc),
         })
+    }
+
+    /// The splits made, in order.
+    pub(crate) fn splits(&self) -> &[Split]
+        ensures { result.now ≡ self.now.splits }
+    {
+        self.splits.as_slice()
     }
 }
 
 impl Frontier for Zones {
-    ghost left = { λ zones. zones };
+    ghost left = { λ zones. zones.left };
 
     fn first(&self) -> Option<&Rank> {
         match self.queue.first_key_value() {
@@ -144,7 +166,7 @@ impl Frontier for Zones {
         }
     }
 
-    fn drop_first(&mut self) -> Result<usize, AllocError> {
+    fn drop_first(&mut self, number: usize) -> Result<(), AllocError> {
         match self.queue.pop_first() {
             Some((rank, open)) => {
                 let conflict = own_choices(self.alloc, &self.grid, &rank)?;
@@ -156,13 +178,17 @@ impl Frontier for Zones {
                     &open.zone,
                     &conflict,
                 )?;
-                Ok(open.number)
+                self.splits.push(Split {
+                    zone: open.number,
+                    by: By::Listed(number),
+                })?;
+                Ok(())
             }
-            None => Ok(self.made),
+            None => Ok(()),
         }
     }
 
-    fn split_first(&mut self, conflict: &Conflict) -> Result<usize, AllocError> {
+    fn split_first(&mut self, number: usize, conflict: &Conflict) -> Result<(), AllocError> {
         match self.queue.pop_first() {
             Some((_, open)) => {
                 open_parts(
@@ -173,9 +199,13 @@ impl Frontier for Zones {
                     &open.zone,
                     conflict,
                 )?;
-                Ok(open.number)
+                self.splits.push(Split {
+                    zone: open.number,
+                    by: By::Conflict(number),
+                })?;
+                Ok(())
             }
-            None => Ok(self.made),
+            None => Ok(()),
         }
     }
 }

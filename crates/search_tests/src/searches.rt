@@ -6,7 +6,7 @@ ghost use Rattle.lv_search.specs.Standing.{trials_of};
 use crate::avoids::Avoids;
 use lv_base::{Cost, Pair};
 use lv_boxes::{Grid, Zone};
-use lv_search::{By, Outcome, Search, Split};
+use lv_search::{By, Outcome, Search, Split, Zones};
 use std::alloc::{AllocError, Global};
 use std::test::Fail;
 
@@ -21,18 +21,18 @@ fn small_grid(alloc: Global) -> Result<Grid, AllocError>
 }
 
 /// All candidates of one tracked state that costs 10, of which three are to be listed.
-fn small_search(alloc: Global) -> Result<Search, AllocError>
+fn small_search(alloc: Global) -> Result<Search<Zones>, AllocError>
     ensures { IfOk result (λ search. trials_of search.standing ≡ 0) }
 {
     let grid = small_grid(alloc)?;
     let zone = Zone::new(alloc, 0, Cost(10), &[0b111, 0b11])?;
     let mut zones = Vec::new(alloc);
     zones.push(zone)?;
-    Search::new(alloc, grid, zones, 3)
+    Search::new(alloc, Zones::new(alloc, grid, zones)?, 3)
 }
 
 /// Goes on with a trial that every candidate suits.
-fn go_on(search: &mut Search, trial: &mut Avoids, more: u64) -> Result<Outcome, AllocError>
+fn go_on(search: &mut Search<Zones>, trial: &mut Avoids, more: u64) -> Result<Outcome, AllocError>
     requires { trials_of search.old.standing + more < 2 ^ 64 }
     ensures { IfOk result (λ _. trials_of search.new.standing ≤ trials_of search.old.standing + more) }
 {

@@ -1,4 +1,5 @@
 -- each way to go on leaves the walk as it was
+use Rattle.std.proofs.Common.{refl}
 use Rattle.lv_search.specs.Turn.{standing}
 use Rattle.lv_search.proofs.FollowLemmas.{thinned_goes_on, tried_goes_on, first_suits}
 use Rattle.lv_search.proofs.turn.take_turn.Goals as goal
@@ -13,10 +14,10 @@ pub returns-in_ok-pass_over-in-PassOver-clause-told :
 returns-in_ok-pass_over-in-PassOver-clause-told g c =
     thinned_goes_on (g.T.Trial.suits c.args.trial.now) (g.T.Trial.fits c.args.trial.now) (g.T.Trial.reason c.args.trial.now) c.args.budget
     (standing (g.F.Frontier.left c.args.frontier.now) c.args.held.now) c.requires.few c.in-PassOver.number (g.F.Frontier.left c.pass_over.new.frontier)
-    (standing (g.F.Frontier.left c.pass_over.new.frontier) c.pass_over.new.held)
+    (standing (g.F.Frontier.left c.pass_over.new.frontier) c.args.held.now)
     (rw c.in-PassOver.is at c.in_ok-outcome.ensures)
-    c.in_ok-pass_over-in-PassOver.ensures.thins
-    (c.in_ok-pass_over-in-PassOver.ensures.same (g.F.Frontier.left c.pass_over.new.frontier))
+    c.in_ok-pass_over-in-PassOver.ensures
+    refl
 
 pub returns-in_ok-try_first-in-Try-clause-told : goal.returns-in_ok-try_first-in-Try-clause-told
 returns-in_ok-try_first-in-Try-clause-told g c =
