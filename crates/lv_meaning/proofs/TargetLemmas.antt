@@ -15,7 +15,7 @@ use Rattle.lv_search_walk.specs.Groups.{group_of, groups_of, have_same_groups}
 use Rattle.lv_meaning.specs.Candidates.{type_moves}
 use Rattle.lv_meaning.specs.Targets.{target_mode, target_modes, have_one_target, are_alike, move_targets, targets_of_moves}
 
-same_modes : List ValId → List ValId → Bool
+abbrev same_modes : List ValId → List ValId → Bool
 same_modes xs ys = pointwise (λ (a b : ValId). nat_eq a.0 b.0) xs ys
 
 joined : (xs ys zs : List ValId) → same_modes xs ys ≡ true → same_modes ys zs ≡ true → same_modes xs zs ≡ true
