@@ -38,8 +38,7 @@ use Rattle.lv_cert_writing.specs.Explained.{AreExplained, is_explained, last_if_
 use Rattle.lv_cert_writing.specs.SplitLaws.{HasReasonsInside, explains}
 use Rattle.lv_cert_writing.proofs.SplitWalkLemmas.{walk_explains}
 use Rattle.lv_cert_laws.proofs.Shown.{candidate_is_full}
-use Rattle.lv_cert_laws.proofs.Targets.{groups_are_targets}
-use Rattle.lv_cert_laws.proofs.Answering.{alike_on}
+use Rattle.lv_meaning.proofs.TargetLemmas.{alike_join, targets_are_groups}
 use Rattle.lv_cert_laws.proofs.Distinct.{each_among, each_rises, each_apart}
 use Rattle.lv_cert_laws.specs.lv_cert_meaning.Certifying.{IsSettledDiagnosis}
 use Rattle.lv_cert_diagnosis.specs.Showing.{CanBeShown, CanBeRefuted, targets_for}
@@ -148,7 +147,7 @@ pub record IsListing (plant : Plant) (tracked : List TrackedState) (facts : Fact
 -- candidates are alike where the targets of their moves say so
 alike_as : (distinct : Bool) (plant : Plant) → are_alike distinct plant ≡ alike_by (targets_for distinct plant)
 alike_as false plant = refl
-alike_as true plant = sym (λ i r q. groups_are_targets plant r q i)
+alike_as true plant = λ i r q. targets_are_groups plant r q i
 
 module _ (plant : Plant) (tracked : List TrackedState) (facts : Facts) (k : ℕ) (distinct : Bool) (listed : List Rank) (kept : List (List Pair)) (s : IsSettledDiagnosis plant tracked facts k distinct listed kept) where
   abbrev walk_is : Walked
@@ -166,7 +165,7 @@ module _ (plant : Plant) (tracked : List TrackedState) (facts : Facts) (k : ℕ)
   first : listed ≡ take k each_first
   first =
       sym (ap (λ (w : Walked). w.listed) s.settled)
-      ∙ distinct_exact (are_alike distinct plant) (alike_on distinct plant) (λ (c : Candidate). true) (is_possible_candidate plant facts) (reason_of plant facts) (is_sound plant facts) k s.budget (candidates plant tracked)
+      ∙ distinct_exact (are_alike distinct plant) (alike_join distinct plant) (λ (c : Candidate). true) (is_possible_candidate plant facts) (reason_of plant facts) (is_sound plant facts) k s.budget (candidates plant tracked)
       (all_suit (candidates plant tracked)) settled
 
   possible_rise : rises possible ≡ true

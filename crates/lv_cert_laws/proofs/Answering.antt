@@ -1,8 +1,5 @@
 -- What is listed at the end of a diagnosis is its answer: the first candidates that are possible and alike no possible one before them.
-use Rattle.std.proofs.Common.{◌≡◌, ℕ, ◌<◌, ◌≤◌, Bool, true, false, nat_eq, List, [], ◌∷◌, ◌⊎◌, inl, inr, ⊎_elim, length, take, filter, refl, sym, ◌∙◌, ap}
-use Rattle.std.specs.Cmp.Lexicographic.{pointwise}
-use Rattle.std.proofs.lemmas.Bool.{and_parts, and_from, eqb-true}
-use Rattle.lv_cert_meaning.specs.lv_base.declared.ids.ValId.{ValId}
+use Rattle.std.proofs.Common.{◌≡◌, ℕ, ◌<◌, ◌≤◌, Bool, true, false, List, [], ◌∷◌, ◌⊎◌, inl, inr, ⊎_elim, length, take, filter, refl, sym, ◌∙◌, ap}
 use Rattle.lv_cert_meaning.specs.lv_base.declared.rank.Rank.{Rank}
 use Rattle.lv_cert_meaning.specs.lv_base.Rank.{rank_key, ranks_before}
 use Rattle.lv_cert_meaning.proofs.lv_base.OrderLemmas.{transitive}
@@ -10,33 +7,19 @@ use Rattle.lv_cert_meaning.specs.lv_model.declared.plant.Plant.{Plant}
 use Rattle.lv_cert_meaning.specs.lv_search_walk.Ranked.{rises}
 use Rattle.lv_cert_meaning.specs.lv_search_walk.Walk.{first_of_each}
 use Rattle.lv_cert_meaning.proofs.lv_search_walk.RankedLemmas.{not_both_before}
+use Rattle.lv_cert_meaning.proofs.lv_search_walk.WalkLemmas.{each_is_first}
 use Rattle.lv_cert_meaning.specs.lv_meaning.Candidates.{candidates, is_possible_rank}
-use Rattle.lv_cert_meaning.specs.lv_meaning.Targets.{target_of_rank, have_one_target, are_alike, answer}
+use Rattle.lv_cert_meaning.specs.lv_meaning.Targets.{are_alike, answer}
 use Rattle.lv_cert_meaning.proofs.lv_meaning.Among.{Among, among, contained, all_among}
 use Rattle.lv_cert_meaning.proofs.lv_meaning.Answering.{among_passing, among_filtered, all_pass, rise_filtered}
 use Rattle.lv_cert_meaning.proofs.lv_meaning.Listing.{is_listed, is_candidate}
 use Rattle.lv_cert_meaning.proofs.lv_meaning.OneAnswer.{IsFirst, first_is}
 use Rattle.lv_cert_meaning.proofs.lv_meaning.Rising.{candidates_rise_law}
+use Rattle.lv_cert_meaning.proofs.lv_meaning.TargetLemmas.{alike_join}
 use Rattle.lv_cert_meaning.specs.Stated.{Stated}
 use Rattle.lv_cert_laws.proofs.Sound.{IsSecond, IsTold, AreFirst, IsBehindAll}
-use Rattle.lv_cert_laws.proofs.Distinct.{each_among, each_rises, each_keeps, each_apart, none_stay}
+use Rattle.lv_cert_laws.proofs.Distinct.{each_among, each_rises, each_keeps, each_apart}
 use Rattle.lv_cert_laws.proofs.Candidacy.{IsPossible}
-
--- what is alike one that is alike a third is alike the third
-same_values_on : (xs ys zs : List ValId) → pointwise (λ (a b : ValId). nat_eq a.0 b.0) xs ys ≡ true → pointwise (λ (a b : ValId). nat_eq a.0 b.0) ys zs ≡ true
-    → pointwise (λ (a b : ValId). nat_eq a.0 b.0) xs zs ≡ true
-same_values_on [] [] zs h i = i
-same_values_on [] (y ∷ ys) zs h i = absurd (cc h)
-same_values_on (x ∷ xs) [] zs h i = absurd (cc h)
-same_values_on (x ∷ xs) (y ∷ ys) [] h i = absurd (cc i)
-same_values_on (x ∷ xs) (y ∷ ys) (z ∷ zs) h i =
-    let one = and_parts _ _ h in
-    let two = and_parts _ _ i in
-    and_from _ _ (ap (λ n. nat_eq n z.0) (eqb-true x.0 y.0 one.0) ∙ two.0) (same_values_on xs ys zs one.1 two.1)
-
-pub alike_on : (d : Bool) (plant : Plant) (p q r : Rank) → are_alike d plant p q ≡ true → are_alike d plant q r ≡ true → are_alike d plant p r ≡ true
-alike_on true plant p q r h i = same_values_on (target_of_rank plant p) (target_of_rank plant q) (target_of_rank plant r) h i
-alike_on false plant p q r h i = absurd (cc h)
 
 module _ (plant : Plant) (s : Stated) (listed : List Rank) where
   abbrev alike : Rank → Rank → Bool
@@ -70,7 +53,7 @@ module _ (plant : Plant) (s : Stated) (listed : List Rank) where
         told : IsTold alike listed q ⊎ IsBehindAll listed q → alike r q ≡ true → ⊥
         told (inl (inl c)) like = cc (sym like ∙ firsts.apart q r c a front)
         told (inl (inr second)) like =
-            let far : alike r second.first ≡ true = alike_on s.distinct plant r q second.first like second.like in
+            let far : alike r second.first ≡ true = alike_join s.distinct plant r q second.first like second.like in
             cc (sym far ∙ firsts.apart second.first r second.among a (transitive (rank_key second.first) (rank_key q) (rank_key r) second.before front))
         told (inr behind) like = not_both_before q r front (behind.after r a)
 
@@ -97,7 +80,7 @@ module _ (plant : Plant) (s : Stated) (listed : List Rank) where
 
     answered : (d : Bool) → take s.k (first_of_each (are_alike d plant) possible) ≡ answer d s.k plant s.facts s.tracked
     answered true = refl
-    answered false = ap (take s.k) (none_stay possible)
+    answered false = ap (take s.k) (each_is_first [] possible)
 
     pub final_answers : listed ≡ answer s.distinct s.k plant s.facts s.tracked
     final_answers = first_is s.k (first_of_each alike possible) listed (each_rises alike possible possible_rise) first ∙ answered s.distinct

@@ -17,6 +17,7 @@ use Rattle.lv_cert_meaning.specs.lv_meaning.Targets.{have_one_target, are_alike}
 use Rattle.lv_cert_meaning.proofs.lv_meaning.Among.{Among, among}
 use Rattle.lv_cert_meaning.proofs.lv_meaning.Listing.{same_rank, is_listed}
 use Rattle.lv_cert_meaning.proofs.lv_meaning.Possibility.{possible_less}
+use Rattle.lv_cert_meaning.proofs.lv_meaning.TargetLemmas.{targets_are_groups}
 use Rattle.lv_cert_meaning.proofs.lv_meaning.Reasons.{at_pairs, apart_by}
 use Rattle.lv_cert_meaning.specs.lv_boxes.RankedMembers.{ranked_members}
 use Rattle.lv_cert_meaning.proofs.lv_system.RangeLemmas.{full_choice_from}
@@ -27,7 +28,7 @@ use Rattle.lv_cert_meaning.specs.Stated.{Stated, rank_from, candidate_of_numbers
 use Rattle.lv_cert_laws.proofs.Options.{anded, numbered_at}
 use Rattle.lv_cert_laws.proofs.Shown.{candidate_is_full}
 use Rattle.lv_cert_laws.proofs.Sound.{AreApart, TargetsAreAlike}
-use Rattle.lv_cert_laws.proofs.Targets.{groups_are_targets, moves_are_grouped}
+use Rattle.lv_cert_laws.proofs.Targets.{moves_are_grouped}
 
 -- a candidate for what is stated, and possible by it
 pub record IsPossible (plant : Plant) (s : Stated) (r : Rank) : Type 0 where
@@ -56,7 +57,7 @@ possible_apart plant s =
 pub targets_alike : (plant : Plant) (s : Stated) → TargetsAreAlike (IsPossible plant s) (are_alike s.distinct plant) (move_slots plant) s plant (possible_apart plant s)
 targets_alike plant s =
     record {
-      alike_by_targets = λ flag q r a b same. alike_with s.distinct flag q r (sym (groups_are_targets plant r q) ∙ same);
+      alike_by_targets = λ flag q r a b same. alike_with s.distinct flag q r (targets_are_groups plant r q ∙ same);
       grouped = λ r is. moves_are_grouped plant r.choices (candidate_is_full plant s.tracked r is.candidate);
     }
   where

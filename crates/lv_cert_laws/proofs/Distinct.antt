@@ -6,7 +6,7 @@ use Rattle.std.proofs.lemmas.List.Folds.{list_any-append}
 use Rattle.lv_cert_meaning.specs.lv_base.declared.rank.Rank.{Rank}
 use Rattle.lv_cert_meaning.specs.lv_base.Rank.{ranks_before}
 use Rattle.lv_cert_meaning.specs.lv_search_walk.Ranked.{rises}
-use Rattle.lv_cert_meaning.specs.lv_search_walk.Walk.{none_alike, first_of_each_behind, first_of_each}
+use Rattle.lv_cert_meaning.specs.lv_search_walk.Walk.{first_of_each_behind, first_of_each}
 use Rattle.lv_cert_meaning.proofs.lv_search_walk.RankedLemmas.{not_before_itself, not_both_before}
 use Rattle.lv_cert_meaning.proofs.lv_meaning.Among.{Among, all_among}
 
@@ -118,16 +118,3 @@ module _ (alike : Rank → Rank → Bool) where
 
   pub each_apart : (rs : List Rank) (r : Rank) → rises rs ≡ true → Among r (first_of_each alike rs) → (q : Rank) → Among q rs → ranks_before q r ≡ true → alike r q ≡ false
   each_apart rs r rise a q there front = (behind_new [] rs r rise a).apart q there front
-
--- where none is alike another, all stay
-none_behind : (before rs : List Rank) → first_of_each_behind none_alike before rs ≡ rs
-none_behind before [] = refl
-none_behind before (x ∷ xs) = ap (λ b. cond b (first_of_each_behind none_alike (before ++ x ∷ []) xs) (x ∷ first_of_each_behind none_alike (before ++ x ∷ []) xs)) (never before)
-    ∙ ap (λ (rs : List Rank). x ∷ rs) (none_behind (before ++ x ∷ []) xs)
-  where
-    never : (qs : List Rank) → list_any (none_alike x) qs ≡ false
-    never [] = refl
-    never (q ∷ qs) = never qs
-
-pub none_stay : (rs : List Rank) → first_of_each none_alike rs ≡ rs
-none_stay rs = none_behind [] rs
