@@ -115,21 +115,23 @@ fn group_at(numbers: &[u32], choice: u32) -> u32
 
 /// The members of a zone that have another target than this one, as zones that share no member: one for each slot, in
 /// order. It has the member's groups at the slots before it and every other group at its own slot, so it may have no
-/// members. Each zone is one allocation.
+/// members. Each zone is one allocation. A member with fewer choices makes no zones behind them.
 pub fn split_by_groups(
     alloc: Global,
     zone: &Zone,
     groups: &Groups,
     member: &[u32],
 ) -> Result<Vec<Zone>, AllocError>
-    requires { length member.now ≡ length groups.now }
     ensures parts { IfOk result (λ zones. zones.items ≡ parts_by_groups zone.now groups.now member.now) }
-    ensures split { IfOk result (λ zones. length groups.now ≡ length zone.now.masks → IsSplitByGroups zone.now groups.now member.now zones.items) }
+    ensures split { IfOk result (λ zones. length groups.now ≡ length zone.now.masks → length member.now ≡ length groups.now → IsSplitByGroups zone.now groups.now member.now zones.items) }
 {
     let slots = groups.slots();
     let mut zones = Vec::with_capacity(alloc, slots.len())?;
     let mut rest = zone.copied(alloc)?;
     for (slot, numbers) in slots.iter().enumerate() {
+        if slot >= member.len() {
+            return Ok(zones);
+        }
         let group = group_at(numbers.as_slice(), member[slot]);
         let mut part = rest.copied(alloc)?;
         part.exclude_group(slot, numbers.as_slice(), group);

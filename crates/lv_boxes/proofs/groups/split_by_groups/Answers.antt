@@ -5,7 +5,7 @@ use Rattle.lv_boxes.proofs.groups.split_by_groups.Goals as goal
 
 pub returns-clause-split : goal.returns-clause-split
 returns-clause-split c =
-    λ len.
+    λ len own.
     parts_are_split c.args.zone.now c.args.groups.now c.args.member.now c.loop-slot.zones.items
     (all_made c.loop-slot.zones.items c.loop-slot.rest c.loop-slot.slot c.slots-slots.result.now c.args.member.now (parts_by_groups c.args.zone.now c.args.groups.now c.args.member.now) c.loop-slot-test.false c.loop-slot.invariant)
-    len c.requires
+    len own
