@@ -11,7 +11,7 @@ use Rattle.lv_reply.specs.declared.reply.Reply.{Reply}
 use Rattle.lv_reply.specs.declared.reply.Reply.TheVariants.{Nothing, Refused, Certificate}
 use Rattle.lv_reply.specs.Texts.{reply_text}
 use Rattle.lv_session_request.specs.declared.request.Request.{Request}
-use Rattle.lv_session_request.specs.declared.request.Request.TheVariants.{Track, SetControl, Release, Observe, Retract, SetGoal, DropGoal, More, Commit, Reset}
+use Rattle.lv_session_request.specs.declared.request.Request.TheVariants.{Track, TrackDistinct, SetControl, Release, Observe, Retract, SetGoal, DropGoal, More, Commit, Reset}
 use Rattle.lv_session.specs.declared.query.Query.TheVariants.{Absent, Diagnosis, Recovery}
 use Rattle.lv_session.specs.Session.{SessionState, start, walked, recovery, diagnosis_reply, recovery_reply, is_settled, carried_out, stepped}
 use Rattle.lv_session.specs.States.{IsStateOf}
@@ -63,6 +63,7 @@ RefusedLineChangesNothing = (plant : Plant) (state : SessionState) (line : List 
 -- the requests that change what a query would come to
 abbrev pub clears : Request → Bool
 clears (Track n) = true
+clears (TrackDistinct n) = true
 clears (SetControl c) = true
 clears (Release place) = true
 clears (Observe s) = true
