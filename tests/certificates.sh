@@ -34,6 +34,13 @@ judged 'other moves listed' "$worked" '7s/.*/listed 1 4/' 'invalid 9'
 judged 'without line 20' "$worked" 20d 'invalid 20'
 judged 'k 1' "$worked" '3s/.*/k 1/' valid
 judged 'k 1 and without line 19' "$worked" '3s/.*/k 1/;19d' valid
+judged 'distinct targets' "$worked" '3s/$/ distinct/' valid
+judged 'a split by a target' "$worked" '3s/$/ distinct/;18s/listed/target/' valid
+judged 'a split by a target before which a member ranks' "$worked" '3s/$/ distinct/;16s/.*/split 1 target 1/' 'invalid 16'
+judged 'a split by a target that is not asked for' "$worked" '18s/listed/target/' 'invalid 18'
+judged 'a split by the target of a second listed one' "$worked" '3s/$/ distinct/;18s/.*/split 3 target 2/' 'invalid 18'
+judged 'another word behind the limit' "$worked" '3s/$/ target/' 'invalid 3'
+judged 'distinct targets, k 65' "$worked" '3s/.*/k 65 distinct/' 'invalid 3'
 judged 'the worked certificate of a contradiction' "$contradiction" '' valid
 judged 'that without line 10' "$contradiction" 10d 'invalid 10'
 
@@ -148,7 +155,7 @@ status=$?
 expect 'a certificate that is larger than the memory' 8 '' 'out of memory'
 
 # The tables.
-python3 "$root/tests/certificates/run.py" "$program" "$root"/tests/certificates/{worked,random}.txt
+python3 "$root/tests/certificates/run.py" "$program" "$root"/tests/certificates/{worked,random,distinct}.txt
 tables=$?
 
 verdict && [ "$tables" = 0 ]

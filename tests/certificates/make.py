@@ -1,10 +1,10 @@
 """Makes the tables of certificates, with the verdicts of an independent reference program, which is not part of this
 repository.
 
-usage: make.py FOLDER, the folder of the reference program
+usage: make.py FOLDER TABLE.., the folder of the reference program, and the names of tables, or all of them
 
-`worked.txt` has every edit of its kinds of the worked certificates; `random.txt` has edits drawn at random of
-certificates over other models.
+`worked` has every edit of its kinds of the worked certificates; `random` has edits drawn at random of certificates over
+other models; `distinct` has both kinds of edits of certificates of distinct targets.
 """
 
 import os
@@ -22,8 +22,8 @@ from lquery import Context  # noqa: E402
 HERE = os.path.dirname(os.path.abspath(__file__))
 TOP = os.path.dirname(os.path.dirname(HERE))
 
-# The behaviour of the reference program that this one has: no certificate of distinct targets.
-STAGE = 9
+# The behaviour of the reference program that this one has.
+STAGE = 16
 
 # How many edits are drawn over each model, and the longest certificate that is taken, in bytes.
 EDITS = 60
@@ -234,5 +234,68 @@ def make_random():
     print("%d models" % len(chosen))
 
 
-make_worked()
-make_random()
+# Sessions whose diagnoses seek distinct targets: those of the worked rows, and over other models.
+DISTINCT = [
+    (VALVE, "command v.cmd = open / observe o v.out = zero / track 4 distinct / diagnose"),
+    (VALVE, "observe o v.out = zero / diagnose / commit / observe p v.out = zero / track 4 distinct / diagnose"),
+    (VALVE, "track 64 distinct / diagnose / commit / diagnose / commit / track 3 distinct / diagnose"),
+    ("tests/certificates/series.lv", "track 5 distinct / diagnose / commit / observe o v2.out = zero / diagnose"),
+    ("tests/certificates/loose.lv", "track 6 distinct / diagnose / commit / track 4 distinct / diagnose"),
+    ("tests/certificates/box.lv", "track 4 distinct / diagnose / commit / observe o b.x = off / diagnose"),
+]
+
+
+def drawn_distinct_edit(rng, text):
+    """An edit of the limit or of a split, by which distinct targets go or come."""
+    lines = text.split("\n")[:-1]
+    places = [n for n, line in enumerate(lines, 1) if line.startswith(("k ", "split "))]
+    n = rng.choice(places)
+    words = lines[n - 1].split(" ")
+    if words[0] == "k":
+        return "put %d %s" % (n, rng.choice(["k %s" % words[1], "k %s distinct" % words[1], "k distinct", "k %s Distinct" % words[1], "k %s distinct 1" % words[1], "k 65 distinct", "k 1 distinct"]))
+    if rng.random() < 0.3:
+        return drawn_number_edit(rng, n, words)
+    return "put %d %s" % (n, changed(words, 2, rng.choice(["target", "listed", "conflict", "targets"])))
+
+
+def distinct_texts(rng, wanted):
+    """Models of other tests with short certificates of their diagnoses, asked for with distinct targets."""
+    for path, texts in others(rng, wanted):
+        session = text_of(path[:-3] + ".ses")
+        lines = ["track 5 distinct"]
+        for line in session.split("\n"):
+            lines += [line, "track 5 distinct"] if line.split("#")[0].split()[:1] in (["track"], ["reset"]) else [line]
+        asked = [text for text in short_certificates(path, "\n".join(lines)) if "distinct" in text]
+        if asked:
+            yield path, asked
+
+
+def make_distinct():
+    rng = random.Random(16)
+    table = Table("distinct.txt")
+    kd = rows.edit(rows.CERT, 3, "k 4 distinct")
+    table.over(VALVE)
+    for text in [kd, rows.edit(kd, 18, "split 3 target 1")]:
+        lines = text.split("\n")[:-1]
+        kinds = ["put %d %s" % (n, changed(line.split(" "), 2, kind))
+                 for n, line in enumerate(lines, 1) if line.startswith("split ") for kind in ("target", "listed", "conflict")]
+        forms = ["put 3 %s" % form for form in ("k 4", "k distinct 4", "k 4 distinct distinct", "k 4 Distinct", "k distinct", "k 0 distinct", "k 64 distinct", "k 65 distinct", "k 01 distinct", "k 4  distinct", "k 4 distinct ")]
+        both = ["put 3 k 4\t%s" % kind for kind in kinds]
+        edits = [edit for edit in all_edits(text) if not edit.startswith(("cut", "move"))]
+        table.certificate(text, edits + kinds + forms + both)
+    chosen = {}
+    for path, session in DISTINCT:
+        found = [text for text in certificates_of(text_of(path), rows.text(session)) if "distinct" in text]
+        chosen.setdefault(path, []).extend(text for text in found if len(text) <= LONGEST)
+    for path, texts in list(chosen.items()) + list(distinct_texts(rng, 8)):
+        table.over(path)
+        for text in texts:
+            edits = [drawn_distinct_edit(rng, text) if rng.random() < 0.6 else drawn_edit(rng, text) for _ in range(EDITS)]
+            table.certificate(text, ["same"] + edits)
+    table.done("distinct.txt")
+
+
+MAKERS = {"worked": make_worked, "random": make_random, "distinct": make_distinct}
+
+for table_name in sys.argv[2:] or MAKERS:
+    MAKERS[table_name]()

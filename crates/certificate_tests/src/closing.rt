@@ -68,6 +68,7 @@ fn three_shown(alloc: Global) -> Result<Vec<Split>, AllocError> {
     close(
         alloc,
         Question::Diagnosis,
+        None,
         grid,
         zones,
         excluded.as_slice(),

@@ -4,7 +4,7 @@ use lv_cert::laws::{
     certificate_is_one, every_text_is_read, fault_is_no_certificate, fault_is_one, line_reads_back,
 };
 use lv_cert::{CertFault, Head, Line, Literal, read_cert, write_cert};
-use std::alloc::Global;
+use std::alloc::{AllocError, Global};
 use std::test::Fail;
 use test_texts::STUCK_CLOSED;
 
@@ -51,6 +51,11 @@ fn is_limit(line: &Line) -> bool {
     matches!(line, Line::Numbers(Head::Limit, numbers) if numbers.as_slice() == [4].as_slice())
 }
 
+/// Whether the line is a limit of 4 with distinct targets.
+fn is_distinct_limit(line: &Line) -> bool {
+    matches!(line, Line::Distinct(4))
+}
+
 /// Whether the line is the clause of the literal -3, by the hints 1 and 2.
 fn is_clause(line: &Line) -> bool {
     let literal = Literal {
@@ -68,6 +73,35 @@ fn lines_are_values(rt: HostRuntime) -> Result<(), Fail> {
     assert_eq!(rt; cert.lines().len(), 8);
     assert!(rt; cert.lines().get(2).is_some_and(is_limit));
     assert!(rt; cert.lines().get(6).is_some_and(is_clause));
+    Ok(())
+}
+
+/// The text of a diagnosis with this line for its limit.
+fn with_limit(alloc: Global, line: &[u8]) -> Result<Vec<u8>, AllocError> {
+    let mut text = Vec::from_slice(alloc, b"certificate diagnosis\nmodel v\n")?;
+    text.extend_from_slice(line)?;
+    text.extend_from_slice(b"\nstate 0\ncontrol\nend\n")?;
+    Ok(text)
+}
+
+#[test]
+fn limits_of_distinct_targets(rt: HostRuntime) -> Result<(), Fail> {
+    let text = with_limit(rt.alloc(), b"k 4 distinct")?;
+    let cert = read_cert(rt.alloc(), text.as_slice())?;
+    assert!(rt; cert.lines().get(2).is_some_and(is_distinct_limit));
+    assert!(rt; stays(rt.alloc(), text.as_slice())?);
+    for line in [
+        b"k distinct".as_slice(),
+        b"k distinct 4".as_slice(),
+        b"k 4 Distinct".as_slice(),
+        b"k 4 distinct 1".as_slice(),
+        b"k 04 distinct".as_slice(),
+    ] {
+        let text = with_limit(rt.alloc(), line)?;
+        assert_eq!(rt; fault(rt.alloc(), text.as_slice())?, 3);
+    }
+    let recovery = b"certificate recovery\nmodel v\nstate 0\ngoal g\nsplit 1 target 1\nend\n";
+    assert_eq!(rt; fault(rt.alloc(), recovery)?, 5);
     Ok(())
 }
 
@@ -89,6 +123,8 @@ fn faults_of_order(rt: HostRuntime) -> Result<(), Fail> {
         7
     );
     assert_eq!(rt; fault_behind(rt.alloc(), b"split 1 recovery\nend\n")?, 6);
+    assert_eq!(rt; fault_behind(rt.alloc(), b"split 1 target 1\nend\n")?, 0);
+    assert_eq!(rt; fault_behind(rt.alloc(), b"split 1 target\nend\n")?, 6);
     Ok(())
 }
 

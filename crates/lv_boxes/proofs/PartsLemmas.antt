@@ -54,12 +54,12 @@ is_member-without slots zone p candidate within =
 abbrev are_below : ℕ → List Pair → Bool
 are_below n pairs = list_all (λ p. nat_lt p.slot n) pairs
 
-joined : (member picked rest : Bool) → ((member && not picked) || ((member && picked) && not rest)) ≡ (member && not (picked && rest))
+pub joined : (member picked rest : Bool) → ((member && not picked) || ((member && picked) && not rest)) ≡ (member && not (picked && rest))
 joined true true rest = refl
 joined true false rest = refl
 joined false picked rest = refl
 
-nothing_left : (member : Bool) → false ≡ (member && not true)
+pub nothing_left : (member : Bool) → false ≡ (member && not true)
 nothing_left true = refl
 nothing_left false = refl
 

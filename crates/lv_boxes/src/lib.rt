@@ -9,11 +9,13 @@
 //! | a set of candidates | `Zone` |
 //! | its first member | `Grid::best`, `Grid::write_best`, `least::write_least` |
 //! | the members without those that contain a conflict | `split` |
+//! | groups of choices; the members without those that have one target | `Groups`, `split_by_groups` |
 //! | all choices of a candidate as a conflict | `choices_as_conflict` |
 //! | laws | `members_need_choices`, `split_by_member_loses_one` |
 #![tactic(auto)]
 
 pub mod grid;
+pub mod groups;
 pub mod laws;
 pub mod least;
 pub mod mask;
@@ -21,6 +23,7 @@ pub mod parts;
 pub mod zone;
 
 pub use grid::Grid;
+pub use groups::{Groups, split_by_groups};
 pub use laws::{members_need_choices, split_by_member_loses_one};
 pub use parts::{choices_as_conflict, split};
 pub use zone::Zone;

@@ -1,8 +1,9 @@
 //! A zone: the candidates of one tracked state whose choice at each slot is in that slot's mask.
 #![tactic(auto)]
 
-ghost use Rattle.std.specs.Prelude.{◌≡◌, ◌≤◌, ◌^◌, IfOk};
+ghost use Rattle.std.specs.Prelude.{◌≡◌, ◌≤◌, ◌^◌, length, IfOk};
 ghost use Rattle.lv_boxes.specs.Parts.{masks_with, masks_without};
+ghost use Rattle.lv_boxes.specs.GroupParts.{masks_of_group, masks_of_others};
 
 use super::mask;
 use lv_base::{Cost, Pair};
@@ -89,6 +90,27 @@ impl Zone {
         let slot = pair.slot as usize;
         if slot < self.masks.len() {
             self.masks[slot] = mask::without(self.masks[slot], pair.choice);
+        }
+    }
+
+    /// Leaves the members whose choice at the slot is of this group, where these are the groups of its choices. A slot that
+    /// the zone hasn't is passed over.
+    pub(crate) fn fix_group(&mut self, slot: usize, groups: &[u32], group: u32)
+        requires { length groups.now ≤ 64 }
+        ensures { self.new ≡ record self.old { masks = masks_of_group self.old.masks slot groups.now group } }
+    {
+        if slot < self.masks.len() {
+            self.masks[slot] = mask::only_group(self.masks[slot], groups, group);
+        }
+    }
+
+    /// Leaves the members whose choice at the slot is of another group. A slot that the zone hasn't is passed over.
+    pub(crate) fn exclude_group(&mut self, slot: usize, groups: &[u32], group: u32)
+        requires { length groups.now ≤ 64 }
+        ensures { self.new ≡ record self.old { masks = masks_of_others self.old.masks slot groups.now group } }
+    {
+        if slot < self.masks.len() {
+            self.masks[slot] = mask::without_group(self.masks[slot], groups, group);
         }
     }
 }

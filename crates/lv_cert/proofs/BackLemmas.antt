@@ -16,7 +16,7 @@ use Rattle.lv_cert.specs.declared.line.Head.{Head}
 use Rattle.lv_cert.specs.declared.line.Line.{Line}
 use Rattle.lv_cert.specs.Texts.{head_word, literal_word, evidence_words, words_of}
 use Rattle.lv_cert.specs.Numbers.{is_number, is_positive, is_literal, literal_value}
-use Rattle.lv_cert.specs.Reading.{head_of, has_fitting_count, numbers_of, literals_of, hints_of, number_of, evidence_of, is_zero, clause_from, line_from, line_of}
+use Rattle.lv_cert.specs.Reading.{head_of, has_fitting_count, numbers_of, literals_of, hints_of, row_of, number_of, evidence_of, is_zero, clause_from, line_from, line_of}
 use Rattle.lv_cert.specs.Form.{is_within_limit, is_formed_hint, is_formed_literal, is_formed_evidence, is_formed}
 use Rattle.lv_cert.proofs.SpellingLemmas.{same_text, worth, is_number-decimal, is_positive-decimal, is_literal-word, literal_worth}
 
@@ -54,12 +54,28 @@ head_back Head.Good = refl
 head_back Head.Proof = refl
 head_back Head.Counter = refl
 
+-- as many numbers as may stand behind a head are a line of numbers
+row_behind : (head : Head) (w : List ℕ) (ws : List (List ℕ)) → has_fitting_count head (length ws) ≡ true → line_from (Some head) w ws ≡ row_of head ws
+row_behind Head.Limit w [] h = refl
+row_behind Head.Limit w (n ∷ []) h = refl
+row_behind Head.Limit w (n ∷ u ∷ us) h = absurd (grind (arith, nat_tests))
+row_behind Head.State w ws h = refl
+row_behind Head.Control w ws h = refl
+row_behind Head.Listed w ws h = refl
+row_behind Head.Now w ws h = refl
+row_behind Head.Next w ws h = refl
+row_behind Head.Conflict w ws h = refl
+row_behind Head.Recovery w ws h = refl
+row_behind Head.Good w ws h = refl
+row_behind Head.Proof w ws h = refl
+row_behind Head.Counter w ws h = refl
+
 row_back : (head : Head) (ns : List ℕ) → is_formed (Line.Numbers head ns) ≡ true → line_of (words_of (Line.Numbers head ns)) ≡ Some (Line.Numbers head ns)
 row_back head ns h =
     let parts = and_parts _ _ h in let all = numbers_good ns parts.1 in
     let long : length (map decimal ns) ≡ length ns = length-map ns decimal in
     let fits : has_fitting_count head (length (map decimal ns)) ≡ true = subst (λ n. has_fitting_count head n ≡ true) (sym long) parts.0 in
-    ap (λ o. line_from o (head_word head) (map decimal ns)) (head_back head)
+    ap (λ o. line_from o (head_word head) (map decimal ns)) (head_back head) ∙ row_behind head (head_word head) (map decimal ns) fits
     ∙ ap (λ c. cond c (option_map (λ ms. Line.Numbers head ms) (numbers_of (map decimal ns))) None) fits
     ∙ ap₂ (λ (c : Bool) (ms : List ℕ). option_map (λ ks. Line.Numbers head ks) (cond c (Some ms) None)) all.0 all.1
 
@@ -148,6 +164,7 @@ fact_back Moment.Next x v h =
 evidence_back : (e : Evidence) → is_formed_evidence e ≡ true → evidence_of (evidence_words e) ≡ Some e
 evidence_back (Evidence.Conflict n) h = ap (λ o. option_and_then (λ k. Some (Evidence.Conflict k)) o) (number_back n h)
 evidence_back (Evidence.Listed n) h = ap (λ o. option_and_then (λ k. Some (Evidence.Listed k)) o) (number_back n h)
+evidence_back (Evidence.Target n) h = ap (λ o. option_and_then (λ k. Some (Evidence.Target k)) o) (number_back n h)
 evidence_back Evidence.Recovery h = refl
 
 split_back : (z : ℕ) (e : Evidence) → is_formed (Line.Split z e) ≡ true → line_of (words_of (Line.Split z e)) ≡ Some (Line.Split z e)
@@ -161,6 +178,7 @@ line_back (Line.Certificate Question.Diagnosis) h = refl
 line_back (Line.Certificate Question.Recovery) h = refl
 line_back (Line.Model name) h = ap (λ c. option_map (λ t. Line.Model t) (cond c (Some name) None)) h
 line_back (Line.Goal text) h = ap (λ c. option_map (λ t. Line.Goal t) (cond c (Some text) None)) h
+line_back (Line.Distinct k) h = ap (λ o. option_map (λ n. Line.Distinct n) o) (number_back k h)
 line_back (Line.Fact m x v) h = fact_back m x v h
 line_back (Line.Clause ls hs) h = clause_back ls hs h
 line_back (Line.Split z e) h = split_back z e h

@@ -17,7 +17,7 @@ use Rattle.lv_cert.specs.declared.line.Line.{Line}
 use Rattle.lv_cert.specs.Texts.{question_word, moment_word, head_word, literal_word, evidence_words, words_of}
 use Rattle.lv_cert.specs.Words.{is_word}
 use Rattle.lv_cert.specs.Numbers.{is_number, is_positive, is_literal, literal_value}
-use Rattle.lv_cert.specs.Reading.{question_of, moment_of, rare_head_of, head_of, has_fitting_count, numbers_of, literals_of, hints_of, row_of, only_word, certificate_of, number_of, fact_of, numbered, evidence_of, split_of, is_zero, clause_of, goal_of, model_of, end_of, other_line_of, line_from, line_of}
+use Rattle.lv_cert.specs.Reading.{question_of, moment_of, rare_head_of, head_of, has_fitting_count, numbers_of, literals_of, hints_of, row_of, only_word, certificate_of, number_of, fact_of, numbered, evidence_of, split_of, is_zero, clause_of, goal_of, model_of, end_of, other_line_of, distinct_of, limit_of, line_from, line_of}
 use Rattle.lv_cert.specs.Form.{is_within_limit, is_formed_hint, is_formed_literal, is_formed_evidence, is_formed}
 use Rattle.lv_cert.proofs.SpellingLemmas.{same_text, spelled, limited, literal_spelled}
 use Rattle.lv_cert.proofs.CutLemmas.{cut_found}
@@ -148,7 +148,8 @@ fact_reads (m ∷ x ∷ v ∷ u ∷ us) l h = absurd (cc)
 numbered_reads : (w : List ℕ) (n : ℕ) (e : Evidence) → numbered w n ≡ Some e → is_within_limit n ≡ true → (evidence_words e ≡ w ∷ decimal n ∷ []) × (is_formed_evidence e ≡ true)
 numbered_reads w n e h small =
     choose _ w (codes "conflict") _ _ e h (λ is f. subst (λ k. (evidence_words k ≡ w ∷ decimal n ∷ []) × (is_formed_evidence k ≡ true)) (got f) (ap (λ t. t ∷ decimal n ∷ []) (sym is), small)) (λ h.
-    only _ w (codes "listed") _ e h (λ is f. subst (λ k. (evidence_words k ≡ w ∷ decimal n ∷ []) × (is_formed_evidence k ≡ true)) (got f) (ap (λ t. t ∷ decimal n ∷ []) (sym is), small)))
+    choose _ w (codes "listed") _ _ e h (λ is f. subst (λ k. (evidence_words k ≡ w ∷ decimal n ∷ []) × (is_formed_evidence k ≡ true)) (got f) (ap (λ t. t ∷ decimal n ∷ []) (sym is), small)) (λ h.
+    only _ w (codes "target") _ e h (λ is f. subst (λ k. (evidence_words k ≡ w ∷ decimal n ∷ []) × (is_formed_evidence k ≡ true)) (got f) (ap (λ t. t ∷ decimal n ∷ []) (sym is), small))))
 
 evidence_reads : (ws : List (List ℕ)) (e : Evidence) → evidence_of ws ≡ Some e → (evidence_words e ≡ ws) × (is_formed_evidence e ≡ true)
 evidence_reads [] e h = absurd (cc)
@@ -215,6 +216,33 @@ other_reads w ws l h =
     choose _ w (codes "model") _ _ l h (λ e f. first_word w _ ws l (model_reads ws l f) e) (λ h.
     choose _ w (codes "certificate") _ _ l h (λ e f. first_word w _ ws l (certificate_reads ws l f) e) (end_reads w ws l))))))
 
+distinct_reads : (n w : List ℕ) (l : Line) → distinct_of n w ≡ Some l → Reads (codes "k" ∷ n ∷ w ∷ []) l
+distinct_reads n w l h =
+    only _ w (codes "distinct") _ l h (λ is h.
+    mapped _ (λ k. Line.Distinct k) (number_of n) l h (λ k e same.
+    let one = number_reads n k e in
+    subst (Reads (codes "k" ∷ n ∷ w ∷ [])) same (ap₂ (λ (t u : List ℕ). codes "k" ∷ t ∷ u ∷ []) one.0 (sym is), one.1)))
+
+limit_reads : (ws : List (List ℕ)) (l : Line) → limit_of ws ≡ Some l → Reads (codes "k" ∷ ws) l
+limit_reads [] l h = row_reads Head.Limit [] l h
+limit_reads (n ∷ []) l h = row_reads Head.Limit (n ∷ []) l h
+limit_reads (n ∷ w ∷ []) l h = distinct_reads n w l h
+limit_reads (n ∷ w ∷ u ∷ us) l h = row_reads Head.Limit (n ∷ w ∷ u ∷ us) l h
+
+-- words behind a head
+headed_reads : (head : Head) (w : List ℕ) (ws : List (List ℕ)) (l : Line) → line_from (Some head) w ws ≡ Some l → Reads (head_word head ∷ ws) l
+headed_reads Head.Limit w ws l h = limit_reads ws l h
+headed_reads Head.State w ws l h = row_reads Head.State ws l h
+headed_reads Head.Control w ws l h = row_reads Head.Control ws l h
+headed_reads Head.Listed w ws l h = row_reads Head.Listed ws l h
+headed_reads Head.Now w ws l h = row_reads Head.Now ws l h
+headed_reads Head.Next w ws l h = row_reads Head.Next ws l h
+headed_reads Head.Conflict w ws l h = row_reads Head.Conflict ws l h
+headed_reads Head.Recovery w ws l h = row_reads Head.Recovery ws l h
+headed_reads Head.Good w ws l h = row_reads Head.Good ws l h
+headed_reads Head.Proof w ws l h = row_reads Head.Proof ws l h
+headed_reads Head.Counter w ws l h = row_reads Head.Counter ws l h
+
 -- words that read as a line are its words, and it has its form
 pub line_reads : (ws : List (List ℕ)) (l : Line) → line_of ws ≡ Some l → (words_of l ≡ ws) × (is_formed l ≡ true)
 line_reads [] l h = absurd (cc)
@@ -222,4 +250,4 @@ line_reads (w ∷ ws) l h = by (head_of w) refl h
   where
     by : (o : Option Head) → head_of w ≡ o → line_from o w ws ≡ Some l → Reads (w ∷ ws) l
     by None is e = other_reads w ws l e
-    by (Some head) is e = first_word w _ ws l (row_reads head ws l e) (sym (head_reads w head is))
+    by (Some head) is e = first_word w _ ws l (headed_reads head w ws l e) (sym (head_reads w head is))

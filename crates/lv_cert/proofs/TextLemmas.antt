@@ -50,6 +50,7 @@ head_is_word Head.Counter = refl
 evidence_is_words : (e : Evidence) → is_formed_evidence e ≡ true → list_all is_word (evidence_words e) ≡ true
 evidence_is_words (Evidence.Conflict n) h = and_from _ _ refl (and_from _ _ (is_word-decimal n h) refl)
 evidence_is_words (Evidence.Listed n) h = and_from _ _ refl (and_from _ _ (is_word-decimal n h) refl)
+evidence_is_words (Evidence.Target n) h = and_from _ _ refl (and_from _ _ (is_word-decimal n h) refl)
 evidence_is_words Evidence.Recovery h = refl
 
 words_are_words : (l : Line) → is_formed l ≡ true → list_all is_word (words_of l) ≡ true
@@ -57,6 +58,7 @@ words_are_words (Line.Certificate Question.Diagnosis) h = refl
 words_are_words (Line.Certificate Question.Recovery) h = refl
 words_are_words (Line.Model name) h = and_from (is_word name) true h refl
 words_are_words (Line.Goal text) h = and_from (is_word text) true h refl
+words_are_words (Line.Distinct k) h = and_from _ _ (is_word-decimal k h) refl
 words_are_words (Line.Fact Moment.Now x v) h = let parts = and_parts _ _ h in and_from _ _ (is_word-decimal x parts.0) (and_from _ _ (is_word-decimal v parts.1) refl)
 words_are_words (Line.Fact Moment.Next x v) h = let parts = and_parts _ _ h in and_from _ _ (is_word-decimal x parts.0) (and_from _ _ (is_word-decimal v parts.1) refl)
 words_are_words (Line.Clause ls hs) h =
@@ -106,6 +108,7 @@ some_words : (l : Line) → 0 < length (words_of l)
 some_words (Line.Certificate q) = omega arith
 some_words (Line.Model name) = omega arith
 some_words (Line.Goal text) = omega arith
+some_words (Line.Distinct k) = omega arith
 some_words (Line.Fact m x v) = omega arith
 some_words (Line.Clause ls hs) = omega arith
 some_words (Line.Split z e) = omega arith

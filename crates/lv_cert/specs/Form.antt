@@ -24,6 +24,7 @@ is_formed_literal l = is_formed_hint l.number
 abbrev pub is_formed_evidence : Evidence → Bool
 is_formed_evidence (Evidence.Conflict n) = is_within_limit n
 is_formed_evidence (Evidence.Listed n) = is_within_limit n
+is_formed_evidence (Evidence.Target n) = is_within_limit n
 is_formed_evidence Evidence.Recovery = true
 
 -- a line has its form: names and goals are words, numbers within the limit, literals and hints not 0, and as many
@@ -32,6 +33,7 @@ abbrev pub is_formed : Line → Bool
 is_formed (Line.Certificate question) = true
 is_formed (Line.Model name) = is_word name
 is_formed (Line.Goal text) = is_word text
+is_formed (Line.Distinct k) = is_within_limit k
 is_formed (Line.Fact moment x v) = is_within_limit x && is_within_limit v
 is_formed (Line.Clause literals hints) = list_all is_formed_literal literals && list_all is_formed_hint hints
 is_formed (Line.Split zone evidence) = is_within_limit zone && is_formed_evidence evidence

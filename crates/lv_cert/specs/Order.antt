@@ -24,6 +24,8 @@ abbrev pub splits : Question → Evidence → Bool
 splits question (Evidence.Conflict n) = true
 splits Question.Diagnosis (Evidence.Listed n) = true
 splits Question.Recovery (Evidence.Listed n) = false
+splits Question.Diagnosis (Evidence.Target n) = true
+splits Question.Recovery (Evidence.Target n) = false
 splits Question.Diagnosis Evidence.Recovery = false
 splits Question.Recovery Evidence.Recovery = true
 
@@ -58,6 +60,7 @@ after_named question _ = None
 
 abbrev pub after_asked : Line → Option Place
 after_asked (Line.Numbers Head.Limit (k ∷ [])) = Some (Place.States k 0)
+after_asked (Line.Distinct k) = Some (Place.States k 0)
 after_asked _ = None
 
 -- 1 to 64 states, and then the controls

@@ -104,6 +104,7 @@ abbrev pub numbered : List ℕ → ℕ → Option Evidence
 numbered w n =
     if bytes_eq w (codes "conflict") then Some (Evidence.Conflict n)
     else if bytes_eq w (codes "listed") then Some (Evidence.Listed n)
+    else if bytes_eq w (codes "target") then Some (Evidence.Target n)
     else None
 
 abbrev pub evidence_of : List (List ℕ) → Option Evidence
@@ -149,9 +150,21 @@ other_line_of w ws =
     else if bytes_eq w (codes "certificate") then certificate_of ws
     else end_of w ws
 
+-- a limit, with a word behind it
+abbrev pub distinct_of : List ℕ → List ℕ → Option Line
+distinct_of n w = if bytes_eq w (codes "distinct") then option_map (λ k. Line.Distinct k) (number_of n) else None
+
+-- a limit, with or without a word behind it
+abbrev pub limit_of : List (List ℕ) → Option Line
+limit_of [] = row_of Head.Limit []
+limit_of (n ∷ []) = row_of Head.Limit (n ∷ [])
+limit_of (n ∷ w ∷ []) = distinct_of n w
+limit_of (n ∷ w ∷ u ∷ us) = row_of Head.Limit (n ∷ w ∷ u ∷ us)
+
 -- the line of a first word, which may be a head, and the words behind it
 abbrev pub line_from : Option Head → List ℕ → List (List ℕ) → Option Line
 line_from None w ws = other_line_of w ws
+line_from (Some Head.Limit) w ws = limit_of ws
 line_from (Some head) w ws = row_of head ws
 
 -- the line that words are, if they are one

@@ -34,6 +34,7 @@ literal_word l = (if l.negated then codes "-" else []) ++ decimal l.number
 abbrev pub evidence_words : Evidence → List (List ℕ)
 evidence_words (Evidence.Conflict n) = codes "conflict" ∷ decimal n ∷ []
 evidence_words (Evidence.Listed n) = codes "listed" ∷ decimal n ∷ []
+evidence_words (Evidence.Target n) = codes "target" ∷ decimal n ∷ []
 evidence_words Evidence.Recovery = codes "recovery" ∷ []
 
 -- the words of a line; a 0 ends the literals of a clause, and another one its hints
@@ -41,6 +42,7 @@ abbrev pub words_of : Line → List (List ℕ)
 words_of (Line.Certificate question) = codes "certificate" ∷ question_word question ∷ []
 words_of (Line.Model name) = codes "model" ∷ name ∷ []
 words_of (Line.Goal text) = codes "goal" ∷ text ∷ []
+words_of (Line.Distinct k) = codes "k" ∷ decimal k ∷ codes "distinct" ∷ []
 words_of (Line.Fact moment x v) = codes "fact" ∷ moment_word moment ∷ decimal x ∷ decimal v ∷ []
 words_of (Line.Clause literals hints) = codes "clause" ∷ (map literal_word literals ++ codes "0" ∷ (map decimal hints ++ codes "0" ∷ []))
 words_of (Line.Split zone evidence) = codes "split" ∷ decimal zone ∷ evidence_words evidence

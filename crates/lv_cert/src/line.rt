@@ -26,11 +26,13 @@ pub struct Literal {
     pub number: u128,
 }
 
-/// By what a zone is split: the conflict, or the listed candidate, of a number, or the recovery.
+/// By what a zone is split: the conflict, the listed candidate, or the target of the listed candidate, of a number, or
+/// the recovery.
 #[derive(Clone, Copy, Debug, PartialEq, Eq)]
 pub enum Evidence {
     Conflict(u128),
     Listed(u128),
+    Target(u128),
     Recovery,
 }
 
@@ -70,6 +72,8 @@ pub enum Line {
     Model(Seq<u8>),
     /// A goal, by its text.
     Goal(Seq<u8>),
+    /// How many candidates are listed at most, of which no two lead to the same modes.
+    Distinct(u128),
     /// An observable, by its number, and its value.
     Fact(Moment, u128, u128),
     /// A derived clause, and the clauses by which it follows.

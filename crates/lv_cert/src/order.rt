@@ -118,7 +118,7 @@ fn splits(question: Question, evidence: Evidence) -> bool
 {
     match evidence {
         Evidence::Conflict(_) => true,
-        Evidence::Listed(_) => question == Question::Diagnosis,
+        Evidence::Listed(_) | Evidence::Target(_) => question == Question::Diagnosis,
         Evidence::Recovery => question == Question::Recovery,
     }
 }
@@ -196,6 +196,7 @@ fn after_asked(line: &Line) -> Option<Place>
             [limit] => Some(Place::States(*limit, 0)),
             _ => None,
         },
+        Line::Distinct(limit) => Some(Place::States(*limit, 0)),
         _ => None,
     }
 }

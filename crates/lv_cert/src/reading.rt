@@ -6,7 +6,7 @@ ghost use Rattle.std.specs.Prelude.{◌≡◌, IfOk, position, length};
 ghost use Rattle.std.specs.Str.{bytes_eq};
 ghost use Rattle.lv_cert.specs.Words as Words;
 ghost use Rattle.lv_cert.specs.Reading as Reading;
-ghost use Rattle.lv_cert.specs.Reading.{question_of, moment_of, rare_head_of, head_of, has_fitting_count, numbers_of, literals_of, hints_of, row_of, only_word, certificate_of, fact_from, fact_of, numbered, evidence_of, split_of, is_zero, clause_from, clause_of, other_line_of, line_from, line_of};
+ghost use Rattle.lv_cert.specs.Reading.{question_of, moment_of, rare_head_of, head_of, has_fitting_count, numbers_of, literals_of, hints_of, row_of, only_word, certificate_of, fact_from, fact_of, numbered, evidence_of, split_of, is_zero, clause_from, clause_of, other_line_of, distinct_of, limit_of, line_from, line_of};
 
 use crate::line::{Evidence, Head, Line, Literal, Moment, Question};
 use crate::numbers::{literal, number, positive};
@@ -232,6 +232,8 @@ fn numbered(word: &[u8], n: u128) -> Option<Evidence>
         Some(Evidence::Conflict(n))
     } else if is(word, b"listed") {
         Some(Evidence::Listed(n))
+    } else if is(word, b"target") {
+        Some(Evidence::Target(n))
     } else {
         None
     }
@@ -356,12 +358,34 @@ fn end_of(word: &[u8], words: &[Word]) -> Option<Line>
     }
 }
 
+/// A limit of candidates with distinct targets, of its two words.
+fn distinct_of(limit: &[u8], word: &[u8]) -> Option<Line>
+    ensures { result ≡ distinct_of limit.now word.now }
+{
+    if is(word, b"distinct") {
+        Some(Line::Distinct(number(limit)?))
+    } else {
+        None
+    }
+}
+
+/// A limit, with or without a word behind it.
+fn limit_of(alloc: Global, words: &[Word]) -> Result<Option<Line>, AllocError>
+    ensures { IfOk result (λ line. line ≡ limit_of words.now) }
+{
+    match words {
+        [limit, word] => Ok(distinct_of(limit.as_slice(), word.as_slice())),
+        _ => row_of(alloc, Head::Limit, words),
+    }
+}
+
 /// The line that words are, if they are one.
 pub fn line_of(alloc: Global, words: &[Word]) -> Result<Option<Line>, AllocError>
     ensures { IfOk result (λ line. line ≡ line_of words.now) }
 {
     match words {
         [word, rest @ ..] => match head_of(word.as_slice()) {
+            Some(Head::Limit) => limit_of(alloc, rest),
             Some(head) => row_of(alloc, head, rest),
             None => other_line_of(alloc, word.as_slice(), rest),
         },

@@ -45,6 +45,7 @@ fn push_words(out: &mut Vec<u8>, line: &Line) -> Result<(), AllocError>
         Line::Certificate(question) => push_two(out, b"certificate", question_word(*question)),
         Line::Model(name) => push_two(out, b"model", name.as_slice()),
         Line::Goal(text) => push_two(out, b"goal", text.as_slice()),
+        Line::Distinct(limit) => push_distinct(out, *limit),
         Line::Fact(moment, observable, value) => push_fact(out, *moment, *observable, *value),
         Line::Clause(literals, hints) => push_clause(out, literals.as_slice(), hints.as_slice()),
         Line::Split(zone, evidence) => push_split(out, *zone, *evidence),
@@ -89,6 +90,15 @@ fn push_two(out: &mut Vec<u8>, first: &[u8], second: &[u8]) -> Result<(), AllocE
 {
     out.extend_from_slice(first)?;
     push_word(out, second)
+}
+
+/// Adds the words of a limit of candidates with distinct targets.
+fn push_distinct(out: &mut Vec<u8>, limit: u128) -> Result<(), AllocError>
+    ensures { IfOk result (λ _. out.new.items ≡ out.old.items ++ joined (codes "k" ∷ decimal limit ∷ codes "distinct" ∷ [])) }
+{
+    out.extend_from_slice(b"k")?;
+    push_number(out, limit)?;
+    push_word(out, b"distinct")
 }
 
 /// Adds the words of a fact.
@@ -154,6 +164,7 @@ fn push_split(out: &mut Vec<u8>, zone: u128, evidence: Evidence) -> Result<(), A
     match evidence {
         Evidence::Conflict(n) => push_numbered(out, b"conflict", n),
         Evidence::Listed(n) => push_numbered(out, b"listed", n),
+        Evidence::Target(n) => push_numbered(out, b"target", n),
         Evidence::Recovery => push_word(out, b"recovery"),
     }
 }

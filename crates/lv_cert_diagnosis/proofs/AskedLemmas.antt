@@ -1,5 +1,5 @@
 -- What a session holds is what a certificate may state.
-use Rattle.std.proofs.Common.{◌≡◌, ℕ, suc, ◌≤◌, true, List, [], ◌∷◌, ◌++◌, length, map, None, refl, sym, subst, ◌∙◌, ap, arith, nat_eq, Option, All, if◌then◌else◌}
+use Rattle.std.proofs.Common.{◌≡◌, ℕ, suc, ◌≤◌, Bool, true, false, List, [], ◌∷◌, ◌++◌, length, map, None, refl, sym, subst, ◌∙◌, ap, arith, nat_eq, Option, All, if◌then◌else◌}
 use Rattle.std.specs.List.{flat_map}
 use Rattle.std.proofs.lemmas.List.{append_assoc, length-map}
 use Rattle.std.proofs.lemmas.List.Elements.{All-head, All-tail, All-cons, All-nil}
@@ -21,6 +21,7 @@ use Rattle.lv_meaning.specs.Facts.{commanded, HasValue}
 use Rattle.lv_meaning.specs.Candidates.{IsTracked}
 use Rattle.lv_meaning.specs.Ranges.{modes_fit}
 use Rattle.lv_meaning.specs.CandidateLaws.{IsCandidate}
+use Rattle.lv_meaning.specs.Targets.{are_alike}
 use Rattle.lv_system.specs.System.{SystemValue, IsSystemOf}
 use Rattle.lv_search_zones.specs.lv_boxes.Members.{ZoneValue}
 use Rattle.lv_search_zones.specs.Moves.{move_slots, zones_from}
@@ -31,15 +32,16 @@ use Rattle.lv_cert_laws.specs.lv_cert_meaning.Judging.{last_of}
 use Rattle.lv_cert_laws.specs.lv_cert_meaning.Space.{all_passed}
 use Rattle.lv_base.specs.declared.ids.Cost.{Cost}
 use Rattle.lv_cert_writing.specs.Explained.{AreExplained, last_if_full}
+use Rattle.lv_cert_writing.specs.Closing.{MayHaveTargets}
 use Rattle.lv_cert_writing.specs.declared.closing.Split.{Split}
 use Rattle.lv_cert.specs.declared.line.Moment.TheVariants.{Now, Next}
 use Rattle.lv_cert.specs.declared.line.Head.TheVariants as head
 use Rattle.lv_cert_writing.specs.Lines.{state_lines, fact_lines, values_line, split_lines}
 use Rattle.lv_cert_writing.proofs.ClosedLemmas.{are_splits}
 use Rattle.lv_cert_laws.specs.lv_cert_meaning.Certifying.{AreStates, AreFacts, IsSettledDiagnosis, CertifiesDiagnosis, AreFormed}
-use Rattle.lv_cert_diagnosis.specs.Showing.{Shown, head_lines, listed_lines, block_lines, IsShown, StepIsShown, HoldsAnswer, HoldsSplits}
+use Rattle.lv_cert_diagnosis.specs.Showing.{Shown, limit_line, head_lines, targets_for, listed_lines, block_lines, IsShown, StepIsShown, HoldsAnswer, HoldsSplits}
 use Rattle.lv_cert_diagnosis.proofs.HeadingLemmas.{IsAskedOf}
-use Rattle.lv_cert_diagnosis.proofs.AnswerLemmas.{answer, listed_are_candidates, rising_after}
+use Rattle.lv_cert_diagnosis.proofs.AnswerLemmas.{listing, listed_are_candidates, rising_after, new_after}
 use Rattle.lv_cert_diagnosis.proofs.Telling.{few_bools, few_model}
 use Rattle.lv_cert_diagnosis.proofs.WholeLemmas.{IsMade, whole_lines, whole_certifies, whole_formed}
 
@@ -84,12 +86,18 @@ module _ (plant : Plant) (tracked : List TrackedState) where
         most = few;
       }
 
+-- targets are given where they are sought
+may_have : (distinct : Bool) (plant : Plant) (stated : Bool) → stated ≡ distinct → MayHaveTargets plant stated (targets_for distinct plant)
+may_have false plant stated is = tt
+may_have true plant stated is = record { distinct_is = is; targets_are = refl }
+
 -- the same of what is equal
-pub explained_same : (slots others : List (List Cost)) → slots ≡ others → (zones more : List ZoneValue) → zones ≡ more → (last end : Option Rank) → last ≡ end → (listed : List Rank) (kept : List (List Pair))
-    → AreExplained others more end listed kept → AreExplained slots zones last listed kept
-explained_same slots others one zones more two last end three listed kept h =
-    subst (λ (l : Option Rank). AreExplained slots zones l listed kept) (sym three)
-    (subst (λ (zs : List ZoneValue). AreExplained slots zs end listed kept) (sym two) (subst (λ (ss : List (List Cost)). AreExplained ss more end listed kept) (sym one) h))
+pub explained_same : (groups likewise : Option (List (List ℕ))) → groups ≡ likewise → (slots others : List (List Cost)) → slots ≡ others → (zones more : List ZoneValue) → zones ≡ more → (last end : Option Rank) → last ≡ end → (listed : List Rank) (kept : List (List Pair))
+    → AreExplained likewise others more end listed kept → AreExplained groups slots zones last listed kept
+explained_same groups likewise four slots others one zones more two last end three listed kept h =
+    subst (λ (gs : Option (List (List ℕ))). AreExplained gs slots zones last listed kept) (sym four)
+    (subst (λ (l : Option Rank). AreExplained likewise slots zones l listed kept) (sym three)
+    (subst (λ (zs : List ZoneValue). AreExplained likewise slots zs end listed kept) (sym two) (subst (λ (ss : List (List Cost)). AreExplained likewise ss more end listed kept) (sym one) h)))
 
 -- where steps are shown and the candidates are candidates, these are shown
 all_shown : (plant : Plant) (tracked : List TrackedState) (facts : Facts) (ws : List Shown) → All (StepIsShown plant facts) ws → All (IsCandidate plant tracked) (map (λ (w : Shown). w.rank) ws) → All (IsShown plant tracked facts) ws
@@ -101,28 +109,28 @@ all_shown plant tracked facts (w ∷ ws) steps are =
     (all_shown plant tracked facts ws (All-tail (StepIsShown plant facts) w ws steps) (All-tail (IsCandidate plant tracked) w.rank (map (λ (x : Shown). x.rank) ws) are))
 
 -- lines behind the head
-head_with : (plant : Plant) (tracked : List TrackedState) (facts : Facts) (k : ℕ) (rest : List Line) → head_lines plant tracked facts k [] ++ rest ≡ head_lines plant tracked facts k rest
-head_with plant tracked facts k rest =
+head_with : (plant : Plant) (tracked : List TrackedState) (facts : Facts) (k : ℕ) (distinct : Bool) (rest : List Line) → head_lines plant tracked facts k distinct [] ++ rest ≡ head_lines plant tracked facts k distinct rest
+head_with plant tracked facts k distinct rest =
     let control : Line = values_line head.Control facts.controls in
     let now : List Line = fact_lines Now facts.present in
     let next : List Line = fact_lines Next facts.next in
-    ap (λ (ls : List Line). line.Certificate Diagnosis ∷ line.Model plant.name ∷ line.Numbers head.Limit (k ∷ []) ∷ ls)
+    ap (λ (ls : List Line). line.Certificate Diagnosis ∷ line.Model plant.name ∷ limit_line k distinct ∷ ls)
     (append_assoc (state_lines tracked) (control ∷ (now ++ (next ++ []))) rest
     ∙ ap (λ (ls : List Line). state_lines tracked ++ (control ∷ ls)) (append_assoc now (next ++ []) rest ∙ ap (λ (ls : List Line). now ++ ls) (append_assoc next [] rest)))
 
 -- what is told of the whole
-pub record IsDone (plant : Plant) (tracked : List TrackedState) (facts : Facts) (k : ℕ) (listed : List Rank) (lines : List Line) : Type 0 where
-  pub certifies : CertifiesDiagnosis plant tracked facts k listed lines
+pub record IsDone (plant : Plant) (tracked : List TrackedState) (facts : Facts) (k : ℕ) (distinct : Bool) (listed : List Rank) (lines : List Line) : Type 0 where
+  pub certifies : CertifiesDiagnosis plant tracked facts k distinct listed lines
   pub formed : AreFormed plant lines
 
 module _ (plant : Plant) (h : is_well_formed plant ≡ true) (variables : variable_count plant ≤ VARIABLES) (parts : length plant.parts ≤ PARTS) (system : SystemValue) (of_plant : IsSystemOf plant system)
-    (tracked : List TrackedState) (facts : Facts) (k : ℕ) (listed : List Rank) (kept : List (List Pair)) (states : AreStates plant tracked) (held : AreFacts plant facts) (some : 1 ≤ k) (few : k ≤ TRACKED)
-    (settled : IsSettledDiagnosis plant tracked facts k listed kept) where
+    (tracked : List TrackedState) (facts : Facts) (k : ℕ) (distinct : Bool) (listed : List Rank) (kept : List (List Pair)) (states : AreStates plant tracked) (held : AreFacts plant facts) (some : 1 ≤ k) (few : k ≤ TRACKED)
+    (settled : IsSettledDiagnosis plant tracked facts k distinct listed kept) where
   made_of : (old new : List Line) (made : List Split) → (holds : HoldsAnswer plant facts listed kept old new)
-      → HoldsSplits Diagnosis (move_slots plant) (zones_from plant 0 tracked) (last_if_full k listed) listed kept made
-      → IsMade plant tracked facts k listed kept holds.shown.shown holds.refuted.blocks (split_lines made)
+      → HoldsSplits (targets_for distinct plant) Diagnosis (move_slots plant) (zones_from plant 0 tracked) (last_if_full k listed) listed kept made
+      → IsMade plant tracked facts k distinct listed kept holds.shown.shown holds.refuted.blocks (split_lines made)
   made_of old new made holds splits =
-      let first = answer plant tracked facts k listed kept settled in
+      let first = listing plant tracked facts k distinct listed kept settled in
       let parts_long = length-map plant.parts (part_moves plant.types) in
       let clauses = few_model plant h system of_plant in
       record {
@@ -130,30 +138,32 @@ module _ (plant : Plant) (h : is_well_formed plant ≡ true) (variables : variab
         few_parts = omega (arith, parts_long, parts);
         few_bools = few_bools plant h;
         few_clauses = omega (arith, clauses);
-        shown = all_shown plant tracked facts holds.shown.shown holds.shown.are (subst (All (IsCandidate plant tracked)) (sym holds.shown.ranks) (listed_are_candidates plant tracked facts k listed kept settled));
+        shown = all_shown plant tracked facts holds.shown.shown holds.shown.are (subst (All (IsCandidate plant tracked)) (sym holds.shown.ranks) (listed_are_candidates plant tracked facts k distinct listed kept settled));
         ranks = holds.shown.ranks;
         few_listed = first.few;
         rising = rising_after listed first.rising;
+        new = new_after (are_alike distinct plant) [] listed first.rising (λ r q a none. absurd none) first.apart;
         refuted = holds.refuted.are;
         pairs = holds.refuted.pairs;
         space = splits.closes.space;
-        split = λ j space_is listed_is excluded_is.
-            are_splits Diagnosis made j (record j { space = splits.closes.space }) (splits.closes.judged j space_is listed_is excluded_is) splits.closes.fitting splits.small;
+        split = λ j distinct_is space_is listed_is excluded_is.
+            are_splits Diagnosis plant made j (record j { space = splits.closes.space })
+            (splits.closes.judged plant j (may_have distinct plant j.stated.distinct distinct_is) space_is listed_is excluded_is) splits.closes.fitting splits.small;
         passed = λ j k_is listed_is.
             ap (λ o. all_passed splits.closes.space o) ((λ i. if nat_eq (length (listed_is i)) (k_is i) then last_of (listed_is i) else None)) ∙ splits.closes.passed;
       }
 
-  pub done : (old new : List Line) (made : List Split) → old ≡ head_lines plant tracked facts k [] → (holds : HoldsAnswer plant facts listed kept old new)
-      → HoldsSplits Diagnosis (move_slots plant) (zones_from plant 0 tracked) (last_if_full k listed) listed kept made → (lines : List Line) → lines ≡ (new ++ split_lines made) ++ line.End ∷ []
-      → IsDone plant tracked facts k listed lines
+  pub done : (old new : List Line) (made : List Split) → old ≡ head_lines plant tracked facts k distinct [] → (holds : HoldsAnswer plant facts listed kept old new)
+      → HoldsSplits (targets_for distinct plant) Diagnosis (move_slots plant) (zones_from plant 0 tracked) (last_if_full k listed) listed kept made → (lines : List Line) → lines ≡ (new ++ split_lines made) ++ line.End ∷ []
+      → IsDone plant tracked facts k distinct listed lines
   done old new made old_is holds splits lines lines_are =
       let is = made_of old new made holds splits in
       let ws = holds.shown.shown in
       let bs = holds.refuted.blocks in
-      subst (IsDone plant tracked facts k listed) (sym (lines_are ∙ all_lines))
+      subst (IsDone plant tracked facts k distinct listed) (sym (lines_are ∙ all_lines))
       (record {
-        certifies = whole_certifies plant tracked facts k listed kept ws bs (split_lines made) is;
-        formed = whole_formed plant tracked facts k listed kept ws bs (split_lines made) is;
+        certifies = whole_certifies plant tracked facts k distinct listed kept ws bs (split_lines made) is;
+        formed = whole_formed plant tracked facts k distinct listed kept ws bs (split_lines made) is;
       })
     where
       shown : List Line
@@ -165,9 +175,9 @@ module _ (plant : Plant) (h : is_well_formed plant ≡ true) (variables : variab
       last : List Line
       last = split_lines made ++ line.End ∷ []
 
-      all_lines : (new ++ split_lines made) ++ line.End ∷ [] ≡ whole_lines plant tracked facts k holds.shown.shown holds.refuted.blocks (split_lines made)
+      all_lines : (new ++ split_lines made) ++ line.End ∷ [] ≡ whole_lines plant tracked facts k distinct holds.shown.shown holds.refuted.blocks (split_lines made)
       all_lines =
           append_assoc new (split_lines made) (line.End ∷ [])
           ∙ ap (λ ls. ls ++ last) holds.refuted.lines ∙ append_assoc holds.between refuted last
           ∙ ap (λ ls. ls ++ (refuted ++ last)) holds.shown.lines ∙ append_assoc old shown (refuted ++ last)
-          ∙ ap (λ ls. ls ++ (shown ++ (refuted ++ last))) old_is ∙ head_with plant tracked facts k (shown ++ (refuted ++ last))
+          ∙ ap (λ ls. ls ++ (shown ++ (refuted ++ last))) old_is ∙ head_with plant tracked facts k distinct (shown ++ (refuted ++ last))

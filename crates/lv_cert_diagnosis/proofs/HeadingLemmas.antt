@@ -1,5 +1,5 @@
 -- The lines that state the question of a diagnosis are good, and state it.
-use Rattle.std.proofs.Common.{◌≡◌, ℕ, ◌+◌, ◌<◌, ◌≤◌, true, nat_eq, nat_lt, nat_le, List, [], ◌∷◌, ◌++◌, length, map, slice_index_or, Some, None, cond, refl, sym, subst, ap, arith, All}
+use Rattle.std.proofs.Common.{◌≡◌, ℕ, ◌+◌, ◌<◌, ◌≤◌, Bool, true, false, nat_eq, nat_lt, nat_le, List, [], ◌∷◌, ◌++◌, length, map, slice_index_or, Some, None, cond, refl, sym, subst, ap, arith, All}
 use Rattle.std.specs.Cmp.Lexicographic.{pointwise}
 use Rattle.std.proofs.lemmas.Bool.{and_from, le-leb, lt-ltb, eq-eqb}
 use Rattle.std.proofs.lemmas.List.Elements.{All-head, All-tail}
@@ -24,7 +24,7 @@ use Rattle.lv_cert.specs.declared.line.Line.TheVariants as line
 use Rattle.lv_cert.specs.declared.order.Place.TheVariants as place
 use Rattle.lv_cert.specs.Form.{is_within_limit}
 use Rattle.lv_cert_laws.specs.lv_cert_meaning.Counting.{is_one_of, are_of, values_of}
-use Rattle.lv_cert_laws.specs.lv_cert_meaning.Stated.{Stated, observed_literal, with_controls}
+use Rattle.lv_cert_laws.specs.lv_cert_meaning.Stated.{Stated, with_limit, observed_literal, with_controls}
 use Rattle.lv_cert_laws.specs.lv_cert_meaning.Judging.{Judged, unjudged}
 use Rattle.lv_cert_writing.specs.Lines.{value_numbers, state_lines, fact_lines, values_line}
 use Rattle.lv_cert_writing.specs.Ending.{Ends}
@@ -32,7 +32,7 @@ use Rattle.lv_cert_writing.proofs.Ending.{line_first}
 use Rattle.lv_cert_writing.proofs.Numbers.{values_back, one_of_place, within, formed_of, few_found}
 use Rattle.lv_cert_writing.proofs.StatingLemmas.{Stands, states_first}
 use Rattle.lv_cert_writing.proofs.Facts.{IsSeenIn, facts_first}
-use Rattle.lv_cert_diagnosis.specs.Showing.{head_lines, stated_literals}
+use Rattle.lv_cert_diagnosis.specs.Showing.{limit_line, head_lines, stated_literals}
 
 -- a name is equal to itself
 same_name : (ns : List ℕ) → pointwise nat_eq ns ns ≡ true
@@ -69,13 +69,13 @@ pub record IsAskedOf (plant : Plant) (tracked : List TrackedState) (facts : Fact
   pub most : k ≤ 64
 
 -- what the head states
-abbrev pub stated_by : Plant → List TrackedState → Facts → ℕ → Stated
-stated_by plant tracked facts k = record { k = k; tracked = tracked; facts = facts; literals = stated_literals plant facts; goals = [] }
+abbrev pub stated_by : Plant → List TrackedState → Facts → ℕ → Bool → Stated
+stated_by plant tracked facts k distinct = record { k = k; distinct = distinct; tracked = tracked; facts = facts; literals = stated_literals plant facts; goals = [] }
 
 -- what the head comes to
-abbrev pub headed : Plant → List TrackedState → Facts → ℕ → Judged
-headed plant tracked facts k = record {
-  stated = stated_by plant tracked facts k;
+abbrev pub headed : Plant → List TrackedState → Facts → ℕ → Bool → Judged
+headed plant tracked facts k distinct = record {
+  stated = stated_by plant tracked facts k distinct;
   space = record { slots = move_slots plant; zones = map Some (zones_from plant 0 tracked) };
   listed = [];
   excluded = [];
@@ -84,10 +84,25 @@ headed plant tracked facts k = record {
   before = None;
 }
 
-module _ (plant : Plant) (tracked : List TrackedState) (facts : Facts) (k : ℕ) (is : IsAskedOf plant tracked facts k) (final : Judged) (rest : List Line) where
+-- the line of the limit
+limit_first : (plant : Plant) (k : ℕ) (distinct : Bool) (final : Judged) → 1 ≤ k → k ≤ 64 → (more : List Line)
+    → Ends Diagnosis plant (place.States k 0) (record (unjudged plant Diagnosis) { stated = with_limit (unjudged plant Diagnosis).stated (record { most = k; distinct = distinct }) }) more final
+    → Ends Diagnosis plant place.Asked (unjudged plant Diagnosis) (limit_line k distinct ∷ more) final
+limit_first plant k false final some most more ends =
+    let limited : Judged = record (unjudged plant Diagnosis) { stated = with_limit (unjudged plant Diagnosis).stated (record { most = k; distinct = false }) } in
+    line_first Diagnosis plant final place.Asked (place.States k 0) (unjudged plant Diagnosis) limited (line.Numbers head.Limit (k ∷ [])) more
+    (ap (λ b. cond b (Some limited) None) (and_from (nat_lt 0 k) (nat_le k 64) (lt-ltb 0 k (omega (arith, some))) (le-leb k 64 most)))
+    refl (λ w. and_from (is_within_limit k) true (within k 64 most (omega arith)) refl) ends
+limit_first plant k true final some most more ends =
+    let limited : Judged = record (unjudged plant Diagnosis) { stated = with_limit (unjudged plant Diagnosis).stated (record { most = k; distinct = true }) } in
+    line_first Diagnosis plant final place.Asked (place.States k 0) (unjudged plant Diagnosis) limited (line.Distinct k) more
+    (ap (λ b. cond b (Some limited) None) (and_from (nat_lt 0 k) (nat_le k 64) (lt-ltb 0 k (omega (arith, some))) (le-leb k 64 most)))
+    refl (λ w. within k 64 most (omega arith)) ends
+
+module _ (plant : Plant) (tracked : List TrackedState) (facts : Facts) (k : ℕ) (distinct : Bool) (is : IsAskedOf plant tracked facts k) (final : Judged) (rest : List Line) where
   -- with the limit alone
   abbrev limited : Judged
-  limited = record (unjudged plant Diagnosis) { stated = record (unjudged plant Diagnosis).stated { k = k } }
+  limited = record (unjudged plant Diagnosis) { stated = with_limit (unjudged plant Diagnosis).stated (record { most = k; distinct = distinct }) }
 
   -- and the states
   abbrev known : Judged
@@ -101,6 +116,7 @@ module _ (plant : Plant) (tracked : List TrackedState) (facts : Facts) (k : ℕ)
   abbrev stated_now : List ValId → Stated
   stated_now vs = record {
     k = k;
+    distinct = distinct;
     tracked = tracked;
     facts = record { controls = vs; present = facts.present; next = [] };
     literals = map (observed_literal (booleans_now plant)) (commanded (controls plant) vs) ++ map (observed_literal (booleans_now plant)) facts.present;
@@ -110,7 +126,7 @@ module _ (plant : Plant) (tracked : List TrackedState) (facts : Facts) (k : ℕ)
   controls_are : are_of (control_sizes plant) (value_numbers facts.controls) ≡ true
   controls_are = controls_numbered (sizes plant) (controls plant) facts.controls is.whole is.controls
 
-  facts_end : Ends Diagnosis plant (place.Facts k (length facts.present + length facts.next)) (headed plant tracked facts k) rest final
+  facts_end : Ends Diagnosis plant (place.Facts k (length facts.present + length facts.next)) (headed plant tracked facts k distinct) rest final
       → Ends Diagnosis plant (place.Facts k 0) controlled (fact_lines Now facts.present ++ (fact_lines Next facts.next ++ rest)) final
   facts_end ends =
       let observed = is.observed in
@@ -122,7 +138,7 @@ module _ (plant : Plant) (tracked : List TrackedState) (facts : Facts) (k : ℕ)
       (record controlled { stated = record (stated_now vs) { facts = record (stated_now vs).facts { next = facts.next }; literals = (stated_now vs).literals ++ map (observed_literal (booleans_next plant)) facts.next } }) rest final)
       (sym (values_back facts.controls)) ends))
 
-  control_end : Ends Diagnosis plant (place.Facts k (length facts.present + length facts.next)) (headed plant tracked facts k) rest final
+  control_end : Ends Diagnosis plant (place.Facts k (length facts.present + length facts.next)) (headed plant tracked facts k distinct) rest final
       → Ends Diagnosis plant (place.States k (length tracked)) known (values_line head.Control facts.controls ∷ (fact_lines Now facts.present ++ (fact_lines Next facts.next ++ rest))) final
   control_end ends =
       let some = is.some in
@@ -132,19 +148,15 @@ module _ (plant : Plant) (tracked : List TrackedState) (facts : Facts) (k : ℕ)
       (λ w. formed_of (control_sizes plant) (value_numbers facts.controls) (few_found (sizes plant) (λ (c : VarId). c.0) (controls plant) (few-sizes plant is.well_formed)) controls_are)
       (facts_end ends)
 
-  pub head_first : Ends Diagnosis plant (place.Facts k (length facts.present + length facts.next)) (headed plant tracked facts k) rest final
-      → Ends Diagnosis plant place.Start (unjudged plant Diagnosis) (head_lines plant tracked facts k rest) final
+  pub head_first : Ends Diagnosis plant (place.Facts k (length facts.present + length facts.next)) (headed plant tracked facts k distinct) rest final
+      → Ends Diagnosis plant place.Start (unjudged plant Diagnosis) (head_lines plant tracked facts k distinct rest) final
   head_first ends =
-      let limit = is.limit in
-      let most = is.most in
       let few = is.few in
       let more : List Line = values_line head.Control facts.controls ∷ (fact_lines Now facts.present ++ (fact_lines Next facts.next ++ rest)) in
       line_first Diagnosis plant final place.Start (place.Named Diagnosis) (unjudged plant Diagnosis) (unjudged plant Diagnosis) (line.Certificate Diagnosis)
-      (line.Model plant.name ∷ line.Numbers head.Limit (k ∷ []) ∷ (state_lines tracked ++ more)) refl refl (λ w. refl)
+      (line.Model plant.name ∷ limit_line k distinct ∷ (state_lines tracked ++ more)) refl refl (λ w. refl)
       (line_first Diagnosis plant final (place.Named Diagnosis) place.Asked (unjudged plant Diagnosis) (unjudged plant Diagnosis) (line.Model plant.name)
-      (line.Numbers head.Limit (k ∷ []) ∷ (state_lines tracked ++ more)) (ap (λ b. cond b (Some (unjudged plant Diagnosis)) None) (same_name plant.name)) refl (λ w. w)
-      (line_first Diagnosis plant final place.Asked (place.States k 0) (unjudged plant Diagnosis) limited (line.Numbers head.Limit (k ∷ [])) (state_lines tracked ++ more)
-      (ap (λ b. cond b (Some limited) None) (and_from (nat_lt 0 k) (nat_le k 64) (lt-ltb 0 k (omega (arith, limit))) (le-leb k 64 most)))
-      refl (λ w. and_from (is_within_limit k) true (within k 64 most (omega arith)) refl)
+      (limit_line k distinct ∷ (state_lines tracked ++ more)) (ap (λ b. cond b (Some (unjudged plant Diagnosis)) None) (same_name plant.name)) refl (λ w. w)
+      (limit_first plant k distinct final is.limit is.most (state_lines tracked ++ more)
       (states_first Diagnosis plant is.well_formed (place.States k) (record { next = λ n ns less. ap (λ b. cond b (Some (place.States k (n + 1))) None) (lt-ltb n 64 less) }) final more
       tracked 0 (length tracked) limited is.stand refl (omega arith) few (control_end ends))))

@@ -1,6 +1,6 @@
 -- The lines of listed candidates are good where each is shown and they rise.
-use Rattle.std.proofs.Common.{◌≡◌, ℕ, zero, suc, ◌+◌, ◌-◌, ◌<◌, ◌≤◌, Bool, true, false, ◌&&◌, nat_lt, nat_le, List, [], ◌∷◌, ◌++◌, length, map, slice_get, Option, Some, None, cond, refl, sym, subst, ◌∙◌, ap, ap₂, arith, All}
-use Rattle.std.specs.List.{list_all, flat_map}
+use Rattle.std.proofs.Common.{◌≡◌, ℕ, zero, suc, ◌+◌, ◌-◌, ◌<◌, ◌≤◌, Bool, true, false, not, ◌&&◌, nat_lt, nat_le, List, [], ◌∷◌, ◌++◌, length, map, slice_get, Option, Some, None, cond, refl, sym, subst, ◌∙◌, ap, ap₂, arith, All}
+use Rattle.std.specs.List.{list_all, list_any, flat_map}
 use Rattle.std.specs.Option.{option_map_or, option_and_then}
 use Rattle.std.proofs.lemmas.Bool.{and_from, and_parts, le-leb, lt-ltb, ltb-true}
 use Rattle.std.proofs.lemmas.List.{append_assoc}
@@ -15,6 +15,7 @@ use Rattle.lv_model.specs.WellFormed.{is_well_formed}
 use Rattle.lv_model.proofs.Sizes.{few-sizes, few-move_counts}
 use Rattle.lv_meaning.specs.declared.facts.Facts.{Facts}
 use Rattle.lv_meaning.specs.PossibleLaws.{are_below}
+use Rattle.lv_meaning.specs.Targets.{are_alike}
 use Rattle.lv_meaning.specs.CandidateLaws.{are_moves, moves_cost, IsCandidate}
 use Rattle.lv_cert.specs.declared.line.Question.TheVariants.{Diagnosis}
 use Rattle.lv_cert.specs.declared.line.Head.TheVariants as head
@@ -28,7 +29,7 @@ use Rattle.lv_cert.specs.Order.{after_listing, place_after}
 use Rattle.lv_cert.specs.Form.{is_formed, is_within_limit}
 use Rattle.lv_cert_laws.specs.lv_cert_meaning.Counting.{are_of, values_of, places_of, at_number}
 use Rattle.lv_cert_laws.specs.lv_cert_meaning.Stated.{rank_from, candidate_of_numbers}
-use Rattle.lv_cert_laws.specs.lv_cert_meaning.Judging.{Judged, last_of, with_listed, is_step_of, shows_listed}
+use Rattle.lv_cert_laws.specs.lv_cert_meaning.Judging.{Judged, last_of, is_next, has_old_target, with_listed, is_step_of, shows_listed}
 use Rattle.lv_cert_laws.proofs.Sound.{last_added}
 use Rattle.lv_cert_laws.proofs.Shown.{candidate_is_full}
 use Rattle.lv_cert_writing.specs.Lines.{numbers_of, value_numbers, values_line}
@@ -69,6 +70,11 @@ abbrev pub rise_after : Option Rank → List Rank → Bool
 rise_after last [] = true
 rise_after last (r ∷ rs) = option_map_or (λ (q : Rank). ranks_before q r) last true && rise_after (Some r) rs
 
+-- each is alike none before it, and none of those before the first
+abbrev pub are_new : (Rank → Rank → Bool) → List Rank → List Rank → Bool
+are_new alike before [] = true
+are_new alike before (r ∷ rs) = not (list_any (alike r) before) && are_new alike (before ++ r ∷ []) rs
+
 -- where so many are listed, and a listed candidate may come
 pub record TakesListed (p : Place) (l : Listing) : Type 0 where
   pub listed : (ns : List ℕ) → place_after p (line.Numbers head.Listed ns) ≡ after_listing l (line.Numbers head.Listed ns)
@@ -83,21 +89,21 @@ abbrev pub place_with : ℕ → Place → ℕ → List Shown → Place
 place_with most p n [] = p
 place_with most p n (w ∷ ws) = place_with most (place.Listings (record { most = most; listed = n + 1 })) (n + 1) ws
 
-module _ (plant : Plant) (h : is_well_formed plant ≡ true) (tracked : List TrackedState) (few_tracked : length tracked ≤ 64) (facts : Facts) (final : Judged) (rest : List Line) where
+module _ (plant : Plant) (h : is_well_formed plant ≡ true) (tracked : List TrackedState) (few_tracked : length tracked ≤ 64) (facts : Facts) (distinct : Bool) (final : Judged) (rest : List Line) where
   -- the three lines of a candidate
   one_first : (w : Shown) → IsShown plant tracked facts w → (most n : ℕ) (p : Place) → TakesListed p (record { most = most; listed = n }) → n < most → (j : Judged) → j.stated.tracked ≡ tracked → j.stated.facts ≡ facts
-      → option_map_or (λ (q : Rank). ranks_before q w.rank) (last_of j.listed) true ≡ true → (more : List Line)
+      → is_next j.listed w.rank ≡ true → not (has_old_target plant j w.rank) ≡ true → (more : List Line)
       → Ends Diagnosis plant (place.Listings (record { most = most; listed = n + 1 })) (record j { listed = j.listed ++ w.rank ∷ []; before = Some w.before }) more final
       → Ends Diagnosis plant p j (listed_lines w ++ more) final
-  one_first w is most n p takes less j tracked_is facts_is behind more ends =
+  one_first w is most n p takes less j tracked_is facts_is behind new more ends =
       let l : Listing = record { most = most; listed = n + 1 } in
       let listed : Judged = record j { listed = j.listed ++ w.rank ∷ [] } in
       let before : Judged = record listed { before = Some (values_of (value_numbers w.before)) } in
       let room = ap (λ b. cond b (Some (place.Now (OfListed l))) None) (lt-ltb n most less) in
       line_first Diagnosis plant final p (place.Now (OfListed l)) j listed (line.Numbers head.Listed (numbers_of (w.rank.source ∷ w.rank.choices))) (values_line head.Now w.before ∷ values_line head.Next w.after ∷ more)
-      (ap (λ (ts : List TrackedState). option_and_then (with_listed j) (candidate_of_numbers plant ts (numbers_of (w.rank.source ∷ w.rank.choices)))) tracked_is
-      ∙ ap (option_and_then (with_listed j)) (candidate_read plant tracked w.rank is.candidate)
-      ∙ ap (λ b. cond b (Some listed) None) behind)
+      (ap (λ (ts : List TrackedState). option_and_then (with_listed plant j) (candidate_of_numbers plant ts (numbers_of (w.rank.source ∷ w.rank.choices)))) tracked_is
+      ∙ ap (option_and_then (with_listed plant j)) (candidate_read plant tracked w.rank is.candidate)
+      ∙ ap (λ b. cond b (Some listed) None) (and_from (is_next j.listed w.rank) (not (has_old_target plant j w.rank)) behind new))
       (takes.listed (numbers_of (w.rank.source ∷ w.rank.choices)) ∙ room)
       (λ word. listed_formed)
       (line_first Diagnosis plant final (place.Now (OfListed l)) (place.Next (OfListed l)) listed before (values_line head.Now w.before) (values_line head.Next w.after ∷ more)
@@ -125,13 +131,16 @@ module _ (plant : Plant) (h : is_well_formed plant ≡ true) (tracked : List Tra
           (choices_formed (move_counts plant) w.rank.choices (few-move_counts plant h) (candidate_is_full plant tracked w.rank is.candidate)))
 
   pub listed_first : (ws : List Shown) → All (IsShown plant tracked facts) ws → (most n : ℕ) (p : Place) → TakesListed p (record { most = most; listed = n }) → n + length ws ≤ most
-      → (j : Judged) → j.stated.tracked ≡ tracked → j.stated.facts ≡ facts → rise_after (last_of j.listed) (map (λ (w : Shown). w.rank) ws) ≡ true
+      → (j : Judged) → j.stated.tracked ≡ tracked → j.stated.facts ≡ facts → j.stated.distinct ≡ distinct → rise_after (last_of j.listed) (map (λ (w : Shown). w.rank) ws) ≡ true
+      → are_new (are_alike distinct plant) j.listed (map (λ (w : Shown). w.rank) ws) ≡ true
       → Ends Diagnosis plant (place_with most p n ws) (with_shown j ws) rest final → Ends Diagnosis plant p j (flat_map listed_lines ws ++ rest) final
-  listed_first [] shown most n p takes few j tracked_is facts_is rise ends = ends
-  listed_first (w ∷ ws) shown most n p takes few j tracked_is facts_is rise ends =
+  listed_first [] shown most n p takes few j tracked_is facts_is distinct_is rise new ends = ends
+  listed_first (w ∷ ws) shown most n p takes few j tracked_is facts_is distinct_is rise new ends =
       let two = and_parts (option_map_or (λ (q : Rank). ranks_before q w.rank) (last_of j.listed) true) (rise_after (Some w.rank) (map (λ (x : Shown). x.rank) ws)) rise in
+      let other = and_parts (not (list_any (are_alike distinct plant w.rank) j.listed)) (are_new (are_alike distinct plant) (j.listed ++ w.rank ∷ []) (map (λ (x : Shown). x.rank) ws)) new in
+      let fresh : not (has_old_target plant j w.rank) ≡ true = ap (λ d. not (list_any (are_alike d plant w.rank) j.listed)) distinct_is ∙ other.0 in
       let next : Judged = record j { listed = j.listed ++ w.rank ∷ []; before = Some w.before } in
       let last : rise_after (last_of next.listed) (map (λ (x : Shown). x.rank) ws) ≡ true = ap (λ o. rise_after o (map (λ (x : Shown). x.rank) ws)) (last_added j.listed w.rank) ∙ two.1 in
       subst (λ ls. Ends Diagnosis plant p j ls final) (sym (append_assoc (listed_lines w) (flat_map listed_lines ws) rest))
-      (one_first w (All-head (IsShown plant tracked facts) w ws shown) most n p takes (omega (arith, few)) j tracked_is facts_is two.0 (flat_map listed_lines ws ++ rest)
-      (listed_first ws (All-tail (IsShown plant tracked facts) w ws shown) most (n + 1) (place.Listings (record { most = most; listed = n + 1 })) (record { listed = λ ns. refl }) (omega (arith, few)) next tracked_is facts_is last ends))
+      (one_first w (All-head (IsShown plant tracked facts) w ws shown) most n p takes (omega (arith, few)) j tracked_is facts_is two.0 fresh (flat_map listed_lines ws ++ rest)
+      (listed_first ws (All-tail (IsShown plant tracked facts) w ws shown) most (n + 1) (place.Listings (record { most = most; listed = n + 1 })) (record { listed = λ ns. refl }) (omega (arith, few)) next tracked_is facts_is distinct_is last other.1 ends))

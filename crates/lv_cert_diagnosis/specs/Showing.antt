@@ -1,5 +1,5 @@
 -- What a certificate of a diagnosis shows, and by which lines.
-use Rattle.std.specs.Prelude.{◌≡◌, ◌<◌, ◌^◌, ℕ, true, false, List, [], ◌∷◌, ◌++◌, length, map, Option, All}
+use Rattle.std.specs.Prelude.{◌≡◌, ◌<◌, ◌^◌, ℕ, Bool, true, false, List, [], ◌∷◌, ◌++◌, length, map, Option, Some, None, All}
 use Rattle.std.specs.List.{flat_map}
 use Rattle.lv_base.specs.declared.ids.Cost.{Cost}
 use Rattle.lv_base.specs.declared.ids.Lit.{Lit}
@@ -13,6 +13,7 @@ use Rattle.lv_model.specs.Lists.{sizes, move_counts, controls}
 use Rattle.lv_meaning.specs.declared.facts.Facts.{Facts}
 use Rattle.lv_meaning.specs.Facts.{commanded}
 use Rattle.lv_meaning.specs.Possible.{is_possible}
+use Rattle.lv_meaning.specs.Targets.{targets_of_moves}
 use Rattle.lv_meaning.specs.Candidates.{is_possible_rank}
 use Rattle.lv_meaning.specs.PossibleLaws.{are_below}
 use Rattle.lv_meaning.specs.CandidateLaws.{IsCandidate}
@@ -53,10 +54,15 @@ pub record Block : Type 0 where
   pub pairs : List Pair
   pub lines : List Derived
 
+-- how many candidates are sought, with distinct targets or not
+abbrev pub limit_line : ℕ → Bool → Line
+limit_line k false = line.Numbers head.Limit (k ∷ [])
+limit_line k true = line.Distinct k
+
 -- the lines that state the question, and these behind them
-abbrev pub head_lines : Plant → List TrackedState → Facts → ℕ → List Line → List Line
-head_lines plant tracked facts k rest =
-    line.Certificate Diagnosis ∷ line.Model plant.name ∷ line.Numbers head.Limit (k ∷ [])
+abbrev pub head_lines : Plant → List TrackedState → Facts → ℕ → Bool → List Line → List Line
+head_lines plant tracked facts k distinct rest =
+    line.Certificate Diagnosis ∷ line.Model plant.name ∷ limit_line k distinct
     ∷ (state_lines tracked ++ (values_line head.Control facts.controls ∷ (fact_lines Now facts.present ++ (fact_lines Next facts.next ++ rest))))
 
 abbrev pub listed_lines : Shown → List Line
@@ -142,7 +148,12 @@ pub record HoldsAnswer (plant : Plant) (facts : Facts) (listed : List Rank) (kep
   pub shown : AddsShown plant facts listed old between
   pub refuted : AddsBlocks plant facts kept between new
 
+-- where distinct targets are sought, the targets of moves say which candidates are alike
+abbrev pub targets_for : Bool → Plant → Option (List (List ℕ))
+targets_for false plant = None
+targets_for true plant = Some (targets_of_moves plant)
+
 -- splits that close the zones, with small numbers
-pub record HoldsSplits (question : Question) (slots : List (List Cost)) (zones : List ZoneValue) (last : Option Rank) (listed : List Rank) (excluded : List (List Pair)) (made : List Split) : Type 0 where
-  pub closes : Closes question slots zones last listed excluded made
+pub record HoldsSplits (groups : Option (List (List ℕ))) (question : Question) (slots : List (List Cost)) (zones : List ZoneValue) (last : Option Rank) (listed : List Rank) (excluded : List (List Pair)) (made : List Split) : Type 0 where
+  pub closes : Closes groups question slots zones last listed excluded made
   pub small : All SplitIsSmall made

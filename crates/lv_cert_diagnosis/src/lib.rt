@@ -4,6 +4,7 @@
 //!
 //! | file | what it holds |
 //! |---|---|
+//! | `limit` | how many candidates are sought, with distinct targets or not |
 //! | `heading` | the lines that state the question |
 //! | `asking` | what is asked of a refuter about a candidate or a conflict |
 //! | `listing` | the lines of listed candidates |
@@ -13,8 +14,10 @@
 
 mod asking;
 mod heading;
+pub mod limit;
 mod listing;
 mod refuting;
 pub mod whole;
 
+pub use limit::Limit;
 pub use whole::{Settled, certify_diagnosis};

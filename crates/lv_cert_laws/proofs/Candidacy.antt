@@ -1,5 +1,5 @@
 -- The possible candidates as what a diagnosis seeks, and the listed candidates as numbers.
-use Rattle.std.proofs.Common.{◌≡◌, ℕ, ◌+◌, ◌-◌, true, false, ◌&&◌, nat_lt, List, [], ◌∷◌, length, Some, slice_get, refl, sym, subst, ◌∙◌, ap}
+use Rattle.std.proofs.Common.{◌≡◌, ℕ, ◌+◌, ◌-◌, Bool, true, false, ◌&&◌, nat_lt, List, [], ◌∷◌, length, Some, slice_get, refl, sym, subst, ◌∙◌, ap}
 use Rattle.std.specs.List.{list_all}
 use Rattle.std.proofs.lemmas.Bool.{and_parts}
 use Rattle.std.proofs.lemmas.Option.{cond_some}
@@ -13,9 +13,11 @@ use Rattle.lv_cert_meaning.specs.lv_model.Lists.{move_counts}
 use Rattle.lv_cert_meaning.specs.lv_meaning.Possible.{move_number, gives, is_possible}
 use Rattle.lv_cert_meaning.specs.lv_meaning.Candidates.{candidates, is_possible_rank}
 use Rattle.lv_cert_meaning.specs.lv_meaning.CandidateLaws.{are_moves, moves_cost, IsCandidate}
+use Rattle.lv_cert_meaning.specs.lv_meaning.Targets.{have_one_target, are_alike}
 use Rattle.lv_cert_meaning.proofs.lv_meaning.Among.{Among, among}
 use Rattle.lv_cert_meaning.proofs.lv_meaning.Listing.{same_rank, is_listed}
 use Rattle.lv_cert_meaning.proofs.lv_meaning.Possibility.{possible_less}
+use Rattle.lv_cert_meaning.proofs.lv_meaning.TargetLemmas.{targets_are_groups}
 use Rattle.lv_cert_meaning.proofs.lv_meaning.Reasons.{at_pairs, apart_by}
 use Rattle.lv_cert_meaning.specs.lv_boxes.RankedMembers.{ranked_members}
 use Rattle.lv_cert_meaning.proofs.lv_system.RangeLemmas.{full_choice_from}
@@ -25,7 +27,8 @@ use Rattle.lv_cert_meaning.specs.Counting.{places_of, at_number}
 use Rattle.lv_cert_meaning.specs.Stated.{Stated, rank_from, candidate_of_numbers}
 use Rattle.lv_cert_laws.proofs.Options.{anded, numbered_at}
 use Rattle.lv_cert_laws.proofs.Shown.{candidate_is_full}
-use Rattle.lv_cert_laws.proofs.Sound.{AreApart}
+use Rattle.lv_cert_laws.proofs.Sound.{AreApart, TargetsAreAlike}
+use Rattle.lv_cert_laws.proofs.Targets.{moves_are_grouped}
 
 -- a candidate for what is stated, and possible by it
 pub record IsPossible (plant : Plant) (s : Stated) (r : Rank) : Type 0 where
@@ -49,6 +52,18 @@ possible_apart plant s =
       one = λ q r a b source choices. same_candidate plant s.tracked q r a.candidate b.candidate source choices;
       even = λ q r a b. candidate_length plant s.tracked q a.candidate ∙ sym (candidate_length plant s.tracked r b.candidate);
     }
+
+-- candidates whose moves have the same targets lead to one state
+pub targets_alike : (plant : Plant) (s : Stated) → TargetsAreAlike (IsPossible plant s) (are_alike s.distinct plant) (move_slots plant) s plant (possible_apart plant s)
+targets_alike plant s =
+    record {
+      alike_by_targets = λ flag q r a b same. alike_with s.distinct flag q r (targets_are_groups plant r q ∙ same);
+      grouped = λ r is. moves_are_grouped plant r.choices (candidate_is_full plant s.tracked r is.candidate);
+    }
+  where
+    alike_with : (d : Bool) → d ≡ true → (q r : Rank) → have_one_target plant r q ≡ true → are_alike d plant r q ≡ true
+    alike_with true e q r one = one
+    alike_with false e q r one = absurd (cc e)
 
 -- choices that aren't possible are in no possible candidate
 pub impossible_in_none : (plant : Plant) (s : Stated) (pairs : List Pair) → is_possible plant s.facts pairs ≡ false → (r : Rank) → IsPossible plant s r → contains_all r.choices pairs ≡ false

@@ -1,5 +1,5 @@
 -- What was judged of good lines can be read off them.
-use Rattle.std.proofs.Common.{◌≡◌, ℕ, zero, suc, ◌+◌, ◌-◌, true, false, ◌&&◌, nat_eq, nat_lt, nat_le, List, [], ◌∷◌, ◌++◌, length, Option, Some, slice_get, slice_index_or, refl, sym, subst, ◌∙◌, ap}
+use Rattle.std.proofs.Common.{◌≡◌, ℕ, zero, suc, ◌+◌, ◌-◌, true, false, not, ◌&&◌, nat_eq, nat_lt, nat_le, List, [], ◌∷◌, ◌++◌, length, Option, Some, slice_get, slice_index_or, refl, sym, subst, ◌∙◌, ap}
 use Rattle.std.specs.Prelude.{map}
 use Rattle.std.specs.List.{list_all, flat_map}
 use Rattle.std.specs.Option.{option_map, option_map_or, option_and_then}
@@ -10,7 +10,6 @@ use Rattle.lv_cert_meaning.specs.lv_base.declared.ids.ValId.{ValId}
 use Rattle.lv_cert_meaning.specs.lv_base.declared.limits.TheConstants.{TRACKED, TRACKED_COST}
 use Rattle.lv_cert_meaning.specs.lv_base.declared.rank.Rank.{Rank}
 use Rattle.lv_cert_meaning.specs.lv_base.declared.search.Pair.{Pair}
-use Rattle.lv_cert_meaning.specs.lv_base.Rank.{ranks_before}
 use Rattle.lv_cert_meaning.specs.lv_formula.Tree.{Tree}
 use Rattle.lv_cert_meaning.specs.lv_model.declared.plant.Plant.{Plant}
 use Rattle.lv_cert_meaning.specs.lv_model.declared.state.TrackedState.{TrackedState}
@@ -35,17 +34,17 @@ use Rattle.lv_cert_meaning.specs.lv_cert.declared.line.Head.TheVariants as head
 use Rattle.lv_cert_meaning.specs.lv_cert.declared.line.Line.{Line}
 use Rattle.lv_cert_meaning.specs.lv_cert.declared.line.Line.TheVariants as line
 use Rattle.lv_cert_meaning.specs.Counting.{is_one_of, are_of, places_of, values_of, at_number, mode_counts, pairs_of_numbers}
-use Rattle.lv_cert_meaning.specs.Stated.{Stated, state_of, with_state, with_controls, observation_of, with_observation, goal_of, with_goal, rank_from, candidate_of_numbers}
-use Rattle.lv_cert_meaning.specs.Space.{open_zone, with_split, all_passed}
-use Rattle.lv_cert_meaning.specs.Judging.{Judged, unjudged, judge_limit, judge_state, judge_control, judge_listed, judge_recovery, judge_good, judge_proof, judge_counter, last_of, full_to, with_listed, shows, ends_empty, with_conflict, clauses_of_choices, values_refuted, clauses_of_goals, answer_values, with_proof, clauses_of_miss, with_counter, choices_of, judge_numbers, judge_conflict, judge_line, judge_lines, comes_to, question_of}
+use Rattle.lv_cert_meaning.specs.Stated.{Limit, Stated, stated_limit, with_limit, state_of, with_state, with_controls, observation_of, with_observation, goal_of, with_goal, rank_from, candidate_of_numbers}
+use Rattle.lv_cert_meaning.specs.Space.{open_zone, with_parts, all_passed}
+use Rattle.lv_cert_meaning.specs.Judging.{Judged, unjudged, limited, judge_limit, judge_state, judge_control, judge_listed, judge_recovery, judge_good, judge_proof, judge_counter, full_to, is_next, has_old_target, with_listed, shows, ends_empty, with_conflict, clauses_of_choices, values_refuted, clauses_of_goals, answer_values, with_proof, clauses_of_miss, with_counter, split_parts, judge_numbers, judge_conflict, judge_line, judge_lines, comes_to, question_of}
 use Rattle.lv_cert_meaning.specs.Contents.{last_from, limits_in, states_in, states_of, controls_in, seen, present_in, next_in, facts_of, one_or_none, goals_in, aim_in, cost_at, candidate_in, answers_in}
 use Rattle.lv_cert_meaning.specs.Laws.{aim_of, IsReadOff, JudgedIsReadOff}
 use Rattle.lv_cert_laws.proofs.Options.{ComesFrom, mapped, anded, when_true, numbered_at}
 use Rattle.lv_cert_laws.proofs.Refuting.{IsJudged, first_judged}
 
 -- what was judged goes on with these: the limit, states, controls, observations before and after, goals, and answers
-pub record Adds (j k : Judged) (ks : List ℕ) (ts : List TrackedState) (cs : List (List ValId)) (ps ns : List Observation) (gs : List Tree) (rs : List Rank) : Type 0 where
-  pub limit : k.stated.k ≡ last_from j.stated.k ks
+pub record Adds (j k : Judged) (ks : List Limit) (ts : List TrackedState) (cs : List (List ValId)) (ps ns : List Observation) (gs : List Tree) (rs : List Rank) : Type 0 where
+  pub limit : stated_limit k.stated ≡ last_from (stated_limit j.stated) ks
   pub tracked : k.stated.tracked ≡ j.stated.tracked ++ ts
   pub controls : k.stated.facts.controls ≡ last_from j.stated.facts.controls cs
   pub present : k.stated.facts.present ≡ j.stated.facts.present ++ ps
@@ -69,7 +68,7 @@ kept : (j x k : Judged) → x ≡ k → Keeps j x → Adds j k [] [] [] [] [] []
 kept j x k is same =
     subst (λ (y : Judged). Adds j y [] [] [] [] [] [] []) is
     (record {
-      limit = ap (λ (s : Stated). s.k) same.stated;
+      limit = ap stated_limit same.stated;
       tracked = ap (λ (s : Stated). s.tracked) same.stated ∙ sym (append-nil j.stated.tracked);
       controls = ap (λ (s : Stated). s.facts.controls) same.stated;
       present = ap (λ (s : Stated). s.facts.present) same.stated ∙ sym (append-nil j.stated.facts.present);
@@ -79,7 +78,7 @@ kept j x k is same =
     })
 
 module _ (plant : Plant) (j : Judged) where
-  limit_one : (m : ℕ) → Adds j (record j { stated = record j.stated { k = m } }) (m ∷ []) [] [] [] [] [] []
+  limit_one : (m : Limit) → Adds j (record j { stated = with_limit j.stated m }) (m ∷ []) [] [] [] [] [] []
   limit_one m = record {
     limit = refl;
     tracked = sym (append-nil j.stated.tracked);
@@ -171,7 +170,7 @@ last_after f k j xs ys e h = e ∙ ap (λ z. last_from z ys) h ∙ last_more j x
 module _ (plant : Plant) (tracked : List TrackedState) where
   adds_on : (l : Line) (ls : List Line) (j k f : Judged) → AddsLine plant tracked l j k → AddsLines plant tracked ls k f → AddsLines plant tracked (l ∷ ls) j f
   adds_on l ls j k f a b = record {
-    limit = last_after f.stated.k k.stated.k j.stated.k (limits_in l) (flat_map limits_in ls) b.limit a.limit;
+    limit = last_after (stated_limit f.stated) (stated_limit k.stated) (stated_limit j.stated) (limits_in l) (flat_map limits_in ls) b.limit a.limit;
     tracked = after f.stated.tracked k.stated.tracked j.stated.tracked (states_in l) (flat_map states_in ls) b.tracked a.tracked;
     controls = last_after f.stated.facts.controls k.stated.facts.controls j.stated.facts.controls (controls_in l) (flat_map controls_in ls) b.controls a.controls;
     present = after f.stated.facts.present k.stated.facts.present j.stated.facts.present (present_in l) (flat_map present_in ls) b.present a.present;
@@ -200,10 +199,13 @@ candidate_is plant all so_far more n moves r is h =
     same ∙ both.1
 
 module _ (plant : Plant) (tracked : List TrackedState) (rest : List Line) (j k : Judged) where
+  limited_adds : (limit : Limit) → limited j limit ≡ Some k → Adds j k (limit ∷ []) [] [] [] [] [] []
+  limited_adds limit h =
+      subst (λ (y : Judged). Adds j y (limit ∷ []) [] [] [] [] [] []) (cond_some (is_one_of 64 limit.most) (record j { stated = with_limit j.stated limit }) k h).1 (limit_one plant j limit)
+
   limit_adds : (ns : List ℕ) → judge_limit j ns ≡ Some k → AddsLine plant tracked (line.Numbers head.Limit ns) j k
   limit_adds [] h = absurd (cc h)
-  limit_adds (m ∷ []) h =
-      subst (λ (y : Judged). Adds j y (m ∷ []) [] [] [] [] [] []) (cond_some (is_one_of 64 m) (record j { stated = record j.stated { k = m } }) k h).1 (limit_one plant j m)
+  limit_adds (m ∷ []) h = limited_adds (record { most = m; distinct = false }) h
   limit_adds (m ∷ n ∷ ns) h = absurd (cc h)
 
   state_adds : (ns : List ℕ) → judge_state plant j ns ≡ Some k → AddsLine plant tracked (line.Numbers head.State ns) j k
@@ -223,14 +225,14 @@ module _ (plant : Plant) (tracked : List TrackedState) (rest : List Line) (j k :
       (controls_one plant j ns)
 
   listed_adds : (more : List TrackedState) → tracked ≡ j.stated.tracked ++ more → (ns : List ℕ) → judge_listed plant j ns ≡ Some k → AddsLine plant tracked (line.Numbers head.Listed ns) j k
-  listed_adds more is ns h = by ns (anded (with_listed j) (candidate_of_numbers plant j.stated.tracked ns) k h)
+  listed_adds more is ns h = by ns (anded (with_listed plant j) (candidate_of_numbers plant j.stated.tracked ns) k h)
     where
-      by : (ms : List ℕ) → (r : Rank) × (candidate_of_numbers plant j.stated.tracked ms ≡ Some r) × (with_listed j r ≡ Some k) → AddsLine plant tracked (line.Numbers head.Listed ms) j k
+      by : (ms : List ℕ) → (r : Rank) × (candidate_of_numbers plant j.stated.tracked ms ≡ Some r) × (with_listed plant j r ≡ Some k) → AddsLine plant tracked (line.Numbers head.Listed ms) j k
       by [] found = absurd (cc (found.1))
       by (n ∷ moves) found =
           let r : Rank = candidate_in plant tracked n moves in
           let same : r ≡ found.0 = candidate_is plant tracked j.stated.tracked more n moves found.0 is found.1 in
-          let made = (cond_some (option_map_or (λ last. ranks_before last found.0) (last_of j.listed) true) (record j { listed = j.listed ++ found.0 ∷ [] }) k found.2).1 in
+          let made = (cond_some (is_next j.listed found.0 && not (has_old_target plant j found.0)) (record j { listed = j.listed ++ found.0 ∷ [] }) k found.2).1 in
           subst (λ (y : Judged). Adds j y [] [] [] [] [] [] (r ∷ [])) (ap (λ (q : Rank). record j { listed = j.listed ++ q ∷ [] }) same ∙ made) (listed_one plant j r)
 
   recovery_adds : (ns : List ℕ) → judge_recovery plant j ns ≡ Some k → AddsLine plant tracked (line.Numbers head.Recovery ns) j k
@@ -316,14 +318,15 @@ module _ (plant : Plant) (tracked : List TrackedState) (rest : List Line) (j k :
   line_adds question more is (line.Certificate of) h = kept j j k (cc h) (record { stated = refl; listed = refl })
   line_adds question more is (line.Model name) h = kept j j k (cond_some (pointwise nat_eq name plant.name) j k h).1 (record { stated = refl; listed = refl })
   line_adds question more is (line.Goal text) h = goal_adds text h
+  line_adds question more is (line.Distinct m) h = limited_adds (record { most = m; distinct = true }) h
   line_adds question more is (line.Fact moment x v) h = fact_adds moment x v h
   line_adds question more is (line.Clause ls hs) h =
       let x : Judged = record j { own = j.own ++ map literal_of ls ∷ [] } in
       kept j x k (cond_some (follows (bool_count plant) (model_clauses plant ++ j.own) ls hs) x k h).1 (record { stated = refl; listed = refl })
   line_adds question more is (line.Split n by) h =
-      let found = anded (λ zone. option_map (λ pairs. record j { space = with_split j.space n zone pairs }) (choices_of j zone by)) (open_zone j.space n) k h in
-      let from = mapped (λ pairs. record j { space = with_split j.space n found.0 pairs }) (choices_of j found.0 by) k found.2 in
-      kept j (record j { space = with_split j.space n found.0 from.source }) k from.made (record { stated = refl; listed = refl })
+      let found = anded (λ zone. option_map (λ parts. record j { space = with_parts j.space n parts }) (split_parts plant j zone by)) (open_zone j.space n) k h in
+      let from = mapped (λ parts. record j { space = with_parts j.space n parts }) (split_parts plant j found.0 by) k found.2 in
+      kept j (record j { space = with_parts j.space n from.source }) k from.made (record { stated = refl; listed = refl })
   line_adds question more is (line.Numbers h ns) judged = numbers_add question more is ns h judged
   line_adds question more is line.End h = kept j j k (cond_some (all_passed j.space (full_to j)) j k h).1 (record { stated = refl; listed = refl })
 

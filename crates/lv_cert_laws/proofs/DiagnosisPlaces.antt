@@ -5,6 +5,7 @@ use Rattle.std.proofs.lemmas.Bool.{ltb-true}
 use Rattle.std.proofs.lemmas.Option.{cond_some}
 use Rattle.lv_cert_meaning.specs.lv_model.declared.plant.Plant.{Plant}
 use Rattle.lv_cert_meaning.specs.lv_model.WellFormed.{is_well_formed}
+use Rattle.lv_cert_meaning.specs.lv_meaning.Targets.{are_alike}
 use Rattle.lv_cert_meaning.proofs.lv_meaning.Among.{Among}
 use Rattle.lv_cert_meaning.specs.lv_search_walk.Ranked.{rises}
 use Rattle.lv_cert_meaning.specs.lv_search_zones.Moves.{move_slots, zones_from}
@@ -22,6 +23,7 @@ use Rattle.lv_cert_meaning.specs.Space.{Space}
 use Rattle.lv_cert_meaning.specs.Judging.{Judged, judge_line, judge_lines, comes_to}
 use Rattle.lv_cert_laws.proofs.Saying.{Says}
 use Rattle.lv_cert_laws.proofs.Exclusion.{IsCovered, first_covers}
+use Rattle.lv_cert_laws.proofs.Sound.{IsTold}
 use Rattle.lv_cert_laws.proofs.Candidacy.{IsPossible, possible_in_zones}
 use Rattle.lv_cert_laws.proofs.DiagnosisLines.{IsLate, Answers, split_late, clause_late, now_late, next_same, end_answers, conflict_late, listed_late}
 
@@ -76,11 +78,11 @@ faced_late plant k j faced =
         slots_are = ap (λ (s : Space). s.slots) faced.space;
         few = let none = ap length faced.listed in omega (arith, none);
         rising = ap rises faced.listed;
+        firsts = record { apart = λ q r a. absurd (subst (λ rs. Among q rs) faced.listed a) };
         shown = λ r a. absurd (subst (λ rs. Among r rs) faced.listed a);
         barred = λ pairs a. absurd (subst (λ cs. Among pairs cs) faced.excluded a);
-        covered = subst (λ rs. IsCovered (IsPossible plant j.stated) j.space rs) (sym faced.listed)
-            (subst (λ (s : Space). IsCovered (IsPossible plant j.stated) s []) (sym faced.space)
-            (first_covers (IsPossible plant j.stated) (move_slots plant) (zones_from plant 0 j.stated.tracked) (possible_in_zones plant j.stated)));
+        covered = subst (IsCovered (IsPossible plant j.stated) (IsTold (are_alike j.stated.distinct plant) j.listed)) (sym faced.space)
+            (first_covers (IsPossible plant j.stated) (IsTold (are_alike j.stated.distinct plant) j.listed) (move_slots plant) (zones_from plant 0 j.stated.tracked) (possible_in_zones plant j.stated));
       };
     }
 

@@ -1,5 +1,5 @@
 -- The lines of a valid diagnosis from the first to the last.
-use Rattle.std.proofs.Common.{◌≡◌, ℕ, ◌+◌, true, nat_eq, nat_lt, List, [], ◌∷◌, length, Some, refl, sym, subst, ap}
+use Rattle.std.proofs.Common.{◌≡◌, ℕ, ◌+◌, true, false, nat_eq, nat_lt, List, [], ◌∷◌, length, Some, refl, sym, subst, ap}
 use Rattle.std.specs.Prelude.{map}
 use Rattle.std.specs.Cmp.Lexicographic.{pointwise}
 use Rattle.std.proofs.lemmas.Option.{cond_some}
@@ -21,8 +21,8 @@ use Rattle.lv_cert_meaning.specs.lv_cert.declared.order.Place.{Place}
 use Rattle.lv_cert_meaning.specs.lv_cert.declared.order.Place.TheVariants as place
 use Rattle.lv_cert_meaning.specs.lv_cert.Order.{after_named, after_asked, after_states, after_facts, place_after, place_behind}
 use Rattle.lv_cert_meaning.specs.Counting.{is_one_of, are_of}
-use Rattle.lv_cert_meaning.specs.Stated.{state_of, with_state, with_controls, observation_of, with_observation}
-use Rattle.lv_cert_meaning.specs.Judging.{Judged, unjudged, judge_line, judge_lines, comes_to, question_of}
+use Rattle.lv_cert_meaning.specs.Stated.{Limit, with_limit, state_of, with_state, with_controls, observation_of, with_observation}
+use Rattle.lv_cert_meaning.specs.Judging.{Judged, unjudged, limited, judge_line, judge_lines, comes_to, question_of}
 use Rattle.lv_cert_meaning.specs.Laws.{IsValid}
 use Rattle.lv_cert_laws.proofs.Options.{ComesFrom, mapped, when_true}
 use Rattle.lv_cert_laws.proofs.Refuting.{IsJudged, first_judged}
@@ -38,12 +38,18 @@ module _ (plant : Plant) where
       subst (λ (p : Place). Holds plant p k) same (subst (IsBlank plant) (cond_some (pointwise nat_eq name plant.name) j k judged).1 blank)
   named_step rest l q j k order judged blank = absurd (cc order)
 
+  limited_started : (limit : Limit) (j k : Judged) → limited j limit ≡ Some k → IsBlank plant j → IsStarted plant limit.most k
+  limited_started limit j k judged blank =
+      subst (IsStarted plant limit.most) (cond_some (is_one_of 64 limit.most) (record j { stated = with_limit j.stated limit }) k judged).1
+      (record { blank = record { listed = blank.listed; excluded = blank.excluded; literals = blank.literals; slots = blank.slots }; limit = refl })
+
   asked_step : (rest : List Line) (l : Line) (q : Place) (j k : Judged) → after_asked l ≡ Some q → judge_line Diagnosis plant j rest l ≡ Some k → IsBlank plant j → Holds plant q k
   asked_step rest (line.Numbers head.Limit (m ∷ [])) q j k order judged blank =
       let same : place.States m 0 ≡ q = cc order in
-      subst (λ (p : Place). Holds plant p k) same
-      (subst (IsStarted plant m) (cond_some (is_one_of 64 m) (record j { stated = record j.stated { k = m } }) k judged).1
-      (record { blank = record { listed = blank.listed; excluded = blank.excluded; literals = blank.literals; slots = blank.slots }; limit = refl }))
+      subst (λ (p : Place). Holds plant p k) same (limited_started (record { most = m; distinct = false }) j k judged blank)
+  asked_step rest (line.Distinct m) q j k order judged blank =
+      let same : place.States m 0 ≡ q = cc order in
+      subst (λ (p : Place). Holds plant p k) same (limited_started (record { most = m; distinct = true }) j k judged blank)
   asked_step rest l q j k order judged blank = absurd (cc order)
 
   states_step : is_well_formed plant ≡ true → (rest : List Line) (l : Line) (m n : ℕ) (q : Place) (j k : Judged) → after_states m n l ≡ Some q → judge_line Diagnosis plant j rest l ≡ Some k → IsStarted plant m j → Holds plant q k

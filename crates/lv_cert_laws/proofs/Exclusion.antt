@@ -1,4 +1,4 @@
--- Zones that are split by what no sought rank has, or by what is listed: each sought rank stays in an open zone, or is listed.
+-- Zones that are split into parts which keep what is sought, but for what is told already: each sought rank stays in an open zone, or is told.
 use Rattle.std.proofs.Common.{◌≡◌, ℕ, zero, suc, ◌+◌, ◌-◌, ◌<◌, ◌≤◌, Bool, true, false, not, ◌&&◌, ◌||◌, nat_eq, nat_lt, List, [], ◌∷◌, ◌++◌, ◌⊎◌, inl, inr, ⊎_elim, length, Option, Some, None, slice_get, slice_index, slice_set, cond, refl, sym, subst, ◌∙◌, ap, ap₂, arith}
 use Rattle.std.specs.Prelude.{map, option_map}
 use Rattle.std.specs.Option.{option_map_or, option_and_then}
@@ -24,7 +24,7 @@ use Rattle.lv_cert_meaning.proofs.lv_search_walk.RankedLemmas.{is_itself, neithe
 use Rattle.lv_cert_meaning.proofs.lv_meaning.Among.{Among}
 use Rattle.lv_cert_meaning.specs.lv_boxes.RankedMembers.{ranked_members, ranks_in}
 use Rattle.lv_cert_meaning.proofs.lv_boxes.RankedMemberLemmas.{lacking_has_none, rank_of_member, among_ranked_members_any}
-use Rattle.lv_cert_meaning.specs.Space.{Space, same_zone, open_zone, with_split, is_behind, is_passed, all_passed}
+use Rattle.lv_cert_meaning.specs.Space.{Space, same_zone, open_zone, with_parts, least_rank, has_before, is_behind, is_passed, all_passed}
 
 -- behind one more choice the choices stand one slot later
 later_slot : (n m : ℕ) → nat_lt (suc n) (suc m) ≡ nat_lt n m
@@ -75,7 +75,7 @@ module _ (slots : List (List Cost)) where
   any_open r (zone ∷ zones) = ap (λ b. ranks_in slots r zone || b) (any_open r zones)
 
   -- a member that hasn't all the pairs is in some part; where the zone lacks a pair's slot, the part of that pair is the zone
-  kept_in_parts : (r : Rank) (pairs : List Pair) (zone : ZoneValue) → ranks_in slots r zone ≡ true → contains_all r.choices pairs ≡ false
+  pub kept_in_parts : (r : Rank) (pairs : List Pair) (zone : ZoneValue) → ranks_in slots r zone ≡ true → contains_all r.choices pairs ≡ false
       → list_any (ranks_in slots r) (parts_of zone pairs) ≡ true
   kept_in_parts r [] zone has misses = absurd (cc misses)
   kept_in_parts r (p ∷ ps) zone has misses = by (cases_lt p.slot (length zone.masks)) (kept_in_parts r ps with_it)
@@ -142,6 +142,37 @@ module _ (slots : List (List Cost)) where
           (ap (λ (q : Rank). ranks_before q (rank_in slots zone out)) is_rank_in ∙ (written_is_least slots zone out (sym some)).first (candidate_of r) two.0)
           p
 
+  -- where no member of the zone ranks before one, none of them does
+  pub none_before : (zone : ZoneValue) (q r : Rank) → has_before slots zone q ≡ false → ranks_in slots r zone ≡ true → ranks_before r q ≡ false
+  none_before zone q r none has = by (ranks_before r q) refl
+    where
+      two : (is_member slots zone (candidate_of r) ≡ true) × (nat_eq r.cost.0 (zone.base.0 + choices_cost slots r.choices) ≡ true)
+      two = and_parts (is_member slots zone (candidate_of r)) (nat_eq r.cost.0 (zone.base.0 + choices_cost slots r.choices)) has
+
+      is_rank_in : r ≡ rank_in slots zone r.choices
+      is_rank_in = rank_of_member slots r zone has
+
+      -- what ranks before the rank would have the least member before it too
+      turned : (first : Rank) → ranks_before r first ≡ false → ranks_before first q ≡ false → ranks_before r q ≡ true → ⊥
+      turned first not_first none before = other (ranks_before first r) refl
+        where
+          other : (b : Bool) → ranks_before first r ≡ b → ⊥
+          other true e = let far : ranks_before first q ≡ true = transitive (rank_key first) (rank_key r) (rank_key q) e before in absurd (cc (sym far ∙ none))
+          other false e = let same : ranks_before r q ≡ ranks_before first q = ap (λ (x : Rank). ranks_before x q) (sym (neither_is_same first r e not_first)) in absurd (cc (sym before ∙ same ∙ none))
+
+      by_least : (o : Option (List ℕ)) → cheapest_choices slots zone.masks ≡ o → option_map_or (λ first. ranks_before first q) (option_map (rank_in slots zone) o) false ≡ false → ranks_before r q ≡ true → ⊥
+      by_least None lacking n before =
+          let lacks : lacks_choice slots zone.masks ≡ true = sum_none slots zone.masks (sym (ap (option_map (choices_cost slots)) lacking)) in
+          let clash : true ≡ false = sym has ∙ lacking_has_none slots zone r lacks in
+          cc clash
+      by_least (Some out) some n before =
+          turned (rank_in slots zone out)
+          (ap (λ (x : Rank). ranks_before x (rank_in slots zone out)) is_rank_in ∙ (written_is_least slots zone out (sym some)).first (candidate_of r) two.0) n before
+
+      by : (b : Bool) → ranks_before r q ≡ b → ranks_before r q ≡ false
+      by true e = absurd (by_least (cheapest_choices slots zone.masks) refl none e)
+      by false e = e
+
   passed_or_closed : (last : Option Rank) (o : Option ZoneValue) (r : Rank) → is_passed slots last o ≡ true → has_rank r o ≡ true → is_behind last r ≡ true
   passed_or_closed last None r passed has = absurd (cc has)
   passed_or_closed last (Some zone) r passed has = behind_least last zone r passed has
@@ -169,48 +200,48 @@ open_at s n zone h = by (nat_lt 0 n) h
     by false e = absurd (cc e)
 
 module _ (Sought : Rank → Type 0) where
-  -- each rank that is sought is in an open zone, or listed
-  pub record IsCovered (space : Space) (listed : List Rank) : Type 0 where
-    pub covers : (r : Rank) → Sought r → (list_any (has_rank space.slots r) space.zones ≡ true) ⊎ Among r listed
+  -- each rank that is sought is in an open zone, or told
+  pub record IsCovered (Told : Rank → Type 0) (space : Space) : Type 0 where
+    pub covers : (r : Rank) → Sought r → (list_any (has_rank space.slots r) space.zones ≡ true) ⊎ Told r
 
   -- before any split
-  pub first_covers : (slots : List (List Cost)) (zones : List ZoneValue) → ((r : Rank) → Sought r → Among r (ranked_members slots zones))
-      → IsCovered (record { slots = slots; zones = map Some zones }) []
-  first_covers slots zones among =
+  pub first_covers : (Told : Rank → Type 0) (slots : List (List Cost)) (zones : List ZoneValue) → ((r : Rank) → Sought r → Among r (ranked_members slots zones))
+      → IsCovered Told (record { slots = slots; zones = map Some zones })
+  first_covers Told slots zones among =
       record {
         covers = λ r sought. inl (any_open slots r zones ∙ sym (among_ranked_members_any slots zones r) ∙ tested_among r (ranked_members slots zones) (among r sought));
       }
 
-  -- no member of the zone that is sought has all the pairs, unless it is listed
-  pub record IsMissed (slots : List (List Cost)) (zone : ZoneValue) (pairs : List Pair) (listed : List Rank) : Type 0 where
-    pub misses : (r : Rank) → Sought r → ranks_in slots r zone ≡ true → (contains_all r.choices pairs ≡ false) ⊎ Among r listed
+  -- each member of the zone that is sought is in one of the parts, unless it is told
+  pub record IsParted (Told : Rank → Type 0) (slots : List (List Cost)) (zone : ZoneValue) (parts : List ZoneValue) : Type 0 where
+    pub keeps : (r : Rank) → Sought r → ranks_in slots r zone ≡ true → (list_any (ranks_in slots r) parts ≡ true) ⊎ Told r
 
-  pub split_covers : (space : Space) (listed : List Rank) (n : ℕ) (zone : ZoneValue) (pairs : List Pair) → IsCovered space listed → open_zone space n ≡ Some zone
-      → IsMissed space.slots zone pairs listed → IsCovered (with_split space n zone pairs) listed
-  split_covers space listed n zone pairs covered is_open missed = record { covers = λ r sought. ⊎_elim (split r sought) (λ a. inr a) (covered.covers r sought) }
+  pub split_covers : (Told : Rank → Type 0) (space : Space) (n : ℕ) (zone : ZoneValue) (parts : List ZoneValue) → IsCovered Told space → open_zone space n ≡ Some zone
+      → IsParted Told space.slots zone parts → IsCovered Told (with_parts space n parts)
+  split_covers Told space n zone parts covered is_open parted = record { covers = λ r sought. ⊎_elim (split r sought) (λ a. inr a) (covered.covers r sought) }
     where
       rest : List (Option ZoneValue)
       rest = slice_set space.zones (n - 1) None
 
-      parts : List (Option ZoneValue)
-      parts = map Some (parts_of zone pairs)
+      more : List (Option ZoneValue)
+      more = map Some parts
 
-      split : (r : Rank) → Sought r → list_any (has_rank space.slots r) space.zones ≡ true → (list_any (has_rank space.slots r) (rest ++ parts) ≡ true) ⊎ Among r listed
+      split : (r : Rank) → Sought r → list_any (has_rank space.slots r) space.zones ≡ true → (list_any (has_rank space.slots r) (rest ++ more) ≡ true) ⊎ Told r
       split r sought any =
           ⊎_elim
           (λ has. ⊎_elim
-          (λ miss. inl (list_any-append (has_rank space.slots r) rest parts
-          ∙ or_right (list_any (has_rank space.slots r) rest) (list_any (has_rank space.slots r) parts) (any_open space.slots r (parts_of zone pairs) ∙ kept_in_parts space.slots r pairs zone has miss)))
-          (λ a. inr a) (missed.misses r sought has))
-          (λ there. inl (list_any-append (has_rank space.slots r) rest parts ∙ or_left (list_any (has_rank space.slots r) rest) (list_any (has_rank space.slots r) parts) there))
+          (λ kept. inl (list_any-append (has_rank space.slots r) rest more
+          ∙ or_right (list_any (has_rank space.slots r) rest) (list_any (has_rank space.slots r) more) (any_open space.slots r parts ∙ kept)))
+          (λ a. inr a) (parted.keeps r sought has))
+          (λ there. inl (list_any-append (has_rank space.slots r) rest more ∙ or_left (list_any (has_rank space.slots r) rest) (list_any (has_rank space.slots r) more) there))
           (any_set (has_rank space.slots r) space.zones (n - 1) (Some zone) None any ((open_at space n zone is_open).at))
 
-  -- where all zones are passed, a sought rank is listed or behind the last
-  pub passed_covers : (space : Space) (listed : List Rank) (last : Option Rank) → IsCovered space listed → all_passed space last ≡ true → (r : Rank) → Sought r
-      → Among r listed ⊎ (is_behind last r ≡ true)
-  passed_covers space listed last covered passed r sought =
+  -- where all zones are passed, a sought rank is told or behind the last
+  pub passed_covers : (Told : Rank → Type 0) (space : Space) (last : Option Rank) → IsCovered Told space → all_passed space last ≡ true → (r : Rank) → Sought r
+      → Told r ⊎ (is_behind last r ≡ true)
+  passed_covers Told space last covered passed r sought =
       ⊎_elim (λ any. inr (behind_all space.slots last space.zones r passed any)) (λ a. inl a) (covered.covers r sought)
 
-  -- more may be listed
-  pub more_covers : (space : Space) (listed more : List Rank) → IsCovered space listed → ((r : Rank) → Among r listed → Among r more) → IsCovered space more
-  more_covers space listed more covered grow = record { covers = λ r sought. ⊎_elim (λ any. inl any) (λ a. inr (grow r a)) (covered.covers r sought) }
+  -- more may be told
+  pub more_covers : (Told More : Rank → Type 0) (space : Space) → IsCovered Told space → ((r : Rank) → Told r → More r) → IsCovered More space
+  more_covers Told More space covered grow = record { covers = λ r sought. ⊎_elim (λ any. inl any) (λ a. inr (grow r a)) (covered.covers r sought) }

@@ -1,11 +1,15 @@
 pub mod Exclusion
+pub mod GroupParts
 pub mod Refuting
 pub mod Saying
 pub mod Blocks
 pub mod Shown
 pub mod Options
 pub mod Sound
+pub mod Distinct
+pub mod Targets
 pub mod Candidacy
+pub mod Answering
 pub mod Ahead
 pub mod DiagnosisLines
 pub mod DiagnosisPlaces

@@ -1,5 +1,5 @@
 -- What the lines of a recovery come to once its values are shown, or none are given: conflicts, counterexamples, splits and the end.
-use Rattle.std.proofs.Common.{◌≡◌, ℕ, ◌-◌, ◌≤◌, true, false, not, ◌&&◌, List, [], ◌∷◌, ◌++◌, length, Option, Some, None, cond, inl, inr, refl, sym, subst, ap, arith}
+use Rattle.std.proofs.Common.{◌≡◌, ℕ, ◌-◌, ◌≤◌, true, false, not, ◌&&◌, List, [], ◌∷◌, ◌++◌, length, Option, Some, None, cond, inl, inr, ⊎_elim, refl, sym, subst, ◌∙◌, ap, arith}
 use Rattle.std.specs.Prelude.{map, take, filter}
 use Rattle.std.proofs.lemmas.Bool.{and_parts}
 use Rattle.std.proofs.lemmas.Option.{cond_some}
@@ -11,6 +11,7 @@ use Rattle.lv_cert_meaning.specs.lv_model.declared.state.TrackedState.{TrackedSt
 use Rattle.lv_cert_meaning.specs.lv_model.Lists.{sizes}
 use Rattle.lv_cert_meaning.specs.lv_model.WellFormed.{is_well_formed}
 use Rattle.lv_cert_meaning.specs.lv_search_walk.Ranked.{rises}
+use Rattle.lv_cert_meaning.specs.lv_search_walk.Walk.{none_alike}
 use Rattle.lv_cert_meaning.proofs.lv_meaning.Among.{Among}
 use Rattle.lv_cert_meaning.specs.lv_compile.Booleans.{bool_count}
 use Rattle.lv_cert_meaning.specs.lv_compile.ModelClauses.{model_clauses}
@@ -26,7 +27,7 @@ use Rattle.lv_cert_meaning.specs.lv_cert.declared.line.Evidence.{Evidence}
 use Rattle.lv_cert_meaning.specs.lv_cert.declared.line.Line.{Line}
 use Rattle.lv_cert_meaning.specs.lv_cert.declared.order.Witness.TheVariants as witness
 use Rattle.lv_cert_meaning.specs.lv_cert.declared.order.Place.TheVariants as place
-use Rattle.lv_cert_meaning.specs.lv_cert.Order.{place_behind}
+use Rattle.lv_cert_meaning.specs.lv_cert.Order.{splits, place_behind}
 use Rattle.lv_cert_meaning.specs.Counting.{is_one_of, are_of, places_of, values_of, at_number, pairs_of_numbers}
 use Rattle.lv_cert_meaning.specs.Stated.{Stated}
 use Rattle.lv_cert_meaning.specs.Space.{Space, all_passed}
@@ -34,9 +35,9 @@ use Rattle.lv_cert_meaning.specs.Judging.{Aimed, Judged, full_to, judge_now, wit
 use Rattle.lv_cert_meaning.specs.Laws.{aim_of}
 use Rattle.lv_cert_laws.proofs.Options.{anded, got_among, number_among}
 use Rattle.lv_cert_laws.proofs.Refuting.{block_refutes}
-use Rattle.lv_cert_laws.proofs.Exclusion.{IsCovered, first_covers, more_covers}
+use Rattle.lv_cert_laws.proofs.Exclusion.{IsCovered, first_covers}
 use Rattle.lv_cert_laws.proofs.Shown.{places_below}
-use Rattle.lv_cert_laws.proofs.Sound.{IsSound, IsFinal, split_sound, excluded_sound, own_sound, before_sound, is_final}
+use Rattle.lv_cert_laws.proofs.Sound.{IsTold, IsSound, IsFinal, split_sound, excluded_sound, own_sound, before_sound, is_final}
 use Rattle.lv_cert_laws.proofs.Ahead.{IsShown, pair_shown}
 use Rattle.lv_cert_laws.proofs.Blocked.{IsKnown, never_reached}
 use Rattle.lv_cert_laws.proofs.Aiming.{IsAimed, shown_aims}
@@ -44,7 +45,7 @@ use Rattle.lv_cert_laws.proofs.Recovering.{IsRecovering, recovering_apart, recov
 use Rattle.lv_cert_laws.proofs.RecoveryStages.{first_space, IsPending}
 
 abbrev pub IsSoundFor : Plant → Stated → Judged → Type 0
-IsSoundFor plant s j = IsSound (IsRecovering plant s) (control_slots plant) s j
+IsSoundFor plant s j = IsSound (IsRecovering plant s) none_alike (control_slots plant) s j
 
 -- sound, for what a recovery states
 pub record IsLate (plant : Plant) (j : Judged) : Type 0 where
@@ -55,6 +56,11 @@ pub record IsLate (plant : Plant) (j : Judged) : Type 0 where
 -- what is listed is the answer for what is stated
 abbrev pub Answers : Plant → Judged → Type 0
 Answers plant j = j.listed ≡ take 1 (filter (rank_recovers plant (aim_of j.stated)) (command_sets plant))
+
+-- where none is alike another, what is told is listed
+plainly_told : (listed : List Rank) (r : Rank) → IsTold none_alike listed r → Among r listed
+plainly_told listed r (inl a) = a
+plainly_told listed r (inr second) = absurd (cc (second.like))
 
 module _ (plant : Plant) (h : is_well_formed plant ≡ true) where
   -- nothing is excluded, and what is listed, if something is, recovers
@@ -69,11 +75,11 @@ module _ (plant : Plant) (h : is_well_formed plant ≡ true) where
           slots_are = ap (λ (s : Space). s.slots) space;
           few = let one = known.one in omega (arith, few, one);
           rising = rising;
+          firsts = record { apart = λ q r a b before. refl };
           shown = shown;
           barred = λ pairs a. absurd (subst (λ cs. Among pairs cs) excluded a);
-          covered = subst (λ (s : Space). IsCovered (IsRecovering plant j.stated) s j.listed) (sym space)
-              (more_covers (IsRecovering plant j.stated) (first_space plant) [] j.listed
-              (first_covers (IsRecovering plant j.stated) (control_slots plant) (command_zone plant ∷ []) (recovering_in_zone plant j.stated h)) (λ r never. absurd never));
+          covered = subst (IsCovered (IsRecovering plant j.stated) (IsTold none_alike j.listed)) (sym space)
+              (first_covers (IsRecovering plant j.stated) (IsTold none_alike j.listed) (control_slots plant) (command_zone plant ∷ []) (recovering_in_zone plant j.stated h));
         };
       }
 
@@ -90,31 +96,37 @@ module _ (plant : Plant) (h : is_well_formed plant ≡ true) where
       only r (inl e) = subst (IsRecovering plant j.stated) (sym e) (record { set = record { values = pending.set; cost = refl; source = refl }; recovers = sure })
       only r (inr never) = absurd never
 
-  pub split_late : (j k : Judged) (n : ℕ) (by : Evidence) → judge_split j n by ≡ Some k → IsLate plant j → IsLate plant k
-  split_late j k n by judged late =
-      record { stated = late.stated; known = late.known; sound = split_sound (IsRecovering plant late.stated) (control_slots plant) late.stated (recovering_apart plant late.stated) j k n by late.sound judged }
+  pub split_late : (j k : Judged) (n : ℕ) (by : Evidence) → splits Recovery by ≡ true → judge_split plant j n by ≡ Some k → IsLate plant j → IsLate plant k
+  split_late j k n by fits judged late =
+      record {
+        stated = late.stated;
+        known = late.known;
+        sound = split_sound (IsRecovering plant late.stated) none_alike (control_slots plant) late.stated plant (recovering_apart plant late.stated) j k n by
+            (λ m is. absurd (cc (sym (ap (splits Recovery) is) ∙ fits))) late.sound judged;
+      }
 
   pub clause_late : (j k : Judged) (ls : List Literal) (hs : List ℕ) → judge_clause plant j ls hs ≡ Some k → IsLate plant j → IsLate plant k
   clause_late j k ls hs judged late =
       let both = cond_some (follows (bool_count plant) (model_clauses plant ++ j.own) ls hs) (record j { own = j.own ++ map literal_of ls ∷ [] }) k judged in
       subst (IsLate plant) both.1
-      (record { stated = late.stated; known = late.known; sound = own_sound (IsRecovering plant late.stated) (control_slots plant) late.stated j (j.own ++ map literal_of ls ∷ []) late.sound })
+      (record { stated = late.stated; known = late.known; sound = own_sound (IsRecovering plant late.stated) none_alike (control_slots plant) late.stated j (j.own ++ map literal_of ls ∷ []) late.sound })
 
   pub now_late : (j k : Judged) (ns : List ℕ) → judge_now plant j ns ≡ Some k → IsLate plant j → IsLate plant k
   now_late j k ns judged late =
       let both = cond_some (are_of (sizes plant) ns) (record j { before = Some (values_of ns) }) k judged in
       subst (IsLate plant) both.1
-      (record { stated = late.stated; known = late.known; sound = before_sound (IsRecovering plant late.stated) (control_slots plant) late.stated j (Some (values_of ns)) late.sound })
+      (record { stated = late.stated; known = late.known; sound = before_sound (IsRecovering plant late.stated) none_alike (control_slots plant) late.stated j (Some (values_of ns)) late.sound })
 
   pub end_answers : (j k : Judged) → cond (all_passed j.space (full_to j)) (Some j) None ≡ Some k → IsLate plant j → Answers plant k
   end_answers j k judged late =
       let both = cond_some (all_passed j.space (full_to j)) j k judged in
-      let final : IsFinal (IsRecovering plant late.stated) (control_slots plant) late.stated j = is_final (IsRecovering plant late.stated) (control_slots plant) late.stated j late.sound both.0 in
+      let final : IsFinal (IsRecovering plant late.stated) none_alike (control_slots plant) late.stated j = is_final (IsRecovering plant late.stated) none_alike (control_slots plant) late.stated j late.sound both.0 in
       let few = late.sound.few in
       let one = late.known.one in
       let answer : j.listed ≡ take 1 (filter (rank_recovers plant (aim_of late.stated)) (command_sets plant)) =
-      first_recovers plant late.stated j.listed (omega (arith, few, one)) late.sound.shown (λ r other a is left. final.after r other a is left)
-      (λ fewer r is. final.none_left_out (omega (arith, fewer, one)) r is) in
+      first_recovers plant late.stated j.listed (omega (arith, few, one)) late.sound.shown
+      (λ r other a is left. ⊎_elim (λ told. absurd (left (plainly_told j.listed other told))) (λ behind. behind.after r a) (final.each other is))
+      (λ fewer r is. plainly_told j.listed r (final.none_left_out (omega (arith, fewer, one)) r is)) in
       subst (Answers plant) both.1 (subst (λ (s : Stated). j.listed ≡ take 1 (filter (rank_recovers plant (aim_of s)) (command_sets plant))) (sym late.sound.stated_is) answer)
 
   -- values of controls don't reach the goals from a state, which the clauses that follow show
@@ -139,13 +151,13 @@ module _ (plant : Plant) (h : is_well_formed plant ≡ true) where
       (record {
         stated = late.stated;
         known = late.known;
-        sound = excluded_sound (IsRecovering plant late.stated) (control_slots plant) late.stated j pairs (clauses_of_goals plant j pairs x) late.sound none;
+        sound = excluded_sound (IsRecovering plant late.stated) none_alike (control_slots plant) late.stated j pairs (clauses_of_goals plant j pairs x) late.sound none;
       })
 
   -- another aim changes nothing of this
   aimed_sound : (s : Stated) (j : Judged) (aimed : Option Aimed) → IsSoundFor plant s j → IsSoundFor plant s (record j { aimed = aimed })
   aimed_sound s j aimed sound =
-      record { stated_is = sound.stated_is; slots_are = sound.slots_are; few = sound.few; rising = sound.rising; shown = sound.shown; barred = sound.barred; covered = sound.covered }
+      record { stated_is = sound.stated_is; slots_are = sound.slots_are; few = sound.few; rising = sound.rising; firsts = sound.firsts; shown = sound.shown; barred = sound.barred; covered = sound.covered }
 
   -- values of all controls miss a goal from a state, which the next two lines show
   pub counter_late : (n : ℕ) (j k final : Judged) (ns : List ℕ) (rest : List Line) → judge_counter plant j ns ≡ Some k → place_behind (place.Now witness.OfCounter) rest ≡ Some place.Done
@@ -171,6 +183,6 @@ module _ (plant : Plant) (h : is_well_formed plant ≡ true) where
       (record {
         stated = late.stated;
         known = late.known;
-        sound = excluded_sound (IsRecovering plant late.stated) (control_slots plant) late.stated (record j { aimed = Some aimed }) (pairs_of values) j.own
+        sound = excluded_sound (IsRecovering plant late.stated) none_alike (control_slots plant) late.stated (record j { aimed = Some aimed }) (pairs_of values) j.own
             (aimed_sound late.stated j (Some aimed) late.sound) none;
       })

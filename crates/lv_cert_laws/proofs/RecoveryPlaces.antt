@@ -64,7 +64,8 @@ module _ (plant : Plant) (h : is_well_formed plant ≡ true) (n : ℕ) (final : 
   -- from the blocks on
   pub splits_step : (l : Line) (q : Place) (j k : Judged) → after_splits Recovery l ≡ Some q → judge_line Recovery plant j rest l ≡ Some k → IsLate plant j → Holds plant q k
   splits_step (line.Split zone by) q j k order judged late =
-      subst (λ (p : Place). Holds plant p k) (cond_some (splits Recovery by) (place.Splits Recovery) q order).1 (split_late plant h j k zone by judged late)
+      let both = cond_some (splits Recovery by) (place.Splits Recovery) q order in
+      subst (λ (p : Place). Holds plant p k) both.1 (split_late plant h j k zone by both.0 judged late)
   splits_step line.End q j k order judged late = let same : place.Done ≡ q = cc order in subst (λ (p : Place). Holds plant p k) same (end_answers plant h j k judged late)
   splits_step l q j k order judged late = absurd (cc order)
 

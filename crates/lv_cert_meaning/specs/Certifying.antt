@@ -25,12 +25,13 @@ use Rattle.lv_cert_meaning.specs.Stated.{goal_of}
 use Rattle.lv_cert_meaning.specs.Judging.{Judged, question_of}
 use Rattle.lv_cert_meaning.specs.Laws.{aim_of, IsValid}
 
--- valid lines that state these states, facts and limit, and list these candidates
-pub record CertifiesDiagnosis (plant : Plant) (tracked : List TrackedState) (facts : Facts) (k : ℕ) (listed : List Rank) (lines : List Line) : Type 0 where
+-- valid lines that state these states, facts and limit, ask for distinct targets or not, and list these candidates
+pub record CertifiesDiagnosis (plant : Plant) (tracked : List TrackedState) (facts : Facts) (k : ℕ) (distinct : Bool) (listed : List Rank) (lines : List Line) : Type 0 where
   pub judged : Judged
   pub question : question_of lines ≡ Diagnosis
   pub valid : IsValid plant lines judged
   pub limit : judged.stated.k ≡ k
+  pub distinct_is : judged.stated.distinct ≡ distinct
   pub tracked_are : judged.stated.tracked ≡ tracked
   pub facts_are : judged.stated.facts ≡ facts
   pub listed_are : judged.listed ≡ listed
@@ -67,9 +68,9 @@ pub record AreFacts (plant : Plant) (facts : Facts) : Type 0 where
   pub few : length facts.present + length facts.next ≤ OBSERVATIONS
 
 -- a diagnosis settled with this answer, within some budget
-pub record IsSettledDiagnosis (plant : Plant) (tracked : List TrackedState) (facts : Facts) (k : ℕ) (listed : List Rank) (kept : List (List Pair)) : Type 0 where
+pub record IsSettledDiagnosis (plant : Plant) (tracked : List TrackedState) (facts : Facts) (k : ℕ) (distinct : Bool) (listed : List Rank) (kept : List (List Pair)) : Type 0 where
   pub budget : ℕ
-  pub settled : diagnosis_walk plant facts k budget (candidates plant tracked) ≡ record { outcome = Settled; listed = listed; kept = kept }
+  pub settled : diagnosis_walk plant facts k distinct budget (candidates plant tracked) ≡ record { outcome = Settled; listed = listed; kept = kept }
 
 -- what a recovery in a session is asked: at least one goal, and few
 pub record IsAsked (plant : Plant) (aim : Aim) : Type 0 where

@@ -1,5 +1,5 @@
 -- What a certificate states and what it answers, read off its lines, one by one and in their order. Nothing is judged here.
-use Rattle.std.specs.Prelude.{ℕ, ◌+◌, ◌-◌, List, [], ◌∷◌, Option, Some, None, slice_get}
+use Rattle.std.specs.Prelude.{ℕ, ◌+◌, ◌-◌, true, false, List, [], ◌∷◌, Option, Some, None, slice_get}
 use Rattle.std.specs.List.{flat_map}
 use Rattle.std.specs.Option.{option_map_or}
 use Rattle.lv_model_names.specs.lv_base.declared.ids.ValId.{ValId}
@@ -17,20 +17,21 @@ use Rattle.lv_cert_blocks.specs.lv_cert.declared.line.Head.TheVariants as head
 use Rattle.lv_cert_blocks.specs.lv_cert.declared.line.Line.{Line}
 use Rattle.lv_cert_blocks.specs.lv_cert.declared.line.Line.TheVariants as line
 use Rattle.lv_cert_meaning.specs.Counting.{places_of, values_of}
-use Rattle.lv_cert_meaning.specs.Stated.{goal_of}
+use Rattle.lv_cert_meaning.specs.Stated.{Limit, goal_of}
 
 -- the last of them, or else this; order admits one `k` and one `control` line
 abbrev pub last_from : {X : Type 0} → X → List X → X
 last_from x [] = x
 last_from x (y ∷ ys) = last_from y ys
 
--- the number of the line `k`
-abbrev pub limits_in : Line → List ℕ
-limits_in (line.Numbers head.Limit (k ∷ [])) = k ∷ []
+-- the line `k`: a number, and whether `distinct` stands behind it
+abbrev pub limits_in : Line → List Limit
+limits_in (line.Numbers head.Limit (k ∷ [])) = record { most = k; distinct = false } ∷ []
+limits_in (line.Distinct k) = record { most = k; distinct = true } ∷ []
 limits_in _ = []
 
-abbrev pub limit_of : List Line → ℕ
-limit_of lines = last_from 0 (flat_map limits_in lines)
+abbrev pub limit_of : List Line → Limit
+limit_of lines = last_from (record { most = 0; distinct = false }) (flat_map limits_in lines)
 
 -- the lines `state`: a cost, and a mode of each part
 abbrev pub states_in : Line → List TrackedState

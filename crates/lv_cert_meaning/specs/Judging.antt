@@ -1,5 +1,5 @@
 -- What the lines of a certificate, read in order, come to. A line that is bad in what comes before it and behind it comes to nothing.
-use Rattle.std.specs.Prelude.{ℕ, ◌+◌, ◌-◌, Bool, true, false, nat_eq, nat_lt, ◌&&◌, List, [], ◌∷◌, ◌++◌, length, map, Option, Some, None, option_map, slice_get, if◌then◌else◌}
+use Rattle.std.specs.Prelude.{ℕ, ◌+◌, ◌-◌, Bool, true, false, not, nat_eq, nat_lt, ◌&&◌, List, [], ◌∷◌, ◌++◌, length, map, Option, Some, None, option_map, slice_get, if◌then◌else◌}
 use Rattle.std.specs.List.{list_all, list_any, flat_map, range_with_len}
 use Rattle.std.specs.Option.{option_and_then, option_map_or}
 use Rattle.std.specs.Cmp.Lexicographic.{pointwise}
@@ -11,6 +11,8 @@ use Rattle.lv_model_names.specs.lv_base.declared.search.Pair.{Pair}
 use Rattle.lv_model_names.specs.lv_base.Choices.{pairs_of}
 use Rattle.lv_model_names.specs.lv_base.Rank.{ranks_before}
 use Rattle.lv_search_zones.specs.lv_boxes.Members.{ZoneValue}
+use Rattle.lv_search_zones.specs.lv_boxes.Parts.{parts_of}
+use Rattle.lv_search_zones.specs.lv_boxes.GroupParts.{parts_by_groups}
 use Rattle.lv_cert_blocks.specs.lv_clauses.Literals.{same_truth}
 use Rattle.lv_model_names.specs.lv_formula.Tree.{Tree}
 use Rattle.lv_model_names.specs.lv_model.declared.plant.Plant.{Plant}
@@ -22,6 +24,7 @@ use Rattle.lv_model_names.specs.lv_model.Meaning.{is_feasible, part_steps, part_
 use Rattle.lv_search_zones.specs.lv_meaning.declared.facts.Facts.{Facts}
 use Rattle.lv_search_zones.specs.lv_meaning.Facts.{meets, meets_facts}
 use Rattle.lv_search_zones.specs.lv_meaning.Possible.{move_number}
+use Rattle.lv_search_zones.specs.lv_meaning.Targets.{are_alike, targets_of_moves}
 use Rattle.lv_search_zones.specs.lv_compile.Booleans.{bool_count}
 use Rattle.lv_search_zones.specs.lv_compile.FormulaClauses.{Clauses}
 use Rattle.lv_search_zones.specs.lv_compile.ModelClauses.{model_clauses}
@@ -40,8 +43,8 @@ use Rattle.lv_cert_blocks.specs.lv_cert.declared.line.Head.TheVariants as head
 use Rattle.lv_cert_blocks.specs.lv_cert.declared.line.Line.{Line}
 use Rattle.lv_cert_blocks.specs.lv_cert.declared.line.Line.TheVariants as line
 use Rattle.lv_cert_meaning.specs.Counting.{is_one_of, are_of, places_of, values_of, at_number, pairs_of_numbers}
-use Rattle.lv_cert_meaning.specs.Stated.{Stated, nothing_stated, state_of, with_state, with_controls, observation_of, with_observation, goal_of, with_goal, candidate_of_numbers}
-use Rattle.lv_cert_meaning.specs.Space.{Space, open_zone, with_split, all_passed}
+use Rattle.lv_cert_meaning.specs.Stated.{Limit, Stated, nothing_stated, with_limit, state_of, with_state, with_controls, observation_of, with_observation, goal_of, with_goal, candidate_of_numbers}
+use Rattle.lv_cert_meaning.specs.Space.{Space, open_zone, with_parts, has_before, all_passed}
 use Rattle.lv_cert_meaning.specs.Units.{units, choice_literal, goal_clauses, nominal_units}
 
 -- a step of a recovery that is to be shown: from the tracked state of this place, with these values of the controls, and whether all
@@ -77,9 +80,12 @@ last_of ranks = slice_get ranks (length ranks - 1)
 abbrev pub full_to : Judged → Option Rank
 full_to j = if nat_eq (length j.listed) j.stated.k then last_of j.listed else None
 
--- the limit of a diagnosis
+-- the limit of a diagnosis, with or without distinct targets
+abbrev pub limited : Judged → Limit → Option Judged
+limited j limit = if is_one_of 64 limit.most then Some (record j { stated = with_limit j.stated limit }) else None
+
 abbrev pub judge_limit : Judged → List ℕ → Option Judged
-judge_limit j (k ∷ []) = if is_one_of 64 k then Some (record j { stated = record j.stated { k = k } }) else None
+judge_limit j (k ∷ []) = limited j (record { most = k; distinct = false })
 judge_limit j _ = None
 
 abbrev pub judge_state : Plant → Judged → List ℕ → Option Judged
@@ -93,12 +99,20 @@ judge_control plant j ns =
     then Some (record j { stated = with_controls plant j.stated ns; space = record j.space { zones = map Some (zones_from plant 0 j.stated.tracked) } })
     else None
 
-abbrev pub with_listed : Judged → Rank → Option Judged
-with_listed j r = if option_map_or (λ last. ranks_before last r) (last_of j.listed) true then Some (record j { listed = j.listed ++ r ∷ [] }) else None
+-- it ranks behind the last one listed
+abbrev pub is_next : List Rank → Rank → Bool
+is_next listed r = option_map_or (λ last. ranks_before last r) (last_of listed) true
 
--- a candidate of a tracked state, which ranks behind the one before
+-- it leads to the state of one that is listed, where the diagnosis asks for distinct targets
+abbrev pub has_old_target : Plant → Judged → Rank → Bool
+has_old_target plant j r = list_any (are_alike j.stated.distinct plant r) j.listed
+
+abbrev pub with_listed : Plant → Judged → Rank → Option Judged
+with_listed plant j r = if is_next j.listed r && not (has_old_target plant j r) then Some (record j { listed = j.listed ++ r ∷ [] }) else None
+
+-- a candidate of a tracked state, which ranks behind the one before and has a new target, where this is asked for
 abbrev pub judge_listed : Plant → Judged → List ℕ → Option Judged
-judge_listed plant j ns = option_and_then (with_listed j) (candidate_of_numbers plant j.stated.tracked ns)
+judge_listed plant j ns = option_and_then (with_listed plant j) (candidate_of_numbers plant j.stated.tracked ns)
 
 abbrev pub judge_recovery : Plant → Judged → List ℕ → Option Judged
 judge_recovery plant j ns = if are_of (control_sizes plant) ns then Some (record j { listed = j.listed ++ command_rank plant (places_of ns) ∷ [] }) else None
@@ -230,24 +244,34 @@ judge_clause plant j ls hs =
 abbrev pub listed_choices : Judged → ZoneValue → ℕ → Option (List Pair)
 listed_choices j zone n = option_and_then (λ (r : Rank). if nat_eq r.source zone.source then Some (pairs_of r.choices) else None) (at_number j.listed n)
 
--- the choices by which a zone is split
-abbrev pub choices_of : Judged → ZoneValue → Evidence → Option (List Pair)
-choices_of j zone (evidence.Conflict n) = at_number j.excluded n
-choices_of j zone (evidence.Listed n) = listed_choices j zone n
-choices_of j zone evidence.Recovery = listed_choices j zone 1
+-- the parts of the zone with another target than this listed candidate, before which none of its members may rank
+abbrev pub parts_by_target : Plant → Judged → ZoneValue → Rank → Option (List ZoneValue)
+parts_by_target plant j zone r = if has_before j.space.slots zone r then None else Some (parts_by_groups zone (targets_of_moves plant) r.choices)
 
-abbrev pub judge_split : Judged → ℕ → Evidence → Option Judged
-judge_split j n by =
-    option_and_then (λ zone. option_map (λ pairs. record j { space = with_split j.space n zone pairs }) (choices_of j zone by)) (open_zone j.space n)
+-- those by the target of the listed candidate of this number, where the diagnosis asks for distinct targets
+abbrev pub target_parts : Plant → Judged → ZoneValue → ℕ → Option (List ZoneValue)
+target_parts plant j zone n = if j.stated.distinct then option_and_then (parts_by_target plant j zone) (at_number j.listed n) else None
+
+-- the parts into which a zone is split
+abbrev pub split_parts : Plant → Judged → ZoneValue → Evidence → Option (List ZoneValue)
+split_parts plant j zone (evidence.Conflict n) = option_map (parts_of zone) (at_number j.excluded n)
+split_parts plant j zone (evidence.Listed n) = option_map (parts_of zone) (listed_choices j zone n)
+split_parts plant j zone (evidence.Target n) = target_parts plant j zone n
+split_parts plant j zone evidence.Recovery = option_map (parts_of zone) (listed_choices j zone 1)
+
+abbrev pub judge_split : Plant → Judged → ℕ → Evidence → Option Judged
+judge_split plant j n by =
+    option_and_then (λ zone. option_map (λ parts. record j { space = with_parts j.space n parts }) (split_parts plant j zone by)) (open_zone j.space n)
 
 -- what a line comes to, where these lines come behind it
 abbrev pub judge_line : Question → Plant → Judged → List Line → Line → Option Judged
 judge_line question plant j rest (line.Certificate of) = Some j
 judge_line question plant j rest (line.Model name) = if pointwise nat_eq name plant.name then Some j else None
 judge_line question plant j rest (line.Goal text) = option_map (λ goal. record j { stated = with_goal j.stated goal }) (goal_of plant text)
+judge_line question plant j rest (line.Distinct k) = limited j (record { most = k; distinct = true })
 judge_line question plant j rest (line.Fact moment x v) = option_map (λ o. record j { stated = with_observation plant moment j.stated o }) (observation_of plant x v)
 judge_line question plant j rest (line.Clause ls hs) = judge_clause plant j ls hs
-judge_line question plant j rest (line.Split n by) = judge_split j n by
+judge_line question plant j rest (line.Split n by) = judge_split plant j n by
 judge_line question plant j rest (line.Numbers head ns) = judge_numbers question plant j rest ns head
 judge_line question plant j rest line.End = if all_passed j.space (full_to j) then Some j else None
 

@@ -23,13 +23,21 @@ same_zone zone = zone
 abbrev pub open_zone : Space → ℕ → Option ZoneValue
 open_zone s n = option_and_then same_zone (at_number s.zones n)
 
+-- the zone of this number split into these parts
+abbrev pub with_parts : Space → ℕ → List ZoneValue → Space
+with_parts s n parts = record s { zones = slice_set s.zones (n - 1) None ++ map Some parts }
+
 -- the zone of this number split by these choices
 abbrev pub with_split : Space → ℕ → ZoneValue → List Pair → Space
-with_split s n zone pairs = record s { zones = slice_set s.zones (n - 1) None ++ map Some (parts_of zone pairs) }
+with_split s n zone pairs = with_parts s n (parts_of zone pairs)
 
 -- the rank of the zone's least member, if it has members
 abbrev pub least_rank : List (List Cost) → ZoneValue → Option Rank
 least_rank slots zone = option_map (rank_in slots zone) (cheapest_choices slots zone.masks)
+
+-- the zone has a member that ranks before the rank
+abbrev pub has_before : List (List Cost) → ZoneValue → Rank → Bool
+has_before slots zone r = option_map_or (λ least. ranks_before least r) (least_rank slots zone) false
 
 -- the rank is behind the last one, where this is asked for
 abbrev pub is_behind : Option Rank → Rank → Bool

@@ -28,17 +28,29 @@ use Rattle.lv_cert_blocks.specs.lv_cert.declared.line.Moment.{Moment}
 use Rattle.lv_cert_blocks.specs.lv_cert.declared.line.Moment.TheVariants.{Now, Next}
 use Rattle.lv_cert_meaning.specs.Counting.{is_one_of, are_of, places_of, values_of, at_number, mode_counts}
 
--- the limit of a diagnosis; the tracked states; what was commanded and seen, and the same as literals in the order in which it is
--- stated; the goals of a recovery
+-- how many candidates a diagnosis lists at most, and whether no two of them may lead to one state
+pub record Limit : Type 0 where
+  pub most : ℕ
+  pub distinct : Bool
+
+-- the limit of a diagnosis, and whether it asks for distinct targets; the tracked states; what was commanded and seen, and the same as
+-- literals in the order in which it is stated; the goals of a recovery
 pub record Stated : Type 0 where
   pub k : ℕ
+  pub distinct : Bool
   pub tracked : List TrackedState
   pub facts : Facts
   pub literals : List Lit
   pub goals : List Tree
 
 abbrev pub nothing_stated : ℕ → Stated
-nothing_stated k = record { k = k; tracked = []; facts = record { controls = []; present = []; next = [] }; literals = []; goals = [] }
+nothing_stated k = record { k = k; distinct = false; tracked = []; facts = record { controls = []; present = []; next = [] }; literals = []; goals = [] }
+
+abbrev pub with_limit : Stated → Limit → Stated
+with_limit s limit = record s { k = limit.most; distinct = limit.distinct }
+
+abbrev pub stated_limit : Stated → Limit
+stated_limit s = record { most = s.k; distinct = s.distinct }
 
 -- a cost, and a mode of each part
 abbrev pub state_of : Plant → List ℕ → Option TrackedState

@@ -2,9 +2,11 @@
 #![tactic(auto)]
 
 ghost use Rattle.std.specs.Prelude.{◌≡◌, ◌+◌, ◌-◌, ◌*◌, ◌^◌, ◌<◌, ◌≤◌, Some, None, All, IfOk, IfSome, length, option_map, ◌&&◌, nat_lt, if◌then◌else◌};
-ghost use Rattle.std.specs.List.{list_all};
+ghost use Rattle.std.specs.List.{list_all, list_any};
 ghost use Rattle.std.specs.Option.{option_and_then};
 ghost use Rattle.lv_base.specs.declared.limits.TheConstants.{FAULT_COST, PARTS};
+ghost use Rattle.lv_base.specs.declared.rank.Rank.{Rank as RankOf};
+ghost use Rattle.lv_meaning.specs.lv_search_walk.Groups.{have_same_groups};
 ghost use Rattle.lv_model.specs.WellFormed.{MoveIsCheap, TypeIsSmall};
 ghost use Rattle.lv_meaning.specs.Candidates.{IsTracked, move_cost};
 ghost use Rattle.lv_meaning.specs.CandidateLaws.{goes_from, are_moves, moves_cost};
@@ -13,6 +15,7 @@ ghost use Rattle.lv_cert_meaning.specs.Stated as Stated;
 ghost use Rattle.lv_cert_numbers.specs.Fitting.{HasFewChoices};
 
 use crate::counting::place_of;
+use lv_boxes::Groups;
 use lv_base::{Cost, Rank, Seq, ValId};
 use lv_meaning::moves::moves_of;
 use lv_model::{Model, Move, Plant, TrackedState};
@@ -145,4 +148,13 @@ pub fn candidate_of(
         return Ok(None);
     };
     candidate_from(alloc, model, tracked, *s, moves)
+}
+
+/// Whether a candidate has the target of one of these: where their moves have one target each.
+pub fn has_target(targets: &Groups, listed: &[Rank], rank: &Rank) -> bool
+    ensures { result ≡ list_any (λ (other : RankOf). have_same_groups targets.now rank.now.choices other.choices) listed.now }
+{
+    listed
+        .iter()
+        .any(|other| targets.are_one(rank.choices.as_slice(), other.choices.as_slice()))
 }

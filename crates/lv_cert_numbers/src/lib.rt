@@ -23,7 +23,7 @@ pub mod space;
 pub mod states;
 pub mod steps;
 
-pub use candidates::candidate_of;
+pub use candidates::{candidate_of, has_target};
 pub use counting::{place_of, places_of, values_of};
 pub use counts::Counts;
 pub use goals::goal_of;

@@ -4,12 +4,13 @@
 
 ghost use Rattle.std.specs.Prelude.{◌≡◌, ◌≤◌, ◌-◌, ◌++◌, ◌∷◌, [], map, Some, None, IfOk, IfSome, OnOk, length, slice_set};
 ghost use Rattle.lv_boxes.specs.Members.{ZoneValue};
+ghost use Rattle.lv_boxes.specs.GroupParts.{parts_by_groups};
 ghost use Rattle.std.specs.Option.{option_copied, option_and_then};
 ghost use Rattle.lv_cert_meaning.specs.Counting.{at_number};
 ghost use Rattle.lv_cert_meaning.specs.Space as Spaces;
 
 use lv_base::{Conflict, Rank, Seq};
-use lv_boxes::{Grid, Zone, split};
+use lv_boxes::{Grid, Groups, Zone, split, split_by_groups};
 use std::alloc::{AllocError, Global};
 use std::marker::Model;
 
@@ -95,12 +96,40 @@ impl Space {
         }
     }
 
+    /// Whether the zone of this number, which is open, has a member that ranks before this one.
+    pub fn has_before(&self, alloc: Global, n: u128, rank: &Rank) -> Result<bool, AllocError>
+        ensures { (zone : ZoneValue) → Spaces.open_zone self.now n ≡ Some zone → IfOk result (λ before. before ≡ Spaces.has_before self.now.slots zone rank.now) }
+    {
+        match self.least_of(alloc, n)? {
+            Some(least) => Ok(least.before(rank)),
+            None => Ok(false),
+        }
+    }
+
     /// Splits the zone of this number, which is open, by these choices.
     pub fn split(&mut self, alloc: Global, n: u128, conflict: &Conflict) -> Result<(), AllocError>
         ensures { (zone : ZoneValue) → Spaces.open_zone self.old n ≡ Some zone → OnOk result (self.new ≡ Spaces.with_split self.old n zone conflict.now) }
     {
         let parts = match self.open_zone(n) {
             Some(zone) => split(alloc, zone, conflict)?,
+            None => Vec::new(alloc),
+        };
+        self.close(n);
+        self.open_all(parts)
+    }
+
+    /// Splits the zone of this number, which is open, by the groups of these choices.
+    pub fn split_by_groups(
+        &mut self,
+        alloc: Global,
+        n: u128,
+        groups: &Groups,
+        member: &[u32],
+    ) -> Result<(), AllocError>
+        ensures { (zone : ZoneValue) → Spaces.open_zone self.old n ≡ Some zone → OnOk result (self.new ≡ Spaces.with_parts self.old n (parts_by_groups zone groups.now member.now)) }
+    {
+        let parts = match self.open_zone(n) {
+            Some(zone) => split_by_groups(alloc, zone, groups, member)?,
             None => Vec::new(alloc),
         };
         self.close(n);

@@ -114,28 +114,28 @@ module _ (plant : Plant) (aim : Aim) (listed : List Rank) (kept : List (List Pai
   answer_on old mid new one blocks = leads_both plant aim (standing asked [] []) (standing excluding listed []) (standing excluding listed kept) old mid new one (blocks.on listed)
 
   -- each command set is explained
-  explained : is_well_formed plant ≡ true → AreExplained (control_slots plant) (command_zone plant ∷ []) (last_if_full 1 listed) listed kept
+  explained : is_well_formed plant ≡ true → AreExplained None (control_slots plant) (command_zone plant ∷ []) (last_if_full 1 listed) listed kept
   explained h =
-      search_explains (λ (c : Candidate). true) (candidate_recovers plant aim) (candidate_reason plant aim) (record { inside = λ c suits unfit. reason_is_inside plant aim c.choices }) 1 settled.budget
+      search_explains None (λ (c : Candidate). true) (candidate_recovers plant aim) (candidate_reason plant aim) (record { inside = λ c suits unfit. reason_is_inside plant aim c.choices }) 1 settled.budget
       (omega arith) (control_slots plant) (command_zone plant ∷ []) (λ c member. refl) (record { outcome = Settled; listed = listed; kept = kept })
       (ap (walk (candidate_recovers plant aim) (candidate_reason plant aim) 1 settled.budget) (zone_has_sets plant h) ∙ settled.settled) refl
 
   pub explained_so : is_well_formed plant ≡ true → (slots : List (List Cost)) → slots ≡ control_slots plant → (zones : List ZoneValue) → zones ≡ command_zone plant ∷ [] → (last : Option Rank)
-      → last ≡ last_if_full 1 listed → AreExplained slots zones last listed kept
+      → last ≡ last_if_full 1 listed → AreExplained None slots zones last listed kept
   explained_so h slots one zones two last three =
-      subst (λ (l : Option Rank). AreExplained slots zones l listed kept) (sym three)
-      (subst (λ (zs : List ZoneValue). AreExplained slots zs (last_if_full 1 listed) listed kept) (sym two)
-      (subst (λ (ss : List (List Cost)). AreExplained ss (command_zone plant ∷ []) (last_if_full 1 listed) listed kept) (sym one) (explained h)))
+      subst (λ (l : Option Rank). AreExplained None slots zones l listed kept) (sym three)
+      (subst (λ (zs : List ZoneValue). AreExplained None slots zs (last_if_full 1 listed) listed kept) (sym two)
+      (subst (λ (ss : List (List Cost)). AreExplained None ss (command_zone plant ∷ []) (last_if_full 1 listed) listed kept) (sym one) (explained h)))
 
   pub closing : (slots : List (List Cost)) → slots ≡ control_slots plant → (zones : List ZoneValue) → zones ≡ command_zone plant ∷ [] → (last : Option Rank) → last ≡ last_if_full 1 listed
-      → (made : List Split) → Closes Recovery slots zones last listed kept made → All SplitIsSmall made → AreClosing plant listed kept (split_lines made)
+      → (made : List Split) → Closes None Recovery slots zones last listed kept made → All SplitIsSmall made → AreClosing plant listed kept (split_lines made)
   closing slots one zones two last three made closes small =
       record {
         space = closes.space;
         split =
             λ j space_is listed_is excluded_is.
-            are_splits Recovery made j (record j { space = closes.space })
-            (closes.judged j (space_is ∙ (λ i. record { slots = sym one i; zones = map Some (sym two i) })) listed_is excluded_is) closes.fitting small;
+            are_splits Recovery plant made j (record j { space = closes.space })
+            (closes.judged plant j tt (space_is ∙ (λ i. record { slots = sym one i; zones = map Some (sym two i) })) listed_is excluded_is) closes.fitting small;
         passed =
             λ j k_is listed_is.
             ap (all_passed closes.space) ((λ i. if nat_eq (length (listed_is i)) (k_is i) then last_of (listed_is i) else None) ∙ sym three) ∙ closes.passed;

@@ -10,7 +10,7 @@ use Rattle.lv_base.specs.Choices.{pairs_from, pairs_of}
 use Rattle.lv_model.specs.declared.plant.Plant.{Plant}
 use Rattle.lv_model.specs.declared.state.TrackedState.{TrackedState}
 use Rattle.lv_meaning.specs.lv_search_walk.declared.outcome.Outcome.TheVariants.{Settled}
-use Rattle.lv_meaning.specs.lv_search_walk.Walk.{Walked, walk_from}
+use Rattle.lv_meaning.specs.lv_search_walk.Walk.{Walked, none_alike, walk_from}
 use Rattle.lv_meaning.specs.lv_search_walk.Reason.{reduced}
 use Rattle.lv_meaning.proofs.lv_search_walk.WalkLemmas.{turn, at_most}
 use Rattle.lv_meaning.proofs.Among.{Among, contained}
@@ -105,12 +105,13 @@ module _ (plant : Plant) (aim : Aim) where
     suits r = is_command_set plant r.choices
 
     kept_reasons : (left listed : List Rank) (kept : List (List Pair)) → list_all suits left ≡ true → All (IsReason plant aim) kept
-        → All (IsReason plant aim) (walk_from (candidate_recovers plant aim) (candidate_reason plant aim) 1 budget listed kept left).kept
+        → All (IsReason plant aim) (walk_from none_alike (candidate_recovers plant aim) (candidate_reason plant aim) 1 budget listed kept left).kept
     kept_reasons [] listed kept sets are = are
     kept_reasons (r ∷ rs) listed kept sets are =
         let two = and_parts (suits r) (list_all suits rs) sets in
-        turn (candidate_recovers plant aim) (candidate_reason plant aim) 1 budget (λ w. All (IsReason plant aim) w.kept) r rs listed kept (λ _. are) (λ _. kept_reasons rs listed kept two.1 are) (λ _. are)
-        (λ _ _ _. kept_reasons rs (listed ++ (r ∷ [])) kept two.1 are)
+        turn none_alike (candidate_recovers plant aim) (candidate_reason plant aim) 1 budget (λ w. All (IsReason plant aim) w.kept) r rs listed kept (λ _. are) (λ _. kept_reasons rs listed kept two.1 are)
+        (λ _. kept_reasons rs listed kept two.1 are) (λ _. are)
+        (λ _ _ _ _. kept_reasons rs (listed ++ (r ∷ [])) kept two.1 are)
         (λ _ _ fails.
         kept_reasons rs listed (kept ++ (command_reason plant aim r.choices ∷ [])) two.1
         (All-append (IsReason plant aim) kept (command_reason plant aim r.choices ∷ []) are
@@ -123,7 +124,7 @@ module _ (plant : Plant) (aim : Aim) where
 
     pub walk_few : (listed : List Rank) (kept : List (List Pair)) → recovery_walk plant aim budget ≡ record { outcome = Settled; listed = listed; kept = kept } → length listed ≤ 1
     walk_few listed kept is =
-        subst (λ (w : Walked). length w.listed ≤ 1) is (at_most (candidate_recovers plant aim) (candidate_reason plant aim) 1 budget (command_sets plant) [] [] (omega arith))
+        subst (λ (w : Walked). length w.listed ≤ 1) is (at_most none_alike (candidate_recovers plant aim) (candidate_reason plant aim) 1 budget (command_sets plant) [] [] (omega arith))
 
     pub walk_recovers : (listed : List Rank) (kept : List (List Pair)) → recovery_walk plant aim budget ≡ record { outcome = Settled; listed = listed; kept = kept } → (r : Rank) → Among r listed
         → IsRecovering plant aim r

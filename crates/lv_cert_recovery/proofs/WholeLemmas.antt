@@ -19,7 +19,7 @@ use Rattle.lv_cert_recovery.specs.Leading.{asked, excluding, task_of, Standing, 
 use Rattle.lv_cert_recovery.specs.Closing.{AreClosing}
 use Rattle.lv_cert_recovery.proofs.HeadingLemmas.{IsAskedOf, headed, head_first}
 
-splits_apart : {j to : Judged} {ls : List Line} → AreSplits Recovery j ls to → BeginApart (ls ++ line.End ∷ [])
+splits_apart : {plant : Plant} {j to : Judged} {ls : List Line} → AreSplits Recovery plant j ls to → BeginApart (ls ++ line.End ∷ [])
 splits_apart none = record { same = λ is_empty. refl }
 splits_apart (one_more n by good fits formed rest) = record { same = λ is_empty. refl }
 

@@ -14,5 +14,5 @@ use Rattle.lv_cert_writing.specs.Splitting.{AreSplits}
 pub record AreClosing (plant : Plant) (listed : List Rank) (excluded : List (List Pair)) (splits : List Line) : Type 0 where
   pub space : Space
   pub split : (j : Judged) → j.space ≡ record { slots = control_slots plant; zones = Some (command_zone plant) ∷ [] } → j.listed ≡ listed → j.excluded ≡ excluded
-      → AreSplits Recovery j splits (record j { space = space })
+      → AreSplits Recovery plant j splits (record j { space = space })
   pub passed : (j : Judged) → j.stated.k ≡ 1 → j.listed ≡ listed → all_passed space (full_to j) ≡ true

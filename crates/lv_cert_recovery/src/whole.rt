@@ -77,6 +77,7 @@ fn splits_of(
     close(
         alloc,
         Question::Recovery,
+        None,
         grid,
         zones,
         answer.kept,

@@ -10,19 +10,18 @@ use Rattle.lv_base.specs.declared.ids.Cost.{Cost}
 use Rattle.lv_base.specs.declared.rank.Rank.{Rank}
 use Rattle.lv_base.specs.declared.search.Pair.{Pair}
 use Rattle.lv_boxes.specs.Members.{ZoneValue}
-use Rattle.lv_boxes.specs.Parts.{parts_of}
-use Rattle.lv_boxes.specs.lv_search_walk.Walk.{candidate_of}
+use Rattle.lv_model.specs.declared.plant.Plant.{Plant}
 use Rattle.lv_cert.specs.declared.line.Question.{Question}
 use Rattle.lv_cert.specs.declared.line.Evidence.{Evidence}
 use Rattle.lv_cert.specs.Order.{splits}
-use Rattle.lv_cert_numbers.specs.lv_cert_meaning.Space.{Space, same_zone, open_zone, with_split, least_rank, is_behind, is_passed}
-use Rattle.lv_cert_numbers.specs.lv_cert_meaning.Judging.{Judged, choices_of, judge_split}
+use Rattle.lv_cert_numbers.specs.lv_cert_meaning.Space.{Space, same_zone, open_zone, with_parts, least_rank, is_behind, is_passed}
+use Rattle.lv_cert_numbers.specs.lv_cert_meaning.Judging.{Judged, split_parts, judge_split}
 use Rattle.lv_cert_writing.specs.Explained.{is_explained, AreExplained}
-use Rattle.lv_cert_writing.specs.Closing.{can_be_listed, Cut, cut_before, cut_at, after_cut, judge_splits, Closes}
+use Rattle.lv_cert_writing.specs.Closing.{can_be_listed, Cut, cut_before, cut_at, after_cut, judge_splits, MayHaveTargets, Closes}
 use Rattle.lv_cert_writing.specs.declared.closing.Split.{Split}
-use Rattle.lv_cert_writing.proofs.CountLemmas.{weights, split_weighs_less, rest_weighs_less}
-use Rattle.lv_cert_writing.proofs.CutLemmas.{total_length, item_of_number, IsCut, cut_told, uncut_told}
-use Rattle.lv_cert_writing.proofs.LeastLemmas.{slots_within, IsLeastOf, least_told, ranks_in_open, among_open, among_parts}
+use Rattle.lv_cert_writing.proofs.CountLemmas.{weights, rest_weighs_less}
+use Rattle.lv_cert_writing.proofs.CutLemmas.{total_length, item_of_number, IsCut, AreForQuestion, cut_told, uncut_told}
+use Rattle.lv_cert_writing.proofs.LeastLemmas.{IsLeastOf, least_told, ranks_in_open, among_open}
 
 -- one item written over, and more behind: up to it, and from it on
 module _ {X : Type 0} (xs more : List X) (at : ℕ) (y : X) (within : at < length xs) where
@@ -42,16 +41,16 @@ module _ {X : Type 0} (xs more : List X) (at : ℕ) (y : X) (within : at < lengt
   drop_changed = drop-append-le (at + 1) (set xs (at + 1 - 1) y) more long ∙ ap (λ zs. zs ++ more) (drop-set-lt (at + 1) xs (at + 1 - 1) y (omega arith))
 
 -- splits, and one more
-judged_more : (j : Judged) (made : List Split) (s : Split) → judge_splits j (made ++ s ∷ []) ≡ option_and_then (λ (k : Judged). judge_split k s.zone s.by) (judge_splits j made)
-judged_more j [] s = alone (judge_split j s.zone s.by)
+judged_more : (plant : Plant) (j : Judged) (made : List Split) (s : Split) → judge_splits plant j (made ++ s ∷ []) ≡ option_and_then (λ (k : Judged). judge_split plant k s.zone s.by) (judge_splits plant j made)
+judged_more plant j [] s = alone (judge_split plant j s.zone s.by)
   where
     alone : (o : Option Judged) → option_and_then (λ (k : Judged). Some k) o ≡ o
     alone None = refl
     alone (Some k) = refl
-judged_more j (t ∷ ts) s = by (judge_split j t.zone t.by) (λ k. judged_more k ts s)
+judged_more plant j (t ∷ ts) s = by (judge_split plant j t.zone t.by) (λ k. judged_more plant k ts s)
   where
-    by : (o : Option Judged) → ((k : Judged) → judge_splits k (ts ++ s ∷ []) ≡ option_and_then (λ (m : Judged). judge_split m s.zone s.by) (judge_splits k ts))
-        → option_and_then (λ k. judge_splits k (ts ++ s ∷ [])) o ≡ option_and_then (λ (k : Judged). judge_split k s.zone s.by) (option_and_then (λ k. judge_splits k ts) o)
+    by : (o : Option Judged) → ((k : Judged) → judge_splits plant k (ts ++ s ∷ []) ≡ option_and_then (λ (m : Judged). judge_split plant m s.zone s.by) (judge_splits plant k ts))
+        → option_and_then (λ k. judge_splits plant k (ts ++ s ∷ [])) o ≡ option_and_then (λ (k : Judged). judge_split plant k s.zone s.by) (option_and_then (λ k. judge_splits plant k ts) o)
     by None later = refl
     by (Some k) later = later k
 
@@ -59,7 +58,7 @@ judged_more j (t ∷ ts) s = by (judge_split j t.zone t.by) (λ k. judged_more k
 abbrev pub weight_left : List (List Cost) → List (List Pair) → ℕ → Space → ℕ
 weight_left slots excluded at space = weights slots (length slots + total_length excluded) (drop at space.zones)
 
-module _ (question : Question) (slots : List (List Cost)) (zones : List ZoneValue) (last : Option Rank) (listed : List Rank) (excluded : List (List Pair)) where
+module _ (groups : Option (List (List ℕ))) (question : Question) (slots : List (List Cost)) (zones : List ZoneValue) (last : Option Rank) (listed : List Rank) (excluded : List (List Pair)) where
   abbrev start : Space
   start = record { slots = slots; zones = map Some zones }
 
@@ -67,24 +66,24 @@ module _ (question : Question) (slots : List (List Cost)) (zones : List ZoneValu
   pub record Stands (at : ℕ) (space : Space) (made : List Split) : Type 0 where
     pub slots_are : space.slots ≡ slots
     pub passed : list_all (is_passed slots last) (take at space.zones) ≡ true
-    pub explained : (r : Rank) → list_any (ranks_in_open slots r) (drop at space.zones) ≡ true → is_explained last listed excluded r ≡ true
-    pub judged : (j : Judged) → j.space ≡ start → j.listed ≡ listed → j.excluded ≡ excluded → judge_splits j made ≡ Some (record j { space = space })
+    pub explained : (r : Rank) → list_any (ranks_in_open slots r) (drop at space.zones) ≡ true → is_explained groups last listed excluded r ≡ true
+    pub judged : (plant : Plant) (j : Judged) → MayHaveTargets plant j.stated.distinct groups → j.space ≡ start → j.listed ≡ listed → j.excluded ≡ excluded → judge_splits plant j made ≡ Some (record j { space = space })
     pub fitting : list_all (λ (s : Split). splits question s.by) made ≡ true
 
-  stands_first : AreExplained slots zones last listed excluded → Stands 0 start []
+  stands_first : AreExplained groups slots zones last listed excluded → Stands 0 start []
   stands_first explained =
       record {
         slots_are = refl;
         passed = refl;
         explained = λ r h. explained.each r (sym (among_open slots r zones) ∙ h);
-        judged = λ j is _ _. ap (λ (s : Space). Some (record j { space = s })) is;
+        judged = λ plant j may is _ _. ap (λ (s : Space). Some (record j { space = s })) is;
         fitting = refl;
       }
 
-  pub stands_at_start : (space : Space) (made : List Split) → space ≡ record { slots = slots; zones = map Some zones } → made ≡ [] → AreExplained slots zones last listed excluded → Stands 0 space made
+  pub stands_at_start : (space : Space) (made : List Split) → space ≡ record { slots = slots; zones = map Some zones } → made ≡ [] → AreExplained groups slots zones last listed excluded → Stands 0 space made
   stands_at_start space made is none explained = subst (λ (s : Space). Stands 0 s made) (sym is) (subst (λ ss. Stands 0 start ss) (sym none) (stands_first explained))
 
-  pub closed_all : (at : ℕ) (space : Space) (made : List Split) → length space.zones ≤ at → Stands at space made → Closes question slots zones last listed excluded made
+  pub closed_all : (at : ℕ) (space : Space) (made : List Split) → length space.zones ≤ at → Stands at space made → Closes groups question slots zones last listed excluded made
   closed_all at space made past stands =
       record {
         space = space;
@@ -102,7 +101,7 @@ module _ (question : Question) (slots : List (List Cost)) (zones : List ZoneValu
     is_open : open_zone space (at + 1) ≡ Some zone
     item : get_or space.zones at None ≡ Some zone
     least : IsLeastOf slots zone rank
-    cuts : IsCut question listed excluded zone rank cut
+    cuts : IsCut groups question slots listed excluded zone cut
 
   module _ (at : ℕ) (space : Space) (made : List Split) (stands : Stands at space made) (within : at < length space.zones) where
     abbrev item : Option ZoneValue
@@ -114,11 +113,11 @@ module _ (question : Question) (slots : List (List Cost)) (zones : List ZoneValu
     ahead : drop at space.zones ≡ item ∷ drop (at + 1) space.zones
     ahead = drop_more space.zones at None within
 
-    item_explained : (r : Rank) → ranks_in_open slots r item ≡ true → is_explained last listed excluded r ≡ true
+    item_explained : (r : Rank) → ranks_in_open slots r item ≡ true → is_explained groups last listed excluded r ≡ true
     item_explained r ranks =
         stands.explained r (ap (list_any (ranks_in_open slots r)) ahead ∙ or_left (ranks_in_open slots r item) (list_any (ranks_in_open slots r) (drop (at + 1) space.zones)) ranks)
 
-    rest_explained : (r : Rank) → list_any (ranks_in_open slots r) (drop (at + 1) space.zones) ≡ true → is_explained last listed excluded r ≡ true
+    rest_explained : (r : Rank) → list_any (ranks_in_open slots r) (drop (at + 1) space.zones) ≡ true → is_explained groups last listed excluded r ≡ true
     rest_explained r ranks =
         stands.explained r (ap (list_any (ranks_in_open slots r)) ahead ∙ or_right (ranks_in_open slots r item) (list_any (ranks_in_open slots r) (drop (at + 1) space.zones)) ranks)
 
@@ -129,23 +128,23 @@ module _ (question : Question) (slots : List (List Cost)) (zones : List ZoneValu
     one_more_passed z passed =
         list_all-append passes (take at space.zones) (z ∷ []) ∙ and_from (list_all passes (take at space.zones)) (passes z && true) stands.passed (and_from (passes z) true passed refl)
 
-    cut_in : (z : Option ZoneValue) → item ≡ z → cut_at question last listed excluded space (at + 1) ≡ option_and_then (cut_before question last listed excluded) (option_and_then (least_rank slots) z)
-    cut_in z is = λ i. option_and_then (cut_before question last listed excluded) (option_and_then (least_rank (stands.slots_are i)) ((opened ∙ is) i))
+    cut_in : (z : Option ZoneValue) → item ≡ z → cut_at groups question last listed excluded space (at + 1) ≡ option_and_then (cut_before groups question last listed excluded) (option_and_then (least_rank slots) z)
+    cut_in z is = λ i. option_and_then (cut_before groups question last listed excluded) (option_and_then (least_rank (stands.slots_are i)) ((opened ∙ is) i))
 
-    item_passed : cut_at question last listed excluded space (at + 1) ≡ None → passes item ≡ true
+    item_passed : cut_at groups question last listed excluded space (at + 1) ≡ None → passes item ≡ true
     item_passed none = by item refl
       where
-        by_rank : (zone : ZoneValue) → item ≡ Some zone → (o : Option Rank) → least_rank slots zone ≡ o → option_and_then (cut_before question last listed excluded) o ≡ None → option_map_or (is_behind last) o true ≡ true
+        by_rank : (zone : ZoneValue) → item ≡ Some zone → (o : Option Rank) → least_rank slots zone ≡ o → option_and_then (cut_before groups question last listed excluded) o ≡ None → option_map_or (is_behind last) o true ≡ true
         by_rank zone is None e uncut = refl
         by_rank zone is (Some r) e uncut =
-            uncut_told question listed excluded last r (item_explained r (ap (ranks_in_open slots r) is ∙ (least_told slots zone r e).ranks)) uncut
+            uncut_told question slots listed excluded groups last r (item_explained r (ap (ranks_in_open slots r) is ∙ (least_told slots zone r e).ranks)) uncut
 
         by : (z : Option ZoneValue) → item ≡ z → passes z ≡ true
         by None is = refl
         by (Some zone) is = by_rank zone is (least_rank slots zone) refl (sym (cut_in (Some zone) is) ∙ none)
 
     -- a zone is passed
-    pub stands_left : cut_at question last listed excluded space (at + 1) ≡ None → Stands (at + 1) space made
+    pub stands_left : cut_at groups question last listed excluded space (at + 1) ≡ None → Stands (at + 1) space made
     stands_left none =
         record {
           slots_are = stands.slots_are;
@@ -160,7 +159,7 @@ module _ (question : Question) (slots : List (List Cost)) (zones : List ZoneValu
         subst (λ zs. weight_left slots excluded (at + 1) space < weights slots (length slots + total_length excluded) zs) (sym ahead)
         (rest_weighs_less slots (length slots + total_length excluded) item (drop (at + 1) space.zones))
 
-    module _ (can : can_be_listed question (length listed) ≡ true) (cut : Cut) (is : cut_at question last listed excluded space (at + 1) ≡ Some cut) where
+    module _ (asks : AreForQuestion groups question) (can : can_be_listed question (length listed) ≡ true) (cut : Cut) (is : cut_at groups question last listed excluded space (at + 1) ≡ Some cut) where
       found : IsFound at space cut
       found = by item refl (sym (cut_in item refl) ∙ is)
         where
@@ -168,7 +167,7 @@ module _ (question : Question) (slots : List (List Cost)) (zones : List ZoneValu
           by_behind true o e = absurd (cc e)
           by_behind false o e = e
 
-          by_rank : (zone : ZoneValue) → item ≡ Some zone → (o : Option Rank) → least_rank slots zone ≡ o → option_and_then (cut_before question last listed excluded) o ≡ Some cut → IsFound at space cut
+          by_rank : (zone : ZoneValue) → item ≡ Some zone → (o : Option Rank) → least_rank slots zone ≡ o → option_and_then (cut_before groups question last listed excluded) o ≡ Some cut → IsFound at space cut
           by_rank zone same None e cuts = absurd (cc cuts)
           by_rank zone same (Some r) e cuts =
               let least = least_told slots zone r e in
@@ -178,29 +177,24 @@ module _ (question : Question) (slots : List (List Cost)) (zones : List ZoneValu
                 is_open = opened ∙ same;
                 item = same;
                 least = least;
-                cuts = cut_told question listed excluded zone r least.source can cut (by_behind (is_behind last r) _ cuts);
+                cuts = cut_told question slots listed excluded groups asks zone r e least can cut (by_behind (is_behind last r) _ cuts);
               }
 
-          by : (z : Option ZoneValue) → item ≡ z → option_and_then (cut_before question last listed excluded) (option_and_then (least_rank slots) z) ≡ Some cut → IsFound at space cut
+          by : (z : Option ZoneValue) → item ≡ z → option_and_then (cut_before groups question last listed excluded) (option_and_then (least_rank slots) z) ≡ Some cut → IsFound at space cut
           by None same cuts = absurd (cc cuts)
           by (Some zone) same cuts = by_rank zone same (least_rank slots zone) refl cuts
 
       abbrev parts : List ZoneValue
-      parts = parts_of found.zone cut.pairs
+      parts = cut.parts found.zone
 
-      below : list_all (λ (p : Pair). nat_lt p.slot (length found.zone.masks)) cut.pairs ≡ true
-      below = slots_within found.rank.choices (length found.zone.masks) cut.pairs found.least.masks found.cuts.inside
+      after : after_cut space (at + 1) (Some cut) ≡ with_parts space (at + 1) parts
+      after = ap (λ (o : Option ZoneValue). option_map_or (λ zone. with_parts space (at + 1) (cut.parts zone)) o space) found.is_open
 
-      after : after_cut space (at + 1) (Some cut) ≡ with_split space (at + 1) found.zone cut.pairs
-      after = ap (λ (o : Option ZoneValue). option_map_or (λ zone. with_split space (at + 1) zone cut.pairs) o space) found.is_open
-
-      parts_explained : (r : Rank) → list_any (ranks_in_open slots r) (map Some parts) ≡ true → is_explained last listed excluded r ≡ true
+      parts_explained : (r : Rank) → list_any (ranks_in_open slots r) (map Some parts) ≡ true → is_explained groups last listed excluded r ≡ true
       parts_explained r ranks =
-          item_explained r
-          (ap (ranks_in_open slots r) found.item
-          ∙ among_parts slots r (length found.zone.masks) found.zone cut.pairs refl below (sym (among_open slots r parts) ∙ ranks))
+          item_explained r (ap (ranks_in_open slots r) found.item ∙ found.cuts.within r (sym (among_open slots r parts) ∙ ranks))
 
-      split_stands : Stands (at + 1) (with_split space (at + 1) found.zone cut.pairs) (made ++ record { zone = at + 1; by = cut.by } ∷ [])
+      split_stands : Stands (at + 1) (with_parts space (at + 1) parts) (made ++ record { zone = at + 1; by = cut.by } ∷ [])
       split_stands =
           record {
             slots_are = stands.slots_are;
@@ -209,11 +203,11 @@ module _ (question : Question) (slots : List (List Cost)) (zones : List ZoneValu
                 ⊎_elim (rest_explained r) (parts_explained r)
                 (or_cases (list_any (ranks_in_open slots r) (drop (at + 1) space.zones)) (list_any (ranks_in_open slots r) (map Some parts))
                 (sym (ap (list_any (ranks_in_open slots r)) (drop_changed space.zones (map Some parts) at None within) ∙ list_any-append (ranks_in_open slots r) (drop (at + 1) space.zones) (map Some parts)) ∙ ranks));
-            judged = λ j space_is listed_is excluded_is.
-                judged_more j made (record { zone = at + 1; by = cut.by })
-                ∙ ap (option_and_then (λ (k : Judged). judge_split k (at + 1) cut.by)) (stands.judged j space_is listed_is excluded_is)
-                ∙ ap (option_and_then (λ (zone : ZoneValue). option_map (λ pairs. record j { space = with_split space (at + 1) zone pairs }) (choices_of (record j { space = space }) zone cut.by))) found.is_open
-                ∙ ap (option_map (λ pairs. record j { space = with_split space (at + 1) found.zone pairs })) (found.cuts.chosen (record j { space = space }) listed_is excluded_is);
+            judged = λ plant j may space_is listed_is excluded_is.
+                judged_more plant j made (record { zone = at + 1; by = cut.by })
+                ∙ ap (option_and_then (λ (k : Judged). judge_split plant k (at + 1) cut.by)) (stands.judged plant j may space_is listed_is excluded_is)
+                ∙ ap (option_and_then (λ (zone : ZoneValue). option_map (λ ps. record j { space = with_parts space (at + 1) ps }) (split_parts plant (record j { space = space }) zone cut.by))) found.is_open
+                ∙ ap (option_map (λ ps. record j { space = with_parts space (at + 1) ps })) (found.cuts.chosen plant (record j { space = space }) may stands.slots_are listed_is excluded_is);
             fitting = list_all-append (λ (s : Split). splits question s.by) made (record { zone = at + 1; by = cut.by } ∷ [])
                 ∙ and_from (list_all (λ (s : Split). splits question s.by) made) (splits question cut.by && true) stands.fitting (and_from (splits question cut.by) true found.cuts.fitting refl);
           }
@@ -225,8 +219,7 @@ module _ (question : Question) (slots : List (List Cost)) (zones : List ZoneValu
       pub cut_weighs_less : weight_left slots excluded (at + 1) (after_cut space (at + 1) (Some cut)) < weight_left slots excluded at space
       cut_weighs_less =
           let room : ℕ = length slots + total_length excluded in
-          let few : length cut.pairs ≤ length slots + total_length excluded = (let few = found.cuts.few in let same = found.least.slots_are in omega (arith, few, same)) in
-          let less = split_weighs_less slots room (candidate_of found.rank) found.zone cut.pairs (drop (at + 1) space.zones) below found.least.member found.cuts.inside few in
+          let less = found.cuts.lighter (drop (at + 1) space.zones) in
           subst (λ (s : Space). weight_left slots excluded (at + 1) s < weight_left slots excluded at space) (sym after)
           (subst (λ zs. weights slots room zs < weight_left slots excluded at space) (sym (drop_changed space.zones (map Some parts) at None within))
           (subst (λ zs. weights slots room (drop (at + 1) space.zones ++ map Some parts) < weights slots room zs) (sym (ahead ∙ ap (λ z. z ∷ drop (at + 1) space.zones) found.item)) less))
@@ -239,10 +232,10 @@ module _ (question : Question) (slots : List (List Cost)) (zones : List ZoneValu
       by (Some zone) = refl
 
   -- a turn: what it did with the zone at its place
-  module _ (at : ℕ) (space new : Space) (made : List Split) (stands : Stands at space made) (within : at < length space.zones) (can : can_be_listed question (length listed) ≡ true)
-      (is : new ≡ after_cut space (at + 1) (cut_at question last listed excluded space (at + 1))) where
+  module _ (at : ℕ) (space new : Space) (made : List Split) (stands : Stands at space made) (within : at < length space.zones) (asks : AreForQuestion groups question)
+      (can : can_be_listed question (length listed) ≡ true) (is : new ≡ after_cut space (at + 1) (cut_at groups question last listed excluded space (at + 1))) where
     abbrev cut : Option Cut
-    cut = cut_at question last listed excluded space (at + 1)
+    cut = cut_at groups question last listed excluded space (at + 1)
 
     uncut : cut ≡ None → new ≡ space
     uncut none = is ∙ ap (after_cut space (at + 1)) none ∙ uncut_same space (at + 1)
@@ -254,7 +247,7 @@ module _ (question : Question) (slots : List (List Cost)) (zones : List ZoneValu
         by None e = subst (λ (s : Space). weight_left slots excluded (at + 1) s < weight_left slots excluded at space) (sym (uncut e)) (left_weighs_less at space made stands within)
         by (Some c) e =
             subst (λ (s : Space). weight_left slots excluded (at + 1) s < weight_left slots excluded at space) (sym (is ∙ ap (after_cut space (at + 1)) e))
-            (cut_weighs_less at space made stands within can c e)
+            (cut_weighs_less at space made stands within asks can c e)
 
     pub turn_left : (same : List Split) → None ≡ option_map (λ (c : Cut). c.by) cut → same ≡ made → Stands (at + 1) new same
     turn_left same none unchanged = by cut refl none
@@ -272,4 +265,4 @@ module _ (question : Question) (slots : List (List Cost)) (zones : List ZoneValu
             let made_is : evidence ≡ c.by = cc same in
             subst (λ (s : Space). Stands (at + 1) s more) (sym (is ∙ ap (after_cut space (at + 1)) e))
             (subst (λ ss. Stands (at + 1) (after_cut space (at + 1) (Some c)) ss) (sym (pushed ∙ ap (λ (x : Evidence). made ++ record { zone = at + 1; by = x } ∷ []) made_is))
-            (stands_split at space made stands within can c e))
+            (stands_split at space made stands within asks can c e))

@@ -15,7 +15,7 @@ use Rattle.lv_boxes.proofs.MaskLemmas.{has_choice-only, has_choice-without}
 use Rattle.lv_boxes.proofs.PartsLemmas.{is_member-with}
 
 -- how many of the choices from n on, of which these are the costs, the mask has
-abbrev choices_count : ℕ → List Cost → ℕ → ℕ
+abbrev pub choices_count : ℕ → List Cost → ℕ → ℕ
 choices_count n [] mask = 0
 choices_count n (cost ∷ costs) mask = cond (has_choice mask n) 1 0 + choices_count (n + 1) costs mask
 
@@ -64,7 +64,7 @@ some_choice n (cost ∷ costs) mask choice from below has =
         subst (λ (b : Bool). 1 ≤ cond b 1 0 + choices_count (n + 1) costs mask) (sym here) (omega arith)
     by (inr other) later = let rest = later (omega (arith, from, other)) in omega (arith, rest)
 
-some_member : (slots : List (List Cost)) (masks choices : List ℕ) → are_left slots masks choices ≡ true → 1 ≤ members_count slots masks
+pub some_member : (slots : List (List Cost)) (masks choices : List ℕ) → are_left slots masks choices ≡ true → 1 ≤ members_count slots masks
 some_member [] [] [] h = omega arith
 some_member [] [] (choice ∷ choices) h = absurd (cc h)
 some_member [] (mask ∷ masks) [] h = absurd (cc h)
@@ -88,7 +88,7 @@ module _ (slots : List (List Cost)) (room : ℕ) where
   weights [] = 0
   weights (z ∷ zs) = weight z + weights zs
 
-  weights-append : (xs ys : List (Option ZoneValue)) → weights (xs ++ ys) ≡ weights xs + weights ys
+  pub weights-append : (xs ys : List (Option ZoneValue)) → weights (xs ++ ys) ≡ weights xs + weights ys
   weights-append [] ys = omega arith
   weights-append (x ∷ xs) ys = let rest = weights-append xs ys in omega (arith, rest)
 

@@ -14,6 +14,7 @@ pub mod BlockNumberLemmas
 pub mod StatedClauseLemmas
 pub mod SplitWalkLemmas
 pub mod CountLemmas
+pub mod GroupCountLemmas
 pub mod CutLemmas
 pub mod LeastLemmas
 pub mod ClosingLemmas

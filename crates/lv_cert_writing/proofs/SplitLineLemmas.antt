@@ -15,30 +15,30 @@ use Rattle.lv_cert.specs.declared.order.Place.TheVariants as place
 use Rattle.lv_cert.specs.Order.{splits, place_after, place_behind}
 use Rattle.lv_cert_numbers.specs.lv_cert_meaning.Space.{all_passed}
 use Rattle.lv_cert_numbers.specs.lv_cert_meaning.Judging.{Judged, full_to, judge_split, judge_lines, comes_to, is_bad_at}
-use Rattle.lv_cert_writing.specs.Closing.{Closes, judge_splits}
+use Rattle.lv_cert_writing.specs.Closing.{MayHaveTargets, Closes, judge_splits}
 use Rattle.lv_cert_writing.specs.SplitLines.{split_line, last_lines}
 use Rattle.lv_cert_writing.specs.declared.closing.Split.{Split}
 
-lines_judged : (asked : Question) (plant : Plant) (n : ℕ) (j k : Judged) (made : List Split) → judge_splits j made ≡ Some k → all_passed k.space (full_to k) ≡ true
+lines_judged : (asked : Question) (plant : Plant) (n : ℕ) (j k : Judged) (made : List Split) → judge_splits plant j made ≡ Some k → all_passed k.space (full_to k) ≡ true
     → judge_lines asked plant n j (last_lines made) ≡ comes_to k
 lines_judged asked plant n j k [] judged passed =
     let same : j ≡ k = cc judged in
     ap (λ (m : Judged). judge_lines asked plant n m (line.End ∷ [])) same
     ∙ ap (λ b. option_map_or (λ (next : Judged). judge_lines asked plant (n + 1) next []) (cond b (Some k) None) (is_bad_at n)) passed
 lines_judged asked plant n j k (s ∷ ss) judged passed =
-    by (judge_split j s.zone s.by) (λ m h. lines_judged asked plant (n + 1) m k ss h passed) judged
+    by (judge_split plant j s.zone s.by) (λ m h. lines_judged asked plant (n + 1) m k ss h passed) judged
   where
-    by : (o : Option Judged) → ((m : Judged) → judge_splits m ss ≡ Some k → judge_lines asked plant (n + 1) m (last_lines ss) ≡ comes_to k) → option_and_then (λ next. judge_splits next ss) o ≡ Some k
+    by : (o : Option Judged) → ((m : Judged) → judge_splits plant m ss ≡ Some k → judge_lines asked plant (n + 1) m (last_lines ss) ≡ comes_to k) → option_and_then (λ next. judge_splits plant next ss) o ≡ Some k
         → option_map_or (λ next. judge_lines asked plant (n + 1) next (last_lines ss)) o (is_bad_at n) ≡ comes_to k
     by None rest e = absurd (cc e)
     by (Some m) rest e = rest m e
 
-pub end_good : (question : Question) (slots : List (List Cost)) (zones : List ZoneValue) (last : Option Rank) (listed : List Rank) (excluded : List (List Pair)) (made : List Split)
-    → (closes : Closes question slots zones last listed excluded made) → (asked : Question) (plant : Plant) (n : ℕ) (j : Judged)
+pub end_good : (groups : Option (List (List ℕ))) (question : Question) (slots : List (List Cost)) (zones : List ZoneValue) (last : Option Rank) (listed : List Rank) (excluded : List (List Pair)) (made : List Split)
+    → (closes : Closes groups question slots zones last listed excluded made) → (asked : Question) (plant : Plant) (n : ℕ) (j : Judged) → MayHaveTargets plant j.stated.distinct groups
     → j.space ≡ record { slots = slots; zones = map Some zones } → j.listed ≡ listed → j.excluded ≡ excluded → full_to j ≡ last
     → judge_lines asked plant n j (last_lines made) ≡ comes_to (record j { space = closes.space })
-end_good question slots zones last listed excluded made closes asked plant n j space_is listed_is excluded_is last_is =
-    lines_judged asked plant n j (record j { space = closes.space }) made (closes.judged j space_is listed_is excluded_is) (ap (all_passed closes.space) last_is ∙ closes.passed)
+end_good groups question slots zones last listed excluded made closes asked plant n j may space_is listed_is excluded_is last_is =
+    lines_judged asked plant n j (record j { space = closes.space }) made (closes.judged plant j may space_is listed_is excluded_is) (ap (all_passed closes.space) last_is ∙ closes.passed)
 
 -- behind a split there may come splits and the end
 split_next : (question : Question) (s : Split) → splits question s.by ≡ true → place_after (place.Splits question) (split_line s) ≡ Some (place.Splits question)

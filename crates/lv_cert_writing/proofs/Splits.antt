@@ -20,7 +20,7 @@ pub record TakesSplits (question : Question) (p : Place) : Type 0 where
   pub end : place_after p line.End ≡ Some place.Done
 
 module _ (question : Question) (plant : Plant) where
-  pub splits_end : (p : Place) → TakesSplits question p → {j to : Judged} {ls : List Line} → AreSplits question j ls to → all_passed to.space (full_to to) ≡ true
+  pub splits_end : (p : Place) → TakesSplits question p → {j to : Judged} {ls : List Line} → AreSplits question plant j ls to → all_passed to.space (full_to to) ≡ true
       → Ends question plant p j (ls ++ line.End ∷ []) to
   splits_end p takes {j = j} none passed =
       line_first question plant j p place.Done j j line.End [] (ap (λ b. cond b (Some j) None) passed) takes.end (λ w. refl) (ended question plant j)

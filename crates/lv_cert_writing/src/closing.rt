@@ -2,19 +2,20 @@
 //! numbers, and each that has a member which counts is split by what explains its least member. The parts come behind.
 #![tactic(auto)]
 
-ghost use Rattle.std.specs.Prelude.{◌≡◌, ◌≤◌, ◌^◌, true, length, position, option_map, Some, All, IfOk, IfSome, OnOk};
+ghost use Rattle.std.specs.Prelude.{◌≡◌, ◌≤◌, ◌^◌, true, length, position, option_map, Some, None, All, IfOk, IfSome, OnOk};
 ghost use Rattle.std.specs.Option.{option_copied};
 ghost use Rattle.lv_base.specs.Choices.{contains_all};
 ghost use Rattle.lv_boxes.specs.Members.{ZoneValue};
 ghost use Rattle.lv_boxes.specs.lv_search_walk.Ranked.{is_rank};
 ghost use Rattle.lv_cert_numbers.specs.lv_cert_meaning.Space as Spaces;
-ghost use Rattle.lv_cert_writing.specs.Explained.{AreExplained};
+ghost use Rattle.lv_cert.specs.declared.line.Question.{Question as QuestionOf};
+ghost use Rattle.lv_cert_writing.specs.Explained.{stands_for, AreExplained};
 ghost use Rattle.lv_cert_writing.specs.Explained as Explanations;
-ghost use Rattle.lv_cert_writing.specs.Closing.{Cut, can_be_listed, cut_of, cut_at, with_cut, after_cut, Closes, EvidenceIsSmall, SplitIsSmall};
+ghost use Rattle.lv_cert_writing.specs.Closing.{Cut, can_be_listed, cut_of_listed, cut_of, cut_at, with_cut, after_cut, Closes, EvidenceIsSmall, SplitIsSmall};
 ghost use Rattle.lv_cert_writing.specs.Closing as Closings;
 
 use lv_base::{Conflict, Rank, contains};
-use lv_boxes::{Grid, Zone, choices_as_conflict};
+use lv_boxes::{Grid, Groups, Zone, choices_as_conflict};
 use lv_cert::{Evidence, Question};
 use lv_cert_numbers::Space;
 use std::alloc::{AllocError, Global};
@@ -28,21 +29,23 @@ pub struct Split {
 
 /// Splits of these zones, with what their choices cost, until each that is open is empty or its least member ranks behind
 /// `last`. A zone is split by the first excluded conflict in its least member, or else by all choices of the listed
-/// candidate that this is; so each member must contain an excluded conflict, be listed, or rank behind `last`. Conflicts,
-/// listed candidates and zones are numbered from 1, and the zones that a split makes come behind the others. A recovery
-/// lists one command set at most.
+/// candidate that this is; or, where targets are given by which candidates are alike, by that of the listed candidate that
+/// it has. So each member must contain an excluded conflict, be listed or have a target that was listed before, or rank
+/// behind `last`. Conflicts, listed candidates and zones are numbered from 1, and the zones that a split makes come behind
+/// the others. A recovery lists one command set at most.
 pub fn close(
     alloc: Global,
     question: Question,
+    targets: Option<&Groups>,
     grid: Grid,
     zones: Vec<Zone>,
     excluded: &[Conflict],
     listed: &[Rank],
     last: Option<&Rank>,
 ) -> Result<Vec<Split>, AllocError>
-    requires explained { AreExplained grid zones.items (option_copied last) listed.now excluded.now }
+    requires explained { AreExplained (option_copied targets) grid zones.items (option_copied last) listed.now excluded.now }
     requires few { can_be_listed question (length listed.now) ≡ true }
-    ensures closes { IfOk result (λ made. Closes question grid zones.items (option_copied last.entry) listed.now excluded.now made.items) }
+    ensures closes { IfOk result (λ made. Closes (option_copied targets.entry) question grid zones.items (option_copied last.entry) listed.now excluded.now made.items) }
     ensures small { IfOk result (λ made. All SplitIsSmall made.items) }
 {
     let mut space = Space::new(alloc, grid, zones)?;
@@ -50,7 +53,10 @@ pub fn close(
     let mut at = 0;
     while at < space.len() {
         let zone = at as u128 + 1;
-        if let Some(by) = close_zone(alloc, question, &mut space, zone, excluded, listed, last)? {
+        let by = close_zone(
+            alloc, question, targets, &mut space, zone, excluded, listed, last,
+        )?;
+        if let Some(by) = by {
             made.push(Split { zone, by })?;
         }
         at += 1;
@@ -73,19 +79,20 @@ pub fn last_if_full(listed: &[Rank], k: usize) -> Option<&Rank>
 fn close_zone(
     alloc: Global,
     question: Question,
+    targets: Option<&Groups>,
     space: &mut Space,
     n: u128,
     excluded: &[Conflict],
     listed: &[Rank],
     last: Option<&Rank>,
 ) -> Result<Option<Evidence>, AllocError>
-    ensures by { IfOk result (λ by. by ≡ option_map (λ (cut : Cut). cut.by) (cut_at question (option_copied last.entry) listed.now excluded.now space.old n)) }
+    ensures by { IfOk result (λ by. by ≡ option_map (λ (cut : Cut). cut.by) (cut_at (option_copied targets.entry) question (option_copied last.entry) listed.now excluded.now space.old n)) }
     ensures small { IfOk result (λ by. IfSome by EvidenceIsSmall) }
-    ensures space { OnOk result (space.new ≡ after_cut space.old n (cut_at question (option_copied last.entry) listed.now excluded.now space.old n)) }
+    ensures space { OnOk result (space.new ≡ after_cut space.old n (cut_at (option_copied targets.entry) question (option_copied last.entry) listed.now excluded.now space.old n)) }
 {
     match space.least_of(alloc, n)? {
         Some(least) if !is_behind(last, &least) => {
-            split_zone(alloc, question, space, n, excluded, listed, &least)
+            split_zone(alloc, question, targets, space, n, excluded, listed, &least)
         }
         _ => Ok(None),
     }
@@ -102,10 +109,11 @@ fn is_behind(last: Option<&Rank>, r: &Rank) -> bool
 }
 
 /// Splits the zone of this number, whose least member has this rank, by the first excluded conflict in that, or else by
-/// all choices of the listed one that it is.
+/// the listed candidate that stands for it.
 fn split_zone(
     alloc: Global,
     question: Question,
+    targets: Option<&Groups>,
     space: &mut Space,
     n: u128,
     excluded: &[Conflict],
@@ -113,14 +121,34 @@ fn split_zone(
     least: &Rank,
 ) -> Result<Option<Evidence>, AllocError>
     requires { length least.now.choices ≤ 4096 }
-    ensures by { IfOk result (λ by. by ≡ option_map (λ (cut : Cut). cut.by) (cut_of question listed.now excluded.now least.now)) }
+    ensures by { IfOk result (λ by. by ≡ option_map (λ (cut : Cut). cut.by) (cut_of (option_copied targets.entry) question listed.now excluded.now least.now)) }
     ensures small { IfOk result (λ by. IfSome by EvidenceIsSmall) }
-    ensures space { (zone : ZoneValue) → Spaces.open_zone space.old n ≡ Some zone → OnOk result (space.new ≡ with_cut space.old n zone (cut_of question listed.now excluded.now least.now)) }
+    ensures space { (zone : ZoneValue) → Spaces.open_zone space.old n ≡ Some zone → OnOk result (space.new ≡ with_cut space.old n zone (cut_of (option_copied targets.entry) question listed.now excluded.now least.now)) }
 {
     if let Some(place) = first_inside(excluded, least.choices.as_slice()) {
         space.split(alloc, n, &excluded[place])?;
         return Ok(Some(Evidence::Conflict(place as u128 + 1)));
     }
+    match targets {
+        None => split_by_listed(alloc, question, space, n, listed, least),
+        Some(groups) => split_by_target(alloc, groups, space, n, listed, least),
+    }
+}
+
+/// Splits the zone of this number, whose least member has this rank, by all choices of the listed one that it is.
+fn split_by_listed(
+    alloc: Global,
+    question: Question,
+    space: &mut Space,
+    n: u128,
+    listed: &[Rank],
+    least: &Rank,
+) -> Result<Option<Evidence>, AllocError>
+    requires { length least.now.choices ≤ 4096 }
+    ensures by { IfOk result (λ by. by ≡ option_map (λ (cut : Cut). cut.by) (cut_of_listed None question listed.now least.now)) }
+    ensures small { IfOk result (λ by. IfSome by EvidenceIsSmall) }
+    ensures space { (zone : ZoneValue) → Spaces.open_zone space.old n ≡ Some zone → OnOk result (space.new ≡ with_cut space.old n zone (cut_of_listed None question listed.now least.now)) }
+{
     match place_of(listed, least) {
         Some(place) => {
             let own = choices_as_conflict(alloc, least.choices.as_slice())?;
@@ -129,6 +157,46 @@ fn split_zone(
         }
         None => Ok(None),
     }
+}
+
+/// Splits the zone of this number, whose least member has this rank, by the target of the listed one that stands for it.
+fn split_by_target(
+    alloc: Global,
+    groups: &Groups,
+    space: &mut Space,
+    n: u128,
+    listed: &[Rank],
+    least: &Rank,
+) -> Result<Option<Evidence>, AllocError>
+    ensures by { (question : QuestionOf) → IfOk result (λ by. by ≡ option_map (λ (cut : Cut). cut.by) (cut_of_listed (Some groups.now) question listed.now least.now)) }
+    ensures small { IfOk result (λ by. IfSome by EvidenceIsSmall) }
+    ensures space { (question : QuestionOf) (zone : ZoneValue) → Spaces.open_zone space.old n ≡ Some zone → OnOk result (space.new ≡ with_cut space.old n zone (cut_of_listed (Some groups.now) question listed.now least.now)) }
+{
+    match first_standing(groups, listed, least) {
+        Some(place) => {
+            space.split_by_groups(alloc, n, groups, listed[place].choices.as_slice())?;
+            Ok(Some(Evidence::Target(place as u128 + 1)))
+        }
+        None => Ok(None),
+    }
+}
+
+/// The place of the first listed candidate that stands for the rank.
+fn first_standing(groups: &Groups, listed: &[Rank], rank: &Rank) -> Option<usize>
+    ensures { result ≡ position (stands_for (Some groups.now) rank.now) listed.now }
+{
+    listed
+        .iter()
+        .position(|other| stands_for(groups, rank, other))
+}
+
+/// Whether the other is the rank, or ranks before it and has its target.
+fn stands_for(groups: &Groups, rank: &Rank, other: &Rank) -> bool
+    ensures { result ≡ stands_for (Some groups.now) rank.now other.now }
+{
+    is_same(rank, other)
+        || groups.are_one(rank.choices.as_slice(), other.choices.as_slice())
+            && other.before(rank)
 }
 
 /// The place of the first conflict that the choices contain.

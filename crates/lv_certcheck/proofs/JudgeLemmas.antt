@@ -31,7 +31,7 @@ use Rattle.lv_formula.specs.Tree.{Tree}
 use Rattle.lv_base.specs.Choices.{pairs_of, pairs_from}
 use Rattle.lv_cert_laws.specs.lv_cert_meaning.Counting.{is_one_of, at_number, pairs_of_numbers}
 use Rattle.lv_cert_laws.specs.lv_cert_meaning.Judging as Judging
-use Rattle.lv_cert_laws.specs.lv_cert_meaning.Space.{open_zone, with_split}
+use Rattle.lv_cert_laws.specs.lv_cert_meaning.Space.{open_zone}
 use Rattle.lv_cert_laws.specs.lv_cert_meaning.Stated.{Stated, with_state}
 use Rattle.lv_cert_laws.specs.lv_cert_meaning.Units.{units, choice_literal, nominal_units, goal_clauses}
 use Rattle.lv_search_zones.specs.lv_compile.FormulaClauses.{Clauses}
@@ -41,6 +41,7 @@ use Rattle.lv_cert_numbers.specs.Fitting.{IsStateOf, HasFewChoices, IsPairOf}
 use Rattle.lv_certcheck.specs.declared.judged.Judged.{Judged}
 use Rattle.lv_certcheck.specs.Giving.{Fits, IsWhole, with_clauses}
 use Rattle.lv_certcheck.specs.Stating.{observed}
+use Rattle.lv_certcheck.specs.Splits.{split_into}
 use Rattle.lv_certcheck.specs.Verdicts.{judged_of, came}
 
 -- values of all variables
@@ -103,13 +104,13 @@ by_zone P None s h told = absurd (cc h)
 by_zone P (Some zone) s h told = told zone refl (cc h)
 
 -- a zone split by the choices of an evidence, told for each open zone
-pub split_told : {E : Type 0} (old new : Judged) (n : ℕ) (by kind : Evidence) (s : ℕ) (r : Result Bool E) → by ≡ kind → option_map (λ (zone : ZoneValue). zone.source) (open_zone old.space n) ≡ Some s
+pub split_told : {E : Type 0} (plant : Plant) (old new : Judged) (n : ℕ) (by kind : Evidence) (s : ℕ) (r : Result Bool E) → by ≡ kind → option_map (λ (zone : ZoneValue). zone.source) (open_zone old.space n) ≡ Some s
     → ((zone : ZoneValue) → open_zone old.space n ≡ Some zone → zone.source ≡ s
-    → IfOk r (λ (good : Bool). came good new ≡ option_map (λ (pairs : List Pair). record (judged_of old) { space = with_split old.space n zone pairs }) (Judging.choices_of (judged_of old) zone kind)))
-    → IfOk r (λ (good : Bool). came good new ≡ Judging.judge_split (judged_of old) n by)
-split_told old new n by kind s r same source told =
-    subst (λ (e : Evidence). IfOk r (λ (good : Bool). came good new ≡ Judging.judge_split (judged_of old) n e)) (sym same)
-    (by_zone (λ (o : Option ZoneValue). IfOk r (λ (good : Bool). came good new ≡ option_and_then (λ (zone : ZoneValue). option_map (λ (pairs : List Pair). record (judged_of old) { space = with_split old.space n zone pairs }) (Judging.choices_of (judged_of old) zone kind)) o)) (open_zone old.space n) s source told)
+    → IfOk r (λ (good : Bool). came good new ≡ split_into (judged_of old) n (Judging.split_parts plant (judged_of old) zone kind)))
+    → IfOk r (λ (good : Bool). came good new ≡ Judging.judge_split plant (judged_of old) n by)
+split_told plant old new n by kind s r same source told =
+    subst (λ (e : Evidence). IfOk r (λ (good : Bool). came good new ≡ Judging.judge_split plant (judged_of old) n e)) (sym same)
+    (by_zone (λ (o : Option ZoneValue). IfOk r (λ (good : Bool). came good new ≡ option_and_then (λ (zone : ZoneValue). split_into (judged_of old) n (Judging.split_parts plant (judged_of old) zone kind)) o)) (open_zone old.space n) s source told)
 
 -- a conflict that rests on a block that ends empty
 conflict_opens : (j : Judging.Judged) (pairs : List Pair) (own : Clauses) (rest : List Line) → Judging.ends_empty rest ≡ true → Judging.with_conflict j pairs own rest ≡ Some (record j { excluded = j.excluded ++ pairs ∷ []; own = own })

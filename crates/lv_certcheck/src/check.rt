@@ -19,7 +19,7 @@ use lv_cert_blocks::Block;
 use lv_cert_numbers::{Counts, Space};
 use lv_model::Model;
 use lv_model_names::Lists;
-use lv_search_zones::{command_grid, command_zone, move_grid};
+use lv_search_zones::{command_grid, command_zone, move_grid, move_targets};
 use lv_system::{StepSystem, compile};
 use std::alloc::{AllocError, Global};
 
@@ -129,6 +129,7 @@ fn check_lines(alloc: Global, model: &Model, lines: &[Line]) -> Result<Verdict, 
 {
     let lists = Lists::of(alloc, model)?;
     let counts = Counts::of(alloc, model)?;
+    let targets = move_targets(alloc, model)?;
     // What is large comes last, so that no exit lets go of it.
     let system = compile(alloc, model)?;
     let setting = Setting {
@@ -136,6 +137,7 @@ fn check_lines(alloc: Global, model: &Model, lines: &[Line]) -> Result<Verdict, 
         system: &system,
         lists: &lists,
         counts: &counts,
+        targets: &targets,
     };
     let judge = Judge {
         alloc,

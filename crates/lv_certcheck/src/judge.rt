@@ -9,7 +9,7 @@ ghost use Rattle.lv_model.specs.Lists.{sizes, controls};
 ghost use Rattle.lv_meaning.specs.Commands as Commands;
 ghost use Rattle.lv_meaning.specs.Ranges.{ObservationFits};
 ghost use Rattle.lv_cert_laws.specs.lv_cert_meaning.Judging as Judging;
-ghost use Rattle.lv_cert_laws.specs.lv_cert_meaning.Space.{open_zone, with_split};
+ghost use Rattle.lv_cert_laws.specs.lv_cert_meaning.Space.{open_zone};
 ghost use Rattle.lv_cert_laws.specs.lv_cert_meaning.Stated as Stated;
 ghost use Rattle.lv_cert_laws.specs.lv_cert_meaning.Stated.{with_observation, observation_of, observed_literal, with_goal};
 ghost use Rattle.lv_search_zones.specs.lv_compile.Booleans.{booleans_now};
@@ -23,6 +23,9 @@ ghost use Rattle.lv_boxes.specs.Members.{ZoneValue};
 ghost use Rattle.lv_certcheck.specs.Settings.{IsSetting, plant_of};
 ghost use Rattle.lv_certcheck.specs.Giving.{Fits, with_clauses};
 ghost use Rattle.lv_certcheck.specs.Verdicts.{judged_of, came};
+ghost use Rattle.lv_certcheck.specs.Splits.{split_into};
+ghost use Rattle.lv_cert.specs.declared.line.Evidence.TheVariants as evidence;
+ghost use Rattle.lv_boxes.specs.Parts.{parts_of};
 
 use crate::blocks::{give_choices, give_goal, give_goals, give_nominal, give_units};
 use crate::judged::{Aimed, Judged};
@@ -33,7 +36,7 @@ use lv_base::{Cost, Lit, Pair, Rank, Seq, ValId};
 use lv_boxes::choices_as_conflict;
 use lv_cert::{Evidence, Head, Line, Literal, Moment, Question};
 use lv_cert_numbers::{
-    candidate_of, conflict_of, goal_of, observation_of, places_of, state_of, values_of,
+    candidate_of, conflict_of, goal_of, has_target, observation_of, places_of, state_of, values_of,
 };
 use lv_meaning::Observation;
 use lv_search_zones::zones_of;
@@ -108,6 +111,7 @@ impl<'a> Judge<'a> {
                 Ok(name.as_slice() == self.setting.model.plant().name.as_slice())
             }
             Line::Goal(text) => self.goal(judged, text.as_slice()),
+            Line::Distinct(k) => Ok(self.limit_to(judged, *k, true)),
             Line::Fact(moment, x, v) => self.fact(judged, *moment, *x, *v),
             Line::Clause(lits, hints) => self.clause(judged, lits.as_slice(), hints.as_slice()),
             Line::Split(n, by) => self.split(judged, *n, *by),
@@ -152,8 +156,19 @@ impl<'a> Judge<'a> {
         let [k] = ns else {
             return false;
         };
-        if 0 < *k && *k <= 64 {
-            judged.stated.k = *k as u32;
+        self.limit_to(judged, *k, false)
+    }
+
+    /// States how many candidates are listed at most, and whether their targets have to be distinct.
+    fn limit_to(&self, judged: &mut Judged<'a>, most: u128, distinct: bool) -> bool
+        requires setting { IsSetting self.now.setting }
+        requires fits { Fits (plant_of self.now.setting) self.now.setting.system.now judged.old }
+        ensures judged { came result judged.new ≡ Judging.limited (judged_of judged.old) (record { most = most; distinct = distinct }) }
+        ensures fits { IsTrue result → Fits (plant_of self.now.setting) self.now.setting.system.now judged.new }
+    {
+        if 0 < most && most <= 64 {
+            judged.stated.k = most as u32;
+            judged.stated.distinct = distinct;
             true
         } else {
             false
@@ -280,17 +295,24 @@ impl<'a> Judge<'a> {
         }
     }
 
-    /// Lists a candidate, if it ranks behind the one before.
+    /// Whether a candidate leads to the state of one that is listed, where targets have to be distinct.
+    fn has_old_target(&self, judged: &Judged<'a>, rank: &Rank) -> bool
+        requires setting { IsSetting self.now.setting }
+        ensures { result ≡ Judging.has_old_target (plant_of self.now.setting) (judged_of judged.now) rank.now }
+    {
+        judged.stated.distinct
+            && has_target(self.setting.targets, judged.listed.as_slice(), rank)
+    }
+
+    /// Lists a candidate, if it ranks behind the one before, and has a new target where this is asked for.
     fn list(&self, judged: &mut Judged<'a>, rank: Rank) -> Result<bool, AllocError>
         requires setting { IsSetting self.now.setting }
         requires fits { Fits (plant_of self.now.setting) self.now.setting.system.now judged.old }
         requires few { HasFewChoices rank }
-        ensures judged { IfOk result (λ good. came good judged.new ≡ Judging.with_listed (judged_of judged.old) rank) }
+        ensures judged { IfOk result (λ good. came good judged.new ≡ Judging.with_listed (plant_of self.now.setting) (judged_of judged.old) rank) }
         ensures fits { IfOk result (λ good. IsTrue good → Fits (plant_of self.now.setting) self.now.setting.system.now judged.new) }
     {
-        if let Some(last) = judged.last()
-            && !last.before(&rank)
-        {
+        if !is_next(judged, &rank) || self.has_old_target(judged, &rank) {
             return Ok(false);
         }
         judged.listed.push(rank)?;
@@ -585,7 +607,7 @@ impl<'a> Judge<'a> {
     fn split(&self, judged: &mut Judged<'a>, n: u128, by: Evidence) -> Result<bool, AllocError>
         requires setting { IsSetting self.now.setting }
         requires fits { Fits (plant_of self.now.setting) self.now.setting.system.now judged.old }
-        ensures judged { IfOk result (λ good. came good judged.new ≡ Judging.judge_split (judged_of judged.old) n by) }
+        ensures judged { IfOk result (λ good. came good judged.new ≡ Judging.judge_split (plant_of self.now.setting) (judged_of judged.old) n by) }
         ensures fits { IfOk result (λ good. IsTrue good → Fits (plant_of self.now.setting) self.now.setting.system.now judged.new) }
     {
         let Some(source) = source_of(judged, n) else {
@@ -594,6 +616,7 @@ impl<'a> Judge<'a> {
         match by {
             Evidence::Conflict(j) => self.split_by_conflict(judged, n, j),
             Evidence::Listed(j) => self.split_by_listed(judged, n, source, j),
+            Evidence::Target(j) => self.split_by_target(judged, n, j),
             Evidence::Recovery => self.split_by_listed(judged, n, source, 1),
         }
     }
@@ -606,7 +629,7 @@ impl<'a> Judge<'a> {
     ) -> Result<bool, AllocError>
         requires setting { IsSetting self.now.setting }
         requires fits { Fits (plant_of self.now.setting) self.now.setting.system.now judged.old }
-        ensures judged { (zone : ZoneValue) → open_zone judged.old.space n ≡ Some zone → IfOk result (λ good. came good judged.new ≡ option_map (λ pairs. record (judged_of judged.old) { space = with_split judged.old.space n zone pairs }) (at_number judged.old.excluded.items j)) }
+        ensures judged { (zone : ZoneValue) → open_zone judged.old.space n ≡ Some zone → IfOk result (λ good. came good judged.new ≡ split_into (judged_of judged.old) n (Judging.split_parts (plant_of self.now.setting) (judged_of judged.old) zone (evidence.Conflict j))) }
         ensures fits { IfOk result (λ good. IsTrue good → Fits (plant_of self.now.setting) self.now.setting.system.now judged.new) }
     {
         let Some(place) = place_in(judged.excluded.len(), j) else {
@@ -626,7 +649,7 @@ impl<'a> Judge<'a> {
     ) -> Result<bool, AllocError>
         requires setting { IsSetting self.now.setting }
         requires fits { Fits (plant_of self.now.setting) self.now.setting.system.now judged.old }
-        ensures judged { (zone : ZoneValue) → open_zone judged.old.space n ≡ Some zone → zone.source ≡ source → IfOk result (λ good. came good judged.new ≡ option_map (λ pairs. record (judged_of judged.old) { space = with_split judged.old.space n zone pairs }) (Judging.listed_choices (judged_of judged.old) zone j)) }
+        ensures judged { (zone : ZoneValue) → open_zone judged.old.space n ≡ Some zone → zone.source ≡ source → IfOk result (λ good. came good judged.new ≡ split_into (judged_of judged.old) n (option_map (parts_of zone) (Judging.listed_choices (judged_of judged.old) zone j))) }
         ensures fits { IfOk result (λ good. IsTrue good → Fits (plant_of self.now.setting) self.now.setting.system.now judged.new) }
     {
         let Some(place) = place_in(judged.listed.len(), j) else {
@@ -639,6 +662,45 @@ impl<'a> Judge<'a> {
         let conflict = choices_as_conflict(self.alloc, rank.choices.as_slice())?;
         judged.space.split(self.alloc, n, &conflict)?;
         Ok(true)
+    }
+
+    /// Splits a zone by the target of the listed candidate of this number, where targets have to be distinct and no member of
+    /// the zone ranks before it.
+    fn split_by_target(
+        &self,
+        judged: &mut Judged<'a>,
+        n: u128,
+        j: u128,
+    ) -> Result<bool, AllocError>
+        requires setting { IsSetting self.now.setting }
+        requires fits { Fits (plant_of self.now.setting) self.now.setting.system.now judged.old }
+        ensures judged { (zone : ZoneValue) → open_zone judged.old.space n ≡ Some zone → IfOk result (λ good. came good judged.new ≡ split_into (judged_of judged.old) n (Judging.target_parts (plant_of self.now.setting) (judged_of judged.old) zone j)) }
+        ensures fits { IfOk result (λ good. IsTrue good → Fits (plant_of self.now.setting) self.now.setting.system.now judged.new) }
+    {
+        if !judged.stated.distinct {
+            return Ok(false);
+        }
+        let Some(place) = place_in(judged.listed.len(), j) else {
+            return Ok(false);
+        };
+        let rank = &judged.listed[place];
+        if judged.space.has_before(self.alloc, n, rank)? {
+            return Ok(false);
+        }
+        judged
+            .space
+            .split_by_groups(self.alloc, n, self.setting.targets, rank.choices.as_slice())?;
+        Ok(true)
+    }
+}
+
+/// Whether a candidate ranks behind the last one that is listed.
+fn is_next(judged: &Judged<'_>, rank: &Rank) -> bool
+    ensures { result ≡ Judging.is_next judged.now.listed.items rank.now }
+{
+    match judged.last() {
+        Some(last) => last.before(rank),
+        None => true,
     }
 }
 

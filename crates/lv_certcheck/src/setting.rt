@@ -6,6 +6,7 @@ ghost use Rattle.lv_model_names.specs.Lists.{lists_of};
 ghost use Rattle.lv_system.specs.System.{IsSystemOf};
 ghost use Rattle.lv_cert_numbers.specs.Counts.{IsCountsOf};
 
+use lv_boxes::Groups;
 use lv_cert_numbers::Counts;
 use lv_model::Model;
 use lv_model_names::Lists;
@@ -18,4 +19,5 @@ pub struct Setting<'a> {
     pub system: &'a StepSystem,
     pub lists: &'a Lists,
     pub counts: &'a Counts,
+    pub targets: &'a Groups,
 }

@@ -13,11 +13,12 @@ use lv_model::TrackedState;
 use std::alloc::{AllocError, Global};
 use std::marker::Model;
 
-/// The limit of a diagnosis, the tracked states, what was commanded and seen, the same as literals in the order in which it
-/// is stated, and the goals of a recovery.
+/// The limit of a diagnosis, and whether it asks for distinct targets; the tracked states, what was commanded and seen, the
+/// same as literals in the order in which it is stated, and the goals of a recovery.
 #[derive(Drop)]
 pub struct Stated {
     pub k: u32,
+    pub distinct: bool,
     pub tracked: Vec<TrackedState>,
     pub facts: Facts,
     pub literals: Vec<Lit>,
@@ -33,7 +34,7 @@ impl Model for Stated {
 
     ghost coded = { Prim.hlevel (codes, condition.the_row.coded) };
 
-    ghost view = { λ s. record { k = s.k; tracked = s.tracked.items; facts = s.facts; literals = s.literals.items; goals = s.goals.items } };
+    ghost view = { λ s. record { k = s.k; distinct = s.distinct; tracked = s.tracked.items; facts = s.facts; literals = s.literals.items; goals = s.goals.items } };
 }
 
 impl Stated {
@@ -43,6 +44,7 @@ impl Stated {
     {
         Stated {
             k,
+            distinct: false,
             tracked: Vec::new(alloc),
             facts: Facts {
                 controls: Seq::new(alloc),

@@ -1,5 +1,5 @@
 -- A query is on the walk of the diagnosis, whatever its trial holds.
-use Rattle.std.proofs.Common.{◌≡◌, ℕ, Bool, List, [], refl, sym, subst, ap, ◌∙◌, arith, Result, Ok, Err}
+use Rattle.std.proofs.Common.{◌≡◌, ℕ, Bool, true, false, List, [], refl, sym, subst, ap, ◌∙◌, arith, Result, Ok, Err}
 use Rattle.std.specs.Result.{IfOk}
 use Rattle.lv_base.specs.declared.rank.Rank.{Rank}
 use Rattle.lv_base.specs.declared.ids.Cost.{Cost}
@@ -11,11 +11,14 @@ use Rattle.lv_model.specs.declared.state.TrackedState.{TrackedState}
 use Rattle.lv_meaning.specs.declared.facts.Facts.{Facts}
 use Rattle.lv_meaning.specs.Candidates.{candidates, is_possible_candidate}
 use Rattle.lv_meaning.specs.Diagnosis.{reason_of}
+use Rattle.lv_meaning.specs.Targets.{are_alike}
+use Rattle.lv_meaning.proofs.TargetLemmas.{targets_are_groups}
+use Rattle.lv_search_walk.specs.Groups.{alike_by}
 use Rattle.lv_search.specs.lv_boxes.RankedMembers.{ranked_members}
 use Rattle.lv_search.specs.Standing.{Standing, IsUnderWay, AreSame}
 use Rattle.lv_search_zones.specs.Moves.{move_slots, zones_from, is_full_choice}
 use Rattle.lv_ident.specs.Trial.{TrialValue}
-use Rattle.lv_ident.specs.Query.{QueryValue, IsQueryOf, IsTriedBy}
+use Rattle.lv_ident.specs.Query.{QueryValue, groups_for, IsQueryOf, IsTriedBy}
 use Rattle.lv_search_zones.proofs.ZoneLemmas.{zones_have_candidates, candidates_are_full}
 
 -- what holds of the meanings of one trial holds of the same meanings of another
@@ -31,34 +34,42 @@ pub tried_on : (plant : Plant) (facts : Facts) (old new : TrialValue) → IsTrie
     → IsTriedBy plant facts new
 tried_on plant facts old new h same = record { suits = same.suits_same ∙ h.suits; fits = same.fits_same ∙ h.fits; reason = same.reason_same ∙ h.reason }
 
-abbrev at_standing : Plant → Facts → Standing → QueryValue
-at_standing plant facts s = record { plant = plant; facts = facts; standing = s }
+-- where a search of this many candidates begins
+abbrev start : Plant → Bool → ℕ → List Rank → Standing
+start plant distinct k entries = record { k = k; groups = groups_for distinct plant; listed = []; kept = []; left = entries }
+
+-- the zones' members are the candidates
+pub search_is : (plant : Plant) (tracked : List TrackedState) (grid : List (List Cost)) → grid ≡ move_slots plant → (zones : List ZoneValue) → zones ≡ zones_from plant 0 tracked
+    → (left : List Rank) → left ≡ ranked_members grid zones → left ≡ candidates plant tracked
+search_is plant tracked grid grid_is zones zones_are left left_is = left_is ∙ (λ i. ranked_members (grid_is i) (zones_are i)) ∙ zones_have_candidates plant tracked
+
+started : (suits fits : Candidate → Bool) (reason : Candidate → List Pair) (plant : Plant) (distinct : Bool) (k : ℕ) (entries : List Rank) → IsUnderWay suits fits reason entries (start plant distinct k entries)
+started suits fits reason plant distinct k entries = record { walk = λ budget few. refl; trials = omega arith; k = refl; groups = refl; suit = λ suit. suit }
 
 -- a query that has tried nothing
-pub start_of : (plant : Plant) (facts : Facts) (tracked : List TrackedState) (grid : List (List Cost)) → grid ≡ move_slots plant → (zones : List ZoneValue) → zones ≡ zones_from plant 0 tracked → (k : ℕ)
-    → (left : List Rank) → left ≡ ranked_members grid zones → (s : Standing) → s ≡ record { k = k; listed = []; kept = []; left = left }
-    → at_standing plant facts s ≡ at_standing plant facts (record { k = k; listed = []; kept = []; left = candidates plant tracked })
-start_of plant facts tracked grid grid_is zones zones_are k left left_is s is =
-    ap (at_standing plant facts) is
-    ∙ ap (λ (rs : List Rank). at_standing plant facts (record { k = k; listed = []; kept = []; left = rs }))
-    (left_is ∙ (λ i. ranked_members (grid_is i) (zones_are i)) ∙ zones_have_candidates plant tracked)
+pub start_is : (plant : Plant) (facts : Facts) (distinct : Bool) (k : ℕ) (tracked : List TrackedState) (s : Standing) → s ≡ start plant distinct k (candidates plant tracked) → (q : QueryValue)
+    → q ≡ record { plant = plant; facts = facts; distinct = distinct; standing = s } → q ≡ record { plant = plant; facts = facts; distinct = distinct; standing = start plant distinct k (candidates plant tracked) }
+start_is plant facts distinct k tracked s is q made = made ∙ ap (λ (t : Standing). record { plant = plant; facts = facts; distinct = distinct; standing = t }) is
 
-started : (suits fits : Candidate → Bool) (reason : Candidate → List Pair) (k : ℕ) (entries : List Rank) → IsUnderWay suits fits reason entries (record { k = k; listed = []; kept = []; left = entries })
-started suits fits reason k entries = record { walk = λ budget few. refl; trials = omega arith; k = refl; suit = λ suit. suit }
-
-pub start_is_query : (plant : Plant) (facts : Facts) (tracked : List TrackedState) (k : ℕ) (q : QueryValue)
-    → q ≡ record { plant = plant; facts = facts; standing = record { k = k; listed = []; kept = []; left = candidates plant tracked } } → IsQueryOf tracked q
-start_is_query plant facts tracked k q is =
+pub start_is_query : (plant : Plant) (facts : Facts) (tracked : List TrackedState) (distinct : Bool) (k : ℕ) (q : QueryValue)
+    → q ≡ record { plant = plant; facts = facts; distinct = distinct; standing = start plant distinct k (candidates plant tracked) } → IsQueryOf tracked q
+start_is_query plant facts tracked distinct k q is =
     subst (λ (v : QueryValue). IsQueryOf tracked v) (sym is)
     (record {
-      under_way = started (is_full_choice plant) (is_possible_candidate plant facts) (reason_of plant facts) k (candidates plant tracked);
+      under_way = started (is_full_choice plant) (is_possible_candidate plant facts) (reason_of plant facts) plant distinct k (candidates plant tracked);
       suit = candidates_are_full plant tracked;
+      groups = refl;
     })
+
+-- the groups tell targets, where targets are told apart
+pub alike_is : (distinct : Bool) (plant : Plant) → alike_by (groups_for distinct plant) ≡ are_alike distinct plant
+alike_is false plant = refl
+alike_is true plant = λ i r q. sym (targets_are_groups plant r q) i
 
 pub start_is_tried : (plant : Plant) (facts : Facts) (t : TrialValue) → t ≡ record { plant = plant; facts = facts } → IsTriedBy plant facts t
 start_is_tried plant facts t is = subst (λ (v : TrialValue). IsTriedBy plant facts v) (sym is) (record { suits = refl; fits = refl; reason = refl })
 
--- what two facts about a result's value say together
-pub of_both : {X Y : Type 0} (r : Result X Y) (P Q S : X → Type 0) → ((x : X) → P x → Q x → S x) → IfOk r P → IfOk r Q → IfOk r S
-of_both (Ok x) P Q S f p q = f x p q
-of_both (Err e) P Q S f p q = tt
+-- what three facts about a result's value say together
+pub of_three : {X Y : Type 0} (r : Result X Y) (P Q R S : X → Type 0) → ((x : X) → P x → Q x → R x → S x) → IfOk r P → IfOk r Q → IfOk r R → IfOk r S
+of_three (Ok x) P Q R S f p q t = f x p q t
+of_three (Err e) P Q R S f p q t = tt

@@ -20,6 +20,7 @@ use Rattle.lv_meaning.specs.declared.facts.Facts.{Facts}
 use Rattle.lv_meaning.specs.Possible.{is_possible}
 use Rattle.lv_meaning.specs.Candidates.{is_possible_candidate}
 use Rattle.lv_meaning.specs.Diagnosis.{reason_of, diagnosis_walk}
+use Rattle.lv_meaning.specs.Targets.{are_alike}
 use Rattle.lv_meaning.specs.PossibleLaws.{are_below}
 use Rattle.lv_meaning.proofs.Possibility.{part_possible}
 use Rattle.lv_meaning.proofs.Reasons.{is_monotone, own_pairs}
@@ -134,26 +135,27 @@ all_suit_any : (ranks : List Rank) → list_all (λ (r : Rank). any_candidate (c
 all_suit_any [] = refl
 all_suit_any (r ∷ rs) = all_suit_any rs
 
-pub kept_apart_law : (plant : Plant) (facts : Facts) (k budget : ℕ) (ranks : List Rank) → none_in_another (diagnosis_walk plant facts k budget ranks).kept ≡ true
-kept_apart_law plant facts k budget ranks =
-    walk_kept_apart any_candidate (is_possible_candidate plant facts) (reason_of plant facts) (reasons_are_minimal plant facts) k budget ranks (all_suit_any ranks)
+pub kept_apart_law : (plant : Plant) (facts : Facts) (k budget : ℕ) (distinct : Bool) (ranks : List Rank) → none_in_another (diagnosis_walk plant facts k distinct budget ranks).kept ≡ true
+kept_apart_law plant facts k budget distinct ranks =
+    walk_kept_apart (are_alike distinct plant) any_candidate (is_possible_candidate plant facts) (reason_of plant facts) (reasons_are_minimal plant facts) k budget ranks (all_suit_any ranks)
 
 -- what each reason passes each kept conflict passes
-module _ (fits : Candidate → Bool) (reason : Candidate → List Pair) (p : List Pair → Bool) (passes : (c : Candidate) → fits c ≡ false → p (reason c) ≡ true) where
-  kept_pass : (k budget : ℕ) (left listed : List Rank) (kept : List (List Pair)) → list_all p kept ≡ true → list_all p (walk_from fits reason k budget listed kept left).kept ≡ true
+module _ (alike : Rank → Rank → Bool) (fits : Candidate → Bool) (reason : Candidate → List Pair) (p : List Pair → Bool) (passes : (c : Candidate) → fits c ≡ false → p (reason c) ≡ true) where
+  kept_pass : (k budget : ℕ) (left listed : List Rank) (kept : List (List Pair)) → list_all p kept ≡ true → list_all p (walk_from alike fits reason k budget listed kept left).kept ≡ true
   kept_pass k budget [] listed kept all = all
   kept_pass k budget (r ∷ rs) listed kept all =
-      turn fits reason k budget (λ w. list_all p w.kept ≡ true) r rs listed kept
+      turn alike fits reason k budget (λ w. list_all p w.kept ≡ true) r rs listed kept
       (λ _. all)
       (λ _. kept_pass k budget rs listed kept all)
+      (λ _. kept_pass k budget rs listed kept all)
       (λ _. all)
-      (λ _ _ _. kept_pass k budget rs (listed ++ (r ∷ [])) kept all)
+      (λ _ _ _ _. kept_pass k budget rs (listed ++ (r ∷ [])) kept all)
       (λ _ _ unfit. kept_pass k budget rs listed (kept ++ (reason (candidate_of r) ∷ [])) (list_all-append p kept (reason (candidate_of r) ∷ []) ∙ and_from (list_all p kept) (p (reason (candidate_of r)) && true) all (and_from (p (reason (candidate_of r))) true (passes (candidate_of r) unfit) refl)))
 
-pub kept_impossible_law : (plant : Plant) (facts : Facts) (k budget : ℕ) (ranks : List Rank) → list_all (λ conflict. not (is_possible plant facts conflict)) (diagnosis_walk plant facts k budget ranks).kept ≡ true
-kept_impossible_law plant facts k budget ranks =
-    kept_pass (is_possible_candidate plant facts) (reason_of plant facts) (λ conflict. not (is_possible plant facts conflict)) (λ c unfit. ap not (reason_impossible plant facts c unfit)) k budget ranks [] [] refl
+pub kept_impossible_law : (plant : Plant) (facts : Facts) (k budget : ℕ) (distinct : Bool) (ranks : List Rank) → list_all (λ conflict. not (is_possible plant facts conflict)) (diagnosis_walk plant facts k distinct budget ranks).kept ≡ true
+kept_impossible_law plant facts k budget distinct ranks =
+    kept_pass (are_alike distinct plant) (is_possible_candidate plant facts) (reason_of plant facts) (λ conflict. not (is_possible plant facts conflict)) (λ c unfit. ap not (reason_impossible plant facts c unfit)) k budget ranks [] [] refl
 
-pub kept_needed_law : (plant : Plant) (facts : Facts) (k budget : ℕ) (ranks : List Rank) → list_all (each_is_needed (is_possible plant facts) []) (diagnosis_walk plant facts k budget ranks).kept ≡ true
-kept_needed_law plant facts k budget ranks =
-    kept_pass (is_possible_candidate plant facts) (reason_of plant facts) (each_is_needed (is_possible plant facts) []) (λ c unfit. reason_needed plant facts c) k budget ranks [] [] refl
+pub kept_needed_law : (plant : Plant) (facts : Facts) (k budget : ℕ) (distinct : Bool) (ranks : List Rank) → list_all (each_is_needed (is_possible plant facts) []) (diagnosis_walk plant facts k distinct budget ranks).kept ≡ true
+kept_needed_law plant facts k budget distinct ranks =
+    kept_pass (are_alike distinct plant) (is_possible_candidate plant facts) (reason_of plant facts) (each_is_needed (is_possible plant facts) []) (λ c unfit. reason_needed plant facts c) k budget ranks [] [] refl

@@ -17,5 +17,5 @@ pub mod query;
 pub mod refutation;
 pub mod trial;
 
-pub use query::{Query, QueryEffort, identify};
+pub use query::{Query, QueryEffort, identify, identify_distinct};
 pub use trial::IdentTrial;

@@ -1,7 +1,7 @@
 //! A query: the search for the first candidates that are possible under facts, which can be gone on with.
 #![tactic(auto)]
 
-ghost use Rattle.std.specs.Prelude.{◌≡◌, ◌+◌, ◌<◌, ◌≤◌, ◌^◌, [], true, List, All, IfOk, length};
+ghost use Rattle.std.specs.Prelude.{◌≡◌, ◌+◌, ◌<◌, ◌≤◌, ◌^◌, [], true, false, List, All, IfOk, length};
 ghost use Rattle.lv_base.specs.declared.limits.TheConstants.{TRACKED};
 ghost use Rattle.lv_model.specs.declared.state.TrackedState.{TrackedState};
 ghost use Rattle.lv_system.specs.System.{IsSystemOf};
@@ -9,7 +9,7 @@ ghost use Rattle.lv_meaning.specs.Facts.{FactsFit, FactsInRange};
 ghost use Rattle.lv_meaning.specs.Candidates.{candidates, IsTracked};
 ghost use Rattle.lv_meaning.specs.Diagnosis.{diagnosis_walk};
 ghost use Rattle.lv_search.specs.Standing.{trials_of, all_suit};
-ghost use Rattle.lv_ident.specs.Query.{IsQueryOf};
+ghost use Rattle.lv_ident.specs.Query.{groups_for, IsQueryOf};
 ghost use Rattle.lv_search_zones.specs.Moves.{is_full_choice};
 
 use crate::trial::IdentTrial;
@@ -18,7 +18,7 @@ use lv_meaning::Facts;
 use lv_model::{Model, TrackedState};
 use lv_sat::Effort;
 use lv_search::{Guide, Outcome, Search};
-use lv_search_zones::{move_grid, zones_of};
+use lv_search_zones::{move_grid, move_targets, zones_of};
 use lv_system::StepSystem;
 use std::alloc::{AllocError, Global};
 use std::marker;
@@ -33,11 +33,13 @@ pub struct QueryEffort {
 }
 
 /// A search for the first candidates that are possible under facts. It keeps the facts beside its trial, of which a run
-/// leaves only the meaning as it was. Contracts see the plant, the facts, and where the search stands.
+/// leaves only the meaning as it was. Contracts see the plant, the facts, whether no two candidates of one target are to be
+/// listed, and where the search stands.
 #[derive(Drop)]
 pub struct Query<'a> {
     model: &'a Model,
     facts: Facts,
+    distinct: bool,
     trial: IdentTrial<'a>,
     search: Search<Guide>,
 }
@@ -51,7 +53,7 @@ impl<'a> marker::Model for Query<'a> {
 
     ghost coded = { Prim.hlevel (codes, condition.the_row.coded) };
 
-    ghost view = { λ q. record { plant = q.model.now; facts = q.facts; standing = q.search.standing } };
+    ghost view = { λ q. record { plant = q.model.now; facts = q.facts; distinct = q.distinct; standing = q.search.standing } };
 
     ghost invariant = { λ q. IsTriedBy q.model.now q.facts q.trial };
 }
@@ -65,6 +67,60 @@ fn copied(alloc: Global, facts: &Facts) -> Result<Facts, AllocError>
         present: Seq::from_slice(alloc, facts.present.as_slice())?,
         next: Seq::from_slice(alloc, facts.next.as_slice())?,
     })
+}
+
+/// The search along the candidates of the tracked states, which has tried none.
+fn search_of(
+    alloc: Global,
+    model: &Model,
+    tracked: &[TrackedState],
+    k: u32,
+    distinct: bool,
+) -> Result<Search<Guide>, AllocError>
+    requires few { length tracked.now ≤ TRACKED }
+    requires states { All (IsTracked (length model.now.parts)) tracked.now }
+    ensures { IfOk result (λ search. search.standing ≡ record { k = k; groups = groups_for distinct model.now; listed = []; kept = []; left = candidates model.now tracked.now }) }
+{
+    let grid = move_grid(alloc, model)?;
+    let zones = zones_of(alloc, model, tracked)?;
+    if distinct {
+        let targets = move_targets(alloc, model)?;
+        let left = Guide::new(alloc, grid, zones)?;
+        Search::new_distinct(alloc, left, k, targets)
+    } else {
+        let left = Guide::new(alloc, grid, zones)?;
+        Search::new(alloc, left, k)
+    }
+}
+
+/// A query that has tried nothing.
+fn query<'a>(
+    alloc: Global,
+    model: &'a Model,
+    system: &StepSystem,
+    facts: Facts,
+    distinct: bool,
+    search: Search<Guide>,
+) -> Result<Query<'a>, AllocError>
+    requires system { IsSystemOf model.now system.now }
+    requires fit { FactsFit model.now facts }
+    requires in_range { FactsInRange model.now facts }
+    ensures { IfOk result (λ query. query ≡ record { plant = model.now; facts = facts; distinct = distinct; standing = search.standing }) }
+{
+    let asked = copied(alloc, &facts)?;
+    match IdentTrial::new(alloc, model, system, asked) {
+        Ok(trial) => Ok(Query {
+            model,
+            facts,
+            distinct,
+            trial,
+            search,
+        }),
+        Err(error) => {
+            drop(search);
+            Err(error)
+        }
+    }
 }
 
 /// A query that has tried nothing, for the first `k` candidates of the tracked states that are possible under the facts,
@@ -82,26 +138,32 @@ pub fn identify<'a>(
     requires states { All (IsTracked (length model.now.parts)) tracked.now }
     requires fit { FactsFit model.now facts }
     requires in_range { FactsInRange model.now facts }
-    ensures start { IfOk result (λ query. query ≡ record { plant = model.now; facts = facts; standing = record { k = k; listed = []; kept = []; left = candidates model.now tracked.now } }) }
+    ensures start { IfOk result (λ query. query ≡ record { plant = model.now; facts = facts; distinct = false; standing = record { k = k; groups = groups_for false model.now; listed = []; kept = []; left = candidates model.now tracked.now } }) }
     ensures query { IfOk result (λ query. IsQueryOf tracked.now query) }
 {
-    let grid = move_grid(alloc, model)?;
-    let zones = zones_of(alloc, model, tracked)?;
-    let asked = copied(alloc, &facts)?;
-    let left = Guide::new(alloc, grid, zones)?;
-    let search = Search::new(alloc, left, k)?;
-    match IdentTrial::new(alloc, model, system, asked) {
-        Ok(trial) => Ok(Query {
-            model,
-            facts,
-            trial,
-            search,
-        }),
-        Err(error) => {
-            drop(search);
-            Err(error)
-        }
-    }
+    let search = search_of(alloc, model, tracked, k, false)?;
+    query(alloc, model, system, facts, false, search)
+}
+
+/// As `identify`, of a query that passes over a candidate which leads to the state of a listed one.
+pub fn identify_distinct<'a>(
+    alloc: Global,
+    model: &'a Model,
+    system: &StepSystem,
+    tracked: &[TrackedState],
+    facts: Facts,
+    k: u32,
+) -> Result<Query<'a>, AllocError>
+    requires system { IsSystemOf model.now system.now }
+    requires few { length tracked.now ≤ TRACKED }
+    requires states { All (IsTracked (length model.now.parts)) tracked.now }
+    requires fit { FactsFit model.now facts }
+    requires in_range { FactsInRange model.now facts }
+    ensures start { IfOk result (λ query. query ≡ record { plant = model.now; facts = facts; distinct = true; standing = record { k = k; groups = groups_for true model.now; listed = []; kept = []; left = candidates model.now tracked.now } }) }
+    ensures query { IfOk result (λ query. IsQueryOf tracked.now query) }
+{
+    let search = search_of(alloc, model, tracked, k, true)?;
+    query(alloc, model, system, facts, true, search)
 }
 
 impl<'a> Query<'a> {
@@ -111,12 +173,13 @@ impl<'a> Query<'a> {
         requires number { trials_of self.old.standing + more < 2 ^ 64 }
         requires suit { all_suit (is_full_choice self.old.plant) self.old.standing ≡ true }
         ensures walk { (tracked : List TrackedState) → IsQueryOf tracked self.old →
-            IfOk result (λ outcome. diagnosis_walk self.old.plant self.old.facts self.old.standing.k (trials_of self.old.standing + more) (candidates self.old.plant tracked) ≡ record { outcome = outcome; listed = self.new.standing.listed; kept = self.new.standing.kept }) }
+            IfOk result (λ outcome. diagnosis_walk self.old.plant self.old.facts self.old.standing.k self.old.distinct (trials_of self.old.standing + more) (candidates self.old.plant tracked) ≡ record { outcome = outcome; listed = self.new.standing.listed; kept = self.new.standing.kept }) }
         ensures query { (tracked : List TrackedState) → IsQueryOf tracked self.old → IfOk result (λ _. IsQueryOf tracked self.new) }
         ensures suit { IfOk result (λ _. all_suit (is_full_choice self.new.plant) self.new.standing ≡ true) }
         ensures few { IfOk result (λ _. trials_of self.new.standing ≤ trials_of self.old.standing + more) }
         ensures plant { self.new.plant ≡ self.old.plant }
         ensures facts { self.new.facts ≡ self.old.facts }
+        ensures distinct { self.new.distinct ≡ self.old.distinct }
         ensures k { IfOk result (λ _. self.new.standing.k ≡ self.old.standing.k) }
     {
         self.search.run(&mut self.trial, more)

@@ -7,6 +7,7 @@ pub mod Listing
 pub mod Answering
 pub mod OneAnswer
 pub mod Reasons
+pub mod TargetLemmas
 pub mod DiagnosisWalks
 pub mod NominalSteps
 pub mod CommandSets

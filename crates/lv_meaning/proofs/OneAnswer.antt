@@ -57,7 +57,7 @@ behind_first k x y xs ys h e f =
           λ fewer r a. ⊎_elim (λ is. absurd (not_first x r xs x_first a (is ∙ e))) (λ b. b) (f.none_left_out (omega arith) r (inr a));
     }
 
-first_is : (k : ℕ) (all first : List Rank) → rises all ≡ true → IsFirst k all first → first ≡ take k all
+pub first_is : (k : ℕ) (all first : List Rank) → rises all ≡ true → IsFirst k all first → first ≡ take k all
 first_is zero all [] h f = refl
 first_is zero all (y ∷ ys) h f = let few = f.few in absurd (omega arith)
 first_is (suc k) [] [] h f = refl

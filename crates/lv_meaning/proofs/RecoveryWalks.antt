@@ -8,8 +8,9 @@ use Rattle.lv_base.specs.Rank.{ranks_before}
 use Rattle.lv_model.specs.declared.plant.Plant.{Plant}
 use Rattle.lv_search_walk.specs.declared.outcome.Outcome.TheVariants.{Settled}
 use Rattle.lv_search_walk.specs.Ranked.{rises}
+use Rattle.lv_search_walk.specs.Walk.{none_alike}
 use Rattle.lv_search_walk.proofs.RankedLemmas.{not_before_itself, not_both_before}
-use Rattle.lv_search_walk.proofs.WalkLemmas.{is_exact, with_ample}
+use Rattle.lv_search_walk.proofs.WalkLemmas.{plain_exact, with_ample}
 use Rattle.lv_meaning.proofs.Among.{Among, among, all_among}
 use Rattle.lv_meaning.specs.declared.aim.Aim.{Aim}
 use Rattle.lv_meaning.specs.Recovers.{recovers}
@@ -72,8 +73,8 @@ module _ (plant : Plant) (aim : Aim) (budget : ℕ) where
 
   pub walk_exact : (recovery_walk plant aim budget).outcome ≡ Settled → (recovery_walk plant aim budget).listed ≡ take 1 (filter (rank_recovers plant aim) (command_sets plant))
   walk_exact settled =
-      is_exact (candidate_recovers plant aim) (candidate_reason plant aim) 1 budget (λ (c : Candidate). is_command_set plant c.choices) (reasons_are_sound plant aim) (command_sets plant) [] []
-      all_suit (omega arith) (λ s f g. refl) settled
+      plain_exact (λ (c : Candidate). is_command_set plant c.choices) (candidate_recovers plant aim) (candidate_reason plant aim) (reasons_are_sound plant aim) 1 budget (command_sets plant)
+      all_suit settled
 
   pub walk_found : (r : Rank) → (recovery_walk plant aim budget).outcome ≡ Settled → Contains (recovery_walk plant aim budget).listed r → IsRecovery plant aim r
   walk_found r settled there =
@@ -89,4 +90,4 @@ module _ (plant : Plant) (aim : Aim) (budget : ℕ) where
       (set_among plant (command_rank plant u) (record { values = values; cost = refl; source = refl }))
 
   pub walk_ample : length (command_sets plant) ≤ budget → (recovery_walk plant aim budget).outcome ≡ Settled
-  walk_ample few = with_ample (candidate_recovers plant aim) (candidate_reason plant aim) 1 budget (command_sets plant) [] [] (omega (arith, few))
+  walk_ample few = with_ample none_alike (candidate_recovers plant aim) (candidate_reason plant aim) 1 budget (command_sets plant) [] [] (omega (arith, few))

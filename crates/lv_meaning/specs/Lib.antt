@@ -2,6 +2,7 @@ pub mod Search
 pub mod Facts
 pub mod Possible
 pub mod Candidates
+pub mod Targets
 pub mod Diagnosis
 pub mod PossibleLaws
 pub mod CandidateLaws

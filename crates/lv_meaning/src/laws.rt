@@ -49,8 +49,9 @@ pub fn reason_is_minimal()
     ensures { ReasonIsMinimal }
 {}
 
-/// A settled walk of a diagnosis lists the first `k` candidates that are possible, or all if fewer are; with a trial for
-/// each candidate it is settled.
+/// A settled walk of a diagnosis lists the first `k` candidates that are possible, or all if fewer are; with the flag,
+/// only such of them as lead to a state to which no possible one before them leads. With a trial for each candidate it is
+/// settled.
 pub fn diagnosis_walk_is_exact()
     ensures { DiagnosisWalkIsExact }
 {}

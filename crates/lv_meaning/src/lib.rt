@@ -7,6 +7,7 @@
 //! | `specs/Facts` | what is commanded and observed, and what it is to meet that? |
 //! | `specs/Possible` | do some assignments and moves agree with the facts and with a partial choice? |
 //! | `specs/Candidates` | which candidates do the tracked states have, in the order of their ranks, and which are the first possible? |
+//! | `specs/Targets` | to which state does a candidate lead, and which are the first possible that lead to different ones? |
 //! | `specs/Diagnosis` | which of a candidate's choices already aren't possible together; which candidates does a diagnosis list, which reasons does it keep, within so many trials? |
 //! | `specs/Commands` | which command sets are there, in the order of their ranks? |
 //! | `specs/Recovers` | when does a command set recover? |

@@ -1,5 +1,6 @@
 -- A query is on the walk of the recovery.
 use Rattle.std.proofs.Common.{◌≡◌, Bool, true, List, [], ◌∷◌, refl, sym, subst, ap, ◌∙◌, arith, Result, Ok, Err}
+use Rattle.std.specs.Prelude.{None}
 use Rattle.std.specs.Result.{IfOk}
 use Rattle.lv_base.specs.declared.rank.Rank.{Rank}
 use Rattle.lv_base.specs.declared.ids.Cost.{Cost}
@@ -20,7 +21,7 @@ use Rattle.lv_reconf.specs.Trying.{Question, asking}
 use Rattle.lv_search_zones.proofs.CommandLemmas.{zone_has_sets, sets_suit}
 
 abbrev start : List Rank → Standing
-start entries = record { k = 1; listed = []; kept = []; left = entries }
+start entries = record { k = 1; groups = None; listed = []; kept = []; left = entries }
 
 -- the zone's members are the command sets
 pub search_is : (plant : Plant) → is_well_formed plant ≡ true → (grid : List (List Cost)) → grid ≡ control_slots plant → (zones : List ZoneValue) → zones ≡ command_zone plant ∷ []
@@ -28,7 +29,7 @@ pub search_is : (plant : Plant) → is_well_formed plant ≡ true → (grid : Li
 search_is plant well grid grid_is zones zones_are left left_is s is = is ∙ ap start (left_is ∙ (λ i. ranked_members (grid_is i) (zones_are i)) ∙ zone_has_sets plant well)
 
 started : (suits fits : Candidate → Bool) (reason : Candidate → List Pair) (entries : List Rank) → IsUnderWay suits fits reason entries (start entries)
-started suits fits reason entries = record { walk = λ budget few. refl; trials = omega arith; k = refl; suit = λ suit. suit }
+started suits fits reason entries = record { walk = λ budget few. refl; trials = omega arith; k = refl; groups = refl; suit = λ suit. suit }
 
 -- a query that has tried nothing
 start_is_query : (plant : Plant) (aim : Aim) → IsQuery (record { plant = plant; aim = aim; standing = start (command_sets plant) })
@@ -37,6 +38,7 @@ start_is_query plant aim =
       under_way = started (candidate_commands plant) (candidate_recovers plant aim) (candidate_reason plant aim) (command_sets plant);
       suit = sets_suit plant;
       one = refl;
+      plain = refl;
     }
 
 pub new_is_query : (plant : Plant) (aim : Aim) (s : Question) → s ≡ asking plant aim → (t : Standing) → t ≡ start (command_sets plant)
@@ -51,7 +53,7 @@ module _ (s t : Question) (is : t ≡ s) where
       → P (candidate_commands s.plant) (candidate_recovers s.plant s.aim) (candidate_reason s.plant s.aim)
   of_setting P holds = subst (λ (v : Question). P (candidate_commands v.plant) (candidate_recovers v.plant v.aim) (candidate_reason v.plant v.aim)) is holds
 
--- what three facts about a result's value say together
-pub of_three : {X Y : Type 0} (r : Result X Y) (P Q R S : X → Type 0) → ((x : X) → P x → Q x → R x → S x) → IfOk r P → IfOk r Q → IfOk r R → IfOk r S
-of_three (Ok x) P Q R S f p q t = f x p q t
-of_three (Err e) P Q R S f p q t = tt
+-- what four facts about a result's value say together
+pub of_four : {X Y : Type 0} (r : Result X Y) (P Q R S T : X → Type 0) → ((x : X) → P x → Q x → R x → S x → T x) → IfOk r P → IfOk r Q → IfOk r R → IfOk r S → IfOk r T
+of_four (Ok x) P Q R S T f p q t u = f x p q t u
+of_four (Err e) P Q R S T f p q t u = tt

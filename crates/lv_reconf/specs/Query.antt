@@ -1,5 +1,5 @@
 -- A query as contracts see it, and which walk it is on.
-use Rattle.std.specs.Prelude.{◌≡◌, true}
+use Rattle.std.specs.Prelude.{◌≡◌, true, None}
 use Rattle.lv_model.specs.declared.plant.Plant.{Plant}
 use Rattle.lv_meaning.specs.declared.aim.Aim.{Aim}
 use Rattle.lv_meaning.specs.Commands.{command_sets}
@@ -18,3 +18,4 @@ pub record IsQuery (q : QueryValue) : Type 0 where
   pub under_way : IsUnderWay (candidate_commands q.plant) (candidate_recovers q.plant q.aim) (candidate_reason q.plant q.aim) (command_sets q.plant) q.standing
   pub suit : all_suit (candidate_commands q.plant) q.standing ≡ true
   pub one : q.standing.k ≡ 1
+  pub plain : q.standing.groups ≡ None

@@ -1,7 +1,7 @@
 //! A query: the search for the first command set that recovers, which can be gone on with.
 #![tactic(auto)]
 
-ghost use Rattle.std.specs.Prelude.{◌≡◌, ◌+◌, ◌<◌, ◌≤◌, ◌^◌, [], true, IfOk};
+ghost use Rattle.std.specs.Prelude.{◌≡◌, ◌+◌, ◌<◌, ◌≤◌, ◌^◌, [], true, IfOk, None};
 ghost use Rattle.lv_system.specs.System.{IsSystemOf};
 ghost use Rattle.lv_search.specs.Standing.{trials_of, all_suit};
 ghost use Rattle.lv_meaning.specs.Commands.{command_sets};
@@ -43,7 +43,7 @@ impl<'a> marker::Model for Query<'a> {
 
 /// A search for the first of the command sets of a model, which has tried none.
 fn search_of(alloc: Global, model: &Model) -> Result<Search<Guide>, AllocError>
-    ensures { IfOk result (λ s. s.standing ≡ record { k = 1; listed = []; kept = []; left = command_sets model.now }) }
+    ensures { IfOk result (λ s. s.standing ≡ record { k = 1; groups = None; listed = []; kept = []; left = command_sets model.now }) }
 {
     let _plant = model.plant();
     let grid = command_grid(alloc, model)?;
@@ -63,7 +63,7 @@ pub fn recover<'a>(
 ) -> Result<Query<'a>, AllocError>
     requires system { IsSystemOf model.now system.now }
     requires fits { AimFits model.now aim }
-    ensures start { IfOk result (λ query. query ≡ record { plant = model.now; aim = aim; standing = record { k = 1; listed = []; kept = []; left = command_sets model.now } }) }
+    ensures start { IfOk result (λ query. query ≡ record { plant = model.now; aim = aim; standing = record { k = 1; groups = None; listed = []; kept = []; left = command_sets model.now } }) }
     ensures query { IfOk result (λ query. IsQuery query) }
 {
     let search = search_of(alloc, model)?;

@@ -12,9 +12,9 @@ use Rattle.lv_reply.specs.declared.reply.Reply.TheVariants.{Nothing as Silence}
 use Rattle.lv_session.specs.lv_session_request.declared.words.Word.{Word}
 use Rattle.lv_session.specs.lv_session_request.declared.words.Word.TheVariants as word
 use Rattle.lv_session.specs.lv_session_request.declared.request.Request.{Request}
-use Rattle.lv_session.specs.lv_session_request.declared.request.Request.TheVariants.{Nothing, Track, SetBudget, SetControl, Release, Observe, Retract, SetGoal, DropGoal, Diagnose, Recover, More, Commit, Conflicts, Labels, LabelsFrom, States, Reset, Quit, Probe}
+use Rattle.lv_session.specs.lv_session_request.declared.request.Request.TheVariants.{Nothing, Track, TrackDistinct, SetBudget, SetControl, Release, Observe, Retract, SetGoal, DropGoal, Diagnose, Recover, More, Commit, Conflicts, Labels, LabelsFrom, States, Reset, Quit, Probe}
 use Rattle.lv_session.specs.lv_session_request.Chain.{and_then}
-use Rattle.lv_session.specs.lv_session_request.Forms.{first_word, number_to}
+use Rattle.lv_session.specs.lv_session_request.Forms.{first_word, has_distinct_form, limited, number_to}
 use Rattle.lv_session.specs.lv_session_request.Goals.{goal_of}
 use Rattle.lv_session.specs.lv_session_request.Requests.{alone, command_of, release_of, sighting_of, retracted_of, request_by, asked_by_first, asked, asked_by, request_of}
 use Rattle.lv_session.specs.Session.{SessionState, unchanged, answered, stepped}
@@ -43,7 +43,11 @@ is_certificate_word w = false
 
 by_word : (plant : Plant) (lists : Lists) (w : Word) (line : List Lexeme) → is_certificate_word w ≡ false → asks (request_by plant lists w line) ≡ false
 by_word plant lists word.Certificate line h = absurd (cc h)
-by_word plant lists word.Track line h = never (number_to TRACKED line) (λ n. Track n) (λ _. refl)
+by_word plant lists word.Track line h = by (has_distinct_form line)
+  where
+    by : (b : Bool) → asks (cond b (and_then (limited TRACKED line) (λ n. Ok (TrackDistinct n))) (and_then (number_to TRACKED line) (λ n. Ok (Track n)))) ≡ false
+    by true = never (limited TRACKED line) (λ n. TrackDistinct n) (λ _. refl)
+    by false = never (number_to TRACKED line) (λ n. Track n) (λ _. refl)
 by_word plant lists word.Budget line h = never (number_to BUDGET line) (λ n. SetBudget n) (λ _. refl)
 by_word plant lists word.Command line h = never (command_of plant lists line) (λ c. SetControl c) (λ _. refl)
 by_word plant lists word.Release line h = never (release_of plant lists line) (λ n. Release n) (λ _. refl)

@@ -1,7 +1,8 @@
 -- What a turn does leaves the walk as it was.
-use Rattle.std.proofs.Common.{◌≡◌, ◌≢◌, ℕ, suc, ◌+◌, ◌≤◌, Bool, true, false, List, [], ◌∷◌, ◌++◌, length, drop, filter, refl, sym, ◌∙◌, ap, subst, cond, arith}
-use Rattle.std.specs.List.{list_all}
-use Rattle.std.proofs.lemmas.Bool.{and_from, and_parts}
+use Rattle.std.proofs.Common.{◌≡◌, ◌≢◌, ℕ, suc, ◌+◌, ◌≤◌, Bool, true, false, List, [], ◌∷◌, ◌++◌, length, drop, filter, nat_eq, inl, inr, refl, sym, ◌∙◌, ap, subst, cond, arith}
+use Rattle.std.specs.Prelude.{Option, Some, None}
+use Rattle.std.specs.List.{list_all, list_any}
+use Rattle.std.proofs.lemmas.Bool.{and_from, and_parts, or_left, or_right, eqb-true, eqb-false}
 use Rattle.std.proofs.lemmas.List.{length-append}
 use Rattle.std.proofs.lemmas.List.Folds.{list_any_at}
 use Rattle.lv_base.specs.declared.rank.Rank.{Rank}
@@ -9,12 +10,14 @@ use Rattle.lv_base.specs.declared.search.Pair.{Pair}
 use Rattle.lv_base.specs.declared.search.Candidate.{Candidate}
 use Rattle.lv_base.specs.Choices.{contains_all}
 use Rattle.lv_search_walk.specs.declared.outcome.Outcome.{Outcome}
-use Rattle.lv_search_walk.specs.Walk.{candidate_of}
-use Rattle.lv_search_walk.proofs.TurnLemmas.{walk_thinned, walk_listed, walk_refused}
-use Rattle.lv_search.specs.Frontier.{Thins}
+use Rattle.lv_search_walk.specs.Walk.{candidate_of, is_ruled_out, suit_all, walk_from}
+use Rattle.lv_search_walk.specs.Groups.{have_same_groups, alike_by}
+use Rattle.lv_search_walk.proofs.TurnLemmas.{walk_full, walk_repeated, walk_thinned, walk_listed, walk_refused}
+use Rattle.lv_search.specs.Frontier.{Thins, ThinsAlike, IsLikeFirst, LeftAfter}
 use Rattle.lv_search.specs.Standing.{Standing, trials_of, walk_on, conflict_at, all_suit, Follows, AreSame}
-use Rattle.lv_search.specs.Turn.{PassesOver, IsTrial, GoesOnTo, EndsAt}
+use Rattle.lv_search.specs.Turn.{PassesOver, IsRepeated, IsTrial, IsListed, GoesOnTo, EndsAt}
 use Rattle.lv_search.proofs.NextLemmas.{first_and_rest}
+use Rattle.lv_search.proofs.GroupLemmas.{has_own_groups, groups_join, alike_listed, alike_last}
 
 all_filtered : (p keeps : Rank → Bool) (rs : List Rank) → list_all p rs ≡ true → list_all p (filter keeps rs) ≡ true
 all_filtered p keeps [] h = refl
@@ -26,7 +29,7 @@ all_filtered p keeps (r ∷ rs) h = by (keeps r) (all_filtered p keeps rs (and_p
 
 module _ (suits fits : Candidate → Bool) (reason : Candidate → List Pair) where
   pub follows_itself : (s : Standing) → Follows suits fits reason s s
-  follows_itself s = record { walk = λ budget few. refl; trials = omega arith; k = refl; suit = λ h. h }
+  follows_itself s = record { walk = λ budget few. refl; trials = omega arith; k = refl; groups = refl; suit = λ h. h }
 
   pub follows_on : (a b d : Standing) → Follows suits fits reason a b → Follows suits fits reason b d → Follows suits fits reason a d
   follows_on a b d f g =
@@ -36,6 +39,7 @@ module _ (suits fits : Candidate → Bool) (reason : Candidate → List Pair) wh
         walk = λ budget few. g.walk budget few ∙ f.walk budget (omega (arith, then, few));
         trials = omega (arith, first, then);
         k = g.k ∙ f.k;
+        groups = g.groups ∙ f.groups;
         suit = λ h. g.suit (f.suit h);
       }
 
@@ -49,14 +53,91 @@ module _ (suits fits : Candidate → Bool) (reason : Candidate → List Pair) wh
         record {
           follows = record {
             walk = λ b _. ap (λ rs. walk_on fits reason b (record old { left = rs })) thins.same
-                ∙ walk_thinned fits reason old.k b thins.keeps old.left old.listed old.kept (λ r e. list_any_at (contains_all r.choices) old.kept number [] passes.within (thins.only r e));
+                ∙ walk_thinned (alike_by old.groups) fits reason old.k b thins.keeps old.left old.listed old.kept
+                (λ r e. or_left (is_ruled_out old.kept r.choices) (list_any (alike_by old.groups r) old.listed) (list_any_at (contains_all r.choices) old.kept number [] passes.within (thins.only r e)));
             trials = omega arith;
             k = refl;
+            groups = refl;
             suit = λ h. ap (λ rs. list_all (λ (r : Rank). suits (candidate_of r)) rs) thins.same ∙ all_filtered (λ (r : Rank). suits (candidate_of r)) thins.keeps old.left h;
           };
           few = few;
           nearer = omega (arith, shorter);
         }
+
+    -- what is left once the first is left out, which is alike a listed one now
+    module _ (groups : Option (List (List ℕ))) (rank : Rank) (rest listed : List Rank) (left : List Rank) (is_left : old.left ≡ rank ∷ rest) where
+      record IsBehind : Type 0 where
+        walk : (b : ℕ) → walk_from (alike_by groups) fits reason old.k b listed old.kept left ≡ walk_from (alike_by groups) fits reason old.k b listed old.kept rest
+        suit : all_suit suits old ≡ true → suit_all suits left ≡ true
+        short : length left ≤ length rest
+
+      alone : left ≡ drop 1 old.left → IsBehind
+      alone is =
+          let same : left ≡ rest = is ∙ ap (λ rs. drop 1 rs) is_left in
+          record {
+            walk = λ b. ap (λ rs. walk_from (alike_by groups) fits reason old.k b listed old.kept rs) same;
+            suit = λ h. ap (λ rs. suit_all suits rs) same
+                ∙ (and_parts (suits (candidate_of rank)) (suit_all suits rest) (sym (ap (λ rs. suit_all suits rs) is_left) ∙ h)).1;
+            short = let e : length left ≡ length rest = ap length same in omega (arith, e);
+          }
+
+      -- an entry that is alike the first is alike a listed one, and so is the first
+      thinned : (groups_are : List (List ℕ)) → groups ≡ Some groups_are → ((r : Rank) → have_same_groups groups_are r.choices rank.choices ≡ true → list_any (alike_by groups r) listed ≡ true)
+          → ThinsAlike groups_are old.left left → IsBehind
+      thinned gs is covered thins =
+          let shorter = thins.fewer in
+          let first_covered : list_any (alike_by groups rank) listed ≡ true = covered rank (has_own_groups gs rank.choices) in
+          record {
+            walk =
+                λ b. ap (λ rs. walk_from (alike_by groups) fits reason old.k b listed old.kept rs) thins.same
+                ∙ walk_thinned (alike_by groups) fits reason old.k b thins.keeps old.left listed old.kept
+                (λ r e. or_right (is_ruled_out old.kept r.choices) (list_any (alike_by groups r) listed) (covered r (subst (λ (rs : List Rank). IsLikeFirst gs r rs) is_left (thins.only r e))))
+                ∙ ap (λ rs. walk_from (alike_by groups) fits reason old.k b listed old.kept rs) is_left
+                ∙ over b (nat_eq (length listed) old.k) refl first_covered;
+            suit = λ h. ap (λ rs. suit_all suits rs) thins.same ∙ all_filtered (λ (r : Rank). suits (candidate_of r)) thins.keeps old.left h;
+            short = let long : length old.left ≡ suc (length rest) = ap length is_left in omega (arith, shorter, long);
+          }
+        where
+          over : (b : ℕ) (full : Bool) → nat_eq (length listed) old.k ≡ full → list_any (alike_by groups rank) listed ≡ true
+              → walk_from (alike_by groups) fits reason old.k b listed old.kept (rank ∷ rest) ≡ walk_from (alike_by groups) fits reason old.k b listed old.kept rest
+          over b true e h =
+              let full : length listed ≡ old.k = eqb-true (length listed) old.k e in
+              walk_full (alike_by groups) fits reason old.k b (rank ∷ rest) listed old.kept full ∙ sym (walk_full (alike_by groups) fits reason old.k b rest listed old.kept full)
+          over b false e h = walk_repeated (alike_by groups) fits reason old.k b rank rest listed old.kept (eqb-false (length listed) old.k e) h
+
+    behind : (groups : Option (List (List ℕ))) (rank : Rank) (rest listed left : List Rank) (is_left : old.left ≡ rank ∷ rest)
+        → ((gs : List (List ℕ)) → groups ≡ Some gs → (r : Rank) → have_same_groups gs r.choices rank.choices ≡ true → list_any (alike_by groups r) listed ≡ true)
+        → LeftAfter groups old.left left → IsBehind groups rank rest listed left is_left
+    behind None rank rest listed left is_left covered after = alone None rank rest listed left is_left after
+    behind (Some gs) rank rest listed left is_left covered (inl after) = alone (Some gs) rank rest listed left is_left after
+    behind (Some gs) rank rest listed left is_left covered (inr thins) = thinned (Some gs) rank rest listed left is_left gs refl (covered gs refl) thins
+
+    -- one that is alike a listed one is left out
+    pub repeated_goes_on : (left : List Rank) (new : Standing) → IsRepeated old → LeftAfter old.groups old.left left → new ≡ record old { left = left } → GoesOnTo suits fits reason budget old new
+    repeated_goes_on left new t after is =
+        let split = first_and_rest old.left t.rank t.first in
+        let now = behind old.groups t.rank split.0 old.listed left split.1
+        (λ gs same r e. alike_listed (alike_by old.groups) (groups_join old.groups) r t.rank old.listed (by_groups gs same r t.rank e) t.alike) after
+        in
+        let short = now.short in
+        let long : length old.left ≡ suc (length split.0) = ap length split.1 in
+        subst (λ (s : Standing). GoesOnTo suits fits reason budget old s) (sym is)
+        record {
+          follows = record {
+            walk = λ b _. now.walk b
+                ∙ sym (ap (λ rs. walk_from (alike_by old.groups) fits reason old.k b old.listed old.kept rs) split.1
+                ∙ walk_repeated (alike_by old.groups) fits reason old.k b t.rank split.0 old.listed old.kept t.fewer t.alike);
+            trials = omega arith;
+            k = refl;
+            groups = refl;
+            suit = now.suit;
+          };
+          few = few;
+          nearer = omega (arith, short, long);
+        }
+      where
+        by_groups : (gs : List (List ℕ)) → old.groups ≡ Some gs → (r q : Rank) → have_same_groups gs r.choices q.choices ≡ true → alike_by old.groups r q ≡ true
+        by_groups gs same r q e = ap (λ (g : Option (List (List ℕ))). alike_by g r q) same ∙ e
 
     module _ (rank : Rank) (candidate : Candidate) (t : IsTrial rank candidate budget old) where
       abbrev rest : List Rank
@@ -78,39 +159,43 @@ module _ (suits fits : Candidate → Bool) (reason : Candidate → List Pair) wh
       more_kept = let longer : length (old.kept ++ (reason candidate ∷ [])) ≡ length old.kept + 1 = length-append old.kept (reason candidate ∷ []) in omega (arith, longer)
 
       -- one that fits is listed
-      pub listed_goes_on : (new : Standing) → fits candidate ≡ true
-          → new ≡ record { k = old.k; listed = old.listed ++ (rank ∷ []); kept = old.kept; left = drop 1 old.left } → GoesOnTo suits fits reason budget old new
-      listed_goes_on new fit is =
-          subst (λ (s : Standing). GoesOnTo suits fits reason budget old s) (sym is)
+      pub listed_goes_on : (new : Standing) → fits candidate ≡ true → IsListed rank old new → GoesOnTo suits fits reason budget old new
+      listed_goes_on new fit l =
+          let now = behind old.groups rank rest (old.listed ++ (rank ∷ [])) new.left left_is
+          (λ gs same r e. alike_last (alike_by old.groups) r rank old.listed (ap (λ (g : Option (List (List ℕ))). alike_by g r rank) same ∙ e)) l.left
+          in
+          let short = now.short in
+          let long : length old.left ≡ suc (length rest) = ap length left_is in
+          subst (λ (s : Standing). GoesOnTo suits fits reason budget old s) (sym l.is)
           record {
             follows = record {
-              walk = λ b more. subst (λ (rs : List Rank). walk_on fits reason b (record { k = old.k; listed = old.listed ++ (rank ∷ []); kept = old.kept; left = drop 1 rs }) ≡ walk_on fits reason b (record old { left = rs })) (sym left_is)
-                  (sym (walk_listed fits reason old.k b rank rest old.listed old.kept t.fewer t.not_ruled_out (still_below b (omega (arith, more, more_listed))) (ap fits (sym t.candidate_is) ∙ fit)));
+              walk = λ b more. now.walk b
+                  ∙ sym (ap (λ rs. walk_from (alike_by old.groups) fits reason old.k b old.listed old.kept rs) left_is
+                  ∙ walk_listed (alike_by old.groups) fits reason old.k b rank rest old.listed old.kept t.fewer t.not_ruled_out t.fresh (still_below b (omega (arith, more, more_listed)))
+                  (ap fits (sym t.candidate_is) ∙ fit));
               trials = omega (arith, more_listed);
               k = refl;
-              suit = λ h. subst (λ (rs : List Rank). list_all (λ (r : Rank). suits (candidate_of r)) rs ≡ true → list_all (λ (r : Rank). suits (candidate_of r)) (drop 1 rs) ≡ true) (sym left_is)
-                  (λ a. (and_parts (suits (candidate_of rank)) (list_all (λ (r : Rank). suits (candidate_of r)) rest) a).1) h;
+              groups = refl;
+              suit = now.suit;
             };
             few = omega (arith, more_listed, one_left);
-            nearer =
-                let long : length old.left ≡ suc (length rest) = ap length left_is in
-                let short : length (drop 1 old.left) ≡ length rest = ap (λ rs. length (drop 1 rs)) left_is in
-                omega (arith, more_listed, one_left, long, short);
+            nearer = omega (arith, more_listed, one_left, long, short);
           }
 
       -- of one that doesn't the reason is kept
       pub refused_goes_on : (new : Standing) → fits candidate ≡ false → contains_all candidate.choices (reason candidate) ≡ true
-          → new ≡ record { k = old.k; listed = old.listed; kept = old.kept ++ (reason candidate ∷ []); left = old.left } → GoesOnTo suits fits reason budget old new
+          → new ≡ record { k = old.k; groups = old.groups; listed = old.listed; kept = old.kept ++ (reason candidate ∷ []); left = old.left } → GoesOnTo suits fits reason budget old new
       refused_goes_on new fit inside is =
           subst (λ (s : Standing). GoesOnTo suits fits reason budget old s) (sym is)
           record {
             follows = record {
-              walk = λ b more. subst (λ (rs : List Rank). walk_on fits reason b (record { k = old.k; listed = old.listed; kept = old.kept ++ (reason candidate ∷ []); left = rs }) ≡ walk_on fits reason b (record old { left = rs })) (sym left_is)
+              walk = λ b more. subst (λ (rs : List Rank). walk_on fits reason b (record { k = old.k; groups = old.groups; listed = old.listed; kept = old.kept ++ (reason candidate ∷ []); left = rs }) ≡ walk_on fits reason b (record old { left = rs })) (sym left_is)
                   (sym (subst (λ (c : Candidate). fits c ≡ false → contains_all c.choices (reason c) ≡ true
-                  → walk_on fits reason b (record old { left = rank ∷ rest }) ≡ walk_on fits reason b (record { k = old.k; listed = old.listed; kept = old.kept ++ (reason c ∷ []); left = rank ∷ rest })) (sym t.candidate_is)
-                  (walk_refused fits reason old.k b rank rest old.listed old.kept t.fewer t.not_ruled_out (still_below b (omega (arith, more, more_kept)))) fit inside));
+                  → walk_on fits reason b (record old { left = rank ∷ rest }) ≡ walk_on fits reason b (record { k = old.k; groups = old.groups; listed = old.listed; kept = old.kept ++ (reason c ∷ []); left = rank ∷ rest })) (sym t.candidate_is)
+                  (walk_refused (alike_by old.groups) fits reason old.k b rank rest old.listed old.kept t.fewer t.not_ruled_out t.fresh (still_below b (omega (arith, more, more_kept)))) fit inside));
               trials = omega (arith, more_kept);
               k = refl;
+              groups = refl;
               suit = λ h. h;
             };
             few = omega (arith, more_kept, one_left);
@@ -119,8 +204,8 @@ module _ (suits fits : Candidate → Bool) (reason : Candidate → List Pair) wh
 
       -- whatever the trial tells
       pub tried_goes_on : (new : Standing)
-          → (fits candidate ≡ true → new ≡ record { k = old.k; listed = old.listed ++ (rank ∷ []); kept = old.kept; left = drop 1 old.left })
-          → (fits candidate ≡ false → new ≡ record { k = old.k; listed = old.listed; kept = old.kept ++ (reason candidate ∷ []); left = old.left })
+          → (fits candidate ≡ true → IsListed rank old new)
+          → (fits candidate ≡ false → new ≡ record { k = old.k; groups = old.groups; listed = old.listed; kept = old.kept ++ (reason candidate ∷ []); left = old.left })
           → (fits candidate ≡ false → contains_all candidate.choices (reason candidate) ≡ true)
           → GoesOnTo suits fits reason budget old new
       tried_goes_on new listed refused inside = by (fits candidate) refl

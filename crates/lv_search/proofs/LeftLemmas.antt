@@ -102,7 +102,7 @@ module _ (slots : List (List Cost)) where
   left_of entries = ranked_members slots (zones_of entries)
 
   -- no entry's key ranks before this
-  abbrev NoKeyBefore : Rank → List (Rank × Open) → Type 0
+  abbrev pub NoKeyBefore : Rank → List (Rank × Open) → Type 0
   NoKeyBefore m entries = AllByRecursion (λ d. ranks_before d.0 m ≡ false) entries
 
   none_before : (m r : Rank) (entries : List (Rank × Open)) → AllByRecursion (IsKeptByLeast slots) entries → NoKeyBefore m entries
@@ -123,7 +123,7 @@ module _ (slots : List (List Cost)) where
       by false here h later = later (sym (ap (λ b. b || nat_lt 0 (times_in slots r (zones_of es))) here) ∙ h)
 
   -- the first entry's key is the first of what is left
-  first_is_key : (e : Rank × Open) (es : List (Rank × Open)) → AreKept slots (e ∷ es) → NoKeyBefore e.0 es → slice_get (left_of (e ∷ es)) 0 ≡ Some e.0
+  pub first_is_key : (e : Rank × Open) (es : List (Rank × Open)) → AreKept slots (e ∷ es) → NoKeyBefore e.0 es → slice_get (left_of (e ∷ es)) 0 ≡ Some e.0
   first_is_key e es kept keys =
       first_of_rising (left_of (e ∷ es)) e.0
       (among_ranked_members slots e.0 (zones_of (e ∷ es)) ∙ some_by_first slots e.0 e.1.zone (zones_of es) ∙ or_left (ranks_in slots e.0 e.1.zone) (nat_lt 0 (times_in slots e.0 (zones_of es))) (has_least_rank slots e.1.zone e.0 kept.least.0))
@@ -202,7 +202,7 @@ module _ (slots : List (List Cost)) where
       (sym (ap (λ m. nat_lt p.slot m) len) ∙ (and_parts (nat_lt p.slot (length choices)) (nat_eq (slice_index choices p.slot) p.choice) parts.0).0)
       (slots_within choices n ps len parts.1)
 
-  least_left : (e : Rank × Open) → IsKeptByLeast slots e → are_left slots e.1.zone.masks e.0.choices ≡ true
+  pub least_left : (e : Rank × Open) → IsKeptByLeast slots e → are_left slots e.1.zone.masks e.0.choices ≡ true
   least_left e l = (and_parts (nat_eq e.1.zone.source e.1.zone.source) (are_left slots e.1.zone.masks e.0.choices) l.least.member).1
 
   pub choices_per_slot : (costs : List (List Cost)) (masks choices : List ℕ) → are_left costs masks choices ≡ true → length choices ≡ length costs

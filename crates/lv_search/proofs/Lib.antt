@@ -1,7 +1,9 @@
 pub mod NextLemmas
+pub mod GroupLemmas
 pub mod FollowLemmas
 pub mod TimesLemmas
 pub mod LeftLemmas
+pub mod GroupLeftLemmas
 pub mod GuideLemmas
 pub mod RunLemmas
 pub use Rattle.lv_boxes.proofs as lv_boxes

@@ -4,16 +4,18 @@ use Rattle.std.specs.Prelude.{slice_get, position, Option, Some, None}
 use Rattle.std.specs.List.{list_any, position_or_len}
 use Rattle.std.proofs.lemmas.Bool.{ltb-false}
 use Rattle.std.proofs.lemmas.List.Quantifiers.{position-Some}
+use Rattle.std.proofs.lemmas.List.Folds.{list_any_at}
 use Rattle.lv_base.specs.declared.rank.Rank.{Rank}
 use Rattle.lv_base.specs.declared.search.Pair.{Pair}
 use Rattle.lv_base.specs.declared.search.Candidate.{Candidate}
 use Rattle.lv_base.specs.Choices.{contains_all}
 use Rattle.lv_search_walk.specs.declared.outcome.Outcome.TheVariants.{Settled, Unsettled}
 use Rattle.lv_search_walk.specs.Walk.{candidate_of, is_ruled_out}
+use Rattle.lv_search_walk.specs.Groups.{alike_by}
 use Rattle.lv_search_walk.proofs.TurnLemmas.{walk_full, walk_used_up}
 use Rattle.lv_search.specs.Frontier.{FirstContains}
 use Rattle.lv_search.specs.Standing.{Standing, trials_of, walk_on, conflict_at}
-use Rattle.lv_search.specs.Turn.{EndsHere, PassesOver, IsTrial}
+use Rattle.lv_search.specs.Turn.{EndsHere, PassesOver, IsRepeated, IsTrial}
 
 -- where the candidate has the rank's choices, the store was asked for these
 pub asked : (kept : List (List Pair)) {candidate : Candidate} {source : ℕ} {choices own : List ℕ} {found : Option ℕ}
@@ -55,20 +57,30 @@ module _ (s : Standing) (rank : Rank) (first : slice_get s.left 0 ≡ Some rank)
       let at = position-Some (contains_all rank.choices) s.kept number [] found in
       record { fewer = fewer; within = at.0; inside = first_contains s.left rank (conflict_at s.kept number) first at.1 }
 
-  not_ruled_out : position (contains_all rank.choices) s.kept ≡ None → is_ruled_out s.kept rank.choices ≡ false
-  not_ruled_out none = position-None (contains_all rank.choices) s.kept none
+  module _ (allowed : is_ruled_out s.kept rank.choices ≡ false) where
+    pub is_repeated : (number : ℕ) → position (alike_by s.groups rank) s.listed ≡ Some number → IsRepeated s
+    is_repeated number found =
+        let at = position-Some (alike_by s.groups rank) s.listed number rank found in
+        record { fewer = fewer; rank = rank; first = first; alike = list_any_at (alike_by s.groups rank) s.listed number rank at.0 at.1 }
 
-  pub used_up : (budget : ℕ) → position (contains_all rank.choices) s.kept ≡ None → trials_of s ≡ budget → EndsHere Unsettled budget s
-  used_up budget none used fits reason =
-      let rest = first_and_rest s.left rank first in
-      subst (λ (rs : List Rank). walk_on fits reason budget (record s { left = rs }) ≡ record { outcome = Unsettled; listed = s.listed; kept = s.kept }) (sym rest.1)
-      (walk_used_up fits reason s.k budget rank rest.0 s.listed s.kept fewer (not_ruled_out none) used)
+    fresh : position (alike_by s.groups rank) s.listed ≡ None → list_any (alike_by s.groups rank) s.listed ≡ false
+    fresh none = position-None (alike_by s.groups rank) s.listed none
 
-  pub is_trial : (candidate : Candidate) (budget : ℕ) → position (contains_all rank.choices) s.kept ≡ None → trials_of s ≢ budget → candidate ≡ candidate_of rank → IsTrial rank candidate budget s
-  is_trial candidate budget none left is = record { fewer = fewer; first = first; candidate_is = is; not_ruled_out = not_ruled_out none; not_used_up = left }
+    pub used_up : (budget : ℕ) → position (alike_by s.groups rank) s.listed ≡ None → trials_of s ≡ budget → EndsHere Unsettled budget s
+    used_up budget none used fits reason =
+        let rest = first_and_rest s.left rank first in
+        subst (λ (rs : List Rank). walk_on fits reason budget (record s { left = rs }) ≡ record { outcome = Unsettled; listed = s.listed; kept = s.kept }) (sym rest.1)
+        (walk_used_up (alike_by s.groups) fits reason s.k budget rank rest.0 s.listed s.kept fewer allowed (fresh none) used)
+
+    pub is_trial : (candidate : Candidate) (budget : ℕ) → position (alike_by s.groups rank) s.listed ≡ None → trials_of s ≢ budget → candidate ≡ candidate_of rank → IsTrial rank candidate budget s
+    is_trial candidate budget none left is = record { fewer = fewer; first = first; candidate_is = is; not_ruled_out = allowed; fresh = fresh none; not_used_up = left }
+
+-- what the store finds nothing in is not ruled out
+pub not_ruled_out : (kept : List (List Pair)) (choices : List ℕ) → position (contains_all choices) kept ≡ None → is_ruled_out kept choices ≡ false
+not_ruled_out kept choices none = position-None (contains_all choices) kept none
 
 pub is_full : (s : Standing) (budget : ℕ) → length s.listed ≡ s.k → EndsHere Settled budget s
-is_full s budget full fits reason = walk_full fits reason s.k budget s.left s.listed s.kept full
+is_full s budget full fits reason = walk_full (alike_by s.groups) fits reason s.k budget s.left s.listed s.kept full
 
 pub none_left : (s : Standing) (budget : ℕ) → slice_get s.left 0 ≡ None → EndsHere Settled budget s
 none_left s budget none fits reason =

@@ -1,8 +1,9 @@
 -- What may be left out of the candidates that are left.
-use Rattle.std.specs.Prelude.{◌≡◌, ◌<◌, Bool, true, false, List, [], ◌∷◌, length, filter}
+use Rattle.std.specs.Prelude.{◌≡◌, ◌<◌, ◌⊎◌, ℕ, Bool, true, false, List, [], ◌∷◌, length, drop, filter, Option, Some, None}
 use Rattle.lv_base.specs.declared.rank.Rank.{Rank}
 use Rattle.lv_base.specs.declared.search.Pair.{Pair}
 use Rattle.lv_base.specs.Choices.{contains_all}
+use Rattle.lv_search_walk.specs.Groups.{have_same_groups}
 
 -- there is a first, and it contains the conflict
 abbrev pub FirstContains : List Pair → List Rank → Type 0
@@ -15,3 +16,24 @@ pub record Thins (conflict : List Pair) (old new : List Rank) : Type 0 where
   pub same : new ≡ filter keeps old
   pub only : (r : Rank) → keeps r ≡ false → contains_all r.choices conflict ≡ true
   pub fewer : length new < length old
+
+-- the entry has the target of the first of these
+abbrev pub IsLikeFirst : List (List ℕ) → Rank → List Rank → Type 0
+IsLikeFirst groups r [] = ⊥
+IsLikeFirst groups r (q ∷ qs) = have_same_groups groups r.choices q.choices ≡ true
+
+-- some are left out, and only such as have the target of the first
+pub record ThinsAlike (groups : List (List ℕ)) (old new : List Rank) : Type 0 where
+  pub keeps : Rank → Bool
+  pub same : new ≡ filter keeps old
+  pub only : (r : Rank) → keeps r ≡ false → IsLikeFirst groups r old
+  pub fewer : length new < length old
+
+-- the first is left out, alone or with others that have its target
+abbrev pub LeavesOut : List (List ℕ) → List Rank → List Rank → Type 0
+LeavesOut groups old new = (new ≡ drop 1 old) ⊎ ThinsAlike groups old new
+
+-- where there are no groups, alone
+abbrev pub LeftAfter : Option (List (List ℕ)) → List Rank → List Rank → Type 0
+LeftAfter None old new = new ≡ drop 1 old
+LeftAfter (Some groups) old new = LeavesOut groups old new

@@ -1,5 +1,5 @@
 -- What the entries of a search are, and where its walk begins.
-use Rattle.std.specs.Prelude.{◌≡◌, ℕ, Bool, true, List, []}
+use Rattle.std.specs.Prelude.{◌≡◌, ℕ, Bool, true, List, [], Option}
 use Rattle.std.specs.List.{list_any}
 use Rattle.lv_base.specs.declared.ids.Cost.{Cost}
 use Rattle.lv_base.specs.declared.rank.Rank.{Rank}
@@ -19,5 +19,5 @@ pub record RankedMembersAreMembers : Type 0 where
       → ((c : Candidate) → list_any (λ zone. is_member slots zone c) zones ≡ true → suits c ≡ true) → suit_all suits (ranked_members slots zones) ≡ true
 
 abbrev pub StartIsUnderWay : Type 0
-StartIsUnderWay = (suits fits : Candidate → Bool) (reason : Candidate → List Pair) (k : ℕ) (entries : List Rank)
-    → IsUnderWay suits fits reason entries (record { k = k; listed = []; kept = []; left = entries })
+StartIsUnderWay = (suits fits : Candidate → Bool) (reason : Candidate → List Pair) (k : ℕ) (groups : Option (List (List ℕ))) (entries : List Rank)
+    → IsUnderWay suits fits reason entries (record { k = k; groups = groups; listed = []; kept = []; left = entries })

@@ -5,9 +5,10 @@
 ghost use Rattle.std.specs.Prelude.{◌≡◌, ◌≢◌, List, [], drop, slice_get, IfOk, IfSome};
 ghost use Rattle.std.specs.Option.{option_copied};
 ghost use Rattle.lv_base.specs.declared.rank.Rank.{Rank};
-ghost use Rattle.lv_search.specs.Frontier.{FirstContains, Thins};
+ghost use Rattle.lv_search.specs.Frontier.{FirstContains, Thins, LeavesOut};
 
 use lv_base::{Conflict, Rank};
+use lv_boxes::Groups;
 use std::alloc::AllocError;
 
 /// The candidates left. After want of memory a frontier is only dropped.
@@ -27,4 +28,9 @@ pub trait Frontier {
     fn split_first(&mut self, number: usize, conflict: &Conflict) -> Result<(), AllocError>
         requires { FirstContains conflict.now (left self.old) }
         ensures { IfOk result (λ _. Thins conflict.now (left self.old) (left self.new)) };
+
+    /// Leaves out the first, which has the target of the listed candidate of this number, and maybe others that have it.
+    fn drop_alike(&mut self, number: usize, groups: &Groups) -> Result<(), AllocError>
+        requires { left self.old ≢ [] }
+        ensures { IfOk result (λ _. LeavesOut groups.now (left self.old) (left self.new)) };
 }

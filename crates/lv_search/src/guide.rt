@@ -13,7 +13,7 @@ ghost use Rattle.lv_search.specs.Guide.{IsQueue, AreKeptBy, IsReady, HasMoreBy, 
 use super::frontier::Frontier;
 use super::zones::{least_of, own_choices};
 use lv_base::{Conflict, Rank, Seq, contains};
-use lv_boxes::{Grid, Zone, split};
+use lv_boxes::{Grid, Groups, Zone, split};
 use lv_search_guide::least_free::least_free;
 use std::alloc::{AllocError, Global};
 use std::collections::BTreeMap;
@@ -200,5 +200,9 @@ impl Frontier for Guide {
         look_ahead(self.alloc, &self.grid, self.known.as_slice(), &mut queue)?;
         self.queue = queue;
         Ok(())
+    }
+
+    fn drop_alike(&mut self, number: usize, _groups: &Groups) -> Result<(), AllocError> {
+        self.drop_first(number)
     }
 }

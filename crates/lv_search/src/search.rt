@@ -1,11 +1,12 @@
 //! The search: zones of candidates, what is listed and kept so far, and runs that go on where the last one stopped.
 #![tactic(auto)]
 
-ghost use Rattle.std.specs.Prelude.{◌≡◌, ◌+◌, ◌<◌, ◌≤◌, ◌^◌, [], true, List, take, filter, IfOk};
+ghost use Rattle.std.specs.Prelude.{◌≡◌, ◌+◌, ◌<◌, ◌≤◌, ◌^◌, [], true, List, IfOk, Some, None};
 ghost use Rattle.lv_base.specs.declared.rank.Rank.{Rank};
 ghost use Rattle.lv_search_walk.specs.declared.outcome.Outcome.TheVariants.{Settled};
-ghost use Rattle.lv_search_walk.specs.Walk.{candidate_of, walk, suit_all};
-ghost use Rattle.lv_search.specs.Standing.{trials_of, all_suit, AreSame, IsUnderWay};
+ghost use Rattle.lv_search_walk.specs.Walk.{distinct_walk, suit_all};
+ghost use Rattle.lv_search_walk.specs.Groups.{alike_by};
+ghost use Rattle.lv_search.specs.Standing.{trials_of, all_suit, first_fitting, AreSame, IsUnderWay};
 
 use super::frontier::Frontier;
 use super::guide::Guide;
@@ -13,6 +14,7 @@ use super::trial::Trial;
 use super::turn::{Held, take_turns};
 use super::zones::{Split, Zones};
 use lv_base::{Conflict, Rank, Seq};
+use lv_boxes::Groups;
 use lv_conflicts::Store;
 use lv_search_walk::Outcome;
 use std::alloc::{AllocError, Global};
@@ -39,7 +41,29 @@ impl<F: Frontier + Drop> Model for Search<F> {
 impl<F: Frontier + Drop> Search<F> {
     /// A search that has tried nothing, for the candidates left in the frontier.
     pub fn new(alloc: Global, frontier: F, k: u32) -> Result<Search<F>, AllocError>
-        ensures { IfOk result (λ search. search ≡ record { standing = record { k = k; listed = []; kept = []; left = F.left frontier }; frontier = frontier }) }
+        ensures { IfOk result (λ search. search ≡ record { standing = record { k = k; groups = None; listed = []; kept = []; left = F.left frontier }; frontier = frontier }) }
+    {
+        Ok(Search {
+            alloc,
+            held: Held {
+                k,
+                groups: None,
+                listed: Seq::new(alloc),
+                conflicts: Store::new(alloc)?,
+            },
+            frontier,
+        })
+    }
+
+    /// As `new`, of a search that lists no two candidates of one target: two have one where their choices are of the same
+    /// groups.
+    pub fn new_distinct(
+        alloc: Global,
+        frontier: F,
+        k: u32,
+        groups: Groups,
+    ) -> Result<Search<F>, AllocError>
+        ensures { IfOk result (λ search. search ≡ record { standing = record { k = k; groups = Some groups; listed = []; kept = []; left = F.left frontier }; frontier = frontier }) }
     {
         Ok(Search {
             alloc,
@@ -47,6 +71,7 @@ impl<F: Frontier + Drop> Search<F> {
                 k,
                 listed: Seq::new(alloc),
                 conflicts: Store::new(alloc)?,
+                groups: Some(groups),
             },
             frontier,
         })
@@ -58,11 +83,11 @@ impl<F: Frontier + Drop> Search<F> {
         requires number { trials_of self.old.standing + more < 2 ^ 64 }
         requires suit { all_suit (T.suits trial.old) self.old.standing ≡ true }
 
-        // It comes to what the walk comes to, and where that is settled lists the first that fit.
+        // It comes to what the walk comes to, and where that is settled lists the first that fit, with groups of each target.
         ensures walk { (entries : List Rank) → IsUnderWay (T.suits trial.old) (T.fits trial.old) (T.reason trial.old) entries self.old.standing →
-            IfOk result (λ outcome. walk (T.fits trial.old) (T.reason trial.old) self.old.standing.k (trials_of self.old.standing + more) entries ≡ record { outcome = outcome; listed = self.new.standing.listed; kept = self.new.standing.kept }) }
+            IfOk result (λ outcome. distinct_walk (alike_by self.old.standing.groups) (T.fits trial.old) (T.reason trial.old) self.old.standing.k (trials_of self.old.standing + more) entries ≡ record { outcome = outcome; listed = self.new.standing.listed; kept = self.new.standing.kept }) }
         ensures first { (entries : List Rank) → IsUnderWay (T.suits trial.old) (T.fits trial.old) (T.reason trial.old) entries self.old.standing → suit_all (T.suits trial.old) entries ≡ true →
-            IfOk result (λ outcome. outcome ≡ Settled → self.new.standing.listed ≡ take self.old.standing.k (filter (λ r. T.fits trial.old (candidate_of r)) entries)) }
+            IfOk result (λ outcome. outcome ≡ Settled → self.new.standing.listed ≡ first_fitting self.old.standing.groups self.old.standing.k (T.fits trial.old) entries) }
 
         // No more trials are made than were given.
         ensures few { IfOk result (λ _. trials_of self.new.standing ≤ trials_of self.old.standing + more) }
@@ -72,6 +97,7 @@ impl<F: Frontier + Drop> Search<F> {
             IfOk result (λ _. IsUnderWay (T.suits trial.old) (T.fits trial.old) (T.reason trial.old) entries self.new.standing) }
         ensures suit { IfOk result (λ _. all_suit (T.suits trial.old) self.new.standing ≡ true) }
         ensures k { IfOk result (λ _. self.new.standing.k ≡ self.old.standing.k) }
+        ensures groups { IfOk result (λ _. self.new.standing.groups ≡ self.old.standing.groups) }
         ensures same { AreSame T.suits T.fits T.reason trial.old trial.new }
     {
         let budget = self.held.trials() + more;
@@ -117,7 +143,8 @@ impl Search<Guide> {
 impl Search<Zones> {
     /// The splits made, in order: each a zone and the kept conflict or listed candidate that split it. Zones are numbered
     /// from 0, first those that the search began with; a split closes its zone and gives one zone for each pair of the
-    /// conflict, or for each choice of the candidate, the next numbers, those without members too. Takes no memory.
+    /// conflict, or for each slot of the candidate, the next numbers, those without members too. In a search with groups a
+    /// listed candidate splits zones by its target. Takes no memory.
     pub fn splits(&self) -> &[Split]
         ensures { result.now ≡ self.now.frontier.splits }
     {

@@ -2,24 +2,28 @@
 //! out what a kept conflict rules out, or tries the candidate.
 #![tactic(auto)]
 
-ghost use Rattle.std.specs.Prelude.{◌≡◌, ◌≢◌, ◌==◌, ◌+◌, ◌-◌, ◌<◌, ◌≤◌, ◌^◌, ◌++◌, ◌∷◌, [], List, true, false, length, slice_get, drop, IfOk, OnOk, IsTrue, Some};
+ghost use Rattle.std.specs.Prelude.{◌≡◌, ◌≢◌, ◌==◌, ◌+◌, ◌-◌, ◌<◌, ◌≤◌, ◌^◌, ◌++◌, ◌∷◌, [], List, true, false, length, slice_get, position, drop, IfOk, OnOk, IsTrue, Some};
 ghost use Rattle.lv_base.specs.declared.rank.Rank.{Rank};
-ghost use Rattle.lv_search_walk.specs.Walk.{candidate_of};
-ghost use Rattle.lv_search.specs.Frontier.{Thins};
+ghost use Rattle.std.specs.List.{list_any};
+ghost use Rattle.lv_search_walk.specs.Walk.{candidate_of, is_ruled_out};
+ghost use Rattle.lv_search_walk.specs.Groups.{have_same_groups, alike_by};
+ghost use Rattle.lv_search.specs.Frontier.{Thins, LeftAfter};
 ghost use Rattle.lv_search.specs.Standing.{Standing, trials_of, all_suit, walk_on, AreSame, Follows, conflict_at};
-ghost use Rattle.lv_search.specs.Turn.{standing, PassesOver, NextTells, EndsAt, TurnTells};
+ghost use Rattle.lv_search.specs.Turn.{standing, PassesOver, IsListed, NextTells, EndsAt, TurnTells};
 
 use super::frontier::Frontier;
 use super::trial::{Trial, Tried};
 use lv_base::{Candidate, Rank, Seq};
+use lv_boxes::Groups;
 use lv_conflicts::Store;
 use lv_search_walk::Outcome;
 use std::alloc::{AllocError, Global};
 
-/// What a search holds beside the candidates left.
+/// What a search holds beside the candidates left. Where it has groups, it lists no two candidates of one target.
 #[derive(Debug, Drop)]
 pub(crate) struct Held {
     pub(crate) k: u32,
+    pub(crate) groups: Option<Groups>,
     pub(crate) listed: Seq<Rank>,
     pub(crate) conflicts: Store,
 }
@@ -37,13 +41,34 @@ impl Held {
     {
         self.listed.len() == self.k as usize
     }
+
+    /// The number of the first listed candidate that has the target of this one; none where the search has no groups.
+    fn alike(&self, rank: &Rank) -> Option<usize>
+        ensures { result ≡ position (alike_by self.now.groups rank.now) self.now.listed }
+    {
+        match &self.groups {
+            Some(groups) => first_alike(groups, self.listed.as_slice(), rank.choices.as_slice()),
+            None => None,
+        }
+    }
 }
 
-/// What comes next: the search ends, or a kept conflict rules the first candidate out, or it is tried.
+/// The number of the first of these that has the target of the choices.
+fn first_alike(groups: &Groups, listed: &[Rank], choices: &[u32]) -> Option<usize>
+    ensures { result ≡ position (λ (q : Rank). have_same_groups groups.now choices.now q.choices) listed.now }
+{
+    listed
+        .iter()
+        .position(|other| groups.are_one(choices, other.choices.as_slice()))
+}
+
+/// What comes next: the search ends, or a kept conflict rules the first candidate out, or it has the target of a listed
+/// one, or it is tried.
 #[derive(Debug, Drop)]
 enum Next {
     Ends(Outcome),
     PassOver(usize),
+    Repeat(usize),
     Try(Rank, Candidate),
 }
 
@@ -68,6 +93,20 @@ fn first_of<F: Frontier>(alloc: Global, frontier: &F) -> Result<Option<Rank>, Al
     }
 }
 
+/// What comes next where this candidate is the first, and no kept conflict rules it out.
+fn next_allowed(held: &Held, budget: u64, rank: Rank, candidate: Candidate) -> Next
+    requires fewer { length held.now.listed ≢ held.now.k }
+    requires candidate { candidate ≡ candidate_of rank }
+    requires allowed { is_ruled_out held.now.conflicts rank.choices ≡ false }
+    ensures { (left : List Rank) → slice_get left 0 ≡ Some rank → NextTells result budget (standing left held.now) }
+{
+    match held.alike(&rank) {
+        Some(number) => Next::Repeat(number),
+        None if held.trials() == budget => Next::Ends(Outcome::Unsettled),
+        None => Next::Try(rank, candidate),
+    }
+}
+
 /// What comes next where this candidate is the first.
 fn next_at(alloc: Global, held: &Held, budget: u64, rank: Rank) -> Result<Next, AllocError>
     requires { length held.now.listed ≢ held.now.k }
@@ -76,8 +115,7 @@ fn next_at(alloc: Global, held: &Held, budget: u64, rank: Rank) -> Result<Next, 
     let candidate = Candidate::new(alloc, rank.source, rank.choices.as_slice())?;
     match held.conflicts.contained_in(&candidate) {
         Some(number) => Ok(Next::PassOver(number)),
-        None if held.trials() == budget => Ok(Next::Ends(Outcome::Unsettled)),
-        None => Ok(Next::Try(rank, candidate)),
+        None => Ok(next_allowed(held, budget, rank, candidate)),
     }
 }
 
@@ -107,12 +145,23 @@ fn pass_over<F: Frontier>(frontier: &mut F, held: &Held, number: usize) -> Resul
     frontier.split_first(number, held.conflicts.get(number))
 }
 
+/// Leaves out the first candidate, which has the target of the listed one of this number; with groups, maybe others too.
+fn leave_out<F: Frontier>(frontier: &mut F, held: &Held, number: usize) -> Result<(), AllocError>
+    requires { F.left frontier.old ≢ [] }
+    ensures { IfOk result (λ _. LeftAfter held.now.groups (F.left frontier.old) (F.left frontier.new)) }
+{
+    match &held.groups {
+        Some(groups) => frontier.drop_alike(number, groups),
+        None => frontier.drop_first(number),
+    }
+}
+
 /// Lists the first candidate, and leaves it out of what is left.
 fn list_first<F: Frontier>(frontier: &mut F, held: &mut Held, rank: Rank) -> Result<(), AllocError>
     requires { F.left frontier.old ≢ [] }
-    ensures { IfOk result (λ _. standing (F.left frontier.new) held.new ≡ record { k = held.old.k; listed = held.old.listed ++ rank ∷ []; kept = held.old.conflicts; left = drop 1 (F.left frontier.old) }) }
+    ensures { IfOk result (λ _. IsListed rank (standing (F.left frontier.old) held.old) (standing (F.left frontier.new) held.new)) }
 {
-    frontier.drop_first(held.listed.len())?;
+    leave_out(frontier, held, held.listed.len())?;
     held.listed.push(rank)
 }
 
@@ -127,8 +176,8 @@ fn try_first<F: Frontier, T: Trial>(
     requires first { slice_get (F.left frontier.old) 0 ≡ Some rank }
     requires suits { IsTrue (T.suits trial.old candidate.now) }
     ensures same { AreSame T.suits T.fits T.reason trial.old trial.new }
-    ensures fits { IfOk result (λ _. T.fits trial.old candidate.now ≡ true → standing (F.left frontier.new) held.new ≡ record { k = held.old.k; listed = held.old.listed ++ rank ∷ []; kept = held.old.conflicts; left = drop 1 (F.left frontier.old) }) }
-    ensures refused { IfOk result (λ _. T.fits trial.old candidate.now ≡ false → standing (F.left frontier.new) held.new ≡ record { k = held.old.k; listed = held.old.listed; kept = held.old.conflicts ++ T.reason trial.old candidate.now ∷ []; left = F.left frontier.old }) }
+    ensures fits { IfOk result (λ _. T.fits trial.old candidate.now ≡ true → IsListed rank (standing (F.left frontier.old) held.old) (standing (F.left frontier.new) held.new)) }
+    ensures refused { IfOk result (λ _. T.fits trial.old candidate.now ≡ false → standing (F.left frontier.new) held.new ≡ record { k = held.old.k; groups = held.old.groups; listed = held.old.listed; kept = held.old.conflicts ++ T.reason trial.old candidate.now ∷ []; left = F.left frontier.old }) }
 {
     match trial.attempt(candidate)? {
         Tried::Fits => list_first(frontier, held, rank),
@@ -153,6 +202,10 @@ fn take_turn<F: Frontier, T: Trial>(
         Next::Ends(outcome) => Ok(Turn::Ends(outcome)),
         Next::PassOver(number) => {
             pass_over(frontier, held, number)?;
+            Ok(Turn::GoesOn)
+        }
+        Next::Repeat(number) => {
+            leave_out(frontier, held, number)?;
             Ok(Turn::GoesOn)
         }
         Next::Try(rank, candidate) => {

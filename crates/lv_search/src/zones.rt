@@ -5,6 +5,7 @@
 
 ghost use Rattle.std.specs.Prelude.{◌≡◌, ◌≤◌, true, IfOk, IfSome, OnOk, OnErr, is_none, [], ◌∷◌, length};
 ghost use Rattle.lv_boxes.specs.Parts.{parts_of};
+ghost use Rattle.lv_boxes.specs.GroupParts.{parts_by_groups};
 ghost use Rattle.lv_boxes.specs.Laws.{pairs_of};
 ghost use Rattle.lv_boxes.specs.Least.{lacks_choice};
 ghost use Rattle.lv_boxes.specs.RankedMembers.{IsLeastRank, ranked_members, sources_differ};
@@ -12,7 +13,7 @@ ghost use Rattle.lv_search.specs.Zones.{AreKept, HasMore, HasRoomFor};
 
 use super::frontier::Frontier;
 use lv_base::{Conflict, Rank, Seq};
-use lv_boxes::{Grid, Zone, choices_as_conflict, split};
+use lv_boxes::{Grid, Groups, Zone, choices_as_conflict, split, split_by_groups};
 use std::alloc::{AllocError, Global};
 use std::collections::BTreeMap;
 use std::marker::Model;
@@ -130,6 +131,25 @@ fn open_parts(
     open_all(alloc, grid, queue, made, parts)
 }
 
+/// Opens the parts into which the target of a member splits a zone that is closed.
+fn open_others(
+    alloc: Global,
+    grid: &Grid,
+    queue: &mut BTreeMap<Rank, Open>,
+    made: &mut usize,
+    zone: &Zone,
+    groups: &Groups,
+    member: &[u32],
+) -> Result<(), AllocError>
+    requires member { length member.now ≡ length groups.now }
+    requires room { HasRoomFor grid.now (parts_by_groups zone.now groups.now member.now) queue.old.entries }
+    ensures ok { OnOk result (HasMore grid.now (parts_by_groups zone.now groups.now member.now) queue.old.entries queue.new.entries) }
+    ensures err { OnErr result (AreKept grid.now queue.new.entries) }
+{
+    let parts = split_by_groups(alloc, zone, groups, member)?;
+    open_all(alloc, grid, queue, made, parts)
+}
+
 impl Zones {
     /// The members of these zones, of which no two have one source. The grid tells what choices cost.
     pub fn new(alloc: Global, grid: Grid, zones: Vec<Zone>) -> Result<Zones, AllocError>
@@ -202,6 +222,31 @@ impl Frontier for Zones {
                 self.splits.push(Split {
                     zone: open.number,
                     by: By::Conflict(number),
+                })?;
+                Ok(())
+            }
+            None => Ok(()),
+        }
+    }
+
+    fn drop_alike(&mut self, number: usize, groups: &Groups) -> Result<(), AllocError> {
+        if !groups.fit(&self.grid) {
+            return self.drop_first(number);
+        }
+        match self.queue.pop_first() {
+            Some((rank, open)) => {
+                open_others(
+                    self.alloc,
+                    &self.grid,
+                    &mut self.queue,
+                    &mut self.made,
+                    &open.zone,
+                    groups,
+                    rank.choices.as_slice(),
+                )?;
+                self.splits.push(Split {
+                    zone: open.number,
+                    by: By::Listed(number),
                 })?;
                 Ok(())
             }

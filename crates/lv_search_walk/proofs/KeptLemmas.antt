@@ -47,7 +47,7 @@ none_in_more (d ∷ ds) c none apart =
         let here = and_parts (not (has_pairs d e) && not (has_pairs e d)) (apart_from d es) all in
         and_from (not (has_pairs d e) && not (has_pairs e d)) (apart_from d (es ++ (c ∷ []))) here.0 (one_more es here.1 far)
 
-module _ (suits fits : Candidate → Bool) (reason : Candidate → List Pair) (minimal : AreMinimal suits fits reason) where
+module _ (alike : Rank → Rank → Bool) (suits fits : Candidate → Bool) (reason : Candidate → List Pair) (minimal : AreMinimal suits fits reason) where
   -- a refused candidate's reason
   pub record IsReason (conflict : List Pair) : Type 0 where
     pub of : Candidate
@@ -79,19 +79,20 @@ module _ (suits fits : Candidate → Bool) (reason : Candidate → List Pair) (m
       (far_from_kept c suit unfit ds all.1 parts.1)
 
   pub kept_apart : (k budget : ℕ) (left listed : List Rank) (kept : List (List Pair)) → list_all (λ (r : Rank). suits (candidate_of r)) left ≡ true → AllByRecursion IsReason kept
-      → none_in_another kept ≡ true → none_in_another (walk_from fits reason k budget listed kept left).kept ≡ true
+      → none_in_another kept ≡ true → none_in_another (walk_from alike fits reason k budget listed kept left).kept ≡ true
   kept_apart k budget [] listed kept suit all none = none
   kept_apart k budget (r ∷ rs) listed kept suit all none =
       let parts = and_parts (suits (candidate_of r)) (list_all (λ (q : Rank). suits (candidate_of q)) rs) suit in
-      turn fits reason k budget (λ w. none_in_another w.kept ≡ true) r rs listed kept
+      turn alike fits reason k budget (λ w. none_in_another w.kept ≡ true) r rs listed kept
       (λ _. none)
       (λ _. kept_apart k budget rs listed kept parts.1 all none)
+      (λ _. kept_apart k budget rs listed kept parts.1 all none)
       (λ _. none)
-      (λ _ _ _. kept_apart k budget rs (listed ++ (r ∷ [])) kept parts.1 all none)
+      (λ _ _ _ _. kept_apart k budget rs (listed ++ (r ∷ [])) kept parts.1 all none)
       (λ free _ unfit.
       kept_apart k budget rs listed (kept ++ (reason (candidate_of r) ∷ [])) parts.1
       (all_more kept (reason (candidate_of r)) all (record { of = candidate_of r; suit = parts.0; unfit = unfit; is = refl }))
       (none_in_more kept (reason (candidate_of r)) none (far_from_kept (candidate_of r) parts.0 unfit kept all free)))
 
-  pub walk_kept_apart : (k budget : ℕ) (entries : List Rank) → list_all (λ (r : Rank). suits (candidate_of r)) entries ≡ true → none_in_another (walk_from fits reason k budget [] [] entries).kept ≡ true
+  pub walk_kept_apart : (k budget : ℕ) (entries : List Rank) → list_all (λ (r : Rank). suits (candidate_of r)) entries ≡ true → none_in_another (walk_from alike fits reason k budget [] [] entries).kept ≡ true
   walk_kept_apart k budget entries suit = kept_apart k budget entries [] [] suit tt refl

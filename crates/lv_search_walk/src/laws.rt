@@ -2,7 +2,7 @@
 //! needs one calls it.
 #![tactic(auto)]
 
-ghost use Rattle.lv_search_walk.specs.Laws.{RankedIsInOrder, RankedListIsOne, ReducedIsImpossiblePart, ReducedIsMinimal, WalkListsFitting, SettledWalkIsExact, WalkIsTakenUp, KeptAreApart};
+ghost use Rattle.lv_search_walk.specs.Laws.{RankedIsInOrder, RankedListIsOne, ReducedIsImpossiblePart, ReducedIsMinimal, WalkListsFitting, WalkIsPlain, SettledWalkIsExact, WalkIsTakenUp, KeptAreApart};
 
 /// Ranks put in order rise, and are the same ranks.
 pub fn ranked_is_in_order()
@@ -24,13 +24,19 @@ pub fn reduced_is_minimal()
     ensures { ReducedIsMinimal }
 {}
 
-/// A walk lists at most `k`, what it lists fits, and its trials are within the budget.
+/// The walk in which no entry is alike another is the plain one.
+pub fn walk_is_plain()
+    ensures { WalkIsPlain }
+{}
+
+/// A walk lists at most `k` and no two that are alike, what it lists fits, and its trials are within the budget.
 pub fn walk_lists_fitting()
     ensures { WalkListsFitting }
 {}
 
-/// Where no reason is in a candidate that fits, a settled walk lists the first `k` that fit, or all if fewer do; and a
-/// walk with a trial for each candidate is settled.
+/// Where no reason is in a candidate that fits, a settled walk lists the first `k` that fit, or all if fewer do; one that
+/// lists no two which are alike lists the first `k` of those that fit and are alike none before them that fits. A walk
+/// with a trial for each candidate is settled.
 pub fn settled_walk_is_exact()
     ensures { SettledWalkIsExact }
 {}

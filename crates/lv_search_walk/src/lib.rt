@@ -5,7 +5,8 @@
 //! | definitions | what they say |
 //! |---|---|
 //! | `specs/Ranked` | ranks in order |
-//! | `specs/Walk` | which candidates are tried, listed and passed over, and how it ends |
+//! | `specs/Walk` | which candidates are tried, listed and passed over, and how it ends; with a flag, none that is alike a listed one is listed |
+//! | `specs/Groups` | which candidates have one target, told by groups of choices |
 //! | `specs/Reason` | the reason of a candidate that doesn't fit, by leaving choices out |
 //! | `specs/Laws` | what these promise |
 #![tactic(auto)]

@@ -20,6 +20,10 @@ costs_of moves = map (λ (m : Move). m.cost) moves
 abbrev pub part_costs : List ComponentType → Part → List Cost
 part_costs types p = costs_of (type_moves types p)
 
+-- the numbers of the moves' target modes
+abbrev pub targets_of : List Move → List ℕ
+targets_of moves = map (λ (m : Move). m.target.0) moves
+
 -- of each part what its moves cost
 abbrev pub move_slots : Plant → List (List Cost)
 move_slots plant = map (part_costs plant.types) plant.parts

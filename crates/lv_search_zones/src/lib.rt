@@ -4,6 +4,7 @@
 //! | file | what it holds |
 //! |---|---|
 //! | `grid` | what the moves of each part cost |
+//! | `targets` | the targets of the moves of each part |
 //! | `zones` | the candidates of each tracked state, as a zone |
 //! | `commands` | what the values of each control cost, and the one zone of the command sets |
 //! | `laws` | that the members of these zones are the candidates and the command sets |
@@ -12,8 +13,10 @@
 pub mod commands;
 pub mod grid;
 pub mod laws;
+pub mod targets;
 pub mod zones;
 
 pub use commands::{command_grid, command_zone};
 pub use grid::move_grid;
+pub use targets::move_targets;
 pub use zones::zones_of;

@@ -121,22 +121,23 @@ module _ (plant : Plant) (state : SessionState) (q : Query) (sum : ℕ) (w : Wal
       sym (ap (λ (x : Outcome). commit_by x plant state (walked plant state sum).listed) o) ∙ sym (ap (λ (x : Query). commit x plant state) is)
 
 -- the walk of these facts is that of the state which they are of
-pub walked_at : (plant : Plant) (state : SessionState) (p : Plant) (f : Facts) (k m sum : ℕ) → p ≡ plant → f ≡ facts_of state → k ≡ state.k → m ≡ sum
-    → diagnosis_walk p f k m (candidates p state.tracked) ≡ walked plant state sum
+pub walked_at : (plant : Plant) (state : SessionState) (p : Plant) (f : Facts) (k : ℕ) (d : Bool) (m sum : ℕ) → p ≡ plant → f ≡ facts_of state → k ≡ state.k → d ≡ state.distinct → m ≡ sum
+    → diagnosis_walk p f k d m (candidates p state.tracked) ≡ walked plant state sum
 unfolding walked
-walked_at plant state p f k m sum plant_is facts_are k_is m_is = λ i. diagnosis_walk (plant_is i) (facts_are i) (k_is i) (m_is i) (candidates (plant_is i) state.tracked)
+walked_at plant state p f k d m sum plant_is facts_are k_is d_is m_is = λ i. diagnosis_walk (plant_is i) (facts_are i) (k_is i) (d_is i) (m_is i) (candidates (plant_is i) state.tracked)
 
 -- a search of the state's diagnosis that has run on
-pub has_run : (plant : Plant) (state : SessionState) (n sum : ℕ) (old new : QueryValue) (o : Outcome) → old.plant ≡ plant → old.facts ≡ facts_of state → old.standing.k ≡ state.k
+pub has_run : (plant : Plant) (state : SessionState) (n sum : ℕ) (old new : QueryValue) (o : Outcome) → old.plant ≡ plant → old.facts ≡ facts_of state → old.standing.k ≡ state.k → old.distinct ≡ state.distinct
     → trials_of old.standing + n ≡ sum → IsQueryOf state.tracked new
-    → diagnosis_walk old.plant old.facts old.standing.k (trials_of old.standing + n) (candidates old.plant state.tracked) ≡ record { outcome = o; listed = new.standing.listed; kept = new.standing.kept }
-    → new.plant ≡ old.plant → new.facts ≡ old.facts → new.standing.k ≡ old.standing.k → IsDiagnosisAt plant state sum (record { query = new; outcome = o })
-has_run plant state n sum old new o plant_is facts_are k_is sum_is on walk plant_same facts_same k_same = record {
+    → diagnosis_walk old.plant old.facts old.standing.k old.distinct (trials_of old.standing + n) (candidates old.plant state.tracked) ≡ record { outcome = o; listed = new.standing.listed; kept = new.standing.kept }
+    → new.plant ≡ old.plant → new.facts ≡ old.facts → new.standing.k ≡ old.standing.k → new.distinct ≡ old.distinct → IsDiagnosisAt plant state sum (record { query = new; outcome = o })
+has_run plant state n sum old new o plant_is facts_are k_is d_is sum_is on walk plant_same facts_same k_same d_same = record {
   plant_is = plant_same ∙ plant_is;
   facts_are = facts_same ∙ facts_are;
   k = k_same ∙ k_is;
+  distinct = d_same ∙ d_is;
   on_walk = on;
-  came_to = sym (walked_at plant state old.plant old.facts old.standing.k (trials_of old.standing + n) sum plant_is facts_are k_is sum_is) ∙ walk;
+  came_to = sym (walked_at plant state old.plant old.facts old.standing.k old.distinct (trials_of old.standing + n) sum plant_is facts_are k_is d_is sum_is) ∙ walk;
 }
 
 -- what the search lists
@@ -170,6 +171,7 @@ other_query plant state q sum d at = record {
   plant_is = at.plant_is;
   facts_are = at.facts_are;
   k = at.k;
+  distinct = at.distinct;
   on_walk = at.on_walk;
   came_to = other_walk plant state q sum ∙ at.came_to;
 }
@@ -177,12 +179,12 @@ other_query plant state q sum d at = record {
 -- a search that isn't settled has run on
 pub gone_on : (plant : Plant) (state : SessionState) (sum n : ℕ) (d : Diagnosed) (new : QueryValue) (o : Outcome) → IsDiagnosisAt plant state sum d → d.outcome ≡ Unsettled
     → IsQueryOf state.tracked new
-    → diagnosis_walk d.query.plant d.query.facts d.query.standing.k (trials_of d.query.standing + n) (candidates d.query.plant state.tracked)
+    → diagnosis_walk d.query.plant d.query.facts d.query.standing.k d.query.distinct (trials_of d.query.standing + n) (candidates d.query.plant state.tracked)
     ≡ record { outcome = o; listed = new.standing.listed; kept = new.standing.kept }
-    → new.plant ≡ d.query.plant → new.facts ≡ d.query.facts → new.standing.k ≡ d.query.standing.k → IsDiagnosisAt plant state (sum + n) (record { query = new; outcome = o })
-gone_on plant state sum n d new o at unsettled on walk plant_same facts_same k_same =
+    → new.plant ≡ d.query.plant → new.facts ≡ d.query.facts → new.standing.k ≡ d.query.standing.k → new.distinct ≡ d.query.distinct → IsDiagnosisAt plant state (sum + n) (record { query = new; outcome = o })
+gone_on plant state sum n d new o at unsettled on walk plant_same facts_same k_same d_same =
     let made : trials_of d.query.standing ≡ sum = trials_at plant state sum d at unsettled in
-    has_run plant state n (sum + n) d.query new o at.plant_is at.facts_are at.k (omega (arith, made)) on walk plant_same facts_same k_same
+    has_run plant state n (sum + n) d.query new o at.plant_is at.facts_are at.k at.distinct (omega (arith, made)) on walk plant_same facts_same k_same d_same
 
 -- what holds anyhow holds where a result is Ok
 pub when_ok : {A E : Type 0} {P : Type 0} (r : Result A E) → P → OnOk r P

@@ -129,7 +129,7 @@ settled_is Unsettled p same settled = let clash : is_settled_by Unsettled ≡ tr
 -- the walk that a search has come to, where it is settled
 module _ (plant : Plant) (state : SessionState) (sum : ℕ) where
   pub settled_diagnosis : (d : Diagnosed) → IsDiagnosisAt plant state sum d → is_settled_by (walked plant state sum).outcome ≡ true
-      → IsSettledDiagnosis plant state.tracked (facts_of state) state.k d.query.standing.listed d.query.standing.kept
+      → IsSettledDiagnosis plant state.tracked (facts_of state) state.k state.distinct d.query.standing.listed d.query.standing.kept
   unfolding walked
   settled_diagnosis d at settled =
       let o : d.outcome ≡ Settled = settled_is d.outcome (walked plant state sum).outcome (ap (λ (w : Walked). w.outcome) at.came_to) settled in
@@ -143,10 +143,10 @@ module _ (plant : Plant) (state : SessionState) (sum : ℕ) where
       record { budget = sum; settled = at.came_to ∙ ap (λ (x : Outcome). record { outcome = x; listed = r.query.standing.listed; kept = r.query.standing.kept }) o }
 
   pub certifies_walked : (d : Diagnosed) (lines : List Line) (text : List ℕ) → IsDiagnosisAt plant state sum d
-      → CertifiesDiagnosis plant state.tracked (facts_of state) state.k d.query.standing.listed lines → AreFormed plant lines → text ≡ text_of lines → CertifiesWalked plant state sum text
+      → CertifiesDiagnosis plant state.tracked (facts_of state) state.k state.distinct d.query.standing.listed lines → AreFormed plant lines → text ≡ text_of lines → CertifiesWalked plant state sum text
   certifies_walked d lines text at certifies formed is = record {
     lines = lines;
-    certifies = subst (λ (rs : List Rank). CertifiesDiagnosis plant state.tracked (facts_of state) state.k rs lines) (sym (ap (λ (w : Walked). w.listed) at.came_to)) certifies;
+    certifies = subst (λ (rs : List Rank). CertifiesDiagnosis plant state.tracked (facts_of state) state.k state.distinct rs lines) (sym (ap (λ (w : Walked). w.listed) at.came_to)) certifies;
     formed = formed;
     is = is;
   }

@@ -14,7 +14,7 @@ use Rattle.lv_reply.specs.declared.reply.Reply.TheVariants.{Refused, Committed, 
 use Rattle.lv_session_request.specs.declared.goals.Goal.{Goal}
 use Rattle.lv_session_request.specs.declared.request.Sighting.{Sighting}
 use Rattle.lv_session_request.specs.declared.request.Request.{Request}
-use Rattle.lv_session_request.specs.declared.request.Request.TheVariants.{Nothing, Track, SetBudget, SetControl, Release, Observe, Retract, SetGoal, DropGoal, Diagnose, Recover, More, Commit, Conflicts, Certificate, Labels, LabelsFrom, States, Reset, Quit, Probe}
+use Rattle.lv_session_request.specs.declared.request.Request.TheVariants.{Nothing, Track, TrackDistinct, SetBudget, SetControl, Release, Observe, Retract, SetGoal, DropGoal, Diagnose, Recover, More, Commit, Conflicts, Certificate, Labels, LabelsFrom, States, Reset, Quit, Probe}
 use Rattle.lv_session.specs.declared.query.Query.{Query}
 use Rattle.lv_session.specs.declared.query.Query.TheVariants.{Absent, Diagnosis, Recovery}
 use Rattle.lv_session.specs.declared.running.Running.{Running}
@@ -40,7 +40,7 @@ module _ (plant : Plant) (state : SessionState) (running : Running) (is : IsCurr
       by Absent r h = tt
       by (Diagnosis sum) kept.Nothing h = h
       by (Diagnosis sum) (kept.Recovery r) h = h
-      by (Diagnosis sum) (kept.Diagnosis d) h = record { plant_is = h.plant_is; facts_are = h.facts_are; k = h.k; on_walk = h.on_walk; came_to = same_walk plant state budget ended sum ∙ h.came_to }
+      by (Diagnosis sum) (kept.Diagnosis d) h = record { plant_is = h.plant_is; facts_are = h.facts_are; k = h.k; distinct = h.distinct; on_walk = h.on_walk; came_to = same_walk plant state budget ended sum ∙ h.came_to }
       by (Recovery sum) kept.Nothing h = h
       by (Recovery sum) (kept.Diagnosis d) h = h
       by (Recovery sum) (kept.Recovery r) h = record { plant_is = h.plant_is; aim_is = h.aim_is; some = h.some; on_walk = h.on_walk; came_to = same_recovery plant state budget ended sum ∙ h.came_to }
@@ -137,6 +137,7 @@ module _ (plant : Plant) (old : SessionState) (before after : Running) (is : IsC
   cared_for : (request : Request) → IsCaredFor request plant (carried_out plant old request).state before after → IsCurrent plant (carried_out plant old request).state after
   cared_for Nothing care = left old is care
   cared_for (Track n) care = tt
+  cared_for (TrackDistinct n) care = tt
   cared_for (SetBudget n) care = left (record old { budget = n }) (others_kept plant old before is n old.is_ended) care
   cared_for (SetControl c) care = tt
   cared_for (Release place) care = tt

@@ -20,7 +20,8 @@ use Rattle.lv_model.proofs.Reading.{All-at, All-of_test, type_of_place, types_pa
 use Rattle.lv_system.specs.lv_compile.Booleans.{booleans_now}
 use Rattle.lv_system.proofs.lv_compile.RangeLemmas.{have_part}
 use Rattle.lv_meaning.specs.Ranges.{modes_fit, StateFits}
-use Rattle.lv_tracker.specs.Targets.{target_mode, target_modes, target_state, HasMoves}
+use Rattle.lv_meaning.specs.Targets.{target_mode, target_modes}
+use Rattle.lv_tracker.specs.Targets.{target_state, HasMoves}
 use Rattle.lv_tracker.specs.Tracked.{start_state}
 
 -- a number below a variable's size is one of its values

@@ -32,7 +32,7 @@ use Rattle.lv_meaning.specs.Ranges.{StateFits}
 use Rattle.lv_session_request.specs.declared.goals.Goal.{Goal}
 use Rattle.lv_session_request.specs.declared.request.Sighting.{Sighting}
 use Rattle.lv_session_request.specs.declared.request.Request.{Request}
-use Rattle.lv_session_request.specs.declared.request.Request.TheVariants.{Nothing, Track, SetBudget, SetControl, Release, Observe, Retract, SetGoal, DropGoal, Diagnose, Recover, More, Commit, Conflicts, Certificate, Labels, LabelsFrom, States, Reset, Quit, Probe}
+use Rattle.lv_session_request.specs.declared.request.Request.TheVariants.{Nothing, Track, TrackDistinct, SetBudget, SetControl, Release, Observe, Retract, SetGoal, DropGoal, Diagnose, Recover, More, Commit, Conflicts, Certificate, Labels, LabelsFrom, States, Reset, Quit, Probe}
 use Rattle.lv_session_request.specs.Forms.{IsUpTo}
 use Rattle.lv_session_request.specs.Goals.{IsGoalIn}
 use Rattle.lv_session_request.specs.Requests.{IsSightingIn, IsRequestOf}
@@ -103,8 +103,8 @@ costs_map plant time (r ∷ rs) all =
 
 module _ (plant : Plant) (state : SessionState) (h : is_well_formed plant ≡ true) (is : IsStateOf plant state) where
   -- what no other field is about may change
-  numbers_kept : (k budget : ℕ) (query : Query) (ended : Bool) → IsUpTo TRACKED k → IsStateOf plant (record state { k = k; budget = budget; query = query; is_ended = ended })
-  numbers_kept k budget query ended few =
+  numbers_kept : (k : ℕ) (distinct : Bool) (budget : ℕ) (query : Query) (ended : Bool) → IsUpTo TRACKED k → IsStateOf plant (record state { k = k; distinct = distinct; budget = budget; query = query; is_ended = ended })
+  numbers_kept k distinct budget query ended few =
       record { controls_whole = is.controls_whole; values = is.values; modes = is.modes; fit = is.fit; costs = is.costs; time = is.time; k = few; present = is.present; next = is.next; held = is.held; goals = is.goals; few_goals = is.few_goals }
 
   control_kept : (place : ℕ) (value : ValId) → ((x : VarId) → slice_get (controls plant) place ≡ Some x → value.0 < slice_index_or (sizes plant) x.0 0)
@@ -193,7 +193,7 @@ module _ (plant : Plant) (state : SessionState) (h : is_well_formed plant ≡ tr
     where
       by : (b : Bool) → IsStateOf plant (cond b (unchanged state (Refused NoGoal)) (recovered plant state state.budget)).state
       by true = is
-      by false = numbers_kept state.k state.budget (Recovery state.budget) state.is_ended is.k
+      by false = numbers_kept state.k state.distinct state.budget (Recovery state.budget) state.is_ended is.k
 
   labelled_kept : (n : ℕ) → IsStateOf plant (labelled_from plant state n).state
   labelled_kept n = by (slice_get state.tracked (n - 1))
@@ -208,12 +208,12 @@ module _ (plant : Plant) (state : SessionState) (h : is_well_formed plant ≡ tr
     where
       by : (o : Outcome) → IsStateOf plant (more_by o plant state (sum + n)).state
       by Settled = is
-      by Unsettled = numbers_kept state.k state.budget (Diagnosis (sum + n)) state.is_ended is.k
+      by Unsettled = numbers_kept state.k state.distinct state.budget (Diagnosis (sum + n)) state.is_ended is.k
   more_kept (Recovery sum) n = by (recovery plant state sum).outcome
     where
       by : (o : Outcome) → IsStateOf plant (more_recovery_by o plant state (sum + n)).state
       by Settled = is
-      by Unsettled = numbers_kept state.k state.budget (Recovery (sum + n)) state.is_ended is.k
+      by Unsettled = numbers_kept state.k state.distinct state.budget (Recovery (sum + n)) state.is_ended is.k
 
   conflicts_kept : (q : Query) → IsStateOf plant (conflicts q plant state).state
   conflicts_kept Absent = is
@@ -279,15 +279,16 @@ module _ (plant : Plant) (state : SessionState) (h : is_well_formed plant ≡ tr
 
   pub request_kept : (request : Request) → IsRequestOf plant request → IsStateOf plant (carried_out plant state request).state
   request_kept Nothing within = is
-  request_kept (Track n) within = numbers_kept n state.budget Absent state.is_ended within
-  request_kept (SetBudget n) within = numbers_kept state.k n state.query state.is_ended is.k
+  request_kept (Track n) within = numbers_kept n false state.budget Absent state.is_ended within
+  request_kept (TrackDistinct n) within = numbers_kept n true state.budget Absent state.is_ended within
+  request_kept (SetBudget n) within = numbers_kept state.k state.distinct n state.query state.is_ended is.k
   request_kept (SetControl c) within = control_kept c.place c.value (λ x here. below_size (plant_ranges plant) x.0 c.value.0 (within.value x here))
   request_kept (Release place) within = control_kept place rest (λ x here. rests plant h place x here)
   request_kept (Observe s) within = observe_kept s within
   request_kept (Retract name) within = retract_kept name
   request_kept (SetGoal g) within = set_goal_kept g within
   request_kept (DropGoal name) within = drop_goal_kept name
-  request_kept Diagnose within = numbers_kept state.k state.budget (Diagnosis state.budget) state.is_ended is.k
+  request_kept Diagnose within = numbers_kept state.k state.distinct state.budget (Diagnosis state.budget) state.is_ended is.k
   request_kept Recover within = recover_kept
   request_kept (More n) within = more_kept state.query n
   request_kept Commit within = commit_kept state.query
@@ -297,7 +298,7 @@ module _ (plant : Plant) (state : SessionState) (h : is_well_formed plant ≡ tr
   request_kept (LabelsFrom n) within = labelled_kept n
   request_kept States within = is
   request_kept Reset within = start_kept plant h
-  request_kept Quit within = numbers_kept state.k state.budget state.query true is.k
+  request_kept Quit within = numbers_kept state.k state.distinct state.budget state.query true is.k
   request_kept Probe within = probe_kept state.query
 
 -- whether a request was carried out or memory was wanting

@@ -20,6 +20,7 @@ use Rattle.lv_search_walk.specs.Walk.{candidate_of, walk_from}
 use Rattle.lv_search_walk.proofs.WalkLemmas.{turn, at_most, used_up_unsettled}
 use Rattle.lv_meaning.specs.Candidates.{type_moves, move_cost, candidates, is_possible_candidate}
 use Rattle.lv_meaning.specs.Diagnosis.{reason_of}
+use Rattle.lv_meaning.specs.Targets.{are_alike}
 use Rattle.lv_meaning.specs.CandidateLaws.{goes_from, are_moves, moves_cost, IsCandidate}
 use Rattle.lv_meaning.proofs.Listing.{is_candidate}
 use Rattle.lv_tracker.specs.Targets.{HasMoves}
@@ -27,16 +28,17 @@ use Rattle.lv_session.specs.Session.{SessionState, facts_of, walked, trials}
 use Rattle.lv_session.specs.States.{most_cost, StateCosts, RankCosts, IsStateOf, IsListOf}
 
 -- what holds of all entries holds of those that a walk lists
-module _ (P : Rank → Type 0) (fits : Candidate → Bool) (reason : Candidate → List Pair) (k budget : ℕ) where
-  pub listed_all : (left listed : List Rank) (kept : List (List Pair)) → All P listed → All P left → All P (walk_from fits reason k budget listed kept left).listed
+module _ (P : Rank → Type 0) (alike : Rank → Rank → Bool) (fits : Candidate → Bool) (reason : Candidate → List Pair) (k budget : ℕ) where
+  pub listed_all : (left listed : List Rank) (kept : List (List Pair)) → All P listed → All P left → All P (walk_from alike fits reason k budget listed kept left).listed
   listed_all [] listed kept before all = before
   listed_all (r ∷ rs) listed kept before all =
       let rest : All P rs = All-tail P r rs all in
-      turn fits reason k budget (λ w. All P w.listed) r rs listed kept
+      turn alike fits reason k budget (λ w. All P w.listed) r rs listed kept
       (λ _. before)
       (λ _. listed_all rs listed kept before rest)
+      (λ _. listed_all rs listed kept before rest)
       (λ _. before)
-      (λ _ _ _. listed_all rs (listed ++ (r ∷ [])) kept (All-append P listed (r ∷ []) before (All-cons P r [] (All-head P r rs all) (All-nil P))) rest)
+      (λ _ _ _ _. listed_all rs (listed ++ (r ∷ [])) kept (All-append P listed (r ∷ []) before (All-cons P r [] (All-head P r rs all) (All-nil P))) rest)
       (λ _ _ _. listed_all rs listed (kept ++ (reason (candidate_of r) ∷ [])) before rest)
 
 move_for_each : (types : List ComponentType) (ps : List Part) (vs : List ValId) (cs : List ℕ) → are_moves types ps vs cs ≡ true → length cs ≡ length ps
@@ -89,13 +91,13 @@ module _ (plant : Plant) (state : SessionState) (h : is_well_formed plant ≡ tr
   each_ready : (n : ℕ) → All (IsReady plant (state.time + 1)) (walked plant state n).listed
   unfolding walked
   each_ready n =
-      listed_all (IsReady plant (state.time + 1)) (is_possible_candidate plant (facts_of state)) (reason_of plant (facts_of state)) state.k n
+      listed_all (IsReady plant (state.time + 1)) (are_alike state.distinct plant) (is_possible_candidate plant (facts_of state)) (reason_of plant (facts_of state)) state.k n
       (candidates plant state.tracked) [] [] (All-nil (IsReady plant (state.time + 1))) all_ready
 
   few_listed : (n : ℕ) → length (walked plant state n).listed ≤ state.k
   unfolding walked
   few_listed n =
-      at_most (is_possible_candidate plant (facts_of state)) (reason_of plant (facts_of state)) state.k n (candidates plant state.tracked) [] [] (omega arith)
+      at_most (are_alike state.distinct plant) (is_possible_candidate plant (facts_of state)) (reason_of plant (facts_of state)) state.k n (candidates plant state.tracked) [] [] (omega arith)
 
   -- what a walk lists can be taken over
   pub list_of : (n : ℕ) → IsListOf plant state (walked plant state n).listed
@@ -112,4 +114,4 @@ module _ (plant : Plant) (state : SessionState) (h : is_well_formed plant ≡ tr
 pub all_trials : (plant : Plant) (state : SessionState) (n : ℕ) → (walked plant state n).outcome ≡ Unsettled → trials (walked plant state n) ≡ n
 unfolding walked
 all_trials plant state n =
-    used_up_unsettled (is_possible_candidate plant (facts_of state)) (reason_of plant (facts_of state)) state.k n (candidates plant state.tracked) [] []
+    used_up_unsettled (are_alike state.distinct plant) (is_possible_candidate plant (facts_of state)) (reason_of plant (facts_of state)) state.k n (candidates plant state.tracked) [] []

@@ -7,7 +7,7 @@ use Rattle.lv_base.specs.declared.limits.TheConstants.{TRACKED}
 use Rattle.lv_model.specs.declared.plant.Plant.{Plant}
 use Rattle.lv_search_walk.specs.declared.outcome.Outcome.{Outcome}
 use Rattle.lv_search_walk.specs.declared.outcome.Outcome.TheVariants.{Settled, Unsettled}
-use Rattle.lv_search_walk.specs.Walk.{Walked}
+use Rattle.lv_search_walk.specs.Walk.{Walked, none_alike}
 use Rattle.lv_search_walk.proofs.WalkLemmas.{at_most, used_up_unsettled}
 use Rattle.lv_ident.specs.lv_search.Standing.{trials_of}
 use Rattle.lv_meaning.specs.declared.aim.Aim.{Aim}
@@ -52,12 +52,12 @@ aim_fits plant state is = record {
 
 few_recovered : (plant : Plant) (state : SessionState) (n : ℕ) → length (recovery plant state n).listed ≤ 1
 unfolding recovery
-few_recovered plant state n = at_most (candidate_recovers plant (aim_of state)) (candidate_reason plant (aim_of state)) 1 n (command_sets plant) [] [] (omega arith)
+few_recovered plant state n = at_most none_alike (candidate_recovers plant (aim_of state)) (candidate_reason plant (aim_of state)) 1 n (command_sets plant) [] [] (omega arith)
 
 -- a walk that isn't settled made as many trials as it may
 all_tried : (plant : Plant) (state : SessionState) (n : ℕ) → (recovery plant state n).outcome ≡ Unsettled → trials (recovery plant state n) ≡ n
 unfolding recovery
-all_tried plant state n = used_up_unsettled (candidate_recovers plant (aim_of state)) (candidate_reason plant (aim_of state)) 1 n (command_sets plant) [] []
+all_tried plant state n = used_up_unsettled none_alike (candidate_recovers plant (aim_of state)) (candidate_reason plant (aim_of state)) 1 n (command_sets plant) [] []
 
 -- the walk of this aim is that of the state which it is of
 recovery_at : (plant : Plant) (state : SessionState) (p : Plant) (aim : Aim) (m sum : ℕ) → p ≡ plant → aim ≡ aim_of state → m ≡ sum → recovery_walk p aim m ≡ recovery plant state sum

@@ -22,7 +22,7 @@ use Rattle.lv_labels.specs.Finding.{labelling}
 use Rattle.lv_session_request.specs.declared.goals.Goal.{Goal}
 use Rattle.lv_session_request.specs.declared.request.Sighting.{Sighting}
 use Rattle.lv_session_request.specs.declared.request.Request.{Request}
-use Rattle.lv_session_request.specs.declared.request.Request.TheVariants.{Nothing, Track, SetBudget, SetControl, Release, Observe, Retract, SetGoal, DropGoal, Diagnose, Recover, More, Commit, Conflicts, Certificate, Labels, LabelsFrom, States, Reset, Quit, Probe}
+use Rattle.lv_session_request.specs.declared.request.Request.TheVariants.{Nothing, Track, TrackDistinct, SetBudget, SetControl, Release, Observe, Retract, SetGoal, DropGoal, Diagnose, Recover, More, Commit, Conflicts, Certificate, Labels, LabelsFrom, States, Reset, Quit, Probe}
 use Rattle.lv_session_request.specs.Requests.{request_of}
 use Rattle.lv_session.specs.declared.query.Query.{Query}
 use Rattle.lv_session.specs.declared.query.Query.TheVariants.{Absent, Diagnosis, Recovery}
@@ -216,7 +216,8 @@ module _ (plant : Plant) (state : SessionState) where
 
   pub fair_request : (request : Request) → IsFair plant state (clears request) (asks_certificate request) (carried_out plant state request)
   fair_request Nothing = record { kept = λ _. refl; carried = λ e _. absurd (cc e); due = tt; told = λ _. refl }
-  fair_request (Track n) = fair_clearing plant state (record state { k = n }) true
+  fair_request (Track n) = fair_clearing plant state (record state { k = n; distinct = false }) true
+  fair_request (TrackDistinct n) = fair_clearing plant state (record state { k = n; distinct = true }) true
   fair_request (SetBudget n) = record { kept = λ e. absurd (cc e); carried = λ e _. absurd (cc e); due = tt; told = λ _. refl }
   fair_request (SetControl c) = record { kept = λ e. absurd (cc e); carried = λ _ _. refl; due = tt; told = λ _. refl }
   fair_request (Release place) = record { kept = λ e. absurd (cc e); carried = λ _ _. refl; due = tt; told = λ _. refl }

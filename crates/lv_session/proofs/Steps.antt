@@ -25,7 +25,7 @@ use Rattle.lv_session_request.specs.declared.request.Request.TheVariants as requ
 use Rattle.lv_session_request.specs.declared.words.Word.{Word}
 use Rattle.lv_session_request.specs.declared.words.Word.TheVariants as said
 use Rattle.lv_session_request.specs.Chain.{and_then}
-use Rattle.lv_session_request.specs.Forms.{first_word, has_number_form, has_command_signs, has_observe_signs, name_at, from_1_to, number_to, IsUpTo}
+use Rattle.lv_session_request.specs.Forms.{first_word, has_number_form, has_command_signs, has_observe_signs, name_at, has_distinct_form, from_1_to, limited, number_to, IsUpTo}
 use Rattle.lv_session_request.specs.Goals.{phrase_in, formula_of, simple, goal_of, AreRead, IsGoalIn}
 use Rattle.lv_session_request.specs.Names.{control_of, observable_of, value_in}
 use Rattle.lv_session_request.specs.Requests.{word, alone, command_of, release_of, sighting_of, retracted_of, labels_of, request_by, asked_by_first, asked, asked_by, request_of, IsCommandIn, IsSightingIn, IsRequestOf}
@@ -63,12 +63,15 @@ up_to most n m h =
     let same : n ≡ m = cc passed.1 in
     subst (IsUpTo most) same (record { some = leb-true 1 n two.0; few = leb-true n most two.1 })
 
-number_up_to : (most : ℕ) (ts : List Lexeme) (m : ℕ) → number_to most ts ≡ Ok m → IsUpTo most m
-number_up_to most ts m h = by (number_at ts 1) (has_passed (has_number_form ts) _ Form m h).1
+limited_up_to : (most : ℕ) (ts : List Lexeme) (m : ℕ) → limited most ts ≡ Ok m → IsUpTo most m
+limited_up_to most ts m h = by (number_at ts 1) h
   where
     by : (o : Option ℕ) → option_map_or (from_1_to most) o (Err OutOfLimits) ≡ Ok m → IsUpTo most m
     by None e = absurd (cc e)
     by (Some n) e = up_to most n m e
+
+number_up_to : (most : ℕ) (ts : List Lexeme) (m : ℕ) → number_to most ts ≡ Ok m → IsUpTo most m
+number_up_to most ts m h = limited_up_to most ts m (has_passed (has_number_form ts) (limited most ts) Form m h).1
 
 -- commands and observations
 
@@ -171,8 +174,15 @@ module _ (plant : Plant) (ts : List Lexeme) (read : AreRead ts) (shallow : is_to
       by true e = let same : request.Labels ≡ r = cc e in subst (IsRequestOf plant) same tt
       by false e = made_in (number_to TRACKED ts) request.LabelsFrom r (λ n _. tt) e
 
+  track_in : (r : Request) → track_of ts ≡ Ok r → IsRequestOf plant r
+  track_in r h = by (has_distinct_form ts) h
+    where
+      by : (b : Bool) → cond b (and_then (limited TRACKED ts) (λ n. Ok (request.TrackDistinct n))) (and_then (number_to TRACKED ts) (λ n. Ok (request.Track n))) ≡ Ok r → IsRequestOf plant r
+      by true e = made_in (limited TRACKED ts) request.TrackDistinct r (λ n same. limited_up_to TRACKED ts n same) e
+      by false e = made_in (number_to TRACKED ts) request.Track r (λ n same. number_up_to TRACKED ts n same) e
+
   by_word : (w : Word) (r : Request) → first_word ts ≡ Some w → request_by plant (lists_of plant) w ts ≡ Ok r → IsRequestOf plant r
-  by_word said.Track r first h = made_in (number_to TRACKED ts) request.Track r (λ n e. number_up_to TRACKED ts n e) h
+  by_word said.Track r first h = track_in r h
   by_word said.Budget r first h = made_in (number_to BUDGET ts) request.SetBudget r (λ n e. tt) h
   by_word said.Command r first h = made_in (command_of plant (lists_of plant) ts) request.SetControl r (λ c e. command_in plant ts c e) h
   by_word said.Release r first h = made_in (release_of plant (lists_of plant) ts) request.Release r (λ place e. tt) h

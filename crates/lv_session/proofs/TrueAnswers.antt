@@ -9,7 +9,7 @@ use Rattle.lv_model.specs.declared.state.TrackedState.{TrackedState}
 use Rattle.lv_search_walk.specs.declared.outcome.Outcome.{Outcome}
 use Rattle.lv_search_walk.specs.declared.outcome.Outcome.TheVariants.{Settled, Unsettled}
 use Rattle.lv_meaning.specs.Candidates.{candidates}
-use Rattle.lv_meaning.proofs.DiagnosisWalks.{diagnosis_exact}
+use Rattle.lv_meaning.proofs.DiagnosisWalks.{answers}
 use Rattle.lv_meaning.proofs.RecoveryWalks.{walk_found, walk_none}
 use Rattle.lv_tracker.specs.Tracked.{advanced}
 use Rattle.lv_labels.specs.declared.labelling.Labelling.{Labelling}
@@ -20,7 +20,7 @@ use Rattle.lv_reply.specs.declared.reply.Refusal.{Refusal}
 use Rattle.lv_reply.specs.declared.reply.Refusal.TheVariants.{NameHeld, NameNotHeld, OutOfLimits, NoQuery, NothingListed, NoGoal, TooManyHeld, TooManyCommits}
 use Rattle.lv_reply.specs.declared.reply.Reply.TheVariants.{Nothing as Silence, Refused, Committed, Certificate as Certified}
 use Rattle.lv_session_request.specs.declared.request.Request.{Request}
-use Rattle.lv_session_request.specs.declared.request.Request.TheVariants.{Nothing, Track, SetBudget, SetControl, Release, Observe, Retract, SetGoal, DropGoal, Diagnose, Recover, More, Commit, Conflicts, Certificate, Labels, LabelsFrom, States, Reset, Quit, Probe}
+use Rattle.lv_session_request.specs.declared.request.Request.TheVariants.{Nothing, Track, TrackDistinct, SetBudget, SetControl, Release, Observe, Retract, SetGoal, DropGoal, Diagnose, Recover, More, Commit, Conflicts, Certificate, Labels, LabelsFrom, States, Reset, Quit, Probe}
 use Rattle.lv_session_request.specs.Requests.{request_of}
 use Rattle.lv_session_request.specs.Held.{lacks_name}
 use Rattle.lv_session.specs.declared.query.Query.{Query}
@@ -33,7 +33,7 @@ module _ (plant : Plant) (state : SessionState) where
   -- a diagnosis that came to its walk
   walked_true : (sum : ℕ) (o : Outcome) → (walked plant state sum).outcome ≡ o → IsTrueAnswer plant state (reply_by o (walked plant state sum))
   unfolding walked
-  walked_true sum Settled settled = diagnosis_exact plant (facts_of state) state.k sum (candidates plant state.tracked) settled
+  walked_true sum Settled settled = answers state.distinct plant (facts_of state) state.k sum state.tracked settled
   walked_true sum Unsettled e = tt
 
   diagnosis_true : (sum : ℕ) → IsTrueAnswer plant state (diagnosed plant state sum).reply
@@ -118,6 +118,7 @@ module _ (plant : Plant) (state : SessionState) where
   request_true : (request : Request) → IsTrueAnswer plant state (carried_out plant state request).reply
   request_true Nothing = tt
   request_true (Track n) = tt
+  request_true (TrackDistinct n) = tt
   request_true (SetBudget n) = tt
   request_true (SetControl c) = tt
   request_true (Release place) = tt

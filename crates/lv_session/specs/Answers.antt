@@ -3,7 +3,7 @@ use Rattle.std.specs.Prelude.{◌≡◌, ℕ, true, false, List, [], ◌∷◌, 
 use Rattle.std.specs.Io.KnownBytes.{append_known}
 use Rattle.lv_text.specs.Lines.{lines_of}
 use Rattle.lv_model.specs.declared.plant.Plant.{Plant}
-use Rattle.lv_meaning.specs.Candidates.{first_possible}
+use Rattle.lv_meaning.specs.Targets.{answer}
 use Rattle.lv_meaning.specs.Commands.{is_command_set}
 use Rattle.lv_meaning.specs.Recovers.{recovers}
 use Rattle.lv_meaning.specs.RecoveryLaws.{IsRecovery}
@@ -13,10 +13,10 @@ use Rattle.lv_session.specs.Session.{SessionState, start, facts_of, aim_of, step
 use Rattle.lv_session.specs.Transcript.{SessionStep, IsTranscript}
 
 -- a settled diagnosis lists the first k candidates of the tracked states that are possible under the facts, in the order of their ranks,
--- or all if fewer are; a recovery is the first command set that takes every tracked state nominally to the goals, and that there is
+-- or all if fewer are; with the flag, only such of them as lead to a state to which no possible candidate of lower rank leads; a recovery is the first command set that takes every tracked state nominally to the goals, and that there is
 -- none is told where none does; of other replies nothing is asked
 abbrev pub IsTrueAnswer : Plant → SessionState → Reply → Type 0
-IsTrueAnswer plant state (Settled listed) = listed ≡ first_possible state.k plant (facts_of state) state.tracked
+IsTrueAnswer plant state (Settled listed) = listed ≡ answer state.distinct state.k plant (facts_of state) state.tracked
 IsTrueAnswer plant state (Recovered rank) = IsRecovery plant (aim_of state) rank
 IsTrueAnswer plant state NoRecovery = (u : List ℕ) → is_command_set plant u ≡ true → recovers plant (aim_of state) u ≡ false
 IsTrueAnswer plant state reply = Unit {0}

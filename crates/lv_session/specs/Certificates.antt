@@ -14,7 +14,7 @@ use Rattle.lv_session.specs.Session.{SessionState, facts_of, aim_of, walked, rec
 -- the text of lines that certify what the diagnosis with so many trials lists
 pub record CertifiesWalked (plant : Plant) (state : SessionState) (sum : ℕ) (text : List ℕ) : Type 0 where
   pub lines : List Line
-  pub certifies : CertifiesDiagnosis plant state.tracked (facts_of state) state.k (walked plant state sum).listed lines
+  pub certifies : CertifiesDiagnosis plant state.tracked (facts_of state) state.k state.distinct (walked plant state sum).listed lines
   pub formed : AreFormed plant lines
   pub is : text ≡ text_of lines
 

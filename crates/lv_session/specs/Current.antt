@@ -1,8 +1,9 @@
 -- The current query, and what is kept of it from line to line.
-use Rattle.std.specs.Prelude.{◌≡◌, ◌≤◌, ℕ, Bool, false, length, Option, IfSome}
+use Rattle.std.specs.Prelude.{◌≡◌, ◌≤◌, ℕ, Bool, false, [], length, Option, IfSome}
 use Rattle.lv_model.specs.declared.plant.Plant.{Plant}
 use Rattle.lv_search_walk.specs.Walk.{Walked}
-use Rattle.lv_ident.specs.Query.{IsQueryOf}
+use Rattle.lv_meaning.specs.Candidates.{candidates}
+use Rattle.lv_ident.specs.Query.{QueryValue, groups_for, IsQueryOf}
 use Rattle.lv_session_request.specs.declared.request.Request.{Request}
 use Rattle.lv_reconf.specs.Query.{IsQuery as IsRecoveryQuery}
 use Rattle.lv_session_request.specs.declared.request.Request.TheVariants.{Diagnose, Recover, More}
@@ -16,6 +17,15 @@ use Rattle.lv_session.specs.declared.workings.Workings.{Workings}
 use Rattle.lv_session.specs.Session.{SessionState, facts_of, aim_of, walked, recovery}
 use Rattle.lv_session.specs.States.{IsStateOf}
 
+-- the diagnosis of the state that has tried nothing
+abbrev pub untried : Plant → SessionState → QueryValue
+untried plant state = record {
+  plant = plant;
+  facts = facts_of state;
+  distinct = state.distinct;
+  standing = record { k = state.k; groups = groups_for state.distinct plant; listed = []; kept = []; left = candidates plant state.tracked };
+}
+
 -- what it has come to
 abbrev pub come_to : Diagnosed → Walked
 come_to d = record { outcome = d.outcome; listed = d.query.standing.listed; kept = d.query.standing.kept }
@@ -25,6 +35,7 @@ pub record IsDiagnosisAt (plant : Plant) (state : SessionState) (sum : ℕ) (d :
   pub plant_is : d.query.plant ≡ plant
   pub facts_are : d.query.facts ≡ facts_of state
   pub k : d.query.standing.k ≡ state.k
+  pub distinct : d.query.distinct ≡ state.distinct
   pub on_walk : IsQueryOf state.tracked d.query
   pub came_to : walked plant state sum ≡ come_to d
 

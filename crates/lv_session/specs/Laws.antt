@@ -15,7 +15,7 @@ use Rattle.lv_reply.specs.Texts.{reply_text}
 use Rattle.lv_session_request.specs.Held.{observation_of}
 use Rattle.lv_session_request.specs.declared.request.Sighting.{Sighting}
 use Rattle.lv_session_request.specs.declared.request.Request.{Request}
-use Rattle.lv_session_request.specs.declared.request.Request.TheVariants.{Track, SetControl, Release, Observe, Retract, SetGoal, DropGoal, More, Commit, Reset}
+use Rattle.lv_session_request.specs.declared.request.Request.TheVariants.{Track, TrackDistinct, SetControl, Release, Observe, Retract, SetGoal, DropGoal, More, Commit, Reset}
 use Rattle.lv_session.specs.declared.query.Query.TheVariants.{Absent, Diagnosis, Recovery}
 use Rattle.lv_session.specs.Session.{SessionState, start, facts_of, walked, recovery, observe, diagnosis_reply, recovery_reply, is_settled, carried_out, stepped}
 use Rattle.lv_session.specs.States.{IsStateOf}
@@ -67,6 +67,7 @@ RefusedLineChangesNothing = (plant : Plant) (state : SessionState) (line : List 
 -- the requests that change what a query would come to
 abbrev pub clears : Request → Bool
 clears (Track n) = true
+clears (TrackDistinct n) = true
 clears (SetControl c) = true
 clears (Release place) = true
 clears (Observe s) = true

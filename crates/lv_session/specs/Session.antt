@@ -35,18 +35,19 @@ use Rattle.lv_session_request.specs.declared.goals.Goal.{Goal}
 use Rattle.lv_session_request.specs.declared.request.Command.{Command}
 use Rattle.lv_session_request.specs.declared.request.Sighting.{Sighting}
 use Rattle.lv_session_request.specs.declared.request.Request.{Request}
-use Rattle.lv_session_request.specs.declared.request.Request.TheVariants.{Nothing, Track, SetBudget, SetControl, Release, Observe, Retract, SetGoal, DropGoal, Diagnose, Recover, More, Commit, Conflicts, Certificate, Labels, LabelsFrom, States, Reset, Quit, Probe}
+use Rattle.lv_session_request.specs.declared.request.Request.TheVariants.{Nothing, Track, TrackDistinct, SetBudget, SetControl, Release, Observe, Retract, SetGoal, DropGoal, Diagnose, Recover, More, Commit, Conflicts, Certificate, Labels, LabelsFrom, States, Reset, Quit, Probe}
 use Rattle.lv_session_request.specs.Requests.{request_of}
 use Rattle.lv_session.specs.declared.query.Query.{Query}
 use Rattle.lv_session.specs.declared.query.Query.TheVariants.{Absent, Diagnosis, Recovery}
 
--- the states that the plant may be in; how many commits were made; how many candidates a diagnosis lists, and the trials of a new
--- query; the value that each control is commanded to, in written order; the observations of the assignments before and after the
+-- the states that the plant may be in; how many commits were made; how many candidates a diagnosis lists, and whether no two of
+-- them may lead to one state; the trials of a new query; the value that each control is commanded to, in written order; the observations of the assignments before and after the
 -- step; the goals; the current query; and whether the session has ended
 pub record SessionState : Type 0 where
   pub tracked : List TrackedState
   pub time : ℕ
   pub k : ℕ
+  pub distinct : Bool
   pub budget : ℕ
   pub controls : List ValId
   pub present : List Sighting
@@ -69,6 +70,7 @@ start plant = record {
   tracked = start_state plant ∷ [];
   time = 0;
   k = LISTED;
+  distinct = false;
   budget = TRIALS;
   controls = resting plant;
   present = [];
@@ -88,7 +90,7 @@ facts_of state = record {
 
 -- the walk of a diagnosis with so many trials along the candidates of the tracked states
 unfoldable pub walked : Plant → SessionState → ℕ → Walked
-walked plant state trials = diagnosis_walk plant (facts_of state) state.k trials (candidates plant state.tracked)
+walked plant state trials = diagnosis_walk plant (facts_of state) state.k state.distinct trials (candidates plant state.tracked)
 
 abbrev pub formula_of : Goal → Tree
 formula_of g = g.formula
@@ -122,8 +124,8 @@ abbrev pub cleared : SessionState → Stepped
 cleared state = record { state = record state { query = Absent }; reply = Accepted }
 
 -- `track`
-abbrev pub track : SessionState → ℕ → Stepped
-track state n = cleared (record state { k = n })
+abbrev pub track : SessionState → ℕ → Bool → Stepped
+track state n distinct = cleared (record state { k = n; distinct = distinct })
 
 -- `budget`
 abbrev pub set_budget : SessionState → ℕ → Stepped
@@ -333,7 +335,8 @@ quit state = record { state = record state { is_ended = true }; reply = Accepted
 -- what a request does, and the reply to it
 abbrev pub carried_out : Plant → SessionState → Request → Stepped
 carried_out plant state Nothing = unchanged state Silence
-carried_out plant state (Track n) = track state n
+carried_out plant state (Track n) = track state n false
+carried_out plant state (TrackDistinct n) = track state n true
 carried_out plant state (SetBudget n) = set_budget state n
 carried_out plant state (SetControl c) = set_control state c
 carried_out plant state (Release place) = release state place

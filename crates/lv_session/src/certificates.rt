@@ -17,7 +17,7 @@ use crate::query::Query;
 use crate::running::{Diagnosed, Recovering, Running};
 use crate::state::State;
 use lv_cert::{Cert, write_cert};
-use lv_cert_diagnosis::{Settled as SettledDiagnosis, certify_diagnosis};
+use lv_cert_diagnosis::{Limit, Settled as SettledDiagnosis, certify_diagnosis};
 use lv_cert_recovery::{Settled as SettledRecovery, certify_recovery};
 use lv_model::Model;
 use lv_reply::{Refusal, Reply};
@@ -93,8 +93,8 @@ impl State {
     ) -> Result<Cert, AllocError>
         requires state { IsStateOf model.now self.now }
         requires system { IsSystemOf model.now system.now }
-        requires settled { IsSettledDiagnosis model.now self.now.tracked (facts_of self.now) self.now.k run.now.query.standing.listed run.now.query.standing.kept }
-        ensures certifies { IfOk result (λ cert. CertifiesDiagnosis model.now self.now.tracked (facts_of self.now) self.now.k run.now.query.standing.listed cert.lines) }
+        requires settled { IsSettledDiagnosis model.now self.now.tracked (facts_of self.now) self.now.k self.now.distinct run.now.query.standing.listed run.now.query.standing.kept }
+        ensures certifies { IfOk result (λ cert. CertifiesDiagnosis model.now self.now.tracked (facts_of self.now) self.now.k self.now.distinct run.now.query.standing.listed cert.lines) }
         ensures formed { IfOk result (λ cert. AreFormed model.now cert.lines) }
     {
         let facts = self.facts(alloc)?;
@@ -108,7 +108,10 @@ impl State {
             system,
             self.tracked.as_slice(),
             &facts,
-            self.k,
+            Limit {
+                most: self.k,
+                distinct: self.distinct,
+            },
             &answer,
         );
         let SettledDiagnosis { listed: _, kept: _ } = answer;
@@ -125,7 +128,7 @@ impl State {
     ) -> Result<Vec<u8>, AllocError>
         requires state { IsStateOf model.now self.now }
         requires system { IsSystemOf model.now system.now }
-        requires settled { IsSettledDiagnosis model.now self.now.tracked (facts_of self.now) self.now.k run.now.query.standing.listed run.now.query.standing.kept }
+        requires settled { IsSettledDiagnosis model.now self.now.tracked (facts_of self.now) self.now.k self.now.distinct run.now.query.standing.listed run.now.query.standing.kept }
         ensures { (sum : ℕ) → IsDiagnosisAt model.now self.now sum run.now → IfOk result (λ text. CertifiesWalked model.now self.now sum text.items) }
     {
         let cert = self.diagnosis_certificate(alloc, model, system, run)?;

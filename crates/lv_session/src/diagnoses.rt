@@ -12,14 +12,15 @@ ghost use Rattle.lv_session.specs.declared.running.Running.TheVariants.{Diagnosi
 ghost use Rattle.lv_search_walk.specs.declared.outcome.Outcome.TheVariants.{Unsettled};
 ghost use Rattle.lv_session.specs.Session.{facts_of, trials, walked, diagnosis_reply, diagnosed, more, taken_over};
 ghost use Rattle.lv_session.specs.States.{IsStateOf, IsListOf};
-ghost use Rattle.lv_session.specs.Current.{come_to, IsDiagnosisAt, IsKeptOf, IsCurrent};
+ghost use Rattle.lv_session.specs.Current.{untried, come_to, IsDiagnosisAt, IsKeptOf, IsCurrent};
+ghost use Rattle.lv_ident.specs.Query.{IsQueryOf};
 
 use crate::query::Query;
 use crate::running::{Diagnosed, Running};
 use crate::state::{State, resting_values};
 use lv_base::limits::COMMITS;
 use lv_base::{Rank, Seq};
-use lv_ident::identify;
+use lv_ident::{Query as Identified, identify, identify_distinct};
 use lv_meaning::Facts;
 use lv_model::Model;
 use lv_reply::{Refusal, Reply};
@@ -77,6 +78,26 @@ impl State {
         facts(alloc, self.controls.as_slice(), &self.present, &self.next)
     }
 
+    /// A diagnosis of the state that has tried nothing.
+    fn query<'a>(
+        &self,
+        alloc: Global,
+        model: &'a Model,
+        system: &StepSystem,
+    ) -> Result<Identified<'a>, AllocError>
+        requires state { IsStateOf model.now self.now }
+        requires system { IsSystemOf model.now system.now }
+        ensures start { IfOk result (λ query. query ≡ untried model.now self.now) }
+        ensures query { IfOk result (λ query. IsQueryOf self.now.tracked query) }
+    {
+        let facts = self.facts(alloc)?;
+        if self.distinct {
+            identify_distinct(alloc, model, system, self.tracked.as_slice(), facts, self.k)
+        } else {
+            identify(alloc, model, system, self.tracked.as_slice(), facts, self.k)
+        }
+    }
+
     /// A diagnosis of the state that has run with so many trials.
     fn diagnosis_run<'a>(
         &self,
@@ -91,8 +112,7 @@ impl State {
         ensures listed { IfOk result (λ run. IsListOf model.now self.now run.query.standing.listed) }
     {
         let _plant = model.plant();
-        let facts = self.facts(alloc)?;
-        let mut query = identify(alloc, model, system, self.tracked.as_slice(), facts, self.k)?;
+        let mut query = self.query(alloc, model, system)?;
         match query.run(n) {
             Ok(outcome) => Ok(Diagnosed { query, outcome }),
             Err(error) => {

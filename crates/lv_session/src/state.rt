@@ -30,6 +30,7 @@ pub struct State {
     pub(crate) tracked: Tracked,
     pub(crate) time: u64,
     pub(crate) k: u32,
+    pub(crate) distinct: bool,
     pub(crate) budget: u64,
     pub(crate) controls: Vec<ValId>,
     pub(crate) present: Held,
@@ -48,7 +49,7 @@ impl marker::Model for State {
 
     ghost coded = { Prim.hlevel (codes, condition.the_row.coded) };
 
-    ghost view = { λ s. record { tracked = s.tracked; time = s.time; k = s.k; budget = s.budget; controls = s.controls.items; present = s.present; next = s.next; goals = s.goals.items; query = s.query; is_ended = s.is_ended } };
+    ghost view = { λ s. record { tracked = s.tracked; time = s.time; k = s.k; distinct = s.distinct; budget = s.budget; controls = s.controls.items; present = s.present; next = s.next; goals = s.goals.items; query = s.query; is_ended = s.is_ended } };
 }
 
 /// The value at which a control rests, for each control.
@@ -70,6 +71,7 @@ impl State {
             tracked,
             time: 0,
             k: LISTED,
+            distinct: false,
             budget: TRIALS,
             controls,
             present: Held::new(alloc),
@@ -119,7 +121,8 @@ impl State {
     {
         match request {
             Request::Nothing => Ok(Reply::Nothing),
-            Request::Track(n) => Ok(self.track(n)),
+            Request::Track(n) => Ok(self.track(n, false)),
+            Request::TrackDistinct(n) => Ok(self.track(n, true)),
             Request::SetBudget(n) => Ok(self.set_budget(n)),
             Request::SetControl(command) => Ok(self.set_control(command)),
             Request::Release(place) => Ok(self.release(place)),
@@ -153,10 +156,11 @@ impl State {
         Reply::Accepted
     }
 
-    fn track(&mut self, n: u32) -> Reply
-        ensures { record { state = self.new; reply = result } ≡ track self.old n }
+    fn track(&mut self, n: u32, distinct: bool) -> Reply
+        ensures { record { state = self.new; reply = result } ≡ track self.old n distinct }
     {
         self.k = n;
+        self.distinct = distinct;
         self.cleared()
     }
 

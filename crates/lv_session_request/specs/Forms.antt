@@ -50,6 +50,10 @@ has_kind test line place = option_map_or test (kind_at line place) false
 abbrev pub has_number_form : List Lexeme → Bool
 has_number_form line = nat_eq (length line) 2 && has_kind is_number line 1
 
+-- of `WORD NUMBER distinct`
+abbrev pub has_distinct_form : List Lexeme → Bool
+has_distinct_form line = nat_eq (length line) 3 && (has_kind is_number line 1 && says (codes "distinct") line 2)
+
 -- of `command P.C = V`
 abbrev pub has_command_signs : List Lexeme → Bool
 has_command_signs line = nat_eq (length line) 6 && (has_kind is_dot line 2 && has_kind is_equals line 4)
@@ -81,6 +85,10 @@ pub record IsUpTo (most n : ℕ) : Type 0 where
 abbrev pub from_1_to : ℕ → ℕ → Result ℕ Refusal
 from_1_to most n = if nat_le 1 n && nat_le n most then Ok n else Err OutOfLimits
 
--- the number of `WORD NUMBER`; one that is too great for its value to be known is out of each limit
+-- the number behind the word of a line; one that is too great for its value to be known is out of each limit
+abbrev pub limited : ℕ → List Lexeme → Result ℕ Refusal
+limited most line = option_map_or (from_1_to most) (number_at line 1) (Err OutOfLimits)
+
+-- the number of `WORD NUMBER`
 abbrev pub number_to : ℕ → List Lexeme → Result ℕ Refusal
-number_to most line = if has_number_form line then option_map_or (from_1_to most) (number_at line 1) (Err OutOfLimits) else Err Form
+number_to most line = if has_number_form line then limited most line else Err Form

@@ -21,13 +21,13 @@ use Rattle.lv_session_request.specs.declared.names.Controlled.{Controlled}
 use Rattle.lv_session_request.specs.declared.request.Command.{Command}
 use Rattle.lv_session_request.specs.declared.request.Sighting.{Sighting}
 use Rattle.lv_session_request.specs.declared.request.Request.{Request}
-use Rattle.lv_session_request.specs.declared.request.Request.TheVariants.{Nothing, Track as ToTrack, SetBudget, SetControl, Release as ToRelease, Observe as ToObserve, Retract as ToRetract, SetGoal, DropGoal, Diagnose as ToDiagnose, Recover as ToRecover, More as ToGoOn, Commit as ToCommit, Conflicts as ToShowConflicts, Certificate as ToCertify, Labels as ToLabel, LabelsFrom, States as ToShowStates, Reset as ToReset, Quit as ToQuit, Probe as ToProbe}
+use Rattle.lv_session_request.specs.declared.request.Request.TheVariants.{Nothing, Track as ToTrack, TrackDistinct as ToTrackDistinct, SetBudget, SetControl, Release as ToRelease, Observe as ToObserve, Retract as ToRetract, SetGoal, DropGoal, Diagnose as ToDiagnose, Recover as ToRecover, More as ToGoOn, Commit as ToCommit, Conflicts as ToShowConflicts, Certificate as ToCertify, Labels as ToLabel, LabelsFrom, States as ToShowStates, Reset as ToReset, Quit as ToQuit, Probe as ToProbe}
 use Rattle.lv_session_request.specs.declared.unread.Unread.{Unread}
 use Rattle.lv_session_request.specs.declared.unread.Unread.TheVariants.{Refused, Memory}
 use Rattle.lv_session_request.specs.Chain.{and_then}
 use Rattle.lv_session_request.specs.Names.{control_of, observable_of, value_in}
 use Rattle.lv_session_request.specs.Goals.{goal_of, IsGoalIn}
-use Rattle.lv_session_request.specs.Forms.{first_word, has_command_signs, has_release_signs, has_observe_signs, name_at, IsUpTo, number_to}
+use Rattle.lv_session_request.specs.Forms.{first_word, has_command_signs, has_release_signs, has_observe_signs, has_distinct_form, name_at, IsUpTo, limited, number_to}
 
 -- the word at a place, which has to be one
 abbrev pub word : List Lexeme → ℕ → Result (List ℕ) Refusal
@@ -37,9 +37,9 @@ word line place = ok_or (word_at line place) Form
 abbrev pub alone : Request → List Lexeme → Result Request Refusal
 alone request line = if nat_eq (length line) 1 then Ok request else Err Form
 
--- `track K`
+-- `track K`, or `track K distinct`
 abbrev pub track_of : List Lexeme → Result Request Refusal
-track_of line = and_then (number_to TRACKED line) (λ n. Ok (ToTrack n))
+track_of line = if has_distinct_form line then and_then (limited TRACKED line) (λ n. Ok (ToTrackDistinct n)) else and_then (number_to TRACKED line) (λ n. Ok (ToTrack n))
 
 -- `budget B`
 abbrev pub budget_of : List Lexeme → Result Request Refusal
@@ -147,6 +147,7 @@ pub record IsCommandIn (plant : Plant) (c : Command) : Type 0 where
 -- the numbers in a request are in range
 abbrev pub IsRequestOf : Plant → Request → Type 0
 IsRequestOf plant (ToTrack n) = IsUpTo TRACKED n
+IsRequestOf plant (ToTrackDistinct n) = IsUpTo TRACKED n
 IsRequestOf plant (ToGoOn n) = n ≤ BUDGET
 IsRequestOf plant (SetControl c) = IsCommandIn plant c
 IsRequestOf plant (ToObserve s) = IsSightingIn plant s

@@ -5,7 +5,7 @@ ghost use Rattle.std.specs.Prelude.{◌≡◌, IfOk, codes};
 ghost use Rattle.std.specs.Option.{option_copied};
 ghost use Rattle.lv_base.specs.Names.{is_named};
 ghost use Rattle.lv_text.specs.Lexemes.{is_number};
-ghost use Rattle.lv_session_request.specs.Forms.{is_dot, is_equals, has_kind, has_number_form, has_command_signs, has_release_signs, has_observe_signs, is_reserved, name_at, IsUpTo, from_1_to, number_to};
+ghost use Rattle.lv_session_request.specs.Forms.{is_dot, is_equals, has_kind, has_number_form, has_distinct_form, has_command_signs, has_release_signs, has_observe_signs, is_reserved, name_at, IsUpTo, from_1_to, limited, number_to};
 
 use lv_reply::Refusal;
 use lv_text::{TokenKind, TokenLine};
@@ -91,16 +91,32 @@ fn has_number_form(line: &TokenLine<'_>) -> bool
     line.len() == 2 && is_number_at(line, 1)
 }
 
+/// Whether a line has the form of a word, a number and `distinct`.
+pub fn has_distinct_form(line: &TokenLine<'_>) -> bool
+    ensures { result ≡ has_distinct_form line.now }
+{
+    line.len() == 3 && is_number_at(line, 1) && line.says(2, b"distinct")
+}
+
+/// The number behind the word of a line, which has to be from 1 up to a limit.
+pub fn limited(most: u64, line: &TokenLine<'_>) -> Result<u64, Refusal>
+    ensures number { result ≡ limited most line.now }
+    ensures within { IfOk result (IsUpTo most) }
+{
+    match line.number(1) {
+        Some(n) => from_1_to(most, n),
+        None => Err(Refusal::OutOfLimits),
+    }
+}
+
 /// The number of a line that is a word and a number, which has to be from 1 up to a limit.
 pub fn number_to(most: u64, line: &TokenLine<'_>) -> Result<u64, Refusal>
     ensures number { result ≡ number_to most line.now }
     ensures within { IfOk result (IsUpTo most) }
 {
-    if !has_number_form(line) {
-        return Err(Refusal::Form);
-    }
-    match line.number(1) {
-        Some(n) => from_1_to(most, n),
-        None => Err(Refusal::OutOfLimits),
+    if has_number_form(line) {
+        limited(most, line)
+    } else {
+        Err(Refusal::Form)
     }
 }

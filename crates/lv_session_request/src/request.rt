@@ -13,7 +13,10 @@ ghost use Rattle.lv_formula_text.specs.Nesting.{is_too_deep};
 ghost use Rattle.lv_session_request.specs.Goals.{AreRead};
 ghost use Rattle.lv_session_request.specs.Requests.{alone, track_of, budget_of, more_of, command_to, command_of, release_of, seen_as, sighting_of, retracted_of, labels_of, request_by, asked, asked_by, request_of, Explains, IsSightingIn, IsCommandIn, IsRequestOf};
 
-use crate::forms::{has_command_signs, has_observe_signs, has_release_signs, name_at, number_to};
+use crate::forms::{
+    has_command_signs, has_distinct_form, has_observe_signs, has_release_signs, limited, name_at,
+    number_to,
+};
 use crate::goals::{Goal, goal_of};
 use crate::names::{control_of, observable_of, value_in};
 use crate::unread::Unread;
@@ -50,6 +53,8 @@ pub enum Request {
     Nothing,
     /// That diagnoses list so many candidates.
     Track(u32),
+    /// The same, and that no two of them lead to one state.
+    TrackDistinct(u32),
     /// That queries have so many trials.
     SetBudget(u64),
     SetControl(Command),
@@ -91,11 +96,14 @@ fn alone(request: Request, line: &TokenLine<'_>) -> Result<Request, Refusal>
     }
 }
 
-/// `track K`
+/// `track K`, or `track K distinct`.
 fn track_of(line: &TokenLine<'_>) -> Result<Request, Refusal>
     ensures request { result ≡ track_of line.now }
     ensures within { (plant : Plant) → IfOk result (IsRequestOf plant) }
 {
+    if has_distinct_form(line) {
+        return Ok(Request::TrackDistinct(limited(TRACKED as u64, line)? as u32));
+    }
     Ok(Request::Track(number_to(TRACKED as u64, line)? as u32))
 }
 

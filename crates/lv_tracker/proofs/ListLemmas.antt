@@ -9,7 +9,8 @@ use Rattle.lv_model.specs.declared.plant.ComponentType.{ComponentType}
 use Rattle.lv_model.specs.declared.plant.Part.{Part}
 use Rattle.lv_model.specs.declared.state.TrackedState.{TrackedState}
 use Rattle.lv_tracker.specs.Distinct.{differs, first_of_each}
-use Rattle.lv_tracker.specs.Targets.{target_modes, target_state, HasMoves}
+use Rattle.lv_meaning.specs.Targets.{target_modes}
+use Rattle.lv_tracker.specs.Targets.{target_state, HasMoves}
 use Rattle.lv_tracker.specs.Tracked.{AreTracked, IsWithinCost, IsCheap, HasModes}
 use Rattle.lv_tracker.proofs.FirstLemmas.{first_are_distinct}
 

@@ -2,7 +2,8 @@
 #![tactic(auto)]
 
 ghost use Rattle.std.specs.Prelude.{◌≡◌, ◌≤◌, IfOk, All, length, map};
-ghost use Rattle.lv_tracker.specs.Targets.{target_mode, target_modes, target_state, HasMoves};
+ghost use Rattle.lv_meaning.specs.Targets.{target_mode, target_modes};
+ghost use Rattle.lv_tracker.specs.Targets.{target_state, HasMoves};
 
 use lv_base::{MoveId, Rank, Seq, ValId};
 use lv_model::{ComponentType, Model, Part, Plant, State, TrackedState, meaning};

@@ -30,6 +30,52 @@ split 3 listed 1
 end
 ";
 
+/// The same, where no two of the listed may lead to one state, and the last zone but one is split by a target.
+const DISTINCT: &[u8] = b"certificate diagnosis
+model valve
+k 4 distinct
+state 0 1
+control 2
+fact next 4 1
+listed 1 3
+now 1 2 2 1
+next 3 1 2 1
+conflict 1 1
+clause 0 117 92 116 39 44 35 0
+conflict 1 2
+clause 0 117 115 96 0
+conflict 1 4
+clause 0 117 100 116 42 44 35 0
+split 1 conflict 1
+split 2 conflict 2
+split 3 target 1
+split 4 conflict 3
+end
+";
+
+/// The same split where targets need not be distinct.
+const UNASKED: &[u8] = b"certificate diagnosis
+model valve
+k 4
+state 0 1
+control 2
+fact next 4 1
+listed 1 3
+now 1 2 2 1
+next 3 1 2 1
+conflict 1 1
+clause 0 117 92 116 39 44 35 0
+conflict 1 2
+clause 0 117 115 96 0
+conflict 1 4
+clause 0 117 100 116 42 44 35 0
+split 1 conflict 1
+split 2 conflict 2
+split 3 target 1
+split 4 conflict 3
+end
+";
+
 pub const UNREAD: &[u8] = b"cannot read certificate\n";
 
 const CERTIFICATES: &[Case] = &[
@@ -43,6 +89,32 @@ const CERTIFICATES: &[Case] = &[
         wanted: Wanted::Just(End {
             status: Status::Done,
             out: b"valid\n",
+            err: b"",
+        }),
+    },
+    Case {
+        name: "a split by a target",
+        call: Call {
+            words: CHECK,
+            second: DISTINCT,
+            fails: NOTHING,
+        },
+        wanted: Wanted::Just(End {
+            status: Status::Done,
+            out: b"valid\n",
+            err: b"",
+        }),
+    },
+    Case {
+        name: "a split by a target that is not asked for",
+        call: Call {
+            words: CHECK,
+            second: UNASKED,
+            fails: NOTHING,
+        },
+        wanted: Wanted::Just(End {
+            status: Status::Invalid,
+            out: b"invalid 18\n",
             err: b"",
         }),
     },

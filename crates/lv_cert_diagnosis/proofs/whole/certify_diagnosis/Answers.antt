@@ -11,15 +11,15 @@ use Rattle.lv_cert_diagnosis.proofs.whole.certify_diagnosis.Goals as goal
 pub new-requires : goal.new-requires
 new-requires c =
     (done c.args.model.now (rw c.plant-plant.ensures.plant at c.plant-plant.ensures.well_formed) (rw c.plant-plant.ensures.plant at c.plant-plant.ensures.few) (rw c.plant-plant.ensures.plant at c.plant-plant.ensures.count)
-    c.args.system.now c.requires.system c.args.tracked.now c.args.facts.now c.args.k c.args.answer.now.listed.now c.args.answer.now.kept.now c.requires.states c.requires.facts c.requires.some c.requires.few c.requires.settled
+    c.args.system.now c.requires.system c.args.tracked.now c.args.facts.now c.args.limit.most c.args.limit.distinct c.args.answer.now.listed.now c.args.answer.now.kept.now c.requires.states c.requires.facts c.requires.some c.requires.few c.requires.settled
     c.in_ok-lines.lines.items c.push_answer.new.lines.items c.in_ok-made.made.items c.in_ok-lines.ensures c.in_ok-push_answer.ensures c.in_ok-made.ensures c.from_vec.result
     (c.from_vec.ensures ∙ c.in_ok-push.ensures.items ∙ ap (λ (ls : List Line). ls ++ line.End ∷ []) (c.in_ok-push_splits.ensures ∙ ap (λ made. c.push_answer.new.lines.items ++ split_lines made) c.as_slice.ensures.value))).certifies.valid.order
 
 pub returns-clause-certifies : goal.returns-clause-certifies
 returns-clause-certifies c =
-    subst (λ (ls : List Line). CertifiesDiagnosis c.args.model.now c.args.tracked.now c.args.facts.now c.args.k c.args.answer.now.listed.now ls) (sym c.new.ensures)
+    subst (λ (ls : List Line). CertifiesDiagnosis c.args.model.now c.args.tracked.now c.args.facts.now c.args.limit.most c.args.limit.distinct c.args.answer.now.listed.now ls) (sym c.new.ensures)
     (done c.args.model.now (rw c.plant-plant.ensures.plant at c.plant-plant.ensures.well_formed) (rw c.plant-plant.ensures.plant at c.plant-plant.ensures.few) (rw c.plant-plant.ensures.plant at c.plant-plant.ensures.count)
-    c.args.system.now c.requires.system c.args.tracked.now c.args.facts.now c.args.k c.args.answer.now.listed.now c.args.answer.now.kept.now c.requires.states c.requires.facts c.requires.some c.requires.few c.requires.settled
+    c.args.system.now c.requires.system c.args.tracked.now c.args.facts.now c.args.limit.most c.args.limit.distinct c.args.answer.now.listed.now c.args.answer.now.kept.now c.requires.states c.requires.facts c.requires.some c.requires.few c.requires.settled
     c.in_ok-lines.lines.items c.push_answer.new.lines.items c.in_ok-made.made.items c.in_ok-lines.ensures c.in_ok-push_answer.ensures c.in_ok-made.ensures c.from_vec.result
     (c.from_vec.ensures ∙ c.in_ok-push.ensures.items ∙ ap (λ (ls : List Line). ls ++ line.End ∷ []) (c.in_ok-push_splits.ensures ∙ ap (λ made. c.push_answer.new.lines.items ++ split_lines made) c.as_slice.ensures.value))).certifies
 
@@ -27,6 +27,6 @@ pub returns-clause-formed : goal.returns-clause-formed
 returns-clause-formed c =
     subst (λ (ls : List Line). AreFormed c.args.model.now ls) (sym c.new.ensures)
     (done c.args.model.now (rw c.plant-plant.ensures.plant at c.plant-plant.ensures.well_formed) (rw c.plant-plant.ensures.plant at c.plant-plant.ensures.few) (rw c.plant-plant.ensures.plant at c.plant-plant.ensures.count)
-    c.args.system.now c.requires.system c.args.tracked.now c.args.facts.now c.args.k c.args.answer.now.listed.now c.args.answer.now.kept.now c.requires.states c.requires.facts c.requires.some c.requires.few c.requires.settled
+    c.args.system.now c.requires.system c.args.tracked.now c.args.facts.now c.args.limit.most c.args.limit.distinct c.args.answer.now.listed.now c.args.answer.now.kept.now c.requires.states c.requires.facts c.requires.some c.requires.few c.requires.settled
     c.in_ok-lines.lines.items c.push_answer.new.lines.items c.in_ok-made.made.items c.in_ok-lines.ensures c.in_ok-push_answer.ensures c.in_ok-made.ensures c.from_vec.result
     (c.from_vec.ensures ∙ c.in_ok-push.ensures.items ∙ ap (λ (ls : List Line). ls ++ line.End ∷ []) (c.in_ok-push_splits.ensures ∙ ap (λ made. c.push_answer.new.lines.items ++ split_lines made) c.as_slice.ensures.value))).formed

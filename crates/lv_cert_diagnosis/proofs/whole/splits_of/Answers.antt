@@ -1,5 +1,7 @@
 -- the zones are those of the states, and each candidate is explained
+use Rattle.std.proofs.Common.{rules}
 use Rattle.std.specs.Option.{option_copied}
+use Rattle.lv_cert_diagnosis.specs.Showing.{targets_for}
 use Rattle.lv_search_zones.specs.Moves.{move_slots, zones_from}
 use Rattle.lv_cert_writing.specs.Explained.{last_if_full}
 use Rattle.lv_cert_diagnosis.proofs.AnswerLemmas.{all_explained}
@@ -12,6 +14,6 @@ zones_of-requires-clause-states c = are_tracked c.args.model.now c.args.tracked.
 pub close-requires-clause-explained : goal.close-requires-clause-explained
 close-requires-clause-explained c =
     let plant = c.args.model.now in
-    explained_same c.in_ok-grid.grid (move_slots plant) c.in_ok-grid.ensures c.in_ok-zones.zones.items (zones_from plant 0 c.args.tracked.now) c.in_ok-zones.ensures
-    (option_copied c.last_if_full-last.result) (last_if_full c.args.k c.args.answer.now.listed.now) c.last_if_full-last.ensures c.args.answer.now.listed.now c.args.answer.now.kept.now
-    (all_explained plant c.args.tracked.now c.args.facts.now c.args.k c.args.answer.now.listed.now c.args.answer.now.kept.now c.requires.settled c.requires.some)
+    explained_same (option_copied c.as_ref.result) (targets_for c.args.limit.distinct plant) (search rules) c.in_ok-grid.grid (move_slots plant) c.in_ok-grid.ensures c.in_ok-zones.zones.items (zones_from plant 0 c.args.tracked.now) c.in_ok-zones.ensures
+    (option_copied c.last_if_full-last.result) (last_if_full c.args.limit.most c.args.answer.now.listed.now) c.last_if_full-last.ensures c.args.answer.now.listed.now c.args.answer.now.kept.now
+    (all_explained plant c.args.tracked.now c.args.facts.now c.args.limit.most c.args.limit.distinct c.args.answer.now.listed.now c.args.answer.now.kept.now c.requires.settled c.requires.some)

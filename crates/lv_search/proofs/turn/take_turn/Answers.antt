@@ -1,7 +1,7 @@
 -- each way to go on leaves the walk as it was
 use Rattle.std.proofs.Common.{refl}
 use Rattle.lv_search.specs.Turn.{standing}
-use Rattle.lv_search.proofs.FollowLemmas.{thinned_goes_on, tried_goes_on, first_suits}
+use Rattle.lv_search.proofs.FollowLemmas.{thinned_goes_on, repeated_goes_on, tried_goes_on, first_suits}
 use Rattle.lv_search.proofs.turn.take_turn.Goals as goal
 
 pub try_first-requires-clause-suits : goal.try_first-requires-clause-suits
@@ -31,3 +31,12 @@ returns-in_ok-try_first-in-Try-clause-told g c =
     c.in_ok-try_first-in-Try.ensures.fits
     c.in_ok-try_first-in-Try.ensures.refused
     (λ e. g.met.T.Trial.is_inside c.args.trial.now c.in-Try.candidate suit e)
+
+pub returns-in_ok-leave_out-in-Repeat-clause-told : goal.returns-in_ok-leave_out-in-Repeat-clause-told
+returns-in_ok-leave_out-in-Repeat-clause-told g c =
+    repeated_goes_on (g.T.Trial.suits c.args.trial.now) (g.T.Trial.fits c.args.trial.now) (g.T.Trial.reason c.args.trial.now) c.args.budget
+    (standing (g.F.Frontier.left c.args.frontier.now) c.args.held.now) c.requires.few (g.F.Frontier.left c.leave_out.new.frontier)
+    (standing (g.F.Frontier.left c.leave_out.new.frontier) c.args.held.now)
+    (rw c.in-Repeat.is at c.in_ok-outcome.ensures)
+    c.in_ok-leave_out-in-Repeat.ensures
+    refl

@@ -6,7 +6,7 @@ use Rattle.lv_search_walk.proofs.laws.walk_is_taken_up.Goals as goal
 pub returns : goal.returns
 returns c =
     record {
-      settled = λ fits reason k budget more entries. settled_stays fits reason k budget (budget + more) (omega arith) entries [] [] (omega arith);
-      listed = λ fits reason k budget more entries. listed_stays fits reason k budget (budget + more) (omega arith) entries [] [] (omega arith);
-      kept = λ fits reason k budget more entries. kept_stays fits reason k budget (budget + more) (omega arith) entries [] [] (omega arith);
+      settled = λ alike fits reason k budget more entries. settled_stays alike fits reason k budget (budget + more) (omega arith) entries [] [] (omega arith);
+      listed = λ alike fits reason k budget more entries. listed_stays alike fits reason k budget (budget + more) (omega arith) entries [] [] (omega arith);
+      kept = λ alike fits reason k budget more entries. kept_stays alike fits reason k budget (budget + more) (omega arith) entries [] [] (omega arith);
     }

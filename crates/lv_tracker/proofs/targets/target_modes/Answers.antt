@@ -3,7 +3,7 @@ use Rattle.std.proofs.Common.{◌≡◌, ℕ, suc, ◌+◌, ◌<◌, List, [], �
 use Rattle.lv_base.specs.declared.ids.ValId.{ValId}
 use Rattle.lv_model.specs.declared.plant.ComponentType.{ComponentType}
 use Rattle.lv_model.specs.declared.plant.Part.{Part}
-use Rattle.lv_tracker.specs.Targets.{target_mode, target_modes}
+use Rattle.lv_meaning.specs.Targets.{target_mode, target_modes}
 use Rattle.lv_tracker.proofs.targets.target_modes.Goals as goal
 
 module _ (types : List ComponentType) (parts : List Part) (moves : List ℕ) (at : ℕ) (modes whole : List ValId) where

@@ -1,5 +1,5 @@
 use Rattle.std.proofs.Common.{◌≡◌, ◌++◌, drop}
-use Rattle.lv_tracker.specs.Targets.{target_modes}
+use Rattle.lv_meaning.specs.Targets.{target_modes}
 use Rattle.lv_tracker.proofs.targets.target_modes.Given as goal
 
 -- what was added and the targets of the parts that are left are all targets

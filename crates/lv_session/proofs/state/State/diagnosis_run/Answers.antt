@@ -1,33 +1,24 @@
--- the facts are of the plant and its values; the search has run along the candidates of the tracked states
-use Rattle.std.proofs.Common.{◌≡◌, true, List, sym, ap, subst, ◌∙◌, arith}
+-- the search has run along the candidates of the tracked states
+use Rattle.std.proofs.Common.{◌≡◌, true, ap, subst, arith}
 use Rattle.lv_model.specs.declared.plant.Plant.{Plant}
-use Rattle.lv_model.specs.declared.state.TrackedState.{TrackedState}
 use Rattle.lv_model.specs.WellFormed.{is_well_formed}
-use Rattle.lv_meaning.specs.Facts.{FactsFit, FactsInRange}
 use Rattle.lv_ident.specs.lv_search.Standing.{trials_of}
-use Rattle.lv_ident.specs.Query.{QueryValue, IsQueryOf}
-use Rattle.lv_session.specs.Session.{SessionState}
-use Rattle.lv_session.proofs.Asking.{facts_fit, facts_in_range, has_run, listed_at}
+use Rattle.lv_ident.specs.Query.{QueryValue}
+use Rattle.lv_session.proofs.Asking.{has_run, listed_at}
 use Rattle.lv_session.proofs.state.State.diagnosis_run.Goals as goal
-
-pub identify-requires-clause-fit : goal.identify-requires-clause-fit
-identify-requires-clause-fit c = subst (FactsFit c.args.model.now) (sym c.in_ok-facts.ensures) (facts_fit c.args.model.now c.args.self.now c.requires.state)
-
-pub identify-requires-clause-in_range : goal.identify-requires-clause-in_range
-identify-requires-clause-in_range c = subst (FactsInRange c.args.model.now) (sym c.in_ok-facts.ensures) (facts_in_range c.args.model.now c.args.self.now c.requires.state)
 
 pub returns-in-Ok-clause-at : goal.returns-in-Ok-clause-at
 returns-in-Ok-clause-at c =
     let start = c.in_ok-query.ensures.start in
     let none : trials_of c.in_ok-query.query.standing ≡ 0 = ap (λ (q : QueryValue). trials_of q.standing) start in
-    let on : IsQueryOf c.args.self.now.tracked c.in_ok-query.query =
-    subst (λ (ts : List TrackedState). IsQueryOf ts c.in_ok-query.query) (c.as_slice.ensures.states ∙ ap (λ (s : SessionState). s.tracked) c.self.view_is) c.in_ok-query.ensures.query in
+    let on = c.in_ok-query.ensures.query in
     has_run c.args.model.now c.args.self.now c.args.n c.args.n c.in_ok-query.query c.run.new.self c.in-Ok.outcome
     (ap (λ (q : QueryValue). q.plant) start)
-    (ap (λ (q : QueryValue). q.facts) start ∙ c.in_ok-facts.ensures)
-    (ap (λ (q : QueryValue). q.standing.k) start ∙ ap (λ (s : SessionState). s.k) c.self.view_is)
+    (ap (λ (q : QueryValue). q.facts) start)
+    (ap (λ (q : QueryValue). q.standing.k) start)
+    (ap (λ (q : QueryValue). q.distinct) start)
     (omega (arith, none)) ((rw c.in-Ok.is at c.run.ensures.query) c.args.self.now.tracked on) ((rw c.in-Ok.is at c.run.ensures.walk) c.args.self.now.tracked on)
-    c.run.ensures.plant c.run.ensures.facts (rw c.in-Ok.is at c.run.ensures.k)
+    c.run.ensures.plant c.run.ensures.facts (rw c.in-Ok.is at c.run.ensures.k) c.run.ensures.distinct
 
 pub returns-in-Ok-clause-listed : goal.returns-in-Ok-clause-listed
 returns-in-Ok-clause-listed c =

@@ -33,7 +33,7 @@ reply_of-requires c =
     let at =
     gone_on c.args.model.now c.args.self.now c.args.sum c.args.n c.args.run.now c.run.new.self c.in_ok-run.field-0 c.requires.at c.requires.unsettled
     (c.in_ok-run.ensures.query c.args.self.now.tracked c.requires.at.on_walk) (c.in_ok-run.ensures.walk c.args.self.now.tracked c.requires.at.on_walk)
-    c.in_ok-run.ensures.plant c.in_ok-run.ensures.facts c.in_ok-run.ensures.k in
+    c.in_ok-run.ensures.plant c.in_ok-run.ensures.facts c.in_ok-run.ensures.k c.in_ok-run.ensures.distinct in
     (listed_at c.args.model.now c.args.self.now (c.args.sum + c.args.n) (record { query = c.run.new.self; outcome = c.in_ok-run.field-0 }) well c.requires.state at).few
 
 pub returns-clause-reply : goal.returns-clause-reply
@@ -41,7 +41,7 @@ returns-clause-reply c =
     let at =
     gone_on c.args.model.now c.args.self.now c.args.sum c.args.n c.args.run.now c.run.new.self c.in_ok-run.field-0 c.requires.at c.requires.unsettled
     (c.in_ok-run.ensures.query c.args.self.now.tracked c.requires.at.on_walk) (c.in_ok-run.ensures.walk c.args.self.now.tracked c.requires.at.on_walk)
-    c.in_ok-run.ensures.plant c.in_ok-run.ensures.facts c.in_ok-run.ensures.k in
+    c.in_ok-run.ensures.plant c.in_ok-run.ensures.facts c.in_ok-run.ensures.k c.in_ok-run.ensures.distinct in
     IfOk-weaker c.reply_of.result _ _ (λ reply h. h ∙ ap diagnosis_reply (sym at.came_to)) c.reply_of.ensures
 
 pub returns-clause-at : goal.returns-clause-at
@@ -49,4 +49,4 @@ returns-clause-at c =
     when_ok c.reply_of.result
     (gone_on c.args.model.now c.args.self.now c.args.sum c.args.n c.args.run.now c.run.new.self c.in_ok-run.field-0 c.requires.at c.requires.unsettled
     (c.in_ok-run.ensures.query c.args.self.now.tracked c.requires.at.on_walk) (c.in_ok-run.ensures.walk c.args.self.now.tracked c.requires.at.on_walk)
-    c.in_ok-run.ensures.plant c.in_ok-run.ensures.facts c.in_ok-run.ensures.k)
+    c.in_ok-run.ensures.plant c.in_ok-run.ensures.facts c.in_ok-run.ensures.k c.in_ok-run.ensures.distinct)
