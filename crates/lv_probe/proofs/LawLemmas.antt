@@ -82,16 +82,16 @@ count_of_ranks plant facts o (r ∷ rs) =
     ∙ sym (sum_by-cons (λ (s : Rank). cond (is_possible_rank plant (with_next facts o) s) 1 0) r rs)
 
 pub numbers_listed : (plant : Plant) (facts : Facts) (tracked : List TrackedState) (k budget other : ℕ) (o : Observation)
-    → (diagnosis_walk plant facts k budget (candidates plant tracked)).outcome ≡ Settled
-    → length (diagnosis_walk plant facts k budget (candidates plant tracked)).listed < k
-    → (diagnosis_walk plant (with_next facts o) k other (candidates plant tracked)).outcome ≡ Settled
-    → number_with plant facts (map candidate_of (diagnosis_walk plant facts k budget (candidates plant tracked)).listed) o
-    ≡ length (diagnosis_walk plant (with_next facts o) k other (candidates plant tracked)).listed
+    → (diagnosis_walk plant facts k false budget (candidates plant tracked)).outcome ≡ Settled
+    → length (diagnosis_walk plant facts k false budget (candidates plant tracked)).listed < k
+    → (diagnosis_walk plant (with_next facts o) k false other (candidates plant tracked)).outcome ≡ Settled
+    → number_with plant facts (map candidate_of (diagnosis_walk plant facts k false budget (candidates plant tracked)).listed) o
+    ≡ length (diagnosis_walk plant (with_next facts o) k false other (candidates plant tracked)).listed
 numbers_listed plant facts tracked k budget other o settled few again =
     let cs : List Rank = candidates plant tracked in
     let p : Rank → Bool = is_possible_rank plant facts in
     let q : Rank → Bool = is_possible_rank plant (with_next facts o) in
-    let listed : List Rank = (diagnosis_walk plant facts k budget cs).listed in
+    let listed : List Rank = (diagnosis_walk plant facts k false budget cs).listed in
     let is : listed ≡ take k (filter p cs) = diagnosis_exact plant facts k budget cs settled in
     let fewer : length (take k (filter p cs)) < k = subst (λ (rs : List Rank). length rs < k) is few in
     let short : length (filter p cs) ≤ k = all_of_few k (filter p cs) fewer in
@@ -100,7 +100,7 @@ numbers_listed plant facts tracked k budget other o settled few again =
     let counted : length (filter q (filter p cs)) ≡ count_by q (filter p cs) = length-filter q (filter p cs) in
     let less = count_by-le-length q (filter p cs) in
     let short_too : length (filter q cs) ≤ k = subst (λ (rs : List Rank). length rs ≤ k) within (omega (arith, counted, less, short)) in
-    let there : (diagnosis_walk plant (with_next facts o) k other cs).listed ≡ filter q cs = diagnosis_exact plant (with_next facts o) k other cs again ∙ take_all k (filter q cs) short_too in
+    let there : (diagnosis_walk plant (with_next facts o) k false other cs).listed ≡ filter q cs = diagnosis_exact plant (with_next facts o) k other cs again ∙ take_all k (filter q cs) short_too in
     count_of_ranks plant facts o listed
     ∙ ap (count_by q) whole
     ∙ sym counted

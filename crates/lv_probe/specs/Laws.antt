@@ -1,5 +1,5 @@
 -- What the numbers of a probe are, in the subject's words.
-use Rattle.std.specs.Prelude.{◌≡◌, ◌≤◌, ◌<◌, ℕ, List, ◌∷◌, ◌++◌, length, map, Contains, Some, None}
+use Rattle.std.specs.Prelude.{◌≡◌, ◌≤◌, ◌<◌, ℕ, false, List, ◌∷◌, ◌++◌, length, map, Contains, Some, None}
 use Rattle.lv_model.specs.declared.plant.Plant.{Plant}
 use Rattle.lv_model.specs.declared.state.TrackedState.{TrackedState}
 use Rattle.lv_meaning.specs.declared.facts.Observation.{Observation}
@@ -13,15 +13,15 @@ use Rattle.lv_base.specs.declared.ids.VarId.{VarId}
 use Rattle.lv_reply.specs.declared.probes.Probed.{Probed}
 use Rattle.lv_probe.specs.Probing.{number_with, largest, best}
 
--- where a settled diagnosis lists fewer than k, as many of the listed are possible with one observation more as a settled diagnosis with
+-- where a settled diagnosis, one that may list candidates of one target, lists fewer than k, as many of the listed are possible with one observation more as a settled diagnosis with
 -- that observation lists
 abbrev pub NumbersAreListed : Type 0
 NumbersAreListed = (plant : Plant) (facts : Facts) (tracked : List TrackedState) (k budget other : ℕ) (o : Observation)
-    → (diagnosis_walk plant facts k budget (candidates plant tracked)).outcome ≡ Settled
-    → length (diagnosis_walk plant facts k budget (candidates plant tracked)).listed < k
-    → (diagnosis_walk plant (with_next facts o) k other (candidates plant tracked)).outcome ≡ Settled
-    → number_with plant facts (map candidate_of (diagnosis_walk plant facts k budget (candidates plant tracked)).listed) o
-    ≡ length (diagnosis_walk plant (with_next facts o) k other (candidates plant tracked)).listed
+    → (diagnosis_walk plant facts k false budget (candidates plant tracked)).outcome ≡ Settled
+    → length (diagnosis_walk plant facts k false budget (candidates plant tracked)).listed < k
+    → (diagnosis_walk plant (with_next facts o) k false other (candidates plant tracked)).outcome ≡ Settled
+    → number_with plant facts (map candidate_of (diagnosis_walk plant facts k false budget (candidates plant tracked)).listed) o
+    ≡ length (diagnosis_walk plant (with_next facts o) k false other (candidates plant tracked)).listed
 
 -- what is best looked at has its largest number below the number listed; no observable has a smaller one, and those before it have
 -- larger ones

@@ -11,6 +11,7 @@ use Rattle.lv_search_walk.specs.declared.outcome.Outcome.TheVariants.{Settled}
 use Rattle.lv_search_walk.specs.Walk.{Walked, candidate_of, suit_all}
 use Rattle.lv_meaning.specs.Candidates.{candidates, is_possible_candidate}
 use Rattle.lv_meaning.specs.Diagnosis.{reason_of, diagnosis_walk}
+use Rattle.lv_meaning.specs.Targets.{are_alike}
 use Rattle.lv_ident.specs.Probing.{with_next}
 use Rattle.lv_ident.specs.lv_search_zones.Moves.{is_full_choice}
 use Rattle.lv_ident.proofs.lv_search_zones.ZoneLemmas.{candidates_are_full}
@@ -45,23 +46,25 @@ walked_full : (plant : Plant) (state : SessionState) (n : ℕ) → All (IsFull p
 unfolding walked
 walked_full plant state n =
     of_ranks plant (walked plant state n).listed
-    (listed_all (IsFullRank plant) (is_possible_candidate plant (facts_of state)) (reason_of plant (facts_of state)) state.k n (candidates plant state.tracked) [] [] (All-nil (IsFullRank plant))
+    (listed_all (IsFullRank plant) (are_alike state.distinct plant) (is_possible_candidate plant (facts_of state)) (reason_of plant (facts_of state)) state.k n (candidates plant state.tracked) [] [] (All-nil (IsFullRank plant))
     (ranks_full plant (candidates plant state.tracked) (candidates_are_full plant state.tracked)))
 
 -- what is kept of a diagnosis lists candidates that have a move for each part
 pub full_at : (plant : Plant) (state : SessionState) (sum : ℕ) (d : Diagnosed) → IsDiagnosisAt plant state sum d → All (IsFull plant) (map candidate_of d.query.standing.listed)
 full_at plant state sum d at = subst (λ (w : Walked). All (IsFull plant) (map candidate_of w.listed)) at.came_to (walked_full plant state sum)
 
-module _ (plant : Plant) (state : SessionState) (s : Sighting) where
+module _ (plant : Plant) (state : SessionState) (s : Sighting) (plain : state.distinct ≡ false) where
   -- the walk of a diagnosis once the observation is held
   observed_walk : (other : ℕ) → walked plant (cleared (record state { next = state.next ++ (s ∷ []) })).state other
-      ≡ diagnosis_walk plant (with_next (facts_of state) (observation_of s)) state.k other (candidates plant state.tracked)
+      ≡ diagnosis_walk plant (with_next (facts_of state) (observation_of s)) state.k false other (candidates plant state.tracked)
   unfolding walked
-  observed_walk other = λ i. diagnosis_walk plant (record (facts_of state) { next = map-append observation_of state.next (s ∷ []) i }) state.k other (candidates plant state.tracked)
+  observed_walk other =
+      (λ i. diagnosis_walk plant (record (facts_of state) { next = map-append observation_of state.next (s ∷ []) i }) state.k state.distinct other (candidates plant state.tracked))
+      ∙ ap (λ (b : Bool). diagnosis_walk plant (with_next (facts_of state) (observation_of s)) state.k b other (candidates plant state.tracked)) plain
 
-  own_walk : (sum : ℕ) → walked plant state sum ≡ diagnosis_walk plant (facts_of state) state.k sum (candidates plant state.tracked)
+  own_walk : (sum : ℕ) → walked plant state sum ≡ diagnosis_walk plant (facts_of state) state.k false sum (candidates plant state.tracked)
   unfolding walked
-  own_walk sum = refl
+  own_walk sum = ap (λ (b : Bool). diagnosis_walk plant (facts_of state) state.k b sum (candidates plant state.tracked)) plain
 
   pub numbers_are : (sum other : ℕ) → (walked plant state sum).outcome ≡ Settled → length (walked plant state sum).listed < state.k → is_refused (observe state s).reply ≡ false
       → (walked plant (observe state s).state other).outcome ≡ Settled

@@ -123,8 +123,9 @@ pub record EndedIsSilent : Type 0 where
   pub stays : (plant : Plant) (state : SessionState) (line : List ℕ) → state.is_ended ≡ true → (stepped plant state line).state ≡ state
   pub silent : (plant : Plant) (state : SessionState) (line : List ℕ) → state.is_ended ≡ true → (stepped plant state line).reply ≡ Nothing
 
--- where a settled diagnosis lists fewer than k, as many of the listed go with an observation as a settled diagnosis lists once it is held
+-- where a settled diagnosis, one that may list candidates of one target, lists fewer than k, as many of the listed go with an observation as
+-- a settled diagnosis lists once it is held
 abbrev pub NumbersAreListed : Type 0
-NumbersAreListed = (plant : Plant) (state : SessionState) (sum other : ℕ) (s : Sighting) → (walked plant state sum).outcome ≡ Settled
+NumbersAreListed = (plant : Plant) (state : SessionState) (sum other : ℕ) (s : Sighting) → state.distinct ≡ false → (walked plant state sum).outcome ≡ Settled
     → length (walked plant state sum).listed < state.k → is_refused (observe state s).reply ≡ false → (walked plant (observe state s).state other).outcome ≡ Settled
     → number_with plant (facts_of state) (map candidate_of (walked plant state sum).listed) (observation_of s) ≡ length (walked plant (observe state s).state other).listed
