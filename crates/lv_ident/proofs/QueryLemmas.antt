@@ -1,5 +1,6 @@
 -- A query is on the walk of the diagnosis, whatever its trial holds.
 use Rattle.std.proofs.Common.{◌≡◌, ℕ, Bool, true, false, List, [], refl, sym, subst, ap, ◌∙◌, arith, Result, Ok, Err}
+use Rattle.std.specs.Prelude.{Some, None}
 use Rattle.std.specs.Result.{IfOk}
 use Rattle.lv_base.specs.declared.rank.Rank.{Rank}
 use Rattle.lv_base.specs.declared.ids.Cost.{Cost}
@@ -11,7 +12,7 @@ use Rattle.lv_model.specs.declared.state.TrackedState.{TrackedState}
 use Rattle.lv_meaning.specs.declared.facts.Facts.{Facts}
 use Rattle.lv_meaning.specs.Candidates.{candidates, is_possible_candidate}
 use Rattle.lv_meaning.specs.Diagnosis.{reason_of}
-use Rattle.lv_meaning.specs.Targets.{are_alike}
+use Rattle.lv_meaning.specs.Targets.{are_alike, targets_of_moves}
 use Rattle.lv_meaning.proofs.TargetLemmas.{targets_are_groups}
 use Rattle.lv_search_walk.specs.Groups.{alike_by}
 use Rattle.lv_search.specs.lv_boxes.RankedMembers.{ranked_members}
@@ -42,6 +43,19 @@ start plant distinct k entries = record { k = k; groups = groups_for distinct pl
 pub search_is : (plant : Plant) (tracked : List TrackedState) (grid : List (List Cost)) → grid ≡ move_slots plant → (zones : List ZoneValue) → zones ≡ zones_from plant 0 tracked
     → (left : List Rank) → left ≡ ranked_members grid zones → left ≡ candidates plant tracked
 search_is plant tracked grid grid_is zones zones_are left left_is = left_is ∙ (λ i. ranked_members (grid_is i) (zones_are i)) ∙ zones_have_candidates plant tracked
+
+-- a search with groups, and one without, stands where that of the query begins
+module _ (plant : Plant) (tracked : List TrackedState) (distinct : Bool) (k : ℕ) (left : List Rank) (left_is : left ≡ candidates plant tracked) (s : Standing) where
+  pub distinct_start : distinct ≡ true → (targets : List (List ℕ)) → targets ≡ targets_of_moves plant → s ≡ record { k = k; groups = Some targets; listed = []; kept = []; left = left }
+      → s ≡ start plant distinct k (candidates plant tracked)
+  distinct_start flag targets is made =
+      let groups : Some targets ≡ groups_for distinct plant = ap Some is ∙ sym (ap (λ (d : Bool). groups_for d plant) flag) in
+      made ∙ (λ i. record { k = k; groups = groups i; listed = []; kept = []; left = left_is i })
+
+  pub plain_start : distinct ≡ false → s ≡ record { k = k; groups = None; listed = []; kept = []; left = left } → s ≡ start plant distinct k (candidates plant tracked)
+  plain_start flag made =
+      let groups : None ≡ groups_for distinct plant = sym (ap (λ (d : Bool). groups_for d plant) flag) in
+      made ∙ (λ i. record { k = k; groups = groups i; listed = []; kept = []; left = left_is i })
 
 started : (suits fits : Candidate → Bool) (reason : Candidate → List Pair) (plant : Plant) (distinct : Bool) (k : ℕ) (entries : List Rank) → IsUnderWay suits fits reason entries (start plant distinct k entries)
 started suits fits reason plant distinct k entries = record { walk = λ budget few. refl; trials = omega arith; k = refl; groups = refl; suit = λ suit. suit }

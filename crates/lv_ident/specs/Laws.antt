@@ -1,5 +1,5 @@
 -- What the kept conflicts of a diagnosis are.
-use Rattle.std.specs.Prelude.{◌≡◌, ℕ, true, not, [], List}
+use Rattle.std.specs.Prelude.{◌≡◌, ℕ, Bool, true, not, [], List}
 use Rattle.std.specs.List.{list_all}
 use Rattle.lv_base.specs.declared.rank.Rank.{Rank}
 use Rattle.lv_model.specs.declared.plant.Plant.{Plant}

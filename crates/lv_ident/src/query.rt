@@ -94,7 +94,7 @@ fn search_of(
 }
 
 /// A query that has tried nothing.
-fn query<'a>(
+fn started<'a>(
     alloc: Global,
     model: &'a Model,
     system: &StepSystem,
@@ -142,7 +142,7 @@ pub fn identify<'a>(
     ensures query { IfOk result (λ query. IsQueryOf tracked.now query) }
 {
     let search = search_of(alloc, model, tracked, k, false)?;
-    query(alloc, model, system, facts, false, search)
+    started(alloc, model, system, facts, false, search)
 }
 
 /// As `identify`, of a query that passes over a candidate which leads to the state of a listed one.
@@ -163,7 +163,7 @@ pub fn identify_distinct<'a>(
     ensures query { IfOk result (λ query. IsQueryOf tracked.now query) }
 {
     let search = search_of(alloc, model, tracked, k, true)?;
-    query(alloc, model, system, facts, true, search)
+    started(alloc, model, system, facts, true, search)
 }
 
 impl<'a> Query<'a> {

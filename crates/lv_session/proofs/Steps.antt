@@ -28,7 +28,7 @@ use Rattle.lv_session_request.specs.Chain.{and_then}
 use Rattle.lv_session_request.specs.Forms.{first_word, has_number_form, has_command_signs, has_observe_signs, name_at, has_distinct_form, from_1_to, limited, number_to, IsUpTo}
 use Rattle.lv_session_request.specs.Goals.{phrase_in, formula_of, simple, goal_of, AreRead, IsGoalIn}
 use Rattle.lv_session_request.specs.Names.{control_of, observable_of, value_in}
-use Rattle.lv_session_request.specs.Requests.{word, alone, command_of, release_of, sighting_of, retracted_of, labels_of, request_by, asked_by_first, asked, asked_by, request_of, IsCommandIn, IsSightingIn, IsRequestOf}
+use Rattle.lv_session_request.specs.Requests.{word, alone, track_of, command_of, release_of, sighting_of, retracted_of, labels_of, request_by, asked_by_first, asked, asked_by, request_of, IsCommandIn, IsSightingIn, IsRequestOf}
 use Rattle.lv_session_request.proofs.GoalLaws.{reads_back, goal_is_in}
 use Rattle.lv_session_request.proofs.RequestLaws.{command_fits, sighting_fits}
 use Rattle.lv_session.specs.Session.{SessionState, unchanged, answered, stepped}

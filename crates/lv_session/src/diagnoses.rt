@@ -79,7 +79,7 @@ impl State {
     }
 
     /// A diagnosis of the state that has tried nothing.
-    fn query<'a>(
+    fn untried<'a>(
         &self,
         alloc: Global,
         model: &'a Model,
@@ -112,7 +112,7 @@ impl State {
         ensures listed { IfOk result (λ run. IsListOf model.now self.now run.query.standing.listed) }
     {
         let _plant = model.plant();
-        let mut query = self.query(alloc, model, system)?;
+        let mut query = self.untried(alloc, model, system)?;
         match query.run(n) {
             Ok(outcome) => Ok(Diagnosed { query, outcome }),
             Err(error) => {
