@@ -126,7 +126,7 @@ module _ (plant : Plant) (present : List Observation) (ends : List ValId → Boo
 module _ (plant : Plant) (present : List Observation) (ends : List ValId → Bool) (set : ClauseMap) (lits : List Lit) (s : State) (pairs : List Pair)
     (asks : Asks plant present ends set) (assumes : Assumes plant [] lits (λ a. has_modes plant.parts s.modes a && has_controls (controls plant) a pairs)) where
   -- values that satisfy clauses and assumptions are a nominal step
-  model_is_step : (values : List Bool) → IsModel set lits values → some_nominal_step plant present s pairs ends ≡ true
+  pub model_is_step : (values : List Bool) → IsModel set lits values → some_nominal_step plant present s pairs ends ≡ true
   model_is_step values m =
       let e : IsEncodedStep plant (truth_in values) = asks.decodes values m.all_clauses in
       let a : List ValId = e.before in
@@ -158,7 +158,7 @@ module _ (plant : Plant) (present : List Observation) (ends : List ValId → Boo
       found_step plant present s pairs ends step (subst (λ (x : List ValId). ends x ≡ true) b_is all.1)
 
   -- where there are none there is no such step
-  refuted : ((values : List Bool) → IsModel set lits values → ⊥) → some_nominal_step plant present s pairs ends ≡ false
+  pub refuted : ((values : List Bool) → IsModel set lits values → ⊥) → some_nominal_step plant present s pairs ends ≡ false
   refuted none =
       refuted_by plant present ends set lits s pairs asks
       (λ values a code modes commanded. assumes.exact values a code ∙ and_from (has_modes plant.parts s.modes a) (has_controls (controls plant) a pairs) modes commanded) none

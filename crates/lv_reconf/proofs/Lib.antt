@@ -8,3 +8,6 @@ pub mod JudgeLemmas
 pub mod QueryLemmas
 pub mod MarkLemmas
 pub mod ReducingLemmas
+pub mod ShowingLemmas
+pub mod TestJudgeLemmas
+pub mod TestQueryLemmas

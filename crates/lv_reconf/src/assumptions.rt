@@ -25,7 +25,7 @@ fn has_boolean(lits: &[Lit], lit: Lit) -> bool
 }
 
 /// Assumes a positive literal, if it isn't assumed yet.
-fn assume(lits: &mut Vec<Lit>, lit: Lit) -> Result<(), AllocError>
+pub fn assume(lits: &mut Vec<Lit>, lit: Lit) -> Result<(), AllocError>
     requires { lit.sign ≡ true }
     ensures adds { IfOk result (λ _. AddsOne lits.old.items lits.new.items lit) }
     ensures says { (bools : ℕ) → AreAssumed bools lits.old.items → in_range bools lit ≡ true → IfOk result (λ _. HasMore bools lits.old.items lits.new.items lit) }

@@ -2,7 +2,7 @@
 #![tactic(auto)]
 
 ghost use Rattle.std.specs.Prelude.{◌≡◌, ◌<◌, true, false, IfOk, slice_index_or};
-ghost use Rattle.lv_compile.specs.Booleans.{value_literal, booleans_now};
+ghost use Rattle.lv_compile.specs.Booleans.{value_literal, booleans_now, booleans_next};
 ghost use Rattle.lv_compile.specs.FormulaClauses.{size_of};
 ghost use Rattle.lv_model.specs.Lists.{move_counts};
 ghost use Rattle.lv_meaning.specs.Ranges.{GoalFits};
@@ -75,6 +75,14 @@ impl<'a> Compiled<'a> {
         ensures { result ≡ value_literal (booleans_now self.now) var.0 val.0 true }
     {
         self.before.literal(var.0 as usize, val.0, true)
+    }
+
+    /// The literal that a variable has a value after the step.
+    pub fn ends_with(&self, var: VarId, val: ValId) -> Lit
+        requires { val.0 < size_of (booleans_next self.now) var.0 }
+        ensures { result ≡ value_literal (booleans_next self.now) var.0 val.0 true }
+    {
+        self.after.literal(var.0 as usize, val.0, true)
     }
 
     /// The literal that a part doesn't make a move.

@@ -8,6 +8,8 @@
 //! | `trial`, `judged` | whether a command set recovers, and the reason of one that doesn't |
 //! | `reaching` | from which tracked states values reach the goals, and what of them is needed where they don't |
 //! | `asking`, `states` | whether there is such a step as a solver's clauses ask for, from one state or from several |
+//! | `test_query` | `find_test` and `TestQuery`: the same search for a command set that tells tracked states apart |
+//! | `testing`, `showing` | whether a command set does, and the reason of one that doesn't |
 //! | `setting` | what the questions of a recovery rest on |
 //! | `compiled` | a model with the numbering of its system, and the clauses of goals |
 //! | `clauses`, `goals` | solvers for nominal steps, those that meet all goals, those that miss one |
@@ -23,7 +25,11 @@ mod judged;
 pub mod query;
 mod reaching;
 mod setting;
+mod showing;
 mod states;
+pub mod test_query;
+mod testing;
 mod trial;
 
 pub use query::{Query, recover};
+pub use test_query::{TestQuery, find_test};

@@ -42,7 +42,7 @@ impl<'a> marker::Model for Query<'a> {
 }
 
 /// A search for the first of the command sets of a model, which has tried none.
-fn search_of(alloc: Global, model: &Model) -> Result<Search<Guide>, AllocError>
+pub(crate) fn search_of(alloc: Global, model: &Model) -> Result<Search<Guide>, AllocError>
     ensures { IfOk result (λ s. s.standing ≡ record { k = 1; groups = None; listed = []; kept = []; left = command_sets model.now }) }
 {
     let _plant = model.plant();

@@ -1,23 +1,26 @@
 //! Whether values of controls reach the goals of an aim, asked of one solver.
 #![tactic(auto)]
 
-ghost use Rattle.std.specs.Prelude.{◌≡◌, ◌+◌, ◌<◌, ◌≤◌, ◌++◌, [], Bool, true, length, drop, IfOk};
+ghost use Rattle.std.specs.Prelude.{◌≡◌, ◌+◌, ◌<◌, ◌≤◌, ◌++◌, [], Bool, true, length, drop, slice_index_or, IfOk};
 ghost use Rattle.std.specs.List.{prefix_len};
 ghost use Rattle.lv_model.specs.declared.state.TrackedState.{TrackedState};
 ghost use Rattle.lv_meaning.specs.Recovers.{reaches};
 ghost use Rattle.lv_meaning.specs.lv_search_walk.Reason.{reduced};
-ghost use Rattle.lv_model.specs.Lists.{controls};
+ghost use Rattle.lv_model.specs.Lists.{controls, sizes};
 ghost use Rattle.lv_reconf.specs.Assuming.{pair_fits, pairs_fit};
 ghost use Rattle.lv_reconf.specs.Refuting.{IsReducing, RefutesAt, needs};
+ghost use Rattle.lv_reconf.specs.Tests.{can_show, two_pass};
 ghost use Rattle.lv_reconf.specs.Trying.{asking, looking_at, reaches_at};
 
 use super::asking::refuted;
 use super::assumptions::control_literal;
 use super::goals::reaching_solver;
 use super::setting::Setting;
+use super::showing::shown_twice;
 use super::states::count_stepping;
-use lv_base::Pair;
+use lv_base::{Pair, ValId, VarId};
 use lv_clauses::{Marks, is_marked};
+use lv_meaning::Observation;
 use lv_sat::Solver;
 use std::alloc::{AllocError, Global};
 use std::marker::Model;
@@ -94,6 +97,31 @@ impl<'s, 'a> Reaching<'s, 'a> {
             self.setting.controls(),
             self.setting.aim().tracked.as_slice(),
             pairs,
+        )
+    }
+
+    /// Whether a variable may be seen to have this value after steps from two of the tracked states, where nothing is asked of
+    /// the goals.
+    pub fn shown_twice(
+        &mut self,
+        pairs: &[Pair],
+        var: VarId,
+        val: ValId,
+    ) -> Result<bool, AllocError>
+        requires fit { pairs_fit self.old.plant pairs.now ≡ true }
+        requires value { val.0 < slice_index_or (sizes self.old.plant) var.0 0 }
+        requires none { self.old.aim.goals ≡ [] }
+        ensures answer { IfOk result (λ answer. answer ≡ two_pass (can_show self.old.plant self.old.aim var pairs.now val.0) self.old.aim.tracked) }
+        ensures kept { self.new ≡ self.old }
+    {
+        shown_twice(
+            self.alloc,
+            self.setting.compiled(),
+            &mut self.solver,
+            self.setting.controls(),
+            self.setting.aim().tracked.as_slice(),
+            pairs,
+            Observation { var, val },
         )
     }
 

@@ -1,0 +1,60 @@
+-- what the search says of its trial it says of the question
+use Rattle.std.proofs.Common.{◌≡◌, ◌+◌, ℕ, true, subst, sym, ◌∙◌}
+use Rattle.std.specs.Result.{IfOk}
+use Rattle.lv_meaning.specs.lv_search_walk.Walk.{walk}
+use Rattle.lv_meaning.specs.Commands.{command_sets}
+use Rattle.lv_search.specs.Standing.{trials_of, all_suit, IsUnderWay}
+use Rattle.lv_reconf.specs.Judging.{candidate_commands}
+use Rattle.lv_reconf.specs.Tests.{candidate_tests, candidate_test_reason, test_walk}
+use Rattle.lv_reconf.specs.Testing.{TestQuestion, testing, TestValue, IsTestQuery}
+use Rattle.lv_reconf.specs.Trying.{Question}
+use Rattle.lv_reconf.proofs.QueryLemmas.{of_three}
+use Rattle.lv_reconf.proofs.TestQueryLemmas.{of_question}
+use Rattle.lv_reconf.proofs.test_query.TestQuery.run.Goals as goal
+
+pub new-requires-clause-none : goal.new-requires-clause-none
+new-requires-clause-none c = c.self.invariant.none
+
+pub new-requires-clause-size : goal.new-requires-clause-size
+new-requires-clause-size c = c.self.invariant.size_is
+
+pub run-requires-clause-suit : goal.run-requires-clause-suit
+run-requires-clause-suit c =
+    subst (λ (t : TestQuestion). all_suit (candidate_commands t.plant) c.self.inside.search.standing ≡ true) (sym c.in_ok-trial.ensures)
+    (subst (λ (q : TestValue). all_suit (candidate_commands q.plant) q.standing ≡ true) (sym c.self.view_is) c.requires.suit)
+
+pub returns-clause-walk : goal.returns-clause-walk
+returns-clause-walk c is =
+    let s : TestQuestion = testing c.self.inside.setting.plant c.self.inside.setting.aim c.self.inside.var in
+    let here : IsTestQuery (record { plant = s.plant; aim = s.aim; var = s.var; standing = c.self.inside.search.standing }) = subst (λ (q : TestValue). IsTestQuery q) (sym c.self.view_is) is in
+    let budget : ℕ = trials_of c.self.inside.search.standing + c.args.more in
+    subst (λ (q : TestValue).
+    IfOk c.run.result (λ outcome. test_walk q.plant q.aim q.var (trials_of q.standing + c.args.more)
+    ≡ record { outcome = outcome; listed = c.run.new.self.standing.listed; kept = c.run.new.self.standing.kept })) c.self.view_is
+    (subst (λ (k : ℕ). IfOk c.run.result (λ outcome. walk (candidate_tests s.plant s.aim s.var) (candidate_test_reason s.plant s.aim) k budget (command_sets s.plant)
+    ≡ record { outcome = outcome; listed = c.run.new.self.standing.listed; kept = c.run.new.self.standing.kept })) here.one
+    (of_question s c.in_ok-trial.trial c.in_ok-trial.ensures
+    (λ suits fits reason. IsUnderWay suits fits reason (command_sets s.plant) c.self.inside.search.standing
+    → IfOk c.run.result (λ outcome. walk fits reason c.self.inside.search.standing.k budget (command_sets s.plant)
+    ≡ record { outcome = outcome; listed = c.run.new.self.standing.listed; kept = c.run.new.self.standing.kept }))
+    (c.run.ensures.walk (command_sets s.plant)) here.under_way))
+
+pub returns-clause-query : goal.returns-clause-query
+returns-clause-query c is =
+    let s : TestQuestion = testing c.self.inside.setting.plant c.self.inside.setting.aim c.self.inside.var in
+    let here : IsTestQuery (record { plant = s.plant; aim = s.aim; var = s.var; standing = c.self.inside.search.standing }) = subst (λ (q : TestValue). IsTestQuery q) (sym c.self.view_is) is in
+    of_three c.run.result
+    (λ _. IsUnderWay (candidate_commands s.plant) (candidate_tests s.plant s.aim s.var) (candidate_test_reason s.plant s.aim) (command_sets s.plant) c.run.new.self.standing)
+    (λ _. all_suit (candidate_commands s.plant) c.run.new.self.standing ≡ true)
+    (λ _. c.run.new.self.standing.k ≡ c.self.inside.search.standing.k) _
+    (λ _ way suit same. record { under_way = way; suit = suit; one = same ∙ here.one })
+    (of_question s c.in_ok-trial.trial c.in_ok-trial.ensures
+    (λ suits fits reason. IsUnderWay suits fits reason (command_sets s.plant) c.self.inside.search.standing → IfOk c.run.result (λ _. IsUnderWay suits fits reason (command_sets s.plant) c.run.new.self.standing))
+    (c.run.ensures.under_way (command_sets s.plant)) here.under_way)
+    (of_question s c.in_ok-trial.trial c.in_ok-trial.ensures (λ suits fits reason. IfOk c.run.result (λ _. all_suit suits c.run.new.self.standing ≡ true)) c.run.ensures.suit)
+    c.run.ensures.k
+
+pub returns-clause-suit : goal.returns-clause-suit
+returns-clause-suit c =
+    of_question (testing c.self.inside.setting.plant c.self.inside.setting.aim c.self.inside.var) c.in_ok-trial.trial c.in_ok-trial.ensures
+    (λ suits fits reason. IfOk c.run.result (λ _. all_suit suits c.run.new.self.standing ≡ true)) c.run.ensures.suit
