@@ -1,5 +1,6 @@
 -- A query is on the walk of the test.
 use Rattle.std.proofs.Common.{◌≡◌, Bool, List, [], refl, sym, subst, arith}
+use Rattle.std.specs.Prelude.{None}
 use Rattle.lv_base.specs.declared.ids.VarId.{VarId}
 use Rattle.lv_base.specs.declared.rank.Rank.{Rank}
 use Rattle.lv_base.specs.declared.search.Pair.{Pair}
@@ -15,10 +16,10 @@ use Rattle.lv_reconf.specs.Testing.{TestQuestion, testing, IsTestQuery}
 use Rattle.lv_reconf.specs.Trying.{Question, asking}
 
 abbrev start : List Rank → Standing
-start entries = record { k = 1; listed = []; kept = []; left = entries }
+start entries = record { k = 1; groups = None; listed = []; kept = []; left = entries }
 
 started : (suits fits : Candidate → Bool) (reason : Candidate → List Pair) (entries : List Rank) → IsUnderWay suits fits reason entries (start entries)
-started suits fits reason entries = record { walk = λ budget few. refl; trials = omega arith; k = refl; suit = λ suit. suit }
+started suits fits reason entries = record { walk = λ budget few. refl; trials = omega arith; k = refl; groups = refl; suit = λ suit. suit }
 
 -- a query that has tried nothing
 start_is_query : (plant : Plant) (aim : Aim) (x : VarId) → IsTestQuery (record { plant = plant; aim = aim; var = x; standing = start (command_sets plant) })
@@ -27,6 +28,7 @@ start_is_query plant aim x =
       under_way = started (candidate_commands plant) (candidate_tests plant aim x) (candidate_test_reason plant aim) (command_sets plant);
       suit = sets_suit plant;
       one = refl;
+      plain = refl;
     }
 
 pub new_is_query : (plant : Plant) (aim : Aim) (x : VarId) (s : Question) → s ≡ asking plant aim → (t : Standing) → t ≡ start (command_sets plant)

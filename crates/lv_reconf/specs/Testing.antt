@@ -1,5 +1,5 @@
 -- What a trial of command sets that are to test a variable keeps, and what is found of one.
-use Rattle.std.specs.Prelude.{◌≡◌, ℕ, true, false, List, [], slice_index_or}
+use Rattle.std.specs.Prelude.{◌≡◌, ℕ, true, false, None, List, [], slice_index_or}
 use Rattle.lv_base.specs.declared.ids.VarId.{VarId}
 use Rattle.lv_base.specs.Choices.{pairs_of}
 use Rattle.lv_model.specs.declared.plant.Plant.{Plant}
@@ -47,3 +47,4 @@ pub record IsTestQuery (q : TestValue) : Type 0 where
   pub under_way : IsUnderWay (candidate_commands q.plant) (candidate_tests q.plant q.aim q.var) (candidate_test_reason q.plant q.aim) (command_sets q.plant) q.standing
   pub suit : all_suit (candidate_commands q.plant) q.standing ≡ true
   pub one : q.standing.k ≡ 1
+  pub plain : q.standing.groups ≡ None

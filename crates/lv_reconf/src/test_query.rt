@@ -1,7 +1,7 @@
 //! A query: the search for the first command set that tests an observable, which can be gone on with.
 #![tactic(auto)]
 
-ghost use Rattle.std.specs.Prelude.{◌≡◌, ◌+◌, ◌<◌, ◌≤◌, ◌^◌, [], true, slice_index_or, IfOk};
+ghost use Rattle.std.specs.Prelude.{◌≡◌, ◌+◌, ◌<◌, ◌≤◌, ◌^◌, [], true, slice_index_or, IfOk, None};
 ghost use Rattle.lv_model.specs.Lists.{sizes, variable_count};
 ghost use Rattle.lv_system.specs.System.{IsSystemOf};
 ghost use Rattle.lv_search.specs.Standing.{trials_of, all_suit};
@@ -69,7 +69,7 @@ pub fn find_test<'a>(
     requires fits { AimFits model.now aim }
     requires none { aim.goals ≡ [] }
     requires there { var.0 < variable_count model.now }
-    ensures start { IfOk result (λ query. query ≡ record { plant = model.now; aim = aim; var = var; standing = record { k = 1; listed = []; kept = []; left = command_sets model.now } }) }
+    ensures start { IfOk result (λ query. query ≡ record { plant = model.now; aim = aim; var = var; standing = record { k = 1; groups = None; listed = []; kept = []; left = command_sets model.now } }) }
     ensures query { IfOk result (λ query. IsTestQuery query) }
 {
     let size = size_of(alloc, model, var)?;

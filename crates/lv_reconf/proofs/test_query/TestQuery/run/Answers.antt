@@ -1,14 +1,16 @@
 -- what the search says of its trial it says of the question
-use Rattle.std.proofs.Common.{◌≡◌, ◌+◌, ℕ, true, subst, sym, ◌∙◌}
+use Rattle.std.proofs.Common.{◌≡◌, ◌+◌, ℕ, List, true, subst, sym, ◌∙◌}
+use Rattle.std.specs.Prelude.{Option}
 use Rattle.std.specs.Result.{IfOk}
-use Rattle.lv_meaning.specs.lv_search_walk.Walk.{walk}
+use Rattle.lv_meaning.specs.lv_search_walk.Walk.{distinct_walk}
+use Rattle.lv_meaning.specs.lv_search_walk.Groups.{alike_by}
 use Rattle.lv_meaning.specs.Commands.{command_sets}
 use Rattle.lv_search.specs.Standing.{trials_of, all_suit, IsUnderWay}
 use Rattle.lv_reconf.specs.Judging.{candidate_commands}
 use Rattle.lv_reconf.specs.Tests.{candidate_tests, candidate_test_reason, test_walk}
 use Rattle.lv_reconf.specs.Testing.{TestQuestion, testing, TestValue, IsTestQuery}
 use Rattle.lv_reconf.specs.Trying.{Question}
-use Rattle.lv_reconf.proofs.QueryLemmas.{of_three}
+use Rattle.lv_reconf.proofs.QueryLemmas.{of_four}
 use Rattle.lv_reconf.proofs.TestQueryLemmas.{of_question}
 use Rattle.lv_reconf.proofs.test_query.TestQuery.run.Goals as goal
 
@@ -31,28 +33,31 @@ returns-clause-walk c is =
     subst (λ (q : TestValue).
     IfOk c.run.result (λ outcome. test_walk q.plant q.aim q.var (trials_of q.standing + c.args.more)
     ≡ record { outcome = outcome; listed = c.run.new.self.standing.listed; kept = c.run.new.self.standing.kept })) c.self.view_is
-    (subst (λ (k : ℕ). IfOk c.run.result (λ outcome. walk (candidate_tests s.plant s.aim s.var) (candidate_test_reason s.plant s.aim) k budget (command_sets s.plant)
+    (subst (λ (groups : Option (List (List ℕ))). IfOk c.run.result (λ outcome. distinct_walk (alike_by groups) (candidate_tests s.plant s.aim s.var) (candidate_test_reason s.plant s.aim) 1 budget (command_sets s.plant)
+    ≡ record { outcome = outcome; listed = c.run.new.self.standing.listed; kept = c.run.new.self.standing.kept })) here.plain
+    (subst (λ (k : ℕ). IfOk c.run.result (λ outcome. distinct_walk (alike_by c.self.inside.search.standing.groups) (candidate_tests s.plant s.aim s.var) (candidate_test_reason s.plant s.aim) k budget (command_sets s.plant)
     ≡ record { outcome = outcome; listed = c.run.new.self.standing.listed; kept = c.run.new.self.standing.kept })) here.one
     (of_question s c.in_ok-trial.trial c.in_ok-trial.ensures
     (λ suits fits reason. IsUnderWay suits fits reason (command_sets s.plant) c.self.inside.search.standing
-    → IfOk c.run.result (λ outcome. walk fits reason c.self.inside.search.standing.k budget (command_sets s.plant)
+    → IfOk c.run.result (λ outcome. distinct_walk (alike_by c.self.inside.search.standing.groups) fits reason c.self.inside.search.standing.k budget (command_sets s.plant)
     ≡ record { outcome = outcome; listed = c.run.new.self.standing.listed; kept = c.run.new.self.standing.kept }))
-    (c.run.ensures.walk (command_sets s.plant)) here.under_way))
+    (c.run.ensures.walk (command_sets s.plant)) here.under_way)))
 
 pub returns-clause-query : goal.returns-clause-query
 returns-clause-query c is =
     let s : TestQuestion = testing c.self.inside.setting.plant c.self.inside.setting.aim c.self.inside.var in
     let here : IsTestQuery (record { plant = s.plant; aim = s.aim; var = s.var; standing = c.self.inside.search.standing }) = subst (λ (q : TestValue). IsTestQuery q) (sym c.self.view_is) is in
-    of_three c.run.result
+    of_four c.run.result
     (λ _. IsUnderWay (candidate_commands s.plant) (candidate_tests s.plant s.aim s.var) (candidate_test_reason s.plant s.aim) (command_sets s.plant) c.run.new.self.standing)
     (λ _. all_suit (candidate_commands s.plant) c.run.new.self.standing ≡ true)
-    (λ _. c.run.new.self.standing.k ≡ c.self.inside.search.standing.k) _
-    (λ _ way suit same. record { under_way = way; suit = suit; one = same ∙ here.one })
+    (λ _. c.run.new.self.standing.k ≡ c.self.inside.search.standing.k)
+    (λ _. c.run.new.self.standing.groups ≡ c.self.inside.search.standing.groups) _
+    (λ _ way suit same plain. record { under_way = way; suit = suit; one = same ∙ here.one; plain = plain ∙ here.plain })
     (of_question s c.in_ok-trial.trial c.in_ok-trial.ensures
     (λ suits fits reason. IsUnderWay suits fits reason (command_sets s.plant) c.self.inside.search.standing → IfOk c.run.result (λ _. IsUnderWay suits fits reason (command_sets s.plant) c.run.new.self.standing))
     (c.run.ensures.under_way (command_sets s.plant)) here.under_way)
     (of_question s c.in_ok-trial.trial c.in_ok-trial.ensures (λ suits fits reason. IfOk c.run.result (λ _. all_suit suits c.run.new.self.standing ≡ true)) c.run.ensures.suit)
-    c.run.ensures.k
+    c.run.ensures.k c.run.ensures.groups
 
 pub returns-clause-suit : goal.returns-clause-suit
 returns-clause-suit c =
