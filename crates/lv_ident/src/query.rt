@@ -17,7 +17,7 @@ use lv_base::{Conflict, Rank, Seq};
 use lv_meaning::Facts;
 use lv_model::{Model, TrackedState};
 use lv_sat::Effort;
-use lv_search::{Guide, Outcome, Search};
+use lv_search::{Outcome, Search, Zones};
 use lv_search_zones::{move_grid, move_targets, zones_of};
 use lv_system::StepSystem;
 use std::alloc::{AllocError, Global};
@@ -41,7 +41,7 @@ pub struct Query<'a> {
     facts: Facts,
     distinct: bool,
     trial: IdentTrial<'a>,
-    search: Search<Guide>,
+    search: Search<Zones>,
 }
 
 impl<'a> marker::Model for Query<'a> {
@@ -76,7 +76,7 @@ fn search_of(
     tracked: &[TrackedState],
     k: u32,
     distinct: bool,
-) -> Result<Search<Guide>, AllocError>
+) -> Result<Search<Zones>, AllocError>
     requires few { length tracked.now ≤ TRACKED }
     requires states { All (IsTracked (length model.now.parts)) tracked.now }
     ensures { IfOk result (λ search. search.standing ≡ record { k = k; groups = groups_for distinct model.now; listed = []; kept = []; left = candidates model.now tracked.now }) }
@@ -85,10 +85,10 @@ fn search_of(
     let zones = zones_of(alloc, model, tracked)?;
     if distinct {
         let targets = move_targets(alloc, model)?;
-        let left = Guide::new(alloc, grid, zones)?;
+        let left = Zones::new(alloc, grid, zones)?;
         Search::new_distinct(alloc, left, k, targets)
     } else {
-        let left = Guide::new(alloc, grid, zones)?;
+        let left = Zones::new(alloc, grid, zones)?;
         Search::new(alloc, left, k)
     }
 }
@@ -100,7 +100,7 @@ fn started<'a>(
     system: &StepSystem,
     facts: Facts,
     distinct: bool,
-    search: Search<Guide>,
+    search: Search<Zones>,
 ) -> Result<Query<'a>, AllocError>
     requires system { IsSystemOf model.now system.now }
     requires fit { FactsFit model.now facts }

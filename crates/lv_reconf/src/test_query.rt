@@ -17,7 +17,7 @@ use super::testing::TestTrial;
 use lv_base::{Conflict, Rank, VarId};
 use lv_meaning::Aim;
 use lv_model::Model;
-use lv_search::{Guide, Outcome, Search};
+use lv_search::{Outcome, Search, Zones};
 use lv_system::StepSystem;
 use std::alloc::{AllocError, Global};
 use std::marker;
@@ -28,7 +28,7 @@ use std::marker;
 pub struct TestQuery<'a> {
     alloc: Global,
     setting: Setting<'a>,
-    search: Search<Guide>,
+    search: Search<Zones>,
     var: VarId,
     size: u32,
 }

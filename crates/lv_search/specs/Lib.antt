@@ -3,7 +3,6 @@ pub mod Frontier
 pub mod Standing
 pub mod Turn
 pub mod Zones
-pub mod Guide
 pub mod Search
 pub mod Laws
 pub use Rattle.lv_boxes.specs as lv_boxes

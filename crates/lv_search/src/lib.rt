@@ -8,13 +8,11 @@
 //! | `trial` | `Trial`: what a search wants of its trial |
 //! | `turn` | one turn of a search, and the turns of one run |
 //! | `frontier` | what is left to try, as the turns see it |
-//! | `guide` | what is left to try, as zones that no conflict splits |
 //! | `zones` | what is left to try, as zones that conflicts split |
 //! | `laws` | what the walk's entries are, and where a walk begins |
 #![tactic(auto)]
 
 pub mod frontier;
-pub mod guide;
 pub mod laws;
 pub mod search;
 pub mod trial;
@@ -22,7 +20,6 @@ pub mod turn;
 pub mod zones;
 
 pub use frontier::Frontier;
-pub use guide::Guide;
 pub use lv_search_walk::Outcome;
 pub use search::Search;
 pub use trial::{Trial, Tried};

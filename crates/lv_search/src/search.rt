@@ -9,7 +9,6 @@ ghost use Rattle.lv_search_walk.specs.Groups.{alike_by};
 ghost use Rattle.lv_search.specs.Standing.{trials_of, all_suit, first_fitting, AreSame, IsUnderWay};
 
 use super::frontier::Frontier;
-use super::guide::Guide;
 use super::trial::Trial;
 use super::turn::{Held, take_turns};
 use super::zones::{Split, Zones};
@@ -132,14 +131,6 @@ impl<F: Frontier + Drop> Search<F> {
     }
 }
 
-impl Search<Guide> {
-    /// How many zones there were so far: those that the search began with, and for each candidate listed as many as there
-    /// are slots. Takes no memory.
-    pub fn zones(&self) -> u64 {
-        self.frontier.opened()
-    }
-}
-
 impl Search<Zones> {
     /// The splits made, in order: each a zone and the kept conflict or listed candidate that split it. Zones are numbered
     /// from 0, first those that the search began with; a split closes its zone and gives one zone for each pair of the
@@ -149,5 +140,10 @@ impl Search<Zones> {
         ensures { result.now ≡ self.now.frontier.splits }
     {
         self.frontier.splits()
+    }
+
+    /// How many zones there were so far, the closed ones and those without members too. Takes no memory.
+    pub fn zones(&self) -> u64 {
+        self.frontier.made()
     }
 }

@@ -174,6 +174,11 @@ impl Zones {
     {
         self.splits.as_slice()
     }
+
+    /// How many zones there were so far.
+    pub(crate) fn made(&self) -> u64 {
+        self.made as u64
+    }
 }
 
 impl Frontier for Zones {

@@ -1,6 +1,0 @@
-pub mod BoxLemmas
-pub mod SearchLemmas
-pub mod LowestLemmas
-pub mod FreeLemmas
-pub mod NarrowLemmas
-pub mod PriceLemmas

@@ -1,7 +1,0 @@
-pub mod Free
-pub mod Boxes
-pub mod Cheapest
-pub mod Lowest
-pub mod Narrow
-pub mod Prices
-pub use Rattle.lv_boxes.specs as lv_boxes
