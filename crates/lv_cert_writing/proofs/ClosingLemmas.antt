@@ -17,10 +17,10 @@ use Rattle.lv_cert.specs.Order.{splits}
 use Rattle.lv_cert_numbers.specs.lv_cert_meaning.Space.{Space, same_zone, open_zone, with_parts, least_rank, is_behind, is_passed}
 use Rattle.lv_cert_numbers.specs.lv_cert_meaning.Judging.{Judged, split_parts, judge_split}
 use Rattle.lv_cert_writing.specs.Explained.{is_explained, AreExplained}
-use Rattle.lv_cert_writing.specs.Closing.{can_be_listed, Cut, cut_before, cut_at, after_cut, judge_splits, MayHaveTargets, Closes}
+use Rattle.lv_cert_writing.specs.Closing.{can_be_listed, Cut, cut_before, cut_at, after_cut, judge_splits, AreForQuestion, MayHaveTargets, Closes}
 use Rattle.lv_cert_writing.specs.declared.closing.Split.{Split}
 use Rattle.lv_cert_writing.proofs.CountLemmas.{weights, rest_weighs_less}
-use Rattle.lv_cert_writing.proofs.CutLemmas.{total_length, item_of_number, IsCut, AreForQuestion, cut_told, uncut_told}
+use Rattle.lv_cert_writing.proofs.CutLemmas.{total_length, item_of_number, IsCut, cut_told, uncut_told}
 use Rattle.lv_cert_writing.proofs.LeastLemmas.{IsLeastOf, least_told, ranks_in_open, among_open}
 
 -- one item written over, and more behind: up to it, and from it on

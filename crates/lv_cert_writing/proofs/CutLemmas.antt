@@ -29,7 +29,7 @@ use Rattle.lv_cert_numbers.specs.lv_cert_meaning.Counting.{at_number}
 use Rattle.lv_cert_numbers.specs.lv_cert_meaning.Space.{least_rank, has_before, is_behind}
 use Rattle.lv_cert_numbers.specs.lv_cert_meaning.Judging.{Judged, listed_choices, parts_by_target, split_parts}
 use Rattle.lv_cert_writing.specs.Explained.{stands_for, is_explained}
-use Rattle.lv_cert_writing.specs.Closing.{can_be_listed, listed_evidence, Cut, cut_by_conflict, cut_by_listed, cut_by_target, cut_of_listed, cut_of, cut_before, AsksBy, MayHaveTargets}
+use Rattle.lv_cert_writing.specs.Closing.{can_be_listed, listed_evidence, Cut, cut_by_conflict, cut_by_listed, cut_by_target, cut_of_listed, cut_of, cut_before, AreForQuestion, AsksBy, MayHaveTargets}
 use Rattle.lv_cert_writing.proofs.CountLemmas.{weights, split_weighs_less}
 use Rattle.lv_cert_writing.proofs.GroupCountLemmas.{group_split_weighs_less, among_group_parts}
 use Rattle.lv_cert_writing.proofs.LeastLemmas.{slots_within, IsLeastOf, among_parts}
@@ -216,11 +216,6 @@ module _ (groups : Option (List (List ℕ))) (question : Question) (slots : List
           ∙ ap (λ (ss : List (List Cost)). cond (has_before ss zone q) None (Some (parts_by_groups zone (targets_of_moves plant) q.choices))) slots_are
           ∙ ap (λ b. cond b None (Some (parts_by_groups zone (targets_of_moves plant) q.choices))) (none_before_it q free)
           ∙ ap (λ gs. Some (parts_by_groups zone gs q.choices)) (sym by.targets_are)
-
--- targets are asked for in a diagnosis alone
-abbrev pub AreForQuestion : Option (List (List ℕ)) → Question → Type 0
-AreForQuestion None question = Unit {0}
-AreForQuestion (Some targets) question = question ≡ Diagnosis
 
 module _ (question : Question) (slots : List (List Cost)) (listed : List Rank) (excluded : List (List Pair)) where
   -- what is found splits the zone

@@ -41,7 +41,7 @@ stays (other ∷ others) mask group n k h of =
 
 -- the choice is of the group
 in_group : (numbers : List ℕ) (mask k : ℕ) → has_choice mask k ≡ true → (group : ℕ) → group_of numbers k ≡ group → has_choice (only_group mask numbers group) k ≡ true
-in_group numbers mask k h group is = stays numbers mask group 0 k h (λ i at below. ap (λ j. get_or numbers j 0) (sym at) ∙ is)
+in_group numbers mask k h group is = stays numbers mask group 0 k h (λ i at below. let place : k ≡ i = omega (arith, at) in ap (λ j. get_or numbers j 0) (sym place) ∙ is)
 
 -- a choice of the mask is of the group, or stays where the group is taken out
 choices_parted : (n : ℕ) (costs : List Cost) (mask group : ℕ) (numbers : List ℕ)
@@ -143,13 +143,10 @@ module _ (slots : List (List Cost)) (room : ℕ) where
   parts_weigh_from : (c : Candidate) (slot : ℕ) (groups : List (List ℕ)) (own member : List ℕ) (zone : ZoneValue) → drop slot c.choices ≡ own → length zone.masks ≡ length c.choices
       → is_member slots zone c ≡ true → pointwise nat_eq (groups_of groups own) (groups_of groups member) ≡ true
       → weights slots room (map Some (parts_from zone slot groups member)) + suc room ≤ length own + members_count slots zone.masks * suc room
-  parts_weigh_from c slot [] own member zone at len is same = none_left c slot own zone is
-    where
-      none_left : (c : Candidate) (slot : ℕ) (own : List ℕ) (zone : ZoneValue) → is_member slots zone c ≡ true → suc room ≤ length own + members_count slots zone.masks * suc room
-      none_left c slot own zone is =
-          let some = some_member slots zone.masks c.choices (and_parts (nat_eq c.source zone.source) (are_left slots zone.masks c.choices) is).1 in
-          let all = mul-le-mul_right (suc room) some in
-          omega (arith, all)
+  parts_weigh_from c slot [] own member zone at len is same =
+      let some = some_member slots zone.masks c.choices (and_parts (nat_eq c.source zone.source) (are_left slots zone.masks c.choices) is).1 in
+      let all = mul-le-mul_right (suc room) some in
+      omega (arith, all)
   parts_weigh_from c slot (numbers ∷ groups) own [] zone at len is same =
       let some = some_member slots zone.masks c.choices (and_parts (nat_eq c.source zone.source) (are_left slots zone.masks c.choices) is).1 in
       let all = mul-le-mul_right (suc room) some in
@@ -184,7 +181,7 @@ module _ (slots : List (List Cost)) (room : ℕ) where
       let joined = weights-append slots room rest (map Some (parts_by_groups zone groups member)) in
       let parts = parts_weigh_from c 0 groups c.choices member zone refl len is same in
       lighter (weights slots room (rest ++ map Some (parts_by_groups zone groups member))) (weights slots room rest) (weights slots room (map Some (parts_by_groups zone groups member)))
-      (length c.choices) (members_count slots zone.masks * suc room) room joined parts few
+      (length c.choices) (members_count slots zone.masks * suc room) joined parts few
     where
       lighter : (all left parts l zone : ℕ) → all ≡ left + parts → parts + suc room ≤ l + zone → l ≤ room → all < 1 + zone + left
       lighter all left parts l zone is most few = omega (arith, is, most, few)

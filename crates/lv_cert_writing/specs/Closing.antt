@@ -49,10 +49,14 @@ cut_by_listed question r place = record { by = listed_evidence question (place +
 abbrev pub cut_by_target : List (List ℕ) → List Rank → Rank → ℕ → Cut
 cut_by_target groups listed r place = record { by = evidence.Target (place + 1); parts = λ zone. parts_by_groups zone groups (slice_index_or listed place r).choices }
 
+-- the first of the listed that stands for the rank, where choices have groups
+abbrev pub cut_of_target : List (List ℕ) → List Rank → Rank → Option Cut
+cut_of_target groups listed r = option_map (cut_by_target groups listed r) (position (stands_for (Some groups) r) listed)
+
 -- the first of the listed that the rank is, or whose target it has where choices have groups
 abbrev pub cut_of_listed : Option (List (List ℕ)) → Question → List Rank → Rank → Option Cut
 cut_of_listed None question listed r = option_map (cut_by_listed question r) (position (is_rank r) listed)
-cut_of_listed (Some groups) question listed r = option_map (cut_by_target groups listed r) (position (stands_for (Some groups) r) listed)
+cut_of_listed (Some groups) question listed r = cut_of_target groups listed r
 
 -- of a zone with this least member: the first excluded conflict in it, or else the first of the listed that stands for it
 abbrev pub cut_of : Option (List (List ℕ)) → Question → List Rank → List (List Pair) → Rank → Option Cut
@@ -80,6 +84,11 @@ after_cut s n cut = option_map_or (λ zone. with_cut s n zone cut) (open_zone s 
 abbrev pub judge_splits : Plant → Judged → List Split → Option Judged
 judge_splits plant j [] = Some j
 judge_splits plant j (s ∷ ss) = option_and_then (λ next. judge_splits plant next ss) (judge_split plant j s.zone s.by)
+
+-- targets are asked for in a diagnosis alone
+abbrev pub AreForQuestion : Option (List (List ℕ)) → Question → Type 0
+AreForQuestion None question = Unit {0}
+AreForQuestion (Some targets) question = question ≡ Diagnosis
 
 -- where choices have groups, a diagnosis with distinct targets is answered, and these are the targets of moves
 pub record AsksBy (plant : Plant) (distinct : Bool) (groups : List (List ℕ)) : Type 0 where

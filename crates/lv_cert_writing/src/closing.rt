@@ -8,10 +8,9 @@ ghost use Rattle.lv_base.specs.Choices.{contains_all};
 ghost use Rattle.lv_boxes.specs.Members.{ZoneValue};
 ghost use Rattle.lv_boxes.specs.lv_search_walk.Ranked.{is_rank};
 ghost use Rattle.lv_cert_numbers.specs.lv_cert_meaning.Space as Spaces;
-ghost use Rattle.lv_cert.specs.declared.line.Question.{Question as QuestionOf};
 ghost use Rattle.lv_cert_writing.specs.Explained.{stands_for, AreExplained};
 ghost use Rattle.lv_cert_writing.specs.Explained as Explanations;
-ghost use Rattle.lv_cert_writing.specs.Closing.{Cut, can_be_listed, cut_of_listed, cut_of, cut_at, with_cut, after_cut, Closes, EvidenceIsSmall, SplitIsSmall};
+ghost use Rattle.lv_cert_writing.specs.Closing.{Cut, can_be_listed, AreForQuestion, cut_of_target, cut_of_listed, cut_of, cut_at, with_cut, after_cut, Closes, EvidenceIsSmall, SplitIsSmall};
 ghost use Rattle.lv_cert_writing.specs.Closing as Closings;
 
 use lv_base::{Conflict, Rank, contains};
@@ -32,7 +31,7 @@ pub struct Split {
 /// candidate that this is; or, where targets are given by which candidates are alike, by that of the listed candidate that
 /// it has. So each member must contain an excluded conflict, be listed or have a target that was listed before, or rank
 /// behind `last`. Conflicts, listed candidates and zones are numbered from 1, and the zones that a split makes come behind
-/// the others. A recovery lists one command set at most.
+/// the others. A recovery lists one command set at most, and has no targets.
 pub fn close(
     alloc: Global,
     question: Question,
@@ -45,6 +44,7 @@ pub fn close(
 ) -> Result<Vec<Split>, AllocError>
     requires explained { AreExplained (option_copied targets) grid zones.items (option_copied last) listed.now excluded.now }
     requires few { can_be_listed question (length listed.now) ≡ true }
+    requires targets { AreForQuestion (option_copied targets) question }
     ensures closes { IfOk result (λ made. Closes (option_copied targets.entry) question grid zones.items (option_copied last.entry) listed.now excluded.now made.items) }
     ensures small { IfOk result (λ made. All SplitIsSmall made.items) }
 {
@@ -53,10 +53,9 @@ pub fn close(
     let mut at = 0;
     while at < space.len() {
         let zone = at as u128 + 1;
-        let by = close_zone(
+        if let Some(by) = close_zone(
             alloc, question, targets, &mut space, zone, excluded, listed, last,
-        )?;
-        if let Some(by) = by {
+        )? {
             made.push(Split { zone, by })?;
         }
         at += 1;
@@ -168,9 +167,9 @@ fn split_by_target(
     listed: &[Rank],
     least: &Rank,
 ) -> Result<Option<Evidence>, AllocError>
-    ensures by { (question : QuestionOf) → IfOk result (λ by. by ≡ option_map (λ (cut : Cut). cut.by) (cut_of_listed (Some groups.now) question listed.now least.now)) }
+    ensures by { IfOk result (λ by. by ≡ option_map (λ (cut : Cut). cut.by) (cut_of_target groups.now listed.now least.now)) }
     ensures small { IfOk result (λ by. IfSome by EvidenceIsSmall) }
-    ensures space { (question : QuestionOf) (zone : ZoneValue) → Spaces.open_zone space.old n ≡ Some zone → OnOk result (space.new ≡ with_cut space.old n zone (cut_of_listed (Some groups.now) question listed.now least.now)) }
+    ensures space { (zone : ZoneValue) → Spaces.open_zone space.old n ≡ Some zone → OnOk result (space.new ≡ with_cut space.old n zone (cut_of_target groups.now listed.now least.now)) }
 {
     match first_standing(groups, listed, least) {
         Some(place) => {
@@ -195,8 +194,7 @@ fn stands_for(groups: &Groups, rank: &Rank, other: &Rank) -> bool
     ensures { result ≡ stands_for (Some groups.now) rank.now other.now }
 {
     is_same(rank, other)
-        || groups.are_one(rank.choices.as_slice(), other.choices.as_slice())
-            && other.before(rank)
+        || groups.are_one(rank.choices.as_slice(), other.choices.as_slice()) && other.before(rank)
 }
 
 /// The place of the first conflict that the choices contain.

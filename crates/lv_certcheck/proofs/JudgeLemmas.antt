@@ -1,13 +1,14 @@
 -- What good lines leave: things of the plant, and what the definition has.
 use Rattle.std.proofs.Common.{◌≡◌, ℕ, zero, suc, ◌+◌, ◌-◌, ◌<◌, ◌≤◌, Bool, true, false, ◌&&◌, nat_lt, nat_le, List, [], ◌∷◌, ◌++◌, length, drop, take, map, slice_get, slice_index_or, Option, Some, None, option_map, Result, IfOk, IfSome, if◌then◌else◌, refl, sym, ap, ap₂, ◌∙◌, subst, arith, All}
 use Rattle.std.specs.Option.{option_and_then}
-use Rattle.std.specs.List.{flat_map}
+use Rattle.std.specs.List.{flat_map, list_any}
 use Rattle.std.specs.Cmp.Lexicographic.{pointwise}
 use Rattle.std.proofs.lemmas.Bool.{and_parts, ltb-true}
 use Rattle.std.proofs.lemmas.List.{map-append, length-append, take_all}
 use Rattle.std.proofs.lemmas.List.Elements.{All-cons, All-append, All-nil}
 use Rattle.lv_base.specs.declared.ids.Lit.{Lit}
 use Rattle.lv_base.specs.declared.ids.ValId.{ValId}
+use Rattle.lv_base.specs.declared.rank.Rank.{Rank}
 use Rattle.lv_base.specs.declared.search.Pair.{Pair}
 use Rattle.lv_base.specs.declared.limits.TheConstants.{TRACKED}
 use Rattle.lv_boxes.specs.Members.{ZoneValue}
@@ -22,6 +23,10 @@ use Rattle.lv_model.proofs.Reading.{length-plant_ranges}
 use Rattle.lv_meaning.specs.declared.facts.Observation.{Observation}
 use Rattle.lv_meaning.specs.Facts.{IsInRange}
 use Rattle.lv_meaning.specs.Ranges.{ObservationFits, GoalFits}
+use Rattle.lv_meaning.specs.Targets.{are_alike, targets_of_moves}
+use Rattle.lv_meaning.specs.lv_search_walk.Walk.{none_alike}
+use Rattle.lv_meaning.specs.lv_search_walk.Groups.{have_same_groups}
+use Rattle.lv_meaning.proofs.TargetLemmas.{targets_are_groups}
 use Rattle.lv_system.specs.System.{SystemValue}
 use Rattle.lv_cert.specs.declared.line.Line.{Line}
 use Rattle.lv_cert.specs.declared.line.Evidence.{Evidence}
@@ -326,3 +331,14 @@ goal_there plant system old new {shown} own k goal f shown_is new_is is below =
 
 pub goal_at : (old new : Judged) {shown : Judged} (own : Clauses) (k : ℕ) (goal : Tree) → shown ≡ new → new ≡ with_own old own → goal ≡ slice_index_or shown.stated.goals k goal → goal ≡ slice_index_or old.stated.goals k goal
 goal_at old new {shown} own k goal shown_is new_is is = is ∙ ap (λ (x : Judged). slice_index_or x.stated.goals k goal) (shown_is ∙ new_is)
+
+-- a candidate leads to the state of a listed one where its moves have the same targets
+pub old_target : (plant : Plant) (targets : List (List ℕ)) (distinct : Bool) (r : Rank) (listed : List Rank) → targets ≡ targets_of_moves plant
+    → (distinct && list_any (λ (other : Rank). have_same_groups targets r.choices other.choices) listed) ≡ list_any (are_alike distinct plant r) listed
+old_target plant targets false r listed is = sym (none listed)
+  where
+    none : (qs : List Rank) → list_any (none_alike r) qs ≡ false
+    none [] = refl
+    none (q ∷ qs) = none qs
+old_target plant targets true r listed is =
+    ap (λ (gs : List (List ℕ)). list_any (λ (other : Rank). have_same_groups gs r.choices other.choices) listed) is ∙ (λ i. list_any (λ (other : Rank). sym (targets_are_groups plant r other) i) listed)
