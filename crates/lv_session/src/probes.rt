@@ -42,7 +42,14 @@ impl State {
             return Ok(Reply::Refused(Refusal::NothingListed));
         }
         let facts = self.facts(alloc)?;
-        let observables = probe(alloc, model, system, lists.classes.as_slice(), facts, listed)?;
+        let observables = probe(
+            alloc,
+            model,
+            system,
+            lists.classes.as_slice(),
+            facts,
+            listed,
+        )?;
         let count = listed.len() as u64;
         let chosen = best(count, observables.as_slice());
         Ok(Reply::Probed(count, Seq::from_vec(observables), chosen))
