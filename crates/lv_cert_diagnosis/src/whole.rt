@@ -117,7 +117,9 @@ pub fn certify_diagnosis(
 {
     let _plant = model.plant();
     let mut lines = head_of(alloc, model, tracked, facts, limit)?;
-    push_answer(alloc, &mut lines, model, system, tracked, facts, limit, answer)?;
+    push_answer(
+        alloc, &mut lines, model, system, tracked, facts, limit, answer,
+    )?;
     let made = splits_of(alloc, model, tracked, facts, limit, answer)?;
     push_splits(&mut lines, made.as_slice())?;
     lines.push(Line::End)?;

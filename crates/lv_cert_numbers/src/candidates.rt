@@ -15,8 +15,8 @@ ghost use Rattle.lv_cert_meaning.specs.Stated as Stated;
 ghost use Rattle.lv_cert_numbers.specs.Fitting.{HasFewChoices};
 
 use crate::counting::place_of;
-use lv_boxes::Groups;
 use lv_base::{Cost, Rank, Seq, ValId};
+use lv_boxes::Groups;
 use lv_meaning::moves::moves_of;
 use lv_model::{Model, Move, Plant, TrackedState};
 use std::alloc::{AllocError, Global};
@@ -154,7 +154,5 @@ pub fn candidate_of(
 pub fn has_target(targets: &Groups, listed: &[Rank], rank: &Rank) -> bool
     ensures { result ≡ list_any (λ (other : RankOf). have_same_groups targets.now rank.now.choices other.choices) listed.now }
 {
-    listed
-        .iter()
-        .any(|other| targets.are_one(rank.choices.as_slice(), other.choices.as_slice()))
+    listed.iter().any(|other| targets.are_one(rank.choices.as_slice(), other.choices.as_slice()))
 }

@@ -300,8 +300,7 @@ impl<'a> Judge<'a> {
         requires setting { IsSetting self.now.setting }
         ensures { result ≡ Judging.has_old_target (plant_of self.now.setting) (judged_of judged.now) rank.now }
     {
-        judged.stated.distinct
-            && has_target(self.setting.targets, judged.listed.as_slice(), rank)
+        judged.stated.distinct && has_target(self.setting.targets, judged.listed.as_slice(), rank)
     }
 
     /// Lists a candidate, if it ranks behind the one before, and has a new target where this is asked for.
@@ -666,12 +665,7 @@ impl<'a> Judge<'a> {
 
     /// Splits a zone by the target of the listed candidate of this number, where targets have to be distinct and no member of
     /// the zone ranks before it.
-    fn split_by_target(
-        &self,
-        judged: &mut Judged<'a>,
-        n: u128,
-        j: u128,
-    ) -> Result<bool, AllocError>
+    fn split_by_target(&self, judged: &mut Judged<'a>, n: u128, j: u128) -> Result<bool, AllocError>
         requires setting { IsSetting self.now.setting }
         requires fits { Fits (plant_of self.now.setting) self.now.setting.system.now judged.old }
         ensures judged { (zone : ZoneValue) → open_zone judged.old.space n ≡ Some zone → IfOk result (λ good. came good judged.new ≡ split_into (judged_of judged.old) n (Judging.target_parts (plant_of self.now.setting) (judged_of judged.old) zone j)) }
@@ -687,9 +681,7 @@ impl<'a> Judge<'a> {
         if judged.space.has_before(self.alloc, n, rank)? {
             return Ok(false);
         }
-        judged
-            .space
-            .split_by_groups(self.alloc, n, self.setting.targets, rank.choices.as_slice())?;
+        judged.space.split_by_groups(self.alloc, n, self.setting.targets, rank.choices.as_slice())?;
         Ok(true)
     }
 }
