@@ -1,5 +1,5 @@
 -- What a certificate of a recovery states and shows, and by which lines.
-use Rattle.std.specs.Prelude.{◌≡◌, ◌+◌, ◌≤◌, ◌^◌, ℕ, true, List, [], ◌∷◌, ◌++◌, length, map}
+use Rattle.std.specs.Prelude.{◌≡◌, ◌+◌, ◌≤◌, ◌^◌, ℕ, true, false, List, [], ◌∷◌, ◌++◌, length, map}
 use Rattle.std.specs.List.{flat_map}
 use Rattle.lv_base.specs.declared.ids.ValId.{ValId}
 use Rattle.lv_base.specs.declared.search.Pair.{Pair}
@@ -26,6 +26,7 @@ abbrev pub stated_by : Plant → Aim → Stated
 stated_by plant aim =
     record {
       k = 1;
+      distinct = false;
       tracked = aim.tracked;
       facts = record { controls = []; present = aim.present; next = [] };
       literals = map (observed_literal (booleans_now plant)) aim.present;

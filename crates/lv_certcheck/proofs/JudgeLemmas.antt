@@ -332,13 +332,18 @@ goal_there plant system old new {shown} own k goal f shown_is new_is is below =
 pub goal_at : (old new : Judged) {shown : Judged} (own : Clauses) (k : ℕ) (goal : Tree) → shown ≡ new → new ≡ with_own old own → goal ≡ slice_index_or shown.stated.goals k goal → goal ≡ slice_index_or old.stated.goals k goal
 goal_at old new {shown} own k goal shown_is new_is is = is ∙ ap (λ (x : Judged). slice_index_or x.stated.goals k goal) (shown_is ∙ new_is)
 
--- a candidate leads to the state of a listed one where its moves have the same targets
-pub old_target : (plant : Plant) (targets : List (List ℕ)) (distinct : Bool) (r : Rank) (listed : List Rank) → targets ≡ targets_of_moves plant
-    → (distinct && list_any (λ (other : Rank). have_same_groups targets r.choices other.choices) listed) ≡ list_any (are_alike distinct plant r) listed
-old_target plant targets false r listed is = sym (none listed)
+-- where distinct targets are asked for, a candidate leads to the state of a listed one where its moves have the same targets
+pub old_target : (plant : Plant) (targets : List (List ℕ)) (distinct : Bool) (r : Rank) (given listed : List Rank) → distinct ≡ true → targets ≡ targets_of_moves plant → given ≡ listed
+    → list_any (λ (other : Rank). have_same_groups targets r.choices other.choices) given ≡ list_any (are_alike distinct plant r) listed
+old_target plant targets distinct r given listed asked is are =
+    ap₂ (λ (gs : List (List ℕ)) (qs : List Rank). list_any (λ (other : Rank). have_same_groups gs r.choices other.choices) qs) is are
+    ∙ (λ i. list_any (λ (other : Rank). sym (targets_are_groups plant r other) i) listed)
+    ∙ ap (λ (d : Bool). list_any (are_alike d plant r) listed) (sym asked)
+
+-- and where they aren't, to none
+pub no_old_target : (plant : Plant) (distinct : Bool) (r : Rank) (listed : List Rank) → distinct ≡ false → false ≡ list_any (are_alike distinct plant r) listed
+no_old_target plant distinct r listed unasked = sym (ap (λ (d : Bool). list_any (are_alike d plant r) listed) unasked ∙ none listed)
   where
     none : (qs : List Rank) → list_any (none_alike r) qs ≡ false
     none [] = refl
     none (q ∷ qs) = none qs
-old_target plant targets true r listed is =
-    ap (λ (gs : List (List ℕ)). list_any (λ (other : Rank). have_same_groups gs r.choices other.choices) listed) is ∙ (λ i. list_any (λ (other : Rank). sym (targets_are_groups plant r other) i) listed)
