@@ -1,12 +1,12 @@
 #!/usr/bin/env bash
-# What a diagnosis takes, in milliseconds of the processor, over plants of 8 to 256 valves: in a row, of which the last is
-# commanded to open; the same with all commanded; a fan behind the first valve with one fault and with two; a ladder of
-# two rows; and a propulsion branch of which one valve of each pair is commanded, so that one fault explains that there is
-# no thrust, and both, so that two do. The time of an empty session over the same plant is taken off, and stands beside;
-# then the number of candidates listed, and of trials, conflicts, zones, and questions to the solver for each trial; and
-# what these are beyond one a trial for each choice of the conflicts, which a reason costs. The last line is of a whole
-# session of 20 rounds over a row of 32 valves. Builds the program and crates/bench_session first, which counts. Sizes may
-# be given.
+# What a diagnosis takes, in milliseconds of the processor, over plants of 8 to 256 valves: in a row, of which the last
+# is commanded to open; the same with all commanded; a fan behind the first valve with one fault and with two; a ladder
+# of two rows; and a propulsion branch of which one valve of each pair is commanded, so that one fault explains that
+# there is no thrust, and both, so that two do; of each 1, 4 and 64 candidates, and 64 no two of which lead to one state
+# (64d). The time of an empty session over the same plant is taken off, and stands beside; then the number of candidates
+# listed, and of trials, conflicts, zones, and questions to the solver for each trial; and what these are beyond one a
+# trial for each choice of the conflicts, which a reason costs. The last line is of a whole session of 20 rounds over a
+# row of 32 valves. Builds the program and crates/bench_session first, which counts. Sizes may be given.
 set -eu
 . "$(dirname "$0")/common.sh"
 prepare "$@"
@@ -45,6 +45,8 @@ for kind in row opened fan twofaults ladder branch branches; do
     for k in 1 4 64; do
       report "$kind" "$n" "$k" "$work/$kind.lv" "$work/$kind.$k.ses" "$work/none.ses"
     done
+    sed 's/^track 64$/track 64 distinct/' "$work/$kind.64.ses" >"$work/$kind.64d.ses"
+    report "$kind" "$n" 64d "$work/$kind.lv" "$work/$kind.64d.ses" "$work/none.ses"
   done
 done
 "$program" generate model 30 >"$work/drive.lv"

@@ -157,9 +157,9 @@ class Session:
 
     # What is asked
 
-    def track(self, number: int) -> None:
-        """Diagnoses list up to so many candidates."""
-        self._expect(f"track {number}", Accepted)
+    def track(self, number: int, distinct: bool = False) -> None:
+        """Diagnoses list up to so many candidates, if asked no two of which lead to one state."""
+        self._expect(f"track {number} distinct" if distinct else f"track {number}", Accepted)
 
     def budget(self, trials: int) -> None:
         """Later diagnoses and recoveries make up to so many trials."""

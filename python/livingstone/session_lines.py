@@ -13,7 +13,7 @@ _PATH = ("word", ".", "word")
 
 # The forms of lines, as those of a model's statements.
 FORMS: Dict[str, Tuple[str, ...]] = {
-    "track": ("number",),
+    "track": ("number", "distinct?"),
     "budget": ("number",),
     "command": (*_PATH, "=", "word"),
     "release": _PATH,

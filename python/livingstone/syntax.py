@@ -16,7 +16,7 @@ MAX_TEXT = 4_194_304
 RESERVED = ("true", "false", "mode")
 
 # What stands behind a statement's first word: `word` any word, `own` one that isn't reserved, `words` one or more,
-# `number`, `number?` one or none, `formula`, `guard` a formula behind `when` or nothing, otherwise the token itself.
+# `number`, `number?` one or none, `formula`, `distinct?` that word or nothing, `guard` a formula behind `when` or nothing, otherwise the token itself.
 FORMS: Dict[str, Tuple[str, ...]] = {
     "model": ("word",),
     "domain": ("word", "words"),
@@ -166,6 +166,9 @@ def read_item(reader: Reader, item: str, statement: Statement) -> Optional[Token
             reader.expect("when")
         statement.formula_index = reader.index
         statement.formula = reader.formula()
+    elif item == "distinct?":
+        if reader.index < len(reader.tokens):
+            reader.expect("distinct")
     elif item not in ("guard", "number?"):
         reader.expect(item)
     return None

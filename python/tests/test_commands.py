@@ -61,11 +61,12 @@ class Everywhere(FolderTest):
 class Explain(FolderTest):
     session = (
         "jump\ndiagnose\ngoal g v.out = some & v.inn = red\ncertificate\nobserve mode v.out = zero\n"
-        "command w.cmd = open\n track $\n# quiet\nlabels 3\ncommand v.inn = some"
+        "command w.cmd = open\n track $\n# quiet\nlabels 3\ncommand v.inn = some\ntrack 4 distinctly\ntrack 65 distinct"
     )
     # The lines, columns and codes of the refusals.
     places = [
         (1, 1, "S01"), (3, 31, "S06"), (5, 9, "S02"), (6, 9, "S03"), (7, 8, "S16"), (9, 8, "S09"), (10, 11, "S04"),
+        (11, 9, "S02"), (12, 7, "S09"),
     ]
 
     def test_a_session(self) -> None:

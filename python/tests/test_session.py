@@ -92,9 +92,11 @@ class Conversations(unittest.TestCase):
             self.session.command("w.cmd", "open")
         self.assertEqual((raised.exception.code, raised.exception.asked), ("S03", "command w.cmd = open"))
         self.assertIn("no such part", raised.exception.meaning)
-        reply = self.session.ask("track 0", refusals=False)
-        assert isinstance(reply, Refusal)
-        self.assertEqual(reply.code, "S09")
+        for line, code in (("track 0", "S09"), ("track 65 distinct", "S09"), ("track distinct", "S02"), ("track 4 distinct x", "S02")):
+            reply = self.session.ask(line, refusals=False)
+            assert isinstance(reply, Refusal)
+            self.assertEqual(reply.code, code)
+        self.session.track(4, distinct=True)
         with self.assertRaises(Refused):
             self.session.more(1)
 

@@ -5,7 +5,7 @@ ghost use Rattle.lv_search.specs.Standing.{trials_of};
 
 use crate::avoids::Avoids;
 use lv_base::{Cost, Pair};
-use lv_boxes::{Grid, Zone};
+use lv_boxes::{Grid, Groups, Zone};
 use lv_search::{By, Outcome, Search, Split, Zones};
 use std::alloc::{AllocError, Global};
 use std::test::Fail;
@@ -29,6 +29,28 @@ fn small_search(alloc: Global) -> Result<Search<Zones>, AllocError>
     let mut zones = Vec::new(alloc);
     zones.push(zone)?;
     Search::new(alloc, Zones::new(alloc, grid, zones)?, 3)
+}
+
+/// Groups of these choices: at the first slot two choices of one group and one of another, at the second all of one.
+fn small_groups(alloc: Global) -> Result<Groups, AllocError>
+    ensures { IfOk result (λ groups. length groups ≡ 2) }
+{
+    let mut groups = Groups::new(alloc)?;
+    groups.push_slot(&[5, 5, 7])?;
+    groups.push_slot(&[0, 0])?;
+    Ok(groups)
+}
+
+/// All candidates of two tracked states that cost 10, of which three of different targets are to be listed.
+fn distinct_search(alloc: Global) -> Result<Search<Zones>, AllocError>
+    ensures { IfOk result (λ search. trials_of search.standing ≡ 0) }
+{
+    let groups = small_groups(alloc)?;
+    let grid = small_grid(alloc)?;
+    let mut zones = Vec::new(alloc);
+    zones.push(Zone::new(alloc, 0, Cost(10), &[0b111, 0b11])?)?;
+    zones.push(Zone::new(alloc, 1, Cost(10), &[0b111, 0b11])?)?;
+    Search::new_distinct(alloc, Zones::new(alloc, grid, zones)?, 3, groups)
 }
 
 /// Goes on with a trial that every candidate suits.
@@ -76,6 +98,46 @@ fn first_three_without_a_choice(rt: HostRuntime) -> Result<(), Fail> {
         Split {
             zone: 2,
             by: By::Listed(2),
+        },
+    ];
+    assert!(rt; search.splits() == splits.as_slice());
+    Ok(())
+}
+
+#[test]
+fn one_of_each_target(rt: HostRuntime) -> Result<(), Fail> {
+    let mut trial = Avoids {
+        alloc: rt.alloc(),
+        pair: Pair { slot: 1, choice: 2 },
+    };
+    let mut search = distinct_search(rt.alloc())?;
+
+    // There are two targets. 00 and 20 of the first state have them, and all others are passed over without a trial.
+    assert!(rt; go_on(&mut search, &mut trial, 2)? == Outcome::Settled);
+    assert_eq!(rt; search.trials(), 2);
+    assert_eq!(rt; search.conflicts().len(), 0);
+    let costs = [Cost(10), Cost(11)];
+    assert!(rt; search.listed().iter().map(|rank| rank.cost).eq(costs));
+    assert!(rt; search.listed().iter().all(|rank| rank.source == 0));
+
+    // The first state's zone is split by 00 into 2 and 3, and by it the second's into 4 and 5; 2 is split by 20, and by
+    // it 4. The others are empty.
+    let splits = [
+        Split {
+            zone: 0,
+            by: By::Listed(0),
+        },
+        Split {
+            zone: 1,
+            by: By::Listed(0),
+        },
+        Split {
+            zone: 2,
+            by: By::Listed(1),
+        },
+        Split {
+            zone: 4,
+            by: By::Listed(1),
         },
     ];
     assert!(rt; search.splits() == splits.as_slice());
