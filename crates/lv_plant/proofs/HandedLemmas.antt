@@ -16,7 +16,7 @@ use Rattle.lv_session_request.specs.declared.request.Request.TheVariants as requ
 use Rattle.lv_session_request.specs.declared.words.Word.{Word}
 use Rattle.lv_session_request.specs.declared.words.Word.TheVariants as said
 use Rattle.lv_session_request.specs.Chain.{and_then}
-use Rattle.lv_session_request.specs.Forms.{first_word, number_to}
+use Rattle.lv_session_request.specs.Forms.{first_word, has_distinct_form, limited, number_to}
 use Rattle.lv_session_request.specs.Goals.{goal_of}
 use Rattle.lv_session_request.specs.Requests.{command_of, release_of, retracted_of, request_by, asked_by_first, asked, asked_by as request_by_reading, request_of}
 use Rattle.lv_plant.specs.declared.fault.PlantFault.TheVariants.{NoForm}
@@ -27,6 +27,7 @@ use Rattle.lv_plant.specs.Forms.{goes_to_session, is_naming, is_alone, asked_of,
 abbrev pub is_handed : Request → Bool
 is_handed request.Nothing = true
 is_handed (request.Track n) = true
+is_handed (request.TrackDistinct n) = true
 is_handed (request.SetBudget n) = true
 is_handed (request.SetControl c) = true
 is_handed (request.Release place) = true
@@ -116,7 +117,11 @@ of_alone r true h = h
 of_alone r false h = refl
 
 handed_by : (plant : Plant) (lists : Lists) (ts : List Lexeme) (w : Word) → is_handed_word w ≡ true → asks_handed (request_by plant lists w ts) ≡ true
-handed_by plant lists ts said.Track h = of_chain (number_to TRACKED ts) request.Track (λ n. refl)
+handed_by plant lists ts said.Track h = by (has_distinct_form ts)
+  where
+    by : (b : Bool) → asks_handed (cond b (and_then (limited TRACKED ts) (λ n. Ok (request.TrackDistinct n))) (and_then (number_to TRACKED ts) (λ n. Ok (request.Track n)))) ≡ true
+    by true = of_chain (limited TRACKED ts) request.TrackDistinct (λ n. refl)
+    by false = of_chain (number_to TRACKED ts) request.Track (λ n. refl)
 handed_by plant lists ts said.Budget h = of_chain (number_to BUDGET ts) request.SetBudget (λ n. refl)
 handed_by plant lists ts said.Command h = of_chain (command_of plant lists ts) request.SetControl (λ c. refl)
 handed_by plant lists ts said.Release h = of_chain (release_of plant lists ts) request.Release (λ place. refl)

@@ -56,8 +56,9 @@ some_goal [] e = absurd (cc e)
 some_goal (g ∷ gs) e = omega arith
 
 module _ (plant : Plant) (state : SessionState) where
-  changed : (k : ℕ) (controls : List ValId) (goals : List Goal) → (1 ≤ state.k → 1 ≤ k) → Stays state (record state { k = k; controls = controls; goals = goals; query = Absent })
-  changed k controls goals lists =
+  changed : (k : ℕ) (distinct : Bool) (controls : List ValId) (goals : List Goal) → (1 ≤ state.k → 1 ≤ k)
+      → Stays state (record state { k = k; distinct = distinct; controls = controls; goals = goals; query = Absent })
+  changed k distinct controls goals lists =
       record { tracked = refl; time = refl; present = refl; next = refl; ended = refl; lists = lists; aims = λ h sum e. absurd (cc e) }
 
   goal_stays : (g : Goal) → Stays state (set_goal state g).state
@@ -66,13 +67,13 @@ module _ (plant : Plant) (state : SessionState) where
       by : (a b : Bool) → Stays state (cond a (unchanged state (Refused NameHeld)) (cond b (unchanged state (Refused TooManyHeld)) (cleared (record state { goals = state.goals ++ (g ∷ []) })))).state
       by true b = stays_same state
       by false true = stays_same state
-      by false false = changed state.k state.controls (state.goals ++ (g ∷ [])) (λ h. h)
+      by false false = changed state.k state.distinct state.controls (state.goals ++ (g ∷ [])) (λ h. h)
 
   drop_stays : (name : List ℕ) → Stays state (drop_goal state name).state
   drop_stays name = by (is_goal state name)
     where
       by : (b : Bool) → Stays state (cond b (cleared (record state { goals = filter (lacks_goal_name name) state.goals })) (unchanged state (Refused NameNotHeld))).state
-      by true = changed state.k state.controls (filter (lacks_goal_name name) state.goals) (λ h. h)
+      by true = changed state.k state.distinct state.controls (filter (lacks_goal_name name) state.goals) (λ h. h)
       by false = stays_same state
 
   recover_stays : Stays state (recover plant state).state
@@ -89,10 +90,11 @@ module _ (plant : Plant) (state : SessionState) where
 
   request_stays : (r : Request) → is_handed r ≡ true → IsRequestOf plant r → Stays state (carried_out plant state r).state
   request_stays request.Nothing handed is = stays_same state
-  request_stays (request.Track n) handed is = changed n state.controls state.goals (λ h. is.some)
+  request_stays (request.Track n) handed is = changed n false state.controls state.goals (λ h. is.some)
+  request_stays (request.TrackDistinct n) handed is = changed n true state.controls state.goals (λ h. is.some)
   request_stays (request.SetBudget n) handed is = record { tracked = refl; time = refl; present = refl; next = refl; ended = refl; lists = λ h. h; aims = λ h. h }
-  request_stays (request.SetControl c) handed is = changed state.k (slice_set state.controls c.place c.value) state.goals (λ h. h)
-  request_stays (request.Release place) handed is = changed state.k (slice_set state.controls place rest) state.goals (λ h. h)
+  request_stays (request.SetControl c) handed is = changed state.k state.distinct (slice_set state.controls c.place c.value) state.goals (λ h. h)
+  request_stays (request.Release place) handed is = changed state.k state.distinct (slice_set state.controls place rest) state.goals (λ h. h)
   request_stays (request.Observe s) handed is = absurd (cc handed)
   request_stays (request.Retract name) handed is = absurd (cc handed)
   request_stays (request.SetGoal g) handed is = goal_stays g
@@ -124,7 +126,7 @@ module _ (plant : Plant) (state : SessionState) where
 
   -- a recovery that is applied
   pub apply_stays : (values : List ℕ) → Stays state (applied state values)
-  apply_stays values = changed state.k (map value values) state.goals (λ h. h)
+  apply_stays values = changed state.k state.distinct (map value values) state.goals (λ h. h)
 
 -- what is told of a step is true behind it, and nothing else is changed
 pub record IsTold (b : List ValId) (old new : SessionState) : Type 0 where

@@ -1,5 +1,5 @@
 -- A step that is taken: what the session comes to, and what is told.
-use Rattle.std.proofs.Common.{◌≡◌, ℕ, ◌+◌, ◌<◌, ◌≤◌, ◌%◌, Bool, true, false, cond, nat_eq, nat_le, List, [], ◌∷◌, ◌++◌, length, map, take, slice_get, Some, None, Contains, inl, inr, refl, sym, subst, ◌∙◌, ap, arith}
+use Rattle.std.proofs.Common.{◌≡◌, ℕ, ◌+◌, ◌<◌, ◌≤◌, ◌%◌, Bool, true, false, cond, nat_eq, nat_le, List, [], ◌∷◌, ◌++◌, length, map, take, filter, slice_get, Some, None, Contains, inl, inr, refl, sym, subst, ◌∙◌, ap, arith}
 use Rattle.std.proofs.lemmas.Bool.{and_parts, and_from, leb-true, le-leb, eqb-true}
 use Rattle.lv_base.specs.declared.ids.ValId.{ValId}
 use Rattle.lv_base.specs.declared.rank.Rank.{Rank}
@@ -10,14 +10,15 @@ use Rattle.lv_model.specs.Lists.{controls}
 use Rattle.lv_model.specs.Meaning.{is_feasible, parts_step}
 use Rattle.lv_search_walk.specs.declared.outcome.Outcome.{Outcome}
 use Rattle.lv_search_walk.specs.declared.outcome.Outcome.TheVariants.{Settled, Unsettled}
-use Rattle.lv_search_walk.specs.Walk.{Walked}
+use Rattle.lv_search_walk.specs.Walk.{Walked, first_of_each}
 use Rattle.lv_meaning.specs.Facts.{meets, commanded, now_facts, meets_facts}
 use Rattle.lv_meaning.specs.Candidates.{candidates, is_possible_rank, first_possible}
 use Rattle.lv_meaning.specs.CandidateLaws.{moves_cost, IsCandidate}
 use Rattle.lv_meaning.specs.Recovers.{has_modes as has_modes_before}
+use Rattle.lv_meaning.specs.Targets.{have_one_target, answer}
 use Rattle.lv_meaning.proofs.Among.{Among, among, contained}
 use Rattle.lv_meaning.proofs.Answering.{answer_law}
-use Rattle.lv_meaning.proofs.DiagnosisWalks.{diagnosis_exact}
+use Rattle.lv_meaning.proofs.DiagnosisWalks.{answers}
 use Rattle.lv_tracker.specs.Targets.{target_modes, target_state}
 use Rattle.lv_tracker.specs.Tracked.{advanced}
 use Rattle.lv_tracker.proofs.FirstLemmas.{first_of_each_law}
@@ -103,6 +104,12 @@ same_walk plant state q sum = refl
 some_or_few : (rs : List Rank) (k : ℕ) → 1 ≤ k → (length rs < k → 1 ≤ length rs) → 1 ≤ length rs
 some_or_few [] k lists f = f (omega (arith, lists))
 some_or_few (r ∷ rs) k lists f = omega arith
+
+-- the first of some stays where each stands once
+some_once : (alike : Rank → Rank → Bool) (k : ℕ) (rs : List Rank) → 1 ≤ k → 1 ≤ length (take 1 rs) → 1 ≤ length (take k (first_of_each alike rs))
+some_once alike 0 rs lists some = absurd (omega (arith, lists))
+some_once alike (suc k) [] lists some = absurd (omega (arith, some))
+some_once alike (suc k) (r ∷ rs) lists some = omega arith
 
 module _ (s : Standing) (taking : PlantStep) where
   abbrev plant_of : Plant
@@ -252,16 +259,25 @@ module _ (s : Standing) (taking : PlantStep) where
     own_is_possible runs at = own_possible plant_of (facts_of told_state) taking.before taking.after made.moves made.step (facts_met runs)
 
     -- so that a settled diagnosis lists something
-    pub listed_first : came.outcome ≡ Settled → came.listed ≡ first_possible told_state.k plant_of (facts_of told_state) told_state.tracked
+    pub listed_first : came.outcome ≡ Settled → came.listed ≡ answer told_state.distinct told_state.k plant_of (facts_of told_state) told_state.tracked
     unfolding walked
-    listed_first settled = diagnosis_exact plant_of (facts_of told_state) told_state.k told_state.budget (candidates plant_of told_state.tracked) settled
+    listed_first settled = answers told_state.distinct plant_of (facts_of told_state) told_state.k told_state.budget told_state.tracked settled
+
+    some_first : s.is_halted ≡ false → StandsIn s.modes s.session.state.tracked → (k : ℕ) → 1 ≤ k → 1 ≤ length (first_possible k plant_of (facts_of told_state) told_state.tracked)
+    some_first runs at k lists =
+        let law = answer_law k plant_of (facts_of told_state) told_state.tracked in
+        let first : List Rank = first_possible k plant_of (facts_of told_state) told_state.tracked in
+        some_or_few first k lists
+        (λ fewer. among_some first (own_rank at) (among first (own_rank at) (law.none_left_out fewer (own_rank at) (own_candidate at) (own_is_possible runs at))))
+
+    some_answer : (distinct : Bool) → s.is_halted ≡ false → StandsIn s.modes s.session.state.tracked → 1 ≤ told_state.k
+        → 1 ≤ length (answer distinct told_state.k plant_of (facts_of told_state) told_state.tracked)
+    some_answer false runs at lists = some_first runs at told_state.k lists
+    some_answer true runs at lists =
+        some_once (have_one_target plant_of) told_state.k (filter (is_possible_rank plant_of (facts_of told_state)) (candidates plant_of told_state.tracked)) lists
+        (some_first runs at 1 (omega arith))
 
     pub lists_then : s.is_halted ≡ false → is_held s.modes s.session.state.tracked ≡ true → came.outcome ≡ Settled → 1 ≤ length came.listed
     lists_then runs held settled =
-        let at : StandsIn s.modes s.session.state.tracked = held_place s.modes s.session.state.tracked held in
-        let answer = answer_law told_state.k plant_of (facts_of told_state) told_state.tracked in
-        let first : List Rank = first_possible told_state.k plant_of (facts_of told_state) told_state.tracked in
-        let lists : 1 ≤ told_state.k = subst (λ (k : ℕ). 1 ≤ k) (sym is_told.k) is.lists in
         subst (λ (rs : List Rank). 1 ≤ length rs) (sym (listed_first settled))
-        (some_or_few first told_state.k lists
-        (λ fewer. among_some first (own_rank at) (among first (own_rank at) (answer.none_left_out fewer (own_rank at) (own_candidate at) (own_is_possible runs at)))))
+        (some_answer told_state.distinct runs (held_place s.modes s.session.state.tracked held) (subst (λ (k : ℕ). 1 ≤ k) (sym is_told.k) is.lists))
