@@ -115,7 +115,7 @@ module _ (plant : Plant) (h : is_well_formed plant ≡ true) (system : SystemVal
 
   lines_impossible : (ds : List Derived) → refutes system.set.bools (clauses_of system ++ own_clauses plant facts pairs) ds ≡ true → is_possible plant facts pairs ≡ false
   lines_impossible ds told =
-      let s : Stated = record { k = 0; tracked = []; facts = facts; literals = stated_literals plant facts; goals = [] } in
+      let s : Stated = record { k = 0; distinct = false; tracked = []; facts = facts; literals = stated_literals plant facts; goals = [] } in
       refuted_choices plant h s (says_facts plant facts fit s refl refl) pairs
       (λ values whole all.
       let never : true ≡ false = sym all ∙ refuted_fail (bool_count plant) values whole (model_clauses plant ++ own_clauses plant facts pairs) ds (refuted_there ds told) in
