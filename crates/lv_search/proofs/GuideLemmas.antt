@@ -10,7 +10,6 @@ use Rattle.std.specs.declared.cmp.Ordering.{Ordering}
 use Rattle.std.specs.declared.cmp.Ordering.TheVariants.{Less, Equal, Greater}
 use Rattle.std.proofs.lemmas.Bool.{and_from, and_parts, or_left, or_right, eq-eqb, both_ways, false_from_ne_true, not-false}
 use Rattle.std.proofs.lemmas.List.Elements.{All-head, All-tail}
-use Rattle.std.proofs.lemmas.List.Sums.{length-filter, count_by-le-length}
 use Rattle.lv_base.specs.declared.ids.Cost.{Cost}
 use Rattle.lv_base.specs.declared.rank.Rank.{Rank}
 use Rattle.lv_base.specs.declared.search.Pair.{Pair}
@@ -30,7 +29,7 @@ use Rattle.lv_search_walk.specs.Ranked.{rises, is_rank, is_among}
 use Rattle.lv_search_walk.specs.Walk.{candidate_of, is_ruled_out}
 use Rattle.lv_search_walk.proofs.RankedLemmas.{not_before_itself, not_both_before, same_rank, is_itself, one_list, equal_by_cmp}
 use Rattle.lv_search_guide.specs.Free.{is_free_member, IsLeastFree, HasNoFree}
-use Rattle.lv_search.specs.Frontier.{FirstContains, Thins}
+use Rattle.lv_search.specs.Frontier.{FirstContains, LeavesFirst, Thins}
 use Rattle.lv_search.specs.Guide.{is_free_rank, zones_in, left_in, IsKeyMember, IsKeyFirst, IsQueue, AreKeptBy, front_is_free, IsReady, HasRoomBy, HasMoreBy, HasSameFree, stale_in, LooksAgain, DropsFirst}
 use Rattle.lv_search.proofs.NextLemmas.{first_and_rest}
 use Rattle.lv_search.proofs.TimesLemmas.{times_none, times_one}
@@ -525,14 +524,9 @@ module _ (slots : List (List Cost)) where
     left_with : (entries : List Entry) → left_in slots more entries ≡ filter lacks (left_in slots known entries)
     left_with entries = (λ i. filter (λ r. ruled_out_more known conflict r.choices i) (ranked_members slots (zones_in entries))) ∙ filter_both (is_free_rank known) lacks (ranked_members slots (zones_in entries))
 
-    shorter : (rs : List Rank) → FirstContains conflict rs → length (filter lacks rs) < length rs
-    shorter [] inside = absurd inside
-    shorter (r ∷ rs) inside =
-        let out : filter lacks (r ∷ rs) ≡ filter lacks rs = ap (λ b. cond (not b) (r ∷ filter lacks rs) (filter lacks rs)) inside in
-        let short : length (filter lacks (r ∷ rs)) ≡ length (filter lacks rs) = ap length out in
-        let counted = length-filter lacks rs in
-        let few = count_by-le-length lacks rs in
-        omega (arith, short, counted, few)
+    first_out : (rs : List Rank) → FirstContains conflict rs → LeavesFirst lacks rs
+    first_out [] inside = inside
+    first_out (r ∷ rs) inside = ap not inside
 
     pub thins : (old new : List Entry) → HasSameFree slots more old new → FirstContains conflict (left_in slots known old) → Thins conflict (left_in slots known old) (left_in slots more new)
     thins old new same inside =
@@ -540,8 +534,8 @@ module _ (slots : List (List Cost)) where
         record {
           keeps = lacks;
           same = is;
+          first = first_out (left_in slots known old) inside;
           only = λ r k. not-false (contains_all r.choices conflict) k;
-          fewer = subst (λ (rs : List Rank). length rs < length (left_in slots known old)) (sym is) (shorter (left_in slots known old) inside);
         }
 
   -- a call's zones are those that were held, and its conflicts those that are known

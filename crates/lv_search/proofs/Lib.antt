@@ -5,5 +5,6 @@ pub mod TimesLemmas
 pub mod LeftLemmas
 pub mod GroupLeftLemmas
 pub mod GuideLemmas
+pub mod FreeLemmas
 pub mod RunLemmas
 pub use Rattle.lv_boxes.proofs as lv_boxes

@@ -4,6 +4,7 @@ pub mod Standing
 pub mod Turn
 pub mod Zones
 pub mod Guide
+pub mod Free
 pub mod Search
 pub mod Laws
 pub use Rattle.lv_boxes.specs as lv_boxes
