@@ -2,6 +2,7 @@
 use Rattle.std.proofs.Common.{◌≡◌, ℕ, ◌+◌, Bool, true, false, cond, nat_eq, nat_le, ◌-◌, slice_get, Option, None, Some, List, [], ◌∷◌, ◌++◌, length, filter, Result, Ok, Err, IfOk, OnOk, sym, ◌∙◌, ap, subst, refl}
 use Rattle.std.specs.Option.{option_map_or}
 use Rattle.lv_base.specs.declared.limits.TheConstants.{COMMITS}
+use Rattle.lv_base.specs.declared.ids.VarId.{VarId}
 use Rattle.lv_base.specs.declared.rank.Rank.{Rank}
 use Rattle.lv_model.specs.declared.plant.Plant.{Plant}
 use Rattle.lv_model.specs.declared.state.TrackedState.{TrackedState}
@@ -14,13 +15,13 @@ use Rattle.lv_reply.specs.declared.reply.Reply.TheVariants.{Refused, Committed, 
 use Rattle.lv_session_request.specs.declared.goals.Goal.{Goal}
 use Rattle.lv_session_request.specs.declared.request.Sighting.{Sighting}
 use Rattle.lv_session_request.specs.declared.request.Request.{Request}
-use Rattle.lv_session_request.specs.declared.request.Request.TheVariants.{Nothing, Track, TrackDistinct, SetBudget, SetControl, Release, Observe, Retract, SetGoal, DropGoal, Diagnose, Recover, More, Commit, Conflicts, Certificate, Labels, LabelsFrom, States, Reset, Quit, Probe}
+use Rattle.lv_session_request.specs.declared.request.Request.TheVariants.{Nothing, Track, TrackDistinct, SetBudget, SetControl, Release, Observe, Retract, SetGoal, DropGoal, Diagnose, Recover, More, Commit, Conflicts, Certificate, Labels, LabelsFrom, States, Reset, Quit, Probe, Test as ToTest}
 use Rattle.lv_session.specs.declared.query.Query.{Query}
-use Rattle.lv_session.specs.declared.query.Query.TheVariants.{Absent, Diagnosis, Recovery}
+use Rattle.lv_session.specs.declared.query.Query.TheVariants.{Absent, Diagnosis, Recovery, Test}
 use Rattle.lv_session.specs.declared.running.Running.{Running}
 use Rattle.lv_session.specs.declared.running.Running.TheVariants as kept
 use Rattle.lv_session_request.specs.Held.{lacks_name}
-use Rattle.lv_session.specs.Session.{SessionState, Stepped, unchanged, cleared, walked, recovery, is_held, has_no_room, observe, retract, is_goal, has_no_goal_room, lacks_goal_name, set_goal, drop_goal, labelled, labelled_from, is_settled, certificate, commit, commit_by, probed_reply, probe_by, probe, conflicts, taken_over, advanced_to, carried_out}
+use Rattle.lv_session.specs.Session.{SessionState, Stepped, unchanged, cleared, walked, recovery, is_held, has_no_room, observe, retract, is_goal, has_no_goal_room, lacks_goal_name, set_goal, drop_goal, labelled, labelled_from, is_certifiable, certificate, commit, commit_by, probed_reply, probe_by, probe, testing, conflicts, taken_over, advanced_to, carried_out}
 use Rattle.lv_session.specs.Current.{IsKeptOf, IsCurrent, IsCaredFor}
 
 same_walk : (plant : Plant) (state : SessionState) (budget : ℕ) (ended : Bool) (sum : ℕ) → walked plant (record state { budget = budget; is_ended = ended }) sum ≡ walked plant state sum
@@ -31,6 +32,10 @@ same_recovery : (plant : Plant) (state : SessionState) (budget : ℕ) (ended : B
 unfolding recovery
 same_recovery plant state budget ended sum = refl
 
+same_test : (plant : Plant) (state : SessionState) (budget : ℕ) (ended : Bool) (x : VarId) (sum : ℕ) → testing plant (record state { budget = budget; is_ended = ended }) x sum ≡ testing plant state x sum
+unfolding testing
+same_test plant state budget ended x sum = refl
+
 module _ (plant : Plant) (state : SessionState) (running : Running) (is : IsCurrent plant state running) where
   -- the budget and whether the session has ended are no part of a query
   pub others_kept : (budget : ℕ) (ended : Bool) → IsCurrent plant (record state { budget = budget; is_ended = ended }) running
@@ -40,10 +45,16 @@ module _ (plant : Plant) (state : SessionState) (running : Running) (is : IsCurr
       by Absent r h = tt
       by (Diagnosis sum) kept.Nothing h = h
       by (Diagnosis sum) (kept.Recovery r) h = h
+      by (Diagnosis sum) (kept.Test t) h = h
       by (Diagnosis sum) (kept.Diagnosis d) h = record { plant_is = h.plant_is; facts_are = h.facts_are; k = h.k; distinct = h.distinct; on_walk = h.on_walk; came_to = same_walk plant state budget ended sum ∙ h.came_to }
       by (Recovery sum) kept.Nothing h = h
       by (Recovery sum) (kept.Diagnosis d) h = h
+      by (Recovery sum) (kept.Test t) h = h
       by (Recovery sum) (kept.Recovery r) h = record { plant_is = h.plant_is; aim_is = h.aim_is; some = h.some; on_walk = h.on_walk; came_to = same_recovery plant state budget ended sum ∙ h.came_to }
+      by (Test x sum) kept.Nothing h = h
+      by (Test x sum) (kept.Diagnosis d) h = h
+      by (Test x sum) (kept.Recovery r) h = h
+      by (Test x sum) (kept.Test t) h = record { plant_is = h.plant_is; aim_is = h.aim_is; var_is = h.var_is; on_walk = h.on_walk; came_to = same_test plant state budget ended x sum ∙ h.came_to }
 
   observe_current : (s : Sighting) → IsCurrent plant (observe state s).state running
   observe_current s = by (is_held state s.name) (has_no_room state s.name)
@@ -103,6 +114,7 @@ module _ (plant : Plant) (state : SessionState) (running : Running) (is : IsCurr
       by Settled = taken_current (walked plant state sum).listed
       by Unsettled = is
   commit_current (Recovery sum) = is
+  commit_current (Test x sum) = is
 
   probe_current : (q : Query) → IsCurrent plant (probe q plant state).state running
   probe_current Absent = is
@@ -116,14 +128,16 @@ module _ (plant : Plant) (state : SessionState) (running : Running) (is : IsCurr
       by Settled = some (nat_eq (length (walked plant state sum).listed) 0)
       by Unsettled = is
   probe_current (Recovery sum) = is
+  probe_current (Test x sum) = is
 
   conflicts_current : (q : Query) → IsCurrent plant (conflicts q plant state).state running
   conflicts_current Absent = is
   conflicts_current (Diagnosis sum) = is
   conflicts_current (Recovery sum) = is
+  conflicts_current (Test x sum) = is
 
   certificate_current : (q : Query) → IsCurrent plant (certificate q plant state).state running
-  certificate_current q = by (is_settled q plant state)
+  certificate_current q = by (is_certifiable q plant state)
     where
       by : (b : Bool) → IsCurrent plant (cond b (unchanged state Certified) (unchanged state (Refused NoQuery))).state running
       by true = is
@@ -148,6 +162,7 @@ module _ (plant : Plant) (old : SessionState) (before after : Running) (is : IsC
   cared_for Diagnose care = care
   cared_for Recover care = care
   cared_for (More n) care = care
+  cared_for (ToTest x) care = care
   cared_for Commit care = left (commit old.query plant old).state (commit_current plant old before is old.query) care
   cared_for Conflicts care = left (conflicts old.query plant old).state (conflicts_current plant old before is old.query) care
   cared_for Certificate care = left (certificate old.query plant old).state (certificate_current plant old before is old.query) care

@@ -32,14 +32,14 @@ use Rattle.lv_meaning.specs.Ranges.{StateFits}
 use Rattle.lv_session_request.specs.declared.goals.Goal.{Goal}
 use Rattle.lv_session_request.specs.declared.request.Sighting.{Sighting}
 use Rattle.lv_session_request.specs.declared.request.Request.{Request}
-use Rattle.lv_session_request.specs.declared.request.Request.TheVariants.{Nothing, Track, TrackDistinct, SetBudget, SetControl, Release, Observe, Retract, SetGoal, DropGoal, Diagnose, Recover, More, Commit, Conflicts, Certificate, Labels, LabelsFrom, States, Reset, Quit, Probe}
+use Rattle.lv_session_request.specs.declared.request.Request.TheVariants.{Nothing, Track, TrackDistinct, SetBudget, SetControl, Release, Observe, Retract, SetGoal, DropGoal, Diagnose, Recover, More, Commit, Conflicts, Certificate, Labels, LabelsFrom, States, Reset, Quit, Probe, Test as ToTest}
 use Rattle.lv_session_request.specs.Forms.{IsUpTo}
 use Rattle.lv_session_request.specs.Goals.{IsGoalIn}
 use Rattle.lv_session_request.specs.Requests.{IsSightingIn, IsRequestOf}
 use Rattle.lv_session.specs.declared.query.Query.{Query}
-use Rattle.lv_session.specs.declared.query.Query.TheVariants.{Absent, Diagnosis, Recovery}
+use Rattle.lv_session.specs.declared.query.Query.TheVariants.{Absent, Diagnosis, Recovery, Test}
 use Rattle.lv_session_request.specs.Held.{lacks_name}
-use Rattle.lv_session.specs.Session.{SessionState, Stepped, start, rest, unchanged, cleared, walked, recovery, is_held, observe, retract, is_goal, lacks_goal_name, set_goal, drop_goal, recovered, recover, more, more_by, more_recovery_by, is_settled, certificate, labelled, labelled_from, commit, commit_by, probed_reply, probe_by, probe, conflicts, taken_over, advanced_to, carried_out}
+use Rattle.lv_session.specs.Session.{SessionState, Stepped, start, rest, unchanged, cleared, walked, recovery, is_held, observe, retract, is_goal, lacks_goal_name, set_goal, drop_goal, recovered, recover, more, more_by, more_recovery_by, is_certifiable, certificate, labelled, labelled_from, commit, commit_by, probed_reply, probe_by, probe, testing, more_test_by, conflicts, taken_over, advanced_to, carried_out}
 use Rattle.lv_session.specs.States.{StateCosts, RankCosts, IsStateOf, IsListOf}
 use Rattle.lv_session.proofs.Fitting.{start_fits, all_fit}
 use Rattle.lv_session.proofs.Listed.{list_of}
@@ -214,14 +214,20 @@ module _ (plant : Plant) (state : SessionState) (h : is_well_formed plant ≡ tr
       by : (o : Outcome) → IsStateOf plant (more_recovery_by o plant state (sum + n)).state
       by Settled = is
       by Unsettled = numbers_kept state.k state.distinct state.budget (Recovery (sum + n)) state.is_ended is.k
+  more_kept (Test x sum) n = by (testing plant state x sum).outcome
+    where
+      by : (o : Outcome) → IsStateOf plant (more_test_by o plant state x (sum + n)).state
+      by Settled = is
+      by Unsettled = numbers_kept state.k state.distinct state.budget (Test x (sum + n)) state.is_ended is.k
 
   conflicts_kept : (q : Query) → IsStateOf plant (conflicts q plant state).state
   conflicts_kept Absent = is
   conflicts_kept (Diagnosis sum) = is
   conflicts_kept (Recovery sum) = is
+  conflicts_kept (Test x sum) = is
 
   certificate_kept : (q : Query) → IsStateOf plant (certificate q plant state).state
-  certificate_kept q = by (is_settled q plant state)
+  certificate_kept q = by (is_certifiable q plant state)
     where
       by : (b : Bool) → IsStateOf plant (cond b (unchanged state Certified) (unchanged state (Refused NoQuery))).state
       by true = is
@@ -263,6 +269,7 @@ module _ (plant : Plant) (state : SessionState) (h : is_well_formed plant ≡ tr
       by Settled = taken_kept (walked plant state sum).listed (list_of plant state h is sum)
       by Unsettled = is
   commit_kept (Recovery sum) = is
+  commit_kept (Test x sum) = is
 
   probe_kept : (q : Query) → IsStateOf plant (probe q plant state).state
   probe_kept Absent = is
@@ -276,6 +283,7 @@ module _ (plant : Plant) (state : SessionState) (h : is_well_formed plant ≡ tr
       by Settled = some (nat_eq (length (walked plant state sum).listed) 0)
       by Unsettled = is
   probe_kept (Recovery sum) = is
+  probe_kept (Test x sum) = is
 
   pub request_kept : (request : Request) → IsRequestOf plant request → IsStateOf plant (carried_out plant state request).state
   request_kept Nothing within = is
@@ -300,6 +308,7 @@ module _ (plant : Plant) (state : SessionState) (h : is_well_formed plant ≡ tr
   request_kept Reset within = start_kept plant h
   request_kept Quit within = numbers_kept state.k state.distinct state.budget state.query true is.k
   request_kept Probe within = probe_kept state.query
+  request_kept (ToTest x) within = numbers_kept state.k state.distinct state.budget (Test x state.budget) state.is_ended is.k
 
 -- whether a request was carried out or memory was wanting
 pub state_kept : {E : Type 0} (plant : Plant) (old new : SessionState) (request : Request) (result : Result Reply E) → is_well_formed plant ≡ true → IsStateOf plant old → IsRequestOf plant request

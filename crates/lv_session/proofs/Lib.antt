@@ -10,6 +10,7 @@ pub mod TrueAnswers
 pub mod Asking
 pub mod Probing
 pub mod Recovering
+pub mod TestsAsked
 pub mod Labelling
 pub mod CurrentLemmas
 pub mod Certifying

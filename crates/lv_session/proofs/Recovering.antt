@@ -31,7 +31,7 @@ use Rattle.lv_session_request.specs.Held.{observation_of}
 use Rattle.lv_session.specs.Session.{SessionState, formula_of, aim_of, unchanged, recovery, trials, recovered, more, more_recovery_by, conflicts}
 use Rattle.lv_session.specs.States.{IsStateOf}
 
-observations_fit : (plant : Plant) (ss : List Sighting) → All (IsSightingIn plant) ss → All (ObservationFits plant) (map observation_of ss)
+pub observations_fit : (plant : Plant) (ss : List Sighting) → All (IsSightingIn plant) ss → All (ObservationFits plant) (map observation_of ss)
 observations_fit plant [] all = All-nil (ObservationFits plant)
 observations_fit plant (s ∷ ss) all =
     All-cons (ObservationFits plant) (observation_of s) (map observation_of ss) (record { value = (All-head (IsSightingIn plant) s ss all).value })

@@ -3,6 +3,7 @@ use Rattle.std.proofs.Common.{◌≡◌, ℕ, ◌+◌, Bool, true, false, ◌||�
 use Rattle.std.specs.Option.{option_map_or}
 use Rattle.std.proofs.lemmas.Bool.{or_parts}
 use Rattle.lv_base.specs.declared.limits.TheConstants.{COMMITS}
+use Rattle.lv_base.specs.declared.ids.VarId.{VarId}
 use Rattle.lv_base.specs.declared.rank.Rank.{Rank}
 use Rattle.lv_model.specs.declared.plant.Plant.{Plant}
 use Rattle.lv_model.specs.declared.state.State.{State}
@@ -22,12 +23,12 @@ use Rattle.lv_labels.specs.Finding.{labelling}
 use Rattle.lv_session_request.specs.declared.goals.Goal.{Goal}
 use Rattle.lv_session_request.specs.declared.request.Sighting.{Sighting}
 use Rattle.lv_session_request.specs.declared.request.Request.{Request}
-use Rattle.lv_session_request.specs.declared.request.Request.TheVariants.{Nothing, Track, TrackDistinct, SetBudget, SetControl, Release, Observe, Retract, SetGoal, DropGoal, Diagnose, Recover, More, Commit, Conflicts, Certificate, Labels, LabelsFrom, States, Reset, Quit, Probe}
+use Rattle.lv_session_request.specs.declared.request.Request.TheVariants.{Nothing, Track, TrackDistinct, SetBudget, SetControl, Release, Observe, Retract, SetGoal, DropGoal, Diagnose, Recover, More, Commit, Conflicts, Certificate, Labels, LabelsFrom, States, Reset, Quit, Probe, Test as ToTest}
 use Rattle.lv_session_request.specs.Requests.{request_of}
 use Rattle.lv_session.specs.declared.query.Query.{Query}
-use Rattle.lv_session.specs.declared.query.Query.TheVariants.{Absent, Diagnosis, Recovery}
+use Rattle.lv_session.specs.declared.query.Query.TheVariants.{Absent, Diagnosis, Recovery, Test}
 use Rattle.lv_session_request.specs.Held.{lacks_name}
-use Rattle.lv_session.specs.Session.{SessionState, Stepped, unchanged, cleared, walked, recovery, is_held, has_no_room, observe, retract, is_goal, has_no_goal_room, lacks_goal_name, set_goal, drop_goal, reply_by, diagnosis_reply, diagnosed, found, recovery_reply_by, recovery_reply, recovered, recover, more, more_by, more_recovery_by, is_settled, certificate, facts_of, labels_reply, labelled, labelled_from, commit, commit_by, probed_reply, probe_by, probe, conflicts, taken_over, advanced_to, carried_out, answered, stepped}
+use Rattle.lv_session.specs.Session.{SessionState, Stepped, unchanged, cleared, walked, recovery, is_held, has_no_room, observe, retract, is_goal, has_no_goal_room, lacks_goal_name, set_goal, drop_goal, reply_by, diagnosis_reply, diagnosed, found, recovery_reply_by, recovery_reply, recovered, recover, more, more_by, more_recovery_by, is_certifiable, certificate, facts_of, labels_reply, labelled, labelled_from, commit, commit_by, probed_reply, probe_by, probe, testing, test_reply_by, test_reply, found_test, tested, more_test_by, conflicts, taken_over, advanced_to, carried_out, answered, stepped}
 use Rattle.lv_session.specs.Certificates.{IsDue}
 use Rattle.lv_session.specs.Laws.{is_refused, is_certificate, clears}
 
@@ -130,6 +131,31 @@ module _ (plant : Plant) (state : SessionState) where
     told = λ _. (or_parts (is_refused (recovered plant state sum).reply) _ (recovery_no_refusal (recovery plant state sum).outcome (recovery plant state sum))).1;
   }
 
+  -- nor is a test
+  test_no_refusal : (o : Outcome) (w : Walked) → keeps (test_reply_by o w) ≡ false
+  test_no_refusal Settled w = by w.listed
+    where
+      by : (rs : List Rank) → keeps (found_test rs) ≡ false
+      by [] = refl
+      by (r ∷ rs) = refl
+  test_no_refusal Unsettled w = refl
+
+  test_due : (next : SessionState) (o : Outcome) (w : Walked) → IsDue plant next (test_reply_by o w)
+  test_due next Settled w = by w.listed
+    where
+      by : (rs : List Rank) → IsDue plant next (found_test rs)
+      by [] = tt
+      by (r ∷ rs) = tt
+  test_due next Unsettled w = tt
+
+  fair_test : (x : VarId) (sum : ℕ) → IsFair plant state false false (tested plant state x sum)
+  fair_test x sum = record {
+    kept = λ e. let clash : true ≡ false = sym e ∙ test_no_refusal (testing plant state x sum).outcome (testing plant state x sum) in absurd (cc clash);
+    carried = λ e _. absurd (cc e);
+    due = test_due (tested plant state x sum).state (testing plant state x sum).outcome (testing plant state x sum);
+    told = λ _. (or_parts (is_refused (tested plant state x sum).reply) _ (test_no_refusal (testing plant state x sum).outcome (testing plant state x sum))).1;
+  }
+
   fair_recover : IsFair plant state false false (recover plant state)
   fair_recover = by (nat_eq (length state.goals) 0)
     where
@@ -170,16 +196,22 @@ module _ (plant : Plant) (state : SessionState) where
       by : (o : Outcome) → IsFair plant state false false (more_recovery_by o plant state (sum + n))
       by Settled = record { kept = λ _. refl; carried = λ e _. absurd (cc e); due = tt; told = λ _. refl }
       by Unsettled = fair_recovery (sum + n)
+  fair_more (Test x sum) n = by (testing plant state x sum).outcome
+    where
+      by : (o : Outcome) → IsFair plant state false false (more_test_by o plant state x (sum + n))
+      by Settled = record { kept = λ _. refl; carried = λ e _. absurd (cc e); due = tt; told = λ _. refl }
+      by Unsettled = fair_test x (sum + n)
 
   fair_conflicts : (q : Query) → IsFair plant state false false (conflicts q plant state)
   fair_conflicts Absent = record { kept = λ _. refl; carried = λ e _. absurd (cc e); due = tt; told = λ _. refl }
   fair_conflicts (Diagnosis sum) = record { kept = λ _. refl; carried = λ e _. absurd (cc e); due = tt; told = λ _. refl }
   fair_conflicts (Recovery sum) = record { kept = λ _. refl; carried = λ e _. absurd (cc e); due = tt; told = λ _. refl }
+  fair_conflicts (Test x sum) = record { kept = λ _. refl; carried = λ e _. absurd (cc e); due = tt; told = λ _. refl }
 
   fair_certificate : IsFair plant state false true (certificate state.query plant state)
-  fair_certificate = by (is_settled state.query plant state) refl
+  fair_certificate = by (is_certifiable state.query plant state) refl
     where
-      by : (b : Bool) → is_settled state.query plant state ≡ b → IsFair plant state false true (cond b (unchanged state Certified) (unchanged state (Refused NoQuery)))
+      by : (b : Bool) → is_certifiable state.query plant state ≡ b → IsFair plant state false true (cond b (unchanged state Certified) (unchanged state (Refused NoQuery)))
       by true e = record { kept = λ _. refl; carried = λ c _. absurd (cc c); due = e; told = λ c. absurd (cc c) }
       by false e = record { kept = λ _. refl; carried = λ c _. absurd (cc c); due = tt; told = λ _. refl }
 
@@ -200,6 +232,7 @@ module _ (plant : Plant) (state : SessionState) where
       by Settled = fair_taking (walked plant state sum).listed
       by Unsettled = record { kept = λ _. refl; carried = λ _ e. absurd (cc e); due = tt; told = λ _. refl }
   fair_commit (Recovery sum) = record { kept = λ _. refl; carried = λ _ e. absurd (cc e); due = tt; told = λ _. refl }
+  fair_commit (Test x sum) = record { kept = λ _. refl; carried = λ _ e. absurd (cc e); due = tt; told = λ _. refl }
 
   fair_probe : (q : Query) → IsFair plant state false false (probe q plant state)
   fair_probe Absent = fair_refusal plant state false NoQuery
@@ -213,6 +246,7 @@ module _ (plant : Plant) (state : SessionState) where
       by Settled = some (nat_eq (length (walked plant state sum).listed) 0)
       by Unsettled = fair_refusal plant state false NoQuery
   fair_probe (Recovery sum) = fair_refusal plant state false NoQuery
+  fair_probe (Test x sum) = fair_refusal plant state false NoQuery
 
   pub fair_request : (request : Request) → IsFair plant state (clears request) (asks_certificate request) (carried_out plant state request)
   fair_request Nothing = record { kept = λ _. refl; carried = λ e _. absurd (cc e); due = tt; told = λ _. refl }
@@ -237,6 +271,7 @@ module _ (plant : Plant) (state : SessionState) where
   fair_request Reset = record { kept = λ e. absurd (cc e); carried = λ _ _. refl; due = tt; told = λ _. refl }
   fair_request Quit = record { kept = λ e. absurd (cc e); carried = λ e _. absurd (cc e); due = tt; told = λ _. refl }
   fair_request Probe = fair_probe state.query
+  fair_request (ToTest x) = fair_test x state.budget
 
   answered_due : (r : Result Request Refusal) → IsDue plant (answered plant state r).state (answered plant state r).reply
   answered_due (Ok request) = (fair_request request).due
@@ -273,9 +308,9 @@ module _ (plant : Plant) (state : SessionState) where
   pub certified_stays : (line : List ℕ) → (stepped plant state line).reply ≡ Certified → (stepped plant state line).state ≡ state
   certified_stays line e = stepped_kept line (ap keeps e)
 
-  pub certified_settled : (line : List ℕ) → (stepped plant state line).reply ≡ Certified → is_settled state.query plant state ≡ true
+  pub certified_settled : (line : List ℕ) → (stepped plant state line).reply ≡ Certified → is_certifiable state.query plant state ≡ true
   certified_settled line e =
-      subst (λ (s : SessionState). is_settled s.query plant s ≡ true) (certified_stays line e)
+      subst (λ (s : SessionState). is_certifiable s.query plant s ≡ true) (certified_stays line e)
       (subst (λ (r : Reply). IsDue plant (stepped plant state line).state r) e (stepped_due line))
 
   pub sum_walked : (sum n : ℕ) (q : Query) → q ≡ Diagnosis sum → (walked plant state sum).outcome ≡ Unsettled

@@ -3,6 +3,7 @@ use Rattle.std.proofs.Common.{◌≡◌, ℕ, Bool, true, false, ◌&&◌, cond,
 use Rattle.std.specs.List.{list_all}
 use Rattle.std.specs.Option.{ok_or, option_map_or}
 use Rattle.std.proofs.lemmas.Bool.{and_parts, and_from, leb-true}
+use Rattle.lv_base.specs.declared.ids.VarId.{VarId}
 use Rattle.lv_base.specs.declared.limits.TheConstants.{TRACKED, BUDGET}
 use Rattle.lv_text.specs.declared.lexer.TokenKind.{TokenKind}
 use Rattle.lv_text.specs.declared.lexer.TokenKind.TheVariants as kind
@@ -25,12 +26,12 @@ use Rattle.lv_session_request.specs.declared.request.Request.TheVariants as requ
 use Rattle.lv_session_request.specs.declared.words.Word.{Word}
 use Rattle.lv_session_request.specs.declared.words.Word.TheVariants as said
 use Rattle.lv_session_request.specs.Chain.{and_then}
-use Rattle.lv_session_request.specs.Forms.{first_word, has_number_form, has_command_signs, has_observe_signs, name_at, has_distinct_form, from_1_to, limited, number_to, IsUpTo}
+use Rattle.lv_session_request.specs.Forms.{first_word, has_number_form, has_command_signs, has_release_signs, has_observe_signs, name_at, has_distinct_form, from_1_to, limited, number_to, IsUpTo}
 use Rattle.lv_session_request.specs.Goals.{phrase_in, formula_of, simple, goal_of, AreRead, IsGoalIn}
 use Rattle.lv_session_request.specs.Names.{control_of, observable_of, value_in}
-use Rattle.lv_session_request.specs.Requests.{word, alone, track_of, command_of, release_of, sighting_of, retracted_of, labels_of, request_by, asked_by_first, asked, asked_by, request_of, IsCommandIn, IsSightingIn, IsRequestOf}
+use Rattle.lv_session_request.specs.Requests.{word, alone, track_of, command_of, release_of, tested_of, sighting_of, retracted_of, labels_of, request_by, asked_by_first, asked, asked_by, request_of, IsCommandIn, IsSightingIn, IsObservableOf, IsRequestOf}
 use Rattle.lv_session_request.proofs.GoalLaws.{reads_back, goal_is_in}
-use Rattle.lv_session_request.proofs.RequestLaws.{command_fits, sighting_fits}
+use Rattle.lv_session_request.proofs.RequestLaws.{command_fits, tested_fits, sighting_fits}
 use Rattle.lv_session.specs.Session.{SessionState, unchanged, answered, stepped}
 use Rattle.lv_session.specs.States.{IsStateOf}
 use Rattle.lv_session.proofs.Keeping.{request_kept}
@@ -87,6 +88,14 @@ module _ (plant : Plant) where
       let to = has_come (value_in plant (lists_of plant) control.value.var value.value) _ c control.goes in
       let same : record { place = control.value.place; value = to.value } ≡ c = cc to.goes in
       subst (IsCommandIn plant) same (command_fits plant (lists_of plant) part.value name.value value.value control.value to.value refl control.was to.was)
+
+  tested_in : (ts : List Lexeme) (x : VarId) → tested_of plant (lists_of plant) ts ≡ Ok x → IsObservableOf plant x
+  unfolding tested_of
+  tested_in ts x h =
+      let passed = has_passed (has_release_signs ts) _ Form x h in
+      let part = has_come (word ts 1) _ x passed.1 in
+      let name = has_come (word ts 3) _ x part.goes in
+      tested_fits plant (lists_of plant) part.value name.value x refl name.goes
 
   sighting_in : (ts : List Lexeme) (s : Sighting) → sighting_of plant (lists_of plant) ts ≡ Ok s → IsSightingIn plant s
   unfolding sighting_of
@@ -201,6 +210,7 @@ module _ (plant : Plant) (ts : List Lexeme) (read : AreRead ts) (shallow : is_to
   by_word said.Reset r first h = alone_in request.Reset r tt h
   by_word said.Quit r first h = alone_in request.Quit r tt h
   by_word said.Probe r first h = alone_in request.Probe r tt h
+  by_word said.Test r first h = made_in (tested_of plant (lists_of plant) ts) request.Test r (λ x e. tested_in plant ts x e) h
 
 module _ (plant : Plant) where
   tokens_in : (ts : List Lexeme) (r : Request) → AreRead ts → asked plant (lists_of plant) ts ≡ Ok r → IsRequestOf plant r

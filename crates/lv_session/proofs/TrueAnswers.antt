@@ -2,12 +2,14 @@
 use Rattle.std.proofs.Common.{◌≡◌, ℕ, ◌+◌, ◌-◌, Bool, true, false, cond, nat_eq, nat_le, slice_get, Option, None, Some, List, [], ◌∷◌, ◌++◌, length, Contains, filter, Result, Ok, Err, refl, sym, subst, arith}
 use Rattle.std.specs.Option.{option_map_or}
 use Rattle.lv_base.specs.declared.limits.TheConstants.{COMMITS}
+use Rattle.lv_base.specs.declared.ids.VarId.{VarId}
 use Rattle.lv_base.specs.declared.rank.Rank.{Rank}
 use Rattle.lv_model.specs.declared.plant.Plant.{Plant}
 use Rattle.lv_model.specs.declared.state.State.{State}
 use Rattle.lv_model.specs.declared.state.TrackedState.{TrackedState}
 use Rattle.lv_search_walk.specs.declared.outcome.Outcome.{Outcome}
 use Rattle.lv_search_walk.specs.declared.outcome.Outcome.TheVariants.{Settled, Unsettled}
+use Rattle.lv_search_walk.specs.Walk.{Walked}
 use Rattle.lv_meaning.specs.Candidates.{candidates}
 use Rattle.lv_meaning.proofs.DiagnosisWalks.{answers}
 use Rattle.lv_meaning.proofs.RecoveryWalks.{walk_found, walk_none}
@@ -20,12 +22,12 @@ use Rattle.lv_reply.specs.declared.reply.Refusal.{Refusal}
 use Rattle.lv_reply.specs.declared.reply.Refusal.TheVariants.{NameHeld, NameNotHeld, OutOfLimits, NoQuery, NothingListed, NoGoal, TooManyHeld, TooManyCommits}
 use Rattle.lv_reply.specs.declared.reply.Reply.TheVariants.{Nothing as Silence, Refused, Committed, Certificate as Certified}
 use Rattle.lv_session_request.specs.declared.request.Request.{Request}
-use Rattle.lv_session_request.specs.declared.request.Request.TheVariants.{Nothing, Track, TrackDistinct, SetBudget, SetControl, Release, Observe, Retract, SetGoal, DropGoal, Diagnose, Recover, More, Commit, Conflicts, Certificate, Labels, LabelsFrom, States, Reset, Quit, Probe}
+use Rattle.lv_session_request.specs.declared.request.Request.TheVariants.{Nothing, Track, TrackDistinct, SetBudget, SetControl, Release, Observe, Retract, SetGoal, DropGoal, Diagnose, Recover, More, Commit, Conflicts, Certificate, Labels, LabelsFrom, States, Reset, Quit, Probe, Test as ToTest}
 use Rattle.lv_session_request.specs.Requests.{request_of}
 use Rattle.lv_session_request.specs.Held.{lacks_name}
 use Rattle.lv_session.specs.declared.query.Query.{Query}
-use Rattle.lv_session.specs.declared.query.Query.TheVariants.{Absent, Diagnosis, Recovery}
-use Rattle.lv_session.specs.Session.{SessionState, Stepped, unchanged, cleared, walked, recovery, aim_of, facts_of, is_held, has_no_room, is_goal, has_no_goal_room, lacks_goal_name, reply_by, diagnosed, found, recovery_reply_by, recovered, more, more_by, more_recovery_by, is_settled, labels_reply, labelled, labelled_from, commit, commit_by, probed_reply, probe_by, probe, conflicts, taken_over, advanced_to, carried_out, answered, stepped}
+use Rattle.lv_session.specs.declared.query.Query.TheVariants.{Absent, Diagnosis, Recovery, Test}
+use Rattle.lv_session.specs.Session.{SessionState, Stepped, unchanged, cleared, walked, recovery, aim_of, facts_of, is_held, has_no_room, is_goal, has_no_goal_room, lacks_goal_name, reply_by, diagnosed, found, recovery_reply_by, recovered, more, more_by, more_recovery_by, is_certifiable, labels_reply, labelled, labelled_from, commit, commit_by, probed_reply, probe_by, probe, testing, found_test, test_reply_by, tested, more_test_by, conflicts, taken_over, advanced_to, carried_out, answered, stepped}
 use Rattle.lv_session.specs.Transcript.{IsTranscriptFrom, ends, goes_on, AddsTranscript}
 use Rattle.lv_session.specs.Answers.{IsTrueAnswer, IsTrueTranscriptFrom, all_told, told, AddsTrueTranscript}
 
@@ -71,6 +73,18 @@ module _ (plant : Plant) (state : SessionState) where
       by None = tt
       by (Some s) = labelled_true (Some s.state)
 
+  -- of a test nothing is asked here
+  test_by_true : (o : Outcome) (w : Walked) → IsTrueAnswer plant state (test_reply_by o w)
+  test_by_true Settled w = by w.listed
+    where
+      by : (rs : List Rank) → IsTrueAnswer plant state (found_test rs)
+      by [] = tt
+      by (r ∷ rs) = tt
+  test_by_true Unsettled w = tt
+
+  test_true : (x : VarId) (sum : ℕ) → IsTrueAnswer plant state (tested plant state x sum).reply
+  test_true x sum = test_by_true (testing plant state x sum).outcome (testing plant state x sum)
+
   more_true : (q : Query) (n : ℕ) → IsTrueAnswer plant state (more q plant state n).reply
   more_true Absent n = tt
   more_true (Diagnosis sum) n = by (walked plant state sum).outcome
@@ -83,6 +97,11 @@ module _ (plant : Plant) (state : SessionState) where
       by : (o : Outcome) → IsTrueAnswer plant state (more_recovery_by o plant state (sum + n)).reply
       by Settled = tt
       by Unsettled = recovery_true (sum + n)
+  more_true (Test x sum) n = by (testing plant state x sum).outcome
+    where
+      by : (o : Outcome) → IsTrueAnswer plant state (more_test_by o plant state x (sum + n)).reply
+      by Settled = tt
+      by Unsettled = test_true x (sum + n)
 
   taking_true : (listed : List Rank) → IsTrueAnswer plant state (taken_over plant state listed).reply
   taking_true listed =
@@ -98,6 +117,7 @@ module _ (plant : Plant) (state : SessionState) where
       by Settled = taking_true (walked plant state sum).listed
       by Unsettled = tt
   commit_true (Recovery sum) = tt
+  commit_true (Test x sum) = tt
 
   probe_true : (q : Query) → IsTrueAnswer plant state (probe q plant state).reply
   probe_true Absent = tt
@@ -109,11 +129,13 @@ module _ (plant : Plant) (state : SessionState) where
           (unchanged state (probed_reply plant state (walked plant state sum).listed)) tt tt
       by Unsettled = tt
   probe_true (Recovery sum) = tt
+  probe_true (Test x sum) = tt
 
   conflicts_true : (q : Query) → IsTrueAnswer plant state (conflicts q plant state).reply
   conflicts_true Absent = tt
   conflicts_true (Diagnosis sum) = tt
   conflicts_true (Recovery sum) = tt
+  conflicts_true (Test x sum) = tt
 
   request_true : (request : Request) → IsTrueAnswer plant state (carried_out plant state request).reply
   request_true Nothing = tt
@@ -137,13 +159,14 @@ module _ (plant : Plant) (state : SessionState) where
   request_true (More n) = more_true state.query n
   request_true Commit = commit_true state.query
   request_true Conflicts = conflicts_true state.query
-  request_true Certificate = either (is_settled state.query plant state) (unchanged state Certified) (unchanged state (Refused NoQuery)) tt tt
+  request_true Certificate = either (is_certifiable state.query plant state) (unchanged state Certified) (unchanged state (Refused NoQuery)) tt tt
   request_true Labels = labelled_true None
   request_true (LabelsFrom n) = labelled_from_true n
   request_true States = tt
   request_true Reset = tt
   request_true Quit = tt
   request_true Probe = probe_true state.query
+  request_true (ToTest x) = test_true x state.budget
 
   answered_true : (r : Result Request Refusal) → IsTrueAnswer plant state (answered plant state r).reply
   answered_true (Ok request) = request_true request

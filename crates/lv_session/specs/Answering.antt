@@ -3,7 +3,7 @@ use Rattle.std.specs.Prelude.{ℕ, Bool, false, true, not, ◌&&◌, List}
 use Rattle.lv_model.specs.declared.plant.Plant.{Plant}
 use Rattle.lv_serve.specs.Served.{quits as quits_at, fits as fits_at}
 use Rattle.lv_session.specs.declared.query.Query.{Query}
-use Rattle.lv_session.specs.declared.query.Query.TheVariants.{Absent, Diagnosis, Recovery}
+use Rattle.lv_session.specs.declared.query.Query.TheVariants.{Absent, Diagnosis, Recovery, Test}
 use Rattle.lv_session.specs.Session.{SessionState, RunningSession, start, stepped, is_settled}
 use Rattle.lv_session.specs.Certificates.{IsTextOf}
 
@@ -28,6 +28,7 @@ abbrev pub is_asked : Query → Bool
 is_asked Absent = false
 is_asked (Diagnosis sum) = true
 is_asked (Recovery sum) = true
+is_asked (Test x sum) = true
 
 -- a query is current that `more` goes on with
 abbrev pub is_unsettled : Plant → SessionState → Bool

@@ -9,7 +9,7 @@ use Rattle.lv_meaning.specs.Possible.{value}
 use Rattle.lv_reply.specs.declared.reply.Reply.TheVariants.{Nothing as Silence}
 use Rattle.lv_session_request.specs.declared.request.Request.{Request}
 use Rattle.lv_session.specs.declared.query.Query.{Query}
-use Rattle.lv_session.specs.declared.query.Query.TheVariants.{Absent, Diagnosis, Recovery}
+use Rattle.lv_session.specs.declared.query.Query.TheVariants.{Absent, Diagnosis, Recovery, Test}
 use Rattle.lv_session.specs.Session.{SessionState, RunningSession, Stepped, recovery, unchanged, carried_out}
 
 -- those of the first command set listed, if there is one
@@ -30,6 +30,7 @@ abbrev pub recovery_values : Query → Plant → SessionState → Option (List �
 recovery_values Absent plant state = None
 recovery_values (Diagnosis sum) plant state = None
 recovery_values (Recovery sum) plant state = values_found (recovery plant state sum)
+recovery_values (Test x sum) plant state = None
 
 -- the controls are commanded to these values, and no query is current
 abbrev pub applied : SessionState → List ℕ → SessionState

@@ -8,8 +8,8 @@ use Rattle.lv_reply.specs.declared.reply.Reply.{Reply}
 use Rattle.lv_reply.specs.declared.reply.Reply.TheVariants.{Certificate}
 use Rattle.lv_reply.specs.Texts.{reply_text}
 use Rattle.lv_session.specs.declared.query.Query.{Query}
-use Rattle.lv_session.specs.declared.query.Query.TheVariants.{Absent, Diagnosis, Recovery}
-use Rattle.lv_session.specs.Session.{SessionState, facts_of, aim_of, walked, recovery, is_settled}
+use Rattle.lv_session.specs.declared.query.Query.TheVariants.{Absent, Diagnosis, Recovery, Test}
+use Rattle.lv_session.specs.Session.{SessionState, facts_of, aim_of, walked, recovery, is_certifiable}
 
 -- the text of lines that certify what the diagnosis with so many trials lists
 pub record CertifiesWalked (plant : Plant) (state : SessionState) (sum : ℕ) (text : List ℕ) : Type 0 where
@@ -30,6 +30,7 @@ abbrev pub Certifies : Query → Plant → SessionState → List ℕ → Type 0
 Certifies Absent plant state text = ⊥
 Certifies (Diagnosis sum) plant state text = CertifiesWalked plant state sum text
 Certifies (Recovery sum) plant state text = CertifiesRecovered plant state sum text
+Certifies (Test x sum) plant state text = ⊥
 
 -- the text may stand for the reply that came with this state: a certificate has one of those of the current query, and any other reply
 -- has its own text
@@ -37,7 +38,7 @@ abbrev pub IsTextOf : Plant → SessionState → Reply → List ℕ → Type 0
 IsTextOf plant state Certificate text = Certifies state.query plant state text
 IsTextOf plant state reply text = text ≡ reply_text plant reply
 
--- a certificate is told of a settled query alone
+-- a certificate is told of a settled query alone, and of no test
 abbrev pub IsDue : Plant → SessionState → Reply → Type 0
-IsDue plant state Certificate = is_settled state.query plant state ≡ true
+IsDue plant state Certificate = is_certifiable state.query plant state ≡ true
 IsDue plant state reply = Unit {0}

@@ -5,16 +5,19 @@ use Rattle.lv_search_walk.specs.Walk.{Walked}
 use Rattle.lv_meaning.specs.Candidates.{candidates}
 use Rattle.lv_ident.specs.Query.{QueryValue, groups_for, IsQueryOf}
 use Rattle.lv_session_request.specs.declared.request.Request.{Request}
+use Rattle.lv_base.specs.declared.ids.VarId.{VarId}
 use Rattle.lv_reconf.specs.Query.{IsQuery as IsRecoveryQuery}
-use Rattle.lv_session_request.specs.declared.request.Request.TheVariants.{Diagnose, Recover, More}
+use Rattle.lv_reconf.specs.Testing.{IsTestQuery}
+use Rattle.lv_session_request.specs.declared.request.Request.TheVariants.{Diagnose, Recover, More, Test as ToTest}
 use Rattle.lv_session.specs.declared.query.Query.{Query}
-use Rattle.lv_session.specs.declared.query.Query.TheVariants.{Absent, Diagnosis, Recovery}
+use Rattle.lv_session.specs.declared.query.Query.TheVariants.{Absent, Diagnosis, Recovery, Test}
 use Rattle.lv_session.specs.declared.running.Diagnosed.{Diagnosed}
 use Rattle.lv_session.specs.declared.running.Recovering.{Recovering}
+use Rattle.lv_session.specs.declared.running.Testing.{Testing}
 use Rattle.lv_session.specs.declared.running.Running.{Running}
 use Rattle.lv_session.specs.declared.running.Running.TheVariants as kept
 use Rattle.lv_session.specs.declared.workings.Workings.{Workings}
-use Rattle.lv_session.specs.Session.{SessionState, facts_of, aim_of, walked, recovery}
+use Rattle.lv_session.specs.Session.{SessionState, facts_of, aim_of, walked, recovery, test_aim_of, testing}
 use Rattle.lv_session.specs.States.{IsStateOf}
 
 -- the diagnosis of the state that has tried nothing
@@ -50,15 +53,32 @@ pub record IsRecoveryAt (plant : Plant) (state : SessionState) (sum : ℕ) (r : 
   pub on_walk : IsRecoveryQuery r.query
   pub came_to : recovery plant state sum ≡ recovery_come_to r
 
+-- the same of a test
+abbrev pub test_come_to : Testing → Walked
+test_come_to t = record { outcome = t.outcome; listed = t.query.standing.listed; kept = t.query.standing.kept }
+
+pub record IsTestAt (plant : Plant) (state : SessionState) (x : VarId) (sum : ℕ) (t : Testing) : Type 0 where
+  pub plant_is : t.query.plant ≡ plant
+  pub aim_is : t.query.aim ≡ test_aim_of state
+  pub var_is : t.query.var ≡ x
+  pub on_walk : IsTestQuery t.query
+  pub came_to : testing plant state x sum ≡ test_come_to t
+
 -- of a query its search is kept; where no query is current nothing is asked
 abbrev pub IsKeptOf : Query → Plant → SessionState → Running → Type 0
 IsKeptOf Absent plant state running = Unit {0}
 IsKeptOf (Diagnosis sum) plant state kept.Nothing = ⊥
 IsKeptOf (Diagnosis sum) plant state (kept.Recovery r) = ⊥
+IsKeptOf (Diagnosis sum) plant state (kept.Test t) = ⊥
 IsKeptOf (Diagnosis sum) plant state (kept.Diagnosis d) = IsDiagnosisAt plant state sum d.value
 IsKeptOf (Recovery sum) plant state kept.Nothing = ⊥
 IsKeptOf (Recovery sum) plant state (kept.Diagnosis d) = ⊥
+IsKeptOf (Recovery sum) plant state (kept.Test t) = ⊥
 IsKeptOf (Recovery sum) plant state (kept.Recovery r) = IsRecoveryAt plant state sum r.value
+IsKeptOf (Test x sum) plant state kept.Nothing = ⊥
+IsKeptOf (Test x sum) plant state (kept.Diagnosis d) = ⊥
+IsKeptOf (Test x sum) plant state (kept.Recovery r) = ⊥
+IsKeptOf (Test x sum) plant state (kept.Test t) = IsTestAt plant state x sum t.value
 
 -- what is kept is that of the current query
 abbrev pub IsCurrent : Plant → SessionState → Running → Type 0
@@ -69,6 +89,7 @@ abbrev pub IsCaredFor : Request → Plant → SessionState → Running → Runni
 IsCaredFor Diagnose plant next before after = IsCurrent plant next after
 IsCaredFor Recover plant next before after = IsCurrent plant next after
 IsCaredFor (More n) plant next before after = IsCurrent plant next after
+IsCaredFor (ToTest x) plant next before after = IsCurrent plant next after
 IsCaredFor request plant next before after = after ≡ before
 
 -- what is held to ask for labels, if anything, is of the plant

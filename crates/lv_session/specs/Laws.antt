@@ -3,6 +3,7 @@ use Rattle.std.specs.Prelude.{◌≡◌, ℕ, ◌+◌, ◌<◌, Bool, true, fals
 use Rattle.std.specs.List.{list_any, sum}
 use Rattle.lv_io.specs.Whole.{AddsFront}
 use Rattle.lv_text.specs.Lines.{lines_of}
+use Rattle.lv_base.specs.declared.ids.VarId.{VarId}
 use Rattle.lv_model.specs.declared.plant.Plant.{Plant}
 use Rattle.lv_model.specs.WellFormed.{is_well_formed}
 use Rattle.lv_search_walk.specs.declared.outcome.Outcome.{Outcome}
@@ -16,8 +17,8 @@ use Rattle.lv_session_request.specs.Held.{observation_of}
 use Rattle.lv_session_request.specs.declared.request.Sighting.{Sighting}
 use Rattle.lv_session_request.specs.declared.request.Request.{Request}
 use Rattle.lv_session_request.specs.declared.request.Request.TheVariants.{Track, TrackDistinct, SetControl, Release, Observe, Retract, SetGoal, DropGoal, More, Commit, Reset}
-use Rattle.lv_session.specs.declared.query.Query.TheVariants.{Absent, Diagnosis, Recovery}
-use Rattle.lv_session.specs.Session.{SessionState, start, facts_of, walked, recovery, observe, diagnosis_reply, recovery_reply, is_settled, carried_out, stepped}
+use Rattle.lv_session.specs.declared.query.Query.TheVariants.{Absent, Diagnosis, Recovery, Test}
+use Rattle.lv_session.specs.Session.{SessionState, start, facts_of, walked, recovery, observe, testing, diagnosis_reply, recovery_reply, test_reply, is_certifiable, carried_out, stepped}
 use Rattle.lv_session.specs.States.{IsStateOf}
 use Rattle.lv_session.specs.Transcript.{IsTranscript, AddsFrontOfTranscript}
 
@@ -89,6 +90,8 @@ pub record MoreIsTheSum : Type 0 where
       → (carried_out plant state (More n)).reply ≡ diagnosis_reply (walked plant state (sum + n))
   pub of_recovery : (plant : Plant) (state : SessionState) (sum n : ℕ) → state.query ≡ Recovery sum → (recovery plant state sum).outcome ≡ Unsettled
       → (carried_out plant state (More n)).reply ≡ recovery_reply (recovery plant state (sum + n))
+  pub of_test : (plant : Plant) (state : SessionState) (x : VarId) (sum n : ℕ) → state.query ≡ Test x sum → (testing plant state x sum).outcome ≡ Unsettled
+      → (carried_out plant state (More n)).reply ≡ test_reply (testing plant state x (sum + n))
 
 -- the state behind a `more` line with each of these numbers
 abbrev pub gone_on : Plant → SessionState → List ℕ → SessionState
@@ -115,7 +118,7 @@ pub record StatesStayStates : Type 0 where
 
 -- a certificate is told of a settled query alone, and the line changes nothing
 pub record CertificateChangesNothing : Type 0 where
-  pub settled : (plant : Plant) (state : SessionState) (line : List ℕ) → (stepped plant state line).reply ≡ Certificate → is_settled state.query plant state ≡ true
+  pub settled : (plant : Plant) (state : SessionState) (line : List ℕ) → (stepped plant state line).reply ≡ Certificate → is_certifiable state.query plant state ≡ true
   pub stays : (plant : Plant) (state : SessionState) (line : List ℕ) → (stepped plant state line).reply ≡ Certificate → (stepped plant state line).state ≡ state
 
 -- in an ended session a line does nothing

@@ -20,6 +20,7 @@ use Rattle.lv_meaning.specs.Candidates.{candidates}
 use Rattle.lv_meaning.specs.Diagnosis.{diagnosis_walk}
 use Rattle.lv_meaning.specs.declared.aim.Aim.{Aim}
 use Rattle.lv_meaning.specs.Recovery.{recovery_walk}
+use Rattle.lv_reconf.specs.Tests.{test_walk}
 use Rattle.lv_labels.specs.declared.labelling.Labelling.{Labelling}
 use Rattle.lv_labels.specs.declared.labelling.Labelling.TheVariants as labelling
 use Rattle.lv_labels.specs.Literals.{fact_literals, state_literals}
@@ -29,16 +30,16 @@ use Rattle.lv_tracker.specs.Tracked.{start_state, advanced}
 use Rattle.lv_reply.specs.declared.reply.Refusal.{Refusal}
 use Rattle.lv_reply.specs.declared.reply.Refusal.TheVariants.{NameHeld, NameNotHeld, OutOfLimits, NoQuery, NotUnsettled, NothingListed, NoGoal, TooManyHeld, TooManyCommits}
 use Rattle.lv_reply.specs.declared.reply.Reply.{Reply}
-use Rattle.lv_reply.specs.declared.reply.Reply.TheVariants.{Nothing as Silence, Accepted, Refused, Settled as SettledReply, Unsettled as UnsettledReply, Conflicts as ConflictsReply, Committed, States as StatesReply, Recovered, NoRecovery, Undecided, CommandConflicts, Labels as LabelsReply, Contradiction, Certificate as CertificateReply, Probed as ProbedReply}
+use Rattle.lv_reply.specs.declared.reply.Reply.TheVariants.{Nothing as Silence, Accepted, Refused, Settled as SettledReply, Unsettled as UnsettledReply, Conflicts as ConflictsReply, Committed, States as StatesReply, Recovered, NoRecovery, Undecided, CommandConflicts, Labels as LabelsReply, Contradiction, Certificate as CertificateReply, Probed as ProbedReply, Tested, NoTest}
 use Rattle.lv_session_request.specs.Held.{observation_of, has_name, lacks_name}
 use Rattle.lv_session_request.specs.declared.goals.Goal.{Goal}
 use Rattle.lv_session_request.specs.declared.request.Command.{Command}
 use Rattle.lv_session_request.specs.declared.request.Sighting.{Sighting}
 use Rattle.lv_session_request.specs.declared.request.Request.{Request}
-use Rattle.lv_session_request.specs.declared.request.Request.TheVariants.{Nothing, Track, TrackDistinct, SetBudget, SetControl, Release, Observe, Retract, SetGoal, DropGoal, Diagnose, Recover, More, Commit, Conflicts, Certificate, Labels, LabelsFrom, States, Reset, Quit, Probe}
+use Rattle.lv_session_request.specs.declared.request.Request.TheVariants.{Nothing, Track, TrackDistinct, SetBudget, SetControl, Release, Observe, Retract, SetGoal, DropGoal, Diagnose, Recover, More, Commit, Conflicts, Certificate, Labels, LabelsFrom, States, Reset, Quit, Probe, Test as ToTest}
 use Rattle.lv_session_request.specs.Requests.{request_of}
 use Rattle.lv_session.specs.declared.query.Query.{Query}
-use Rattle.lv_session.specs.declared.query.Query.TheVariants.{Absent, Diagnosis, Recovery}
+use Rattle.lv_session.specs.declared.query.Query.TheVariants.{Absent, Diagnosis, Recovery, Test}
 
 -- the states that the plant may be in; how many commits were made; how many candidates a diagnosis lists, and whether no two of
 -- them may lead to one state; the trials of a new query; the value that each control is commanded to, in written order; the observations of the assignments before and after the
@@ -110,6 +111,14 @@ aim_of state = record {
 -- the walk of a recovery with so many trials along the command sets
 unfoldable pub recovery : Plant → SessionState → ℕ → Walked
 recovery plant state trials = recovery_walk plant (aim_of state) trials
+
+-- what is asked of a test: from the tracked states, with what is observed now, and nothing of goals
+abbrev pub test_aim_of : SessionState → Aim
+test_aim_of state = record { tracked = state.tracked; present = map observation_of state.present; goals = [] }
+
+-- the walk of a test of the variable with so many trials along the command sets
+unfoldable pub testing : Plant → SessionState → VarId → ℕ → Walked
+testing plant state x trials = test_walk plant (test_aim_of state) x trials
 
 pub record Stepped : Type 0 where
   pub state : SessionState
@@ -226,6 +235,22 @@ recovery_reply w = recovery_reply_by w.outcome w
 abbrev pub recovered : Plant → SessionState → ℕ → Stepped
 recovered plant state sum = record { state = record state { query = Recovery sum }; reply = recovery_reply (recovery plant state sum) }
 
+-- what a test that came to this replies: the command set listed, if there is one
+abbrev pub found_test : List Rank → Reply
+found_test [] = NoTest
+found_test (r ∷ rs) = Tested r
+
+abbrev pub test_reply_by : Outcome → Walked → Reply
+test_reply_by Settled w = found_test w.listed
+test_reply_by Unsettled w = Undecided (trials w)
+
+abbrev pub test_reply : Walked → Reply
+test_reply w = test_reply_by w.outcome w
+
+-- `test`, and a query that goes on: the current query is a test of the variable with so many trials
+abbrev pub tested : Plant → SessionState → VarId → ℕ → Stepped
+tested plant state x sum = record { state = record state { query = Test x sum }; reply = test_reply (testing plant state x sum) }
+
 -- `recover`: some goal has to be held
 abbrev pub recover : Plant → SessionState → Stepped
 recover plant state = if nat_eq (length state.goals) 0 then unchanged state (Refused NoGoal) else recovered plant state state.budget
@@ -238,17 +263,23 @@ abbrev pub more_recovery_by : Outcome → Plant → SessionState → ℕ → Ste
 more_recovery_by Settled plant state sum = unchanged state (Refused NotUnsettled)
 more_recovery_by Unsettled plant state sum = recovered plant state sum
 
+abbrev pub more_test_by : Outcome → Plant → SessionState → VarId → ℕ → Stepped
+more_test_by Settled plant state x sum = unchanged state (Refused NotUnsettled)
+more_test_by Unsettled plant state x sum = tested plant state x sum
+
 -- `more`: a query that isn't settled goes on with the sum of its trials
 abbrev pub more : Query → Plant → SessionState → ℕ → Stepped
 more Absent plant state n = unchanged state (Refused NotUnsettled)
 more (Diagnosis sum) plant state n = more_by (walked plant state sum).outcome plant state (sum + n)
 more (Recovery sum) plant state n = more_recovery_by (recovery plant state sum).outcome plant state (sum + n)
+more (Test x sum) plant state n = more_test_by (testing plant state x sum).outcome plant state x (sum + n)
 
 -- `conflicts`: those that the current query kept
 abbrev pub conflicts : Query → Plant → SessionState → Stepped
 conflicts Absent plant state = unchanged state (Refused NoQuery)
 conflicts (Diagnosis sum) plant state = unchanged state (ConflictsReply (walked plant state sum).kept (trials (walked plant state sum)))
 conflicts (Recovery sum) plant state = unchanged state (CommandConflicts (recovery plant state sum).kept (trials (recovery plant state sum)))
+conflicts (Test x sum) plant state = unchanged state (CommandConflicts (testing plant state x sum).kept (trials (testing plant state x sum)))
 
 -- with this outcome a query is settled
 abbrev pub is_settled_by : Outcome → Bool
@@ -260,10 +291,18 @@ abbrev pub is_settled : Query → Plant → SessionState → Bool
 is_settled Absent plant state = false
 is_settled (Diagnosis sum) plant state = is_settled_by (walked plant state sum).outcome
 is_settled (Recovery sum) plant state = is_settled_by (recovery plant state sum).outcome
+is_settled (Test x sum) plant state = is_settled_by (testing plant state x sum).outcome
 
--- `certificate`: one of the current query, which has to be settled
+-- a query is current of which there are certificates: one that is settled, and no test
+abbrev pub is_certifiable : Query → Plant → SessionState → Bool
+is_certifiable Absent plant state = false
+is_certifiable (Diagnosis sum) plant state = is_settled_by (walked plant state sum).outcome
+is_certifiable (Recovery sum) plant state = is_settled_by (recovery plant state sum).outcome
+is_certifiable (Test x sum) plant state = false
+
+-- `certificate`: one of the current query, which has to be settled, and no test
 abbrev pub certificate : Query → Plant → SessionState → Stepped
-certificate q plant state = if is_settled q plant state then unchanged state CertificateReply else unchanged state (Refused NoQuery)
+certificate q plant state = if is_certifiable q plant state then unchanged state CertificateReply else unchanged state (Refused NoQuery)
 
 -- the listed candidates are taken over: what they lead to is tracked, the next observations become present, the controls rest
 abbrev pub advanced_to : Plant → SessionState → List Rank → SessionState
@@ -291,6 +330,7 @@ abbrev pub commit : Query → Plant → SessionState → Stepped
 commit Absent plant state = unchanged state (Refused NoQuery)
 commit (Diagnosis sum) plant state = commit_by (walked plant state sum).outcome plant state (walked plant state sum).listed
 commit (Recovery sum) plant state = unchanged state (Refused NoQuery)
+commit (Test x sum) plant state = unchanged state (Refused NoQuery)
 
 -- what one observation more would leave of these candidates
 abbrev pub probed_reply : Plant → SessionState → List Rank → Reply
@@ -309,6 +349,7 @@ abbrev pub probe : Query → Plant → SessionState → Stepped
 probe Absent plant state = unchanged state (Refused NoQuery)
 probe (Diagnosis sum) plant state = probe_by (walked plant state sum).outcome plant state (walked plant state sum).listed
 probe (Recovery sum) plant state = unchanged state (Refused NoQuery)
+probe (Test x sum) plant state = unchanged state (Refused NoQuery)
 
 -- what propagation finds, as a reply
 abbrev pub labels_reply : Labelling → Reply
@@ -356,6 +397,7 @@ carried_out plant state States = unchanged state (StatesReply state.time state.t
 carried_out plant state Reset = reset plant
 carried_out plant state Quit = quit state
 carried_out plant state Probe = probe state.query plant state
+carried_out plant state (ToTest x) = tested plant state x state.budget
 
 -- a refused line leaves the whole state
 abbrev pub answered : Plant → SessionState → Result Request Refusal → Stepped

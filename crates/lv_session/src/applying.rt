@@ -56,8 +56,10 @@ impl State {
             Query::Recovery(_) => match running {
                 Running::Recovery(run) => values_found(run),
                 Running::Diagnosis(_) => None,
+                Running::Test(_) => None,
                 Running::Nothing => None,
             },
+            Query::Test(_, _) => None,
         }
     }
 

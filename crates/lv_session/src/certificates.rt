@@ -6,7 +6,7 @@
 ghost use Rattle.std.specs.Prelude.{◌≡◌, ◌≤◌, ℕ, IfOk, length, true};
 ghost use Rattle.lv_system.specs.System.{IsSystemOf};
 ghost use Rattle.lv_cert_diagnosis.specs.lv_cert_meaning.Certifying.{CertifiesDiagnosis, CertifiesRecovery, IsSettledDiagnosis, IsSettledRecovery, AreFormed};
-ghost use Rattle.lv_session.specs.Session.{facts_of, aim_of, is_settled_by, is_settled, certificate};
+ghost use Rattle.lv_session.specs.Session.{facts_of, aim_of, is_settled_by, is_settled, is_certifiable, certificate};
 ghost use Rattle.lv_session.specs.States.{IsStateOf};
 ghost use Rattle.lv_session.specs.Current.{IsDiagnosisAt, IsRecoveryAt, IsCurrent};
 ghost use Rattle.lv_session.specs.Answering.{is_asked, is_unsettled};
@@ -53,11 +53,19 @@ impl State {
             Query::Diagnosis(_) => match running {
                 Running::Diagnosis(run) => is_settled_by(run.outcome),
                 Running::Recovery(_) => unreachable!(),
+                Running::Test(_) => unreachable!(),
                 Running::Nothing => unreachable!(),
             },
             Query::Recovery(_) => match running {
                 Running::Recovery(run) => is_settled_by(run.outcome),
                 Running::Diagnosis(_) => unreachable!(),
+                Running::Test(_) => unreachable!(),
+                Running::Nothing => unreachable!(),
+            },
+            Query::Test(_, _) => match running {
+                Running::Test(run) => is_settled_by(run.outcome),
+                Running::Diagnosis(_) => unreachable!(),
+                Running::Recovery(_) => unreachable!(),
                 Running::Nothing => unreachable!(),
             },
         }
@@ -71,12 +79,25 @@ impl State {
         !self.is_ended && is_asked(self.query) && !self.is_settled(model, running)
     }
 
+    /// Whether there are certificates of the current query, where this is kept of it.
+    fn is_certifiable(&self, model: &Model, running: &Running<'_>) -> bool
+        requires { IsCurrent model.now self.now running.now }
+        ensures { result ≡ is_certifiable self.now.query model.now self.now }
+    {
+        match self.query {
+            Query::Absent => false,
+            Query::Diagnosis(_) => self.is_settled(model, running),
+            Query::Recovery(_) => self.is_settled(model, running),
+            Query::Test(_, _) => false,
+        }
+    }
+
     /// The reply to `certificate`.
     pub(crate) fn certificate(&self, model: &Model, running: &Running<'_>) -> Reply
         requires { IsCurrent model.now self.now running.now }
         ensures { record { state = self.now; reply = result } ≡ certificate self.now.query model.now self.now }
     {
-        if self.is_settled(model, running) {
+        if self.is_certifiable(model, running) {
             Reply::Certificate
         } else {
             Reply::Refused(Refusal::NoQuery)
@@ -191,7 +212,7 @@ impl State {
         requires state { IsStateOf model.now self.now }
         requires system { IsSystemOf model.now system.now }
         requires running { IsCurrent model.now self.now running.now }
-        requires settled { is_settled self.now.query model.now self.now ≡ true }
+        requires settled { is_certifiable self.now.query model.now self.now ≡ true }
         ensures { IfOk result (λ text. Certifies self.now.query model.now self.now text.items) }
     {
         match self.query {
@@ -199,13 +220,16 @@ impl State {
             Query::Diagnosis(_) => match running {
                 Running::Diagnosis(run) => self.diagnosis_text(alloc, model, system, run),
                 Running::Recovery(_) => unreachable!(),
+                Running::Test(_) => unreachable!(),
                 Running::Nothing => unreachable!(),
             },
             Query::Recovery(_) => match running {
                 Running::Recovery(run) => self.recovery_text(alloc, model, system, run),
                 Running::Diagnosis(_) => unreachable!(),
+                Running::Test(_) => unreachable!(),
                 Running::Nothing => unreachable!(),
             },
+            Query::Test(_, _) => unreachable!(),
         }
     }
 }

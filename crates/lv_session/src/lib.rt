@@ -11,6 +11,7 @@
 //! | `goals` | the goals held, by their names |
 //! | `diagnoses` | diagnoses asked for, gone on with and taken over |
 //! | `recoveries` | recoveries asked for and gone on with |
+//! | `tests` | tests asked for and gone on with |
 //! | `applying` | the values that the current recovery gives the controls |
 //! | `probes` | what observations would leave of the current diagnosis |
 //! | `queries` | the current query gone on with, shown and taken over |
@@ -39,6 +40,7 @@ mod recoveries;
 pub mod running;
 pub mod session;
 pub mod state;
+mod tests;
 pub mod workings;
 
 pub use compiled::CompiledModel;

@@ -80,9 +80,11 @@ impl State {
                     Outcome::Unsettled => Ok(Reply::Refused(Refusal::NoQuery)),
                 },
                 Running::Recovery(_) => Ok(Reply::Refused(Refusal::NoQuery)),
+                Running::Test(_) => Ok(Reply::Refused(Refusal::NoQuery)),
                 Running::Nothing => Ok(Reply::Refused(Refusal::NoQuery)),
             },
             Query::Recovery(_) => Ok(Reply::Refused(Refusal::NoQuery)),
+            Query::Test(_, _) => Ok(Reply::Refused(Refusal::NoQuery)),
         }
     }
 }

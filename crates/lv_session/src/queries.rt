@@ -1,4 +1,4 @@
-//! The current query, be it a diagnosis or a recovery: gone on with, shown, and taken over.
+//! The current query, be it a diagnosis, a recovery or a test: gone on with, shown, and taken over.
 #![tactic(auto)]
 
 ghost use Rattle.std.specs.Prelude.{◌≡◌, ◌≤◌, IfOk, OnOk, OnErr, length};
@@ -6,13 +6,14 @@ ghost use Rattle.lv_base.specs.declared.limits.TheConstants.{TRACKED, BUDGET};
 ghost use Rattle.lv_reply.specs.declared.reply.Reply.TheVariants.{Conflicts, CommandConflicts};
 ghost use Rattle.lv_session.specs.Session.{trials, more, conflicts, commit};
 ghost use Rattle.lv_session.specs.States.{IsStateOf};
-ghost use Rattle.lv_session.specs.Current.{come_to, recovery_come_to, IsCurrent};
+ghost use Rattle.lv_session.specs.Current.{come_to, recovery_come_to, test_come_to, IsCurrent};
 
 use crate::diagnoses::trials;
 use crate::query::Query;
 use crate::recoveries::trials as recovery_trials;
-use crate::running::{Diagnosed, Recovering, Running};
+use crate::running::{Diagnosed, Recovering, Running, Testing};
 use crate::state::State;
+use crate::tests::trials as test_trials;
 use lv_base::{Conflict, Pair, Seq};
 use lv_model::Model;
 use lv_reply::{Refusal, Reply};
@@ -48,6 +49,15 @@ fn recovery_conflicts(alloc: Global, run: &Recovering<'_>) -> Result<Reply, Allo
     Ok(Reply::CommandConflicts(Seq::from_vec(kept), recovery_trials(run)))
 }
 
+/// The conflicts that a test kept, as a reply.
+fn test_conflicts(alloc: Global, run: &Testing<'_>) -> Result<Reply, AllocError>
+    requires { length run.now.query.standing.listed ≤ TRACKED }
+    ensures { IfOk result (λ reply. reply ≡ CommandConflicts (test_come_to run.now).kept (trials (test_come_to run.now))) }
+{
+    let kept = copied_conflicts(alloc, run.query.conflicts())?;
+    Ok(Reply::CommandConflicts(Seq::from_vec(kept), test_trials(run)))
+}
+
 impl State {
     /// The current query with more trials, if it isn't settled.
     pub(crate) fn more(
@@ -69,11 +79,19 @@ impl State {
             Query::Diagnosis(sum) => match running {
                 Running::Diagnosis(run) => self.more_of(alloc, model, run, sum, n),
                 Running::Recovery(_) => Ok(Reply::Refused(Refusal::NotUnsettled)),
+                Running::Test(_) => Ok(Reply::Refused(Refusal::NotUnsettled)),
                 Running::Nothing => Ok(Reply::Refused(Refusal::NotUnsettled)),
             },
             Query::Recovery(sum) => match running {
                 Running::Recovery(run) => self.more_of_recovery(alloc, model, run, sum, n),
                 Running::Diagnosis(_) => Ok(Reply::Refused(Refusal::NotUnsettled)),
+                Running::Test(_) => Ok(Reply::Refused(Refusal::NotUnsettled)),
+                Running::Nothing => Ok(Reply::Refused(Refusal::NotUnsettled)),
+            },
+            Query::Test(var, sum) => match running {
+                Running::Test(run) => self.more_of_test(alloc, model, run, var, sum, n),
+                Running::Diagnosis(_) => Ok(Reply::Refused(Refusal::NotUnsettled)),
+                Running::Recovery(_) => Ok(Reply::Refused(Refusal::NotUnsettled)),
                 Running::Nothing => Ok(Reply::Refused(Refusal::NotUnsettled)),
             },
         }
@@ -96,11 +114,19 @@ impl State {
             Query::Diagnosis(_) => match running {
                 Running::Diagnosis(run) => diagnosis_conflicts(alloc, run),
                 Running::Recovery(_) => Ok(Reply::Refused(Refusal::NoQuery)),
+                Running::Test(_) => Ok(Reply::Refused(Refusal::NoQuery)),
                 Running::Nothing => Ok(Reply::Refused(Refusal::NoQuery)),
             },
             Query::Recovery(_) => match running {
                 Running::Recovery(run) => recovery_conflicts(alloc, run),
                 Running::Diagnosis(_) => Ok(Reply::Refused(Refusal::NoQuery)),
+                Running::Test(_) => Ok(Reply::Refused(Refusal::NoQuery)),
+                Running::Nothing => Ok(Reply::Refused(Refusal::NoQuery)),
+            },
+            Query::Test(_, _) => match running {
+                Running::Test(run) => test_conflicts(alloc, run),
+                Running::Diagnosis(_) => Ok(Reply::Refused(Refusal::NoQuery)),
+                Running::Recovery(_) => Ok(Reply::Refused(Refusal::NoQuery)),
                 Running::Nothing => Ok(Reply::Refused(Refusal::NoQuery)),
             },
         }
@@ -127,9 +153,11 @@ impl State {
                     Outcome::Unsettled => Ok(Reply::Refused(Refusal::NoQuery)),
                 },
                 Running::Recovery(_) => Ok(Reply::Refused(Refusal::NoQuery)),
+                Running::Test(_) => Ok(Reply::Refused(Refusal::NoQuery)),
                 Running::Nothing => Ok(Reply::Refused(Refusal::NoQuery)),
             },
             Query::Recovery(_) => Ok(Reply::Refused(Refusal::NoQuery)),
+            Query::Test(_, _) => Ok(Reply::Refused(Refusal::NoQuery)),
         }
     }
 }

@@ -1,6 +1,8 @@
 //! What was asked last, and can be gone on with.
 #![tactic(auto)]
 
+use lv_base::VarId;
+
 /// The current query of a session. What it came to is determined by the session's state: whatever would change that
 /// takes the query away.
 #[derive(Clone, Copy, Debug, PartialEq, Eq)]
@@ -10,4 +12,6 @@ pub enum Query {
     Diagnosis(u64),
     /// A recovery, with the trials that it may make, those that were added to it included.
     Recovery(u64),
+    /// A test of an observable, with the trials that it may make, those that were added to it included.
+    Test(VarId, u64),
 }

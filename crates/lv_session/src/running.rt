@@ -2,7 +2,7 @@
 #![tactic(auto)]
 
 use lv_ident::{Query, QueryEffort};
-use lv_reconf::Query as RecoveryQuery;
+use lv_reconf::{Query as RecoveryQuery, TestQuery};
 use lv_search_walk::Outcome;
 
 /// A diagnosis that has run: its search, and what its last run came to.
@@ -19,6 +19,13 @@ pub struct Recovering<'a> {
     pub(crate) outcome: Outcome,
 }
 
+/// A test that has run: its search, and what its last run came to.
+#[derive(Drop)]
+pub struct Testing<'a> {
+    pub(crate) query: TestQuery<'a>,
+    pub(crate) outcome: Outcome,
+}
+
 /// What is kept of the current query, in a box, so that whoever holds it holds little. Where no query is current, what is
 /// kept means nothing.
 #[derive(Drop)]
@@ -26,6 +33,7 @@ pub enum Running<'a> {
     Nothing,
     Diagnosis(Box<Diagnosed<'a>>),
     Recovery(Box<Recovering<'a>>),
+    Test(Box<Testing<'a>>),
 }
 
 impl Running<'_> {
@@ -33,7 +41,7 @@ impl Running<'_> {
     pub(crate) fn effort(&self) -> Option<QueryEffort> {
         match self {
             Running::Diagnosis(run) => Some(run.query.effort()),
-            Running::Recovery(_) | Running::Nothing => None,
+            Running::Recovery(_) | Running::Test(_) | Running::Nothing => None,
         }
     }
 }

@@ -7,7 +7,7 @@ ghost use Rattle.lv_meaning.specs.Facts.{FactsFit, FactsInRange};
 ghost use Rattle.lv_meaning.specs.Ranges.{StateFits};
 ghost use Rattle.lv_session_request.specs.Goals.{IsGoalIn};
 ghost use Rattle.lv_session_request.specs.Requests.{IsRequestOf};
-ghost use Rattle.lv_session.specs.Session.{stepped, is_settled, facts_of};
+ghost use Rattle.lv_session.specs.Session.{stepped, is_certifiable, facts_of};
 ghost use Rattle.lv_session.specs.Applying.{recovery_at, applied, performed};
 ghost use Rattle.lv_session.specs.Answering.{begun, next_at, SaysAt, is_open};
 ghost use Rattle.lv_session.specs.Current.{IsSession};
@@ -257,10 +257,10 @@ impl<'a> Session<'a> {
         }
     }
 
-    /// The text of a certificate of the current query, which is settled. Once memory was wanting, nothing is known of the
+    /// The text of a certificate of the current query, which is settled and no test. Once memory was wanting, nothing is known of the
     /// query.
     fn certificate_text(&self) -> Result<Vec<u8>, AllocError>
-        requires { is_settled self.now.state.query self.now.plant self.now.state ≡ true }
+        requires { is_certifiable self.now.state.query self.now.plant self.now.state ≡ true }
         ensures { IfOk result (λ text. Certifies self.now.state.query self.now.plant self.now.state text.items) }
     {
         if self.is_out_of_memory {

@@ -145,6 +145,10 @@ impl State {
             Request::Reset => self.reset(alloc, model),
             Request::Quit => Ok(self.quit()),
             Request::Probe => self.probe(alloc, model, system, lists, running),
+            Request::Test(var) => {
+                let budget = self.budget;
+                self.test(alloc, model, system, running, var, budget)
+            }
         }
     }
 

@@ -1,6 +1,7 @@
 -- The numbers in what a line asks for are in range.
 use Rattle.std.proofs.Common.{◌≡◌, ℕ, Bool, true, false, cond, List, position, slice_get, Option, Some, None, option_map, Result, Ok, Err, refl, sym, ap, subst, ◌∙◌}
 use Rattle.std.specs.Option.{ok_or}
+use Rattle.std.specs.Result.{IfOk}
 use Rattle.std.proofs.lemmas.Bool.{eqb-true}
 use Rattle.std.proofs.lemmas.List.Quantifiers.{position-Some}
 use Rattle.std.proofs.lemmas.Option.{get_or_from_slice_get}
@@ -19,7 +20,7 @@ use Rattle.lv_model_names.proofs.ScopeLemmas.{value_fits}
 use Rattle.lv_session_request.specs.Chain.{and_then}
 use Rattle.lv_session_request.specs.declared.names.Controlled.{Controlled}
 use Rattle.lv_session_request.specs.Names.{control_among, control_of, observable_among, observable_of, value_in, variable_named}
-use Rattle.lv_session_request.specs.Requests.{IsSightingIn, IsCommandIn}
+use Rattle.lv_session_request.specs.Requests.{IsSightingIn, IsCommandIn, IsObservableOf}
 
 -- numbers in range
 
@@ -83,3 +84,10 @@ sighting_fits plant lists name part variable value x v same seen is = record {
   observable = ap (λ (l : Lists). is_observable l.classes x.0) (sym same) ∙ observable_named plant lists part variable x seen;
   value = value_named plant lists x value v same is;
 }
+
+pub tested_fits : (plant : Plant) (lists : Lists) (part name : List ℕ) (x : VarId) → lists ≡ lists_of plant → observable_of plant lists part name ≡ Ok x → IsObservableOf plant x
+tested_fits plant lists part name x same is = record { observable = ap (λ (l : Lists). is_observable l.classes x.0) (sym same) ∙ observable_named plant lists part name x is }
+
+pub tested_all : (plant : Plant) (lists : Lists) (part name : List ℕ) (r : Result VarId Refusal) → lists ≡ lists_of plant → r ≡ observable_of plant lists part name → IfOk r (IsObservableOf plant)
+tested_all plant lists part name (Ok x) same is = tested_fits plant lists part name x same (sym is)
+tested_all plant lists part name (Err refusal) same is = tt

@@ -8,7 +8,7 @@ use Rattle.lv_text.specs.Lexemes.{Lexeme, is_number, kind_at, word_at, number_at
 use Rattle.lv_reply.specs.declared.reply.Refusal.{Refusal}
 use Rattle.lv_reply.specs.declared.reply.Refusal.TheVariants.{Form, OutOfLimits}
 use Rattle.lv_session_request.specs.declared.words.Word.{Word}
-use Rattle.lv_session_request.specs.declared.words.Word.TheVariants.{Track, Budget, Command, Release, Observe, Retract, Goal, Drop, Diagnose, Recover, More, Commit, Conflicts, Certificate, Labels, States, Reset, Quit, Probe}
+use Rattle.lv_session_request.specs.declared.words.Word.TheVariants.{Track, Budget, Command, Release, Observe, Retract, Goal, Drop, Diagnose, Recover, More, Commit, Conflicts, Certificate, Labels, States, Reset, Quit, Probe, Test}
 
 -- the word that a line begins with
 abbrev pub first_word : List Lexeme → Option Word
@@ -32,7 +32,8 @@ first_word line =
     else (if says (codes "reset") line 0 then Some Reset
     else (if says (codes "quit") line 0 then Some Quit
     else (if says (codes "probe") line 0 then Some Probe
-    else None))))))))))))))))))
+    else (if says (codes "test") line 0 then Some Test
+    else None)))))))))))))))))))
 
 abbrev pub is_dot : TokenKind → Bool
 is_dot Dot = true
@@ -58,7 +59,7 @@ has_distinct_form line = nat_eq (length line) 3 && (has_kind is_number line 1 &&
 abbrev pub has_command_signs : List Lexeme → Bool
 has_command_signs line = nat_eq (length line) 6 && (has_kind is_dot line 2 && has_kind is_equals line 4)
 
--- of `release P.C`
+-- of `release P.C`, and of `test P.O`
 abbrev pub has_release_signs : List Lexeme → Bool
 has_release_signs line = nat_eq (length line) 4 && has_kind is_dot line 2
 

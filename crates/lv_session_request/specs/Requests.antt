@@ -16,12 +16,12 @@ use Rattle.lv_model_names.specs.declared.lists.Lists.{Lists}
 use Rattle.lv_model_names.specs.Lists.{lists_of}
 use Rattle.lv_model_names.specs.Names.{classes, is_observable}
 use Rattle.lv_session_request.specs.declared.words.Word.{Word}
-use Rattle.lv_session_request.specs.declared.words.Word.TheVariants.{Track, Budget, Command as CommandWord, Release, Observe, Retract, Goal as GoalWord, Drop as DropWord, Diagnose, Recover, More, Commit, Conflicts, Certificate, Labels, States, Reset, Quit, Probe}
+use Rattle.lv_session_request.specs.declared.words.Word.TheVariants.{Track, Budget, Command as CommandWord, Release, Observe, Retract, Goal as GoalWord, Drop as DropWord, Diagnose, Recover, More, Commit, Conflicts, Certificate, Labels, States, Reset, Quit, Probe, Test}
 use Rattle.lv_session_request.specs.declared.names.Controlled.{Controlled}
 use Rattle.lv_session_request.specs.declared.request.Command.{Command}
 use Rattle.lv_session_request.specs.declared.request.Sighting.{Sighting}
 use Rattle.lv_session_request.specs.declared.request.Request.{Request}
-use Rattle.lv_session_request.specs.declared.request.Request.TheVariants.{Nothing, Track as ToTrack, TrackDistinct as ToTrackDistinct, SetBudget, SetControl, Release as ToRelease, Observe as ToObserve, Retract as ToRetract, SetGoal, DropGoal, Diagnose as ToDiagnose, Recover as ToRecover, More as ToGoOn, Commit as ToCommit, Conflicts as ToShowConflicts, Certificate as ToCertify, Labels as ToLabel, LabelsFrom, States as ToShowStates, Reset as ToReset, Quit as ToQuit, Probe as ToProbe}
+use Rattle.lv_session_request.specs.declared.request.Request.TheVariants.{Nothing, Track as ToTrack, TrackDistinct as ToTrackDistinct, SetBudget, SetControl, Release as ToRelease, Observe as ToObserve, Retract as ToRetract, SetGoal, DropGoal, Diagnose as ToDiagnose, Recover as ToRecover, More as ToGoOn, Commit as ToCommit, Conflicts as ToShowConflicts, Certificate as ToCertify, Labels as ToLabel, LabelsFrom, States as ToShowStates, Reset as ToReset, Quit as ToQuit, Probe as ToProbe, Test as ToTest}
 use Rattle.lv_session_request.specs.declared.unread.Unread.{Unread}
 use Rattle.lv_session_request.specs.declared.unread.Unread.TheVariants.{Refused, Memory}
 use Rattle.lv_session_request.specs.Chain.{and_then}
@@ -69,6 +69,13 @@ release_of plant lists line =
     then and_then (word line 1) (λ part. and_then (word line 3) (λ name. and_then (control_of plant lists part name) (λ (c : Controlled). Ok c.place)))
     else Err Form
 
+-- `test P.O`: the observable
+unfoldable pub tested_of : Plant → Lists → List Lexeme → Result VarId Refusal
+tested_of plant lists line =
+    if has_release_signs line
+    then and_then (word line 1) (λ part. and_then (word line 3) (λ name. observable_of plant lists part name))
+    else Err Form
+
 -- an observable, by its names, seen to have a value of its domain, under a name
 abbrev pub seen_as : Plant → Lists → List ℕ → List ℕ → List ℕ → List ℕ → Result Sighting Refusal
 seen_as plant lists name part variable value =
@@ -112,6 +119,7 @@ request_by plant lists States line = alone ToShowStates line
 request_by plant lists Reset line = alone ToReset line
 request_by plant lists Quit line = alone ToQuit line
 request_by plant lists Probe line = alone ToProbe line
+request_by plant lists Test line = and_then (tested_of plant lists line) (λ x. Ok (ToTest x))
 
 abbrev pub asked_by_first : Plant → Lists → List Lexeme → Option Word → Result Request Refusal
 asked_by_first plant lists line None = Err UnknownWord
@@ -144,6 +152,10 @@ pub record IsSightingIn (plant : Plant) (s : Sighting) : Type 0 where
 pub record IsCommandIn (plant : Plant) (c : Command) : Type 0 where
   pub value : (x : VarId) → slice_get (controls plant) c.place ≡ Some x → has_value (plant_ranges plant) x.0 c.value.0 ≡ true
 
+-- a variable that is an observable
+pub record IsObservableOf (plant : Plant) (x : VarId) : Type 0 where
+  pub observable : is_observable (classes plant) x.0 ≡ true
+
 -- the numbers in a request are in range
 abbrev pub IsRequestOf : Plant → Request → Type 0
 IsRequestOf plant (ToTrack n) = IsUpTo TRACKED n
@@ -152,4 +164,5 @@ IsRequestOf plant (ToGoOn n) = n ≤ BUDGET
 IsRequestOf plant (SetControl c) = IsCommandIn plant c
 IsRequestOf plant (ToObserve s) = IsSightingIn plant s
 IsRequestOf plant (SetGoal g) = IsGoalIn plant g
+IsRequestOf plant (ToTest x) = IsObservableOf plant x
 IsRequestOf plant request = Unit {0}

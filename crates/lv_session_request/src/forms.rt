@@ -36,7 +36,7 @@ pub fn has_command_signs(line: &TokenLine<'_>) -> bool
     line.len() == 6 && is_dot_at(line, 2) && is_equals_at(line, 4)
 }
 
-/// The same of `release P.C`.
+/// The same of `release P.C`, and of `test P.O`.
 pub fn has_release_signs(line: &TokenLine<'_>) -> bool
     ensures { result ≡ has_release_signs line.now }
 {

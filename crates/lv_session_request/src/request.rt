@@ -11,7 +11,7 @@ ghost use Rattle.lv_model_names.specs.declared.lists.Lists.{Lists as ListsOf};
 ghost use Rattle.lv_model_names.specs.Lists.{lists_of};
 ghost use Rattle.lv_formula_text.specs.Nesting.{is_too_deep};
 ghost use Rattle.lv_session_request.specs.Goals.{AreRead};
-ghost use Rattle.lv_session_request.specs.Requests.{alone, track_of, budget_of, more_of, command_to, command_of, release_of, seen_as, sighting_of, retracted_of, labels_of, request_by, asked, asked_by, request_of, Explains, IsSightingIn, IsCommandIn, IsRequestOf};
+ghost use Rattle.lv_session_request.specs.Requests.{alone, track_of, budget_of, more_of, command_to, command_of, release_of, seen_as, tested_of, sighting_of, retracted_of, labels_of, request_by, asked, asked_by, request_of, Explains, IsSightingIn, IsCommandIn, IsObservableOf, IsRequestOf};
 
 use crate::forms::{
     has_command_signs, has_distinct_form, has_observe_signs, has_release_signs, limited, name_at,
@@ -83,6 +83,8 @@ pub enum Request {
     Quit,
     /// What one observation more would leave of the current diagnosis.
     Probe,
+    /// A command set after which this observable tells the tracked states apart.
+    Test(VarId),
 }
 
 /// The request of a word that stands alone.
@@ -170,6 +172,21 @@ fn release_of(plant: &PlantLists, lists: &Lists, line: &TokenLine<'_>) -> Result
     let part = line.word(1).ok_or(Refusal::Form)?;
     let name = line.word(3).ok_or(Refusal::Form)?;
     Ok(control_of(plant, lists, part, name)?.place)
+}
+
+/// `test P.O`: the observable.
+#[tactic(auto, unfolding(crate::specs::Requests::tested_of))]
+fn tested_of(plant: &PlantLists, lists: &Lists, line: &TokenLine<'_>) -> Result<VarId, Refusal>
+    requires { lists.now ≡ lists_of plant.now }
+    ensures var { result ≡ tested_of plant.now lists.now line.now }
+    ensures within { IfOk result (IsObservableOf plant.now) }
+{
+    if !has_release_signs(line) {
+        return Err(Refusal::Form);
+    }
+    let part = line.word(1).ok_or(Refusal::Form)?;
+    let name = line.word(3).ok_or(Refusal::Form)?;
+    observable_of(plant, lists, part, name)
 }
 
 /// An observable, by its names, seen to have a value of its domain, under a name.
@@ -280,6 +297,7 @@ fn request_by(
         Word::Reset => Ok(alone(Request::Reset, line)?),
         Word::Quit => Ok(alone(Request::Quit, line)?),
         Word::Probe => Ok(alone(Request::Probe, line)?),
+        Word::Test => Ok(Request::Test(tested_of(plant, lists, line)?)),
     }
 }
 

@@ -28,6 +28,7 @@ pub enum Word {
     Reset,
     Quit,
     Probe,
+    Test,
 }
 
 /// The word that a line begins with, if it is one of a session.
@@ -72,6 +73,8 @@ pub fn first_word(line: &TokenLine<'_>) -> Option<Word>
         Some(Word::Quit)
     } else if line.says(0, b"probe") {
         Some(Word::Probe)
+    } else if line.says(0, b"test") {
+        Some(Word::Test)
     } else {
         None
     }

@@ -3,7 +3,7 @@ use Rattle.std.proofs.Common.{◌≡◌, true, sym, ap, subst, ◌∙◌}
 use Rattle.lv_session.specs.declared.query.Query.{Query}
 use Rattle.lv_session.specs.declared.running.Diagnosed.{Diagnosed}
 use Rattle.lv_session.specs.declared.running.Recovering.{Recovering}
-use Rattle.lv_session.specs.Session.{SessionState, is_settled}
+use Rattle.lv_session.specs.Session.{SessionState, is_certifiable}
 use Rattle.lv_session.specs.Current.{IsDiagnosisAt, IsRecoveryAt}
 use Rattle.lv_session.proofs.Asking.{kept_is}
 use Rattle.lv_session.proofs.Recovering.{kept_recovery}
@@ -16,7 +16,7 @@ diagnosis_text-requires-clause-settled c =
     let at = subst (λ (d : Diagnosed). IsDiagnosisAt c.args.model.now c.args.self.now c.in-Diagnosis.field-0 d) (sym c.deref.ensures)
     (kept_is c.args.self.now.query c.args.model.now c.args.self.now c.args.running.now c.in-Diagnosis.field-0 c.in-Diagnosis-running.run' query c.in-Diagnosis-running.is c.requires.running) in
     settled_diagnosis c.args.model.now c.args.self.now c.in-Diagnosis.field-0 c.deref.result.now at
-    (subst (λ (q : Query). is_settled q c.args.model.now c.args.self.now ≡ true) query c.requires.settled)
+    (subst (λ (q : Query). is_certifiable q c.args.model.now c.args.self.now ≡ true) query c.requires.settled)
 
 pub recovery_text-requires-clause-settled : goal.recovery_text-requires-clause-settled
 recovery_text-requires-clause-settled c =
@@ -24,4 +24,4 @@ recovery_text-requires-clause-settled c =
     let at = subst (λ (r : Recovering). IsRecoveryAt c.args.model.now c.args.self.now c.in-Recovery.field-0 r) (sym c.deref-in-Recovery-running-2.ensures)
     (kept_recovery c.args.self.now.query c.args.model.now c.args.self.now c.args.running.now c.in-Recovery.field-0 c.in-Recovery-running-2.run' query c.in-Recovery-running-2.is c.requires.running) in
     settled_recovery c.args.model.now c.args.self.now c.in-Recovery.field-0 c.deref-in-Recovery-running-2.result.now at
-    (subst (λ (q : Query). is_settled q c.args.model.now c.args.self.now ≡ true) query c.requires.settled)
+    (subst (λ (q : Query). is_certifiable q c.args.model.now c.args.self.now ≡ true) query c.requires.settled)

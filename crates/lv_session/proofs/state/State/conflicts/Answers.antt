@@ -4,10 +4,12 @@ use Rattle.lv_model.specs.declared.plant.Plant.{Plant}
 use Rattle.lv_model.specs.WellFormed.{is_well_formed}
 use Rattle.lv_session.specs.declared.running.Diagnosed.{Diagnosed}
 use Rattle.lv_session.specs.declared.running.Recovering.{Recovering}
+use Rattle.lv_session.specs.declared.running.Testing.{Testing}
 use Rattle.lv_session.specs.Session.{SessionState}
-use Rattle.lv_session.specs.Current.{IsDiagnosisAt, IsRecoveryAt}
+use Rattle.lv_session.specs.Current.{IsDiagnosisAt, IsRecoveryAt, IsTestAt}
 use Rattle.lv_session.proofs.Asking.{listed_at, kept_is}
 use Rattle.lv_session.proofs.Recovering.{few_at, kept_recovery}
+use Rattle.lv_session.proofs.TestsAsked.{few_at_test, kept_test}
 use Rattle.lv_session.proofs.state.State.conflicts.Goals as goal
 
 pub diagnosis_conflicts-requires : goal.diagnosis_conflicts-requires
@@ -25,3 +27,11 @@ recovery_conflicts-requires c =
     let at = subst (λ (r : Recovering). IsRecoveryAt c.args.model.now c.args.self.now c.in-Recovery.field-0 r) (sym c.deref-in-Recovery-running-2.ensures)
     (kept_recovery c.args.self.now.query c.args.model.now c.args.self.now c.args.running.now c.in-Recovery.field-0 c.in-Recovery-running-2.run' query c.in-Recovery-running-2.is c.requires.running) in
     few_at c.args.model.now c.args.self.now c.in-Recovery.field-0 c.deref-in-Recovery-running-2.result.now at
+
+-- and what a test lists
+pub test_conflicts-requires : goal.test_conflicts-requires
+test_conflicts-requires c =
+    let query = ap (λ (s : SessionState). s.query) (sym c.self.view_is) ∙ c.in-Test.is in
+    let at = subst (λ (r : Testing). IsTestAt c.args.model.now c.args.self.now c.in-Test.field-0 c.in-Test.field-1 r) (sym c.deref-in-Test-running-3.ensures)
+    (kept_test c.args.self.now.query c.args.model.now c.args.self.now c.args.running.now c.in-Test.field-0 c.in-Test.field-1 c.in-Test-running-3.run' query c.in-Test-running-3.is c.requires.running) in
+    few_at_test c.args.model.now c.args.self.now c.in-Test.field-0 c.in-Test.field-1 c.deref-in-Test-running-3.result.now at

@@ -1,0 +1,6 @@
+-- what is found is an observable
+use Rattle.lv_session_request.proofs.RequestLaws.{tested_all}
+use Rattle.lv_session_request.proofs.request.tested_of.Goals as goal
+
+pub returns-clause-within : goal.returns-clause-within
+returns-clause-within c = tested_all c.args.plant.now c.args.lists.now _ _ c.observable_of.result c.requires c.observable_of.ensures
