@@ -17,7 +17,7 @@ use Rattle.lv_meaning.specs.Recovery.{candidate_recovers, candidate_reason}
 use Rattle.lv_meaning.specs.RecoveryLaws.{IsCommandSet}
 use Rattle.lv_meaning.proofs.CommandSets.{listed_is_set}
 use Rattle.lv_session.specs.declared.query.Query.{Query}
-use Rattle.lv_session.specs.declared.query.Query.TheVariants.{Absent, Diagnosis, Recovery}
+use Rattle.lv_session.specs.declared.query.Query.TheVariants.{Absent, Diagnosis, Recovery, Test}
 use Rattle.lv_session.specs.declared.workings.Workings.{Workings}
 use Rattle.lv_session.specs.Session.{SessionState, RunningSession, aim_of, recovery}
 use Rattle.lv_session.specs.Applying.{values_by, recovery_values, applied, recovery_at}
@@ -65,6 +65,7 @@ module _ (plant : Plant) (state : SessionState) where
   recovers_all Absent u e = absurd (cc e)
   recovers_all (Diagnosis sum) u e = absurd (cc e)
   recovers_all (Recovery sum) u e = found_set (recovery plant state sum).outcome (recovery plant state sum).listed u (sets_listed sum) e
+  recovers_all (Test x sum) u e = absurd (cc e)
 
   applied_kept : (u : List ℕ) → IsStateOf plant state → is_command_set plant u ≡ true → IsStateOf plant (applied state u)
   applied_kept u is set =

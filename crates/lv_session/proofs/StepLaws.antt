@@ -323,5 +323,10 @@ module _ (plant : Plant) (state : SessionState) where
   sum_recovered sum n q is unsettled =
       ap (λ (x : Query). (more x plant state n).reply) is ∙ ap (λ (x : Outcome). (more_recovery_by x plant state (sum + n)).reply) unsettled
 
+  pub sum_tested : (x : VarId) (sum n : ℕ) (q : Query) → q ≡ Test x sum → (testing plant state x sum).outcome ≡ Unsettled
+      → (more q plant state n).reply ≡ test_reply (testing plant state x (sum + n))
+  sum_tested x sum n q is unsettled =
+      ap (λ (asked : Query). (more asked plant state n).reply) is ∙ ap (λ (o : Outcome). (more_test_by o plant state x (sum + n)).reply) unsettled
+
   pub ended_stays : (line : List ℕ) → state.is_ended ≡ true → stepped plant state line ≡ unchanged state Silence
   ended_stays line e = ap (λ b. cond b (unchanged state Silence) (answered plant state (request_of plant line))) e
