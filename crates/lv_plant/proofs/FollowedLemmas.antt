@@ -16,7 +16,7 @@ use Rattle.lv_reply.specs.declared.reply.Reply.TheVariants.{Settled as SettledRe
 use Rattle.lv_session_request.specs.declared.goals.Goal.{Goal}
 use Rattle.lv_session_request.specs.Held.{observation_of}
 use Rattle.lv_session.specs.declared.query.Query.{Query}
-use Rattle.lv_session.specs.declared.query.Query.TheVariants.{Absent, Diagnosis, Recovery}
+use Rattle.lv_session.specs.declared.query.Query.TheVariants.{Absent, Diagnosis, Recovery, Test}
 use Rattle.lv_session.specs.Session.{SessionState, RunningSession, aim_of, formula_of, recovery, reply_by, diagnosis_reply, stepped}
 use Rattle.lv_session.specs.Applying.{first_values, values_by, recovery_values, recovery_at, applied}
 use Rattle.lv_plant_step.specs.declared.asked.PlantStep.{PlantStep}
@@ -230,6 +230,7 @@ found_by : (s : RunningSession) (u : List ℕ) (q : Query) → s.state.query ≡
 unfolding recovery
 found_by s u Absent e h = absurd (cc h)
 found_by s u (Diagnosis sum) e h = absurd (cc h)
+found_by s u (Test x sum) e h = absurd (cc h)
 found_by s u (Recovery sum) e h =
     let two = values_settled (recovery s.plant s.state sum).outcome (recovery s.plant s.state sum).listed u h in
     let one = first_found (recovery s.plant s.state sum).listed u two.1 in

@@ -27,7 +27,7 @@ use Rattle.lv_reply.specs.declared.reply.Reply.TheVariants.{Refused as RefusedRe
 use Rattle.lv_session_request.specs.declared.request.Sighting.{Sighting}
 use Rattle.lv_session_request.specs.Held.{observation_of}
 use Rattle.lv_session.specs.declared.query.Query.{Query}
-use Rattle.lv_session.specs.declared.query.Query.TheVariants.{Absent, Diagnosis, Recovery}
+use Rattle.lv_session.specs.declared.query.Query.TheVariants.{Absent, Diagnosis, Recovery, Test}
 use Rattle.lv_session.specs.Session.{SessionState, unchanged as session_unchanged, facts_of, walked, reply_by, diagnosis_reply, taken_over, advanced_to, commit_by, commit}
 use Rattle.lv_plant_step.specs.declared.asked.PlantStep.{PlantStep}
 use Rattle.lv_plant_step.specs.Laws.{IsPlantStep}
@@ -96,6 +96,7 @@ commit_keeps (Diagnosis sum) plant state = by (walked plant state sum).outcome
     by Settled = taking_keeps plant state (walked plant state sum).listed
     by Unsettled = refl
 commit_keeps (Recovery sum) plant state = refl
+commit_keeps (Test x sum) plant state = refl
 
 same_walk : (plant : Plant) (state : SessionState) (q : Query) (sum : ℕ) → walked plant (record state { query = q }) sum ≡ walked plant state sum
 unfolding walked

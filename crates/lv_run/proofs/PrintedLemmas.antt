@@ -13,7 +13,7 @@ use Rattle.lv_certcheck.specs.lv_cert_meaning.Laws.{IsValid}
 use Rattle.lv_certcheck.specs.Verdicts.{verdict_of, IsVerdictOn, of_lines}
 use Rattle.lv_certcheck.specs.declared.check.Verdict.TheVariants.{Valid}
 use Rattle.lv_session.specs.declared.query.Query.{Query}
-use Rattle.lv_session.specs.declared.query.Query.TheVariants.{Absent, Diagnosis, Recovery}
+use Rattle.lv_session.specs.declared.query.Query.TheVariants.{Absent, Diagnosis, Recovery, Test}
 use Rattle.lv_session.specs.Session.{SessionState}
 use Rattle.lv_session.specs.Certificates.{Certifies, IsTextOf}
 use Rattle.lv_session.specs.Transcript.{IsTranscriptFrom, ends, goes_on, AddsTranscript}
@@ -28,6 +28,7 @@ valid_text plant lines j text valid formed is = of_lines lines (record { text = 
 certificate_valid : (plant : Plant) (state : SessionState) (q : Query) (text : List ℕ) → is_word plant.name ≡ true → Certifies q plant state text → IsVerdictOn plant text Valid
 certificate_valid plant state Absent text name is = absurd is
 certificate_valid plant state (Diagnosis sum) text name is = valid_text plant is.lines is.certifies.judged text is.certifies.valid (is.formed name) is.is
+certificate_valid plant state (Test x sum) text name is = absurd is
 certificate_valid plant state (Recovery sum) text name is = valid_text plant is.lines is.certifies.judged text is.certifies.valid (is.formed name) is.is
 
 pub printed_valid : PrintedCertificateIsValid

@@ -25,7 +25,7 @@ use Rattle.lv_session.specs.lv_reply.Labels.{moment_word, label_line, labels_tex
 use Rattle.lv_session.specs.lv_reply.States.{part_texts, state_lines, committed_text, states_text}
 use Rattle.lv_session.specs.lv_reply.Texts.{code_of, reply_text}
 use Rattle.lv_session.specs.declared.query.Query.{Query}
-use Rattle.lv_session.specs.declared.query.Query.TheVariants.{Absent, Diagnosis, Recovery}
+use Rattle.lv_session.specs.declared.query.Query.TheVariants.{Absent, Diagnosis, Recovery, Test}
 use Rattle.lv_session.specs.Session.{SessionState, stepped}
 use Rattle.lv_session.specs.Certificates.{Certifies, IsTextOf}
 use Rattle.lv_run.specs.OfLanes.{RepliesAreWhole}
@@ -144,6 +144,7 @@ other_whole plant reply text is = ap is_whole is ∙ reply_whole plant reply
 certified_whole : (query : Query) (plant : Plant) (state : SessionState) (text : List ℕ) → Certifies query plant state text → is_whole text ≡ true
 certified_whole Absent plant state text is = absurd is
 certified_whole (Diagnosis sum) plant state text is = ap is_whole is.is ∙ certificate_whole is.lines
+certified_whole (Test x sum) plant state text is = absurd is
 certified_whole (Recovery sum) plant state text is = ap is_whole is.is ∙ certificate_whole is.lines
 
 text_whole : (plant : Plant) (state : SessionState) (reply : Reply) (text : List ℕ) → IsTextOf plant state reply text → is_whole text ≡ true

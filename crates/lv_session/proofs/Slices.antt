@@ -2,12 +2,13 @@
 use Rattle.std.proofs.Common.{◌≡◌, ℕ, ◌+◌, List, [], ◌∷◌, refl, ◌∙◌, ap, arith}
 use Rattle.std.specs.List.{sum}
 use Rattle.std.proofs.lemmas.List.Sums.{sum_by-cons}
+use Rattle.lv_base.specs.declared.ids.VarId.{VarId}
 use Rattle.lv_model.specs.declared.plant.Plant.{Plant}
 use Rattle.lv_search_walk.specs.declared.outcome.Outcome.{Outcome}
 use Rattle.lv_search_walk.specs.declared.outcome.Outcome.TheVariants.{Unsettled}
 use Rattle.lv_session.specs.declared.query.Query.{Query}
-use Rattle.lv_session.specs.declared.query.Query.TheVariants.{Diagnosis, Recovery}
-use Rattle.lv_session.specs.Session.{SessionState, walked, recovery, more, more_by, more_recovery_by}
+use Rattle.lv_session.specs.declared.query.Query.TheVariants.{Diagnosis, Recovery, Test}
+use Rattle.lv_session.specs.Session.{SessionState, walked, recovery, testing, more, more_by, more_recovery_by, more_test_by}
 use Rattle.lv_session.specs.Laws.{gone_on, GoesOn}
 
 -- which query is current plays no part in what one comes to
@@ -18,6 +19,10 @@ other_walk plant state q trials = refl
 other_recovery : (plant : Plant) (state : SessionState) (q : Query) (trials : ℕ) → recovery plant (record state { query = q }) trials ≡ recovery plant state trials
 unfolding recovery
 other_recovery plant state q trials = refl
+
+other_test : (plant : Plant) (state : SessionState) (q : Query) (x : VarId) (trials : ℕ) → testing plant (record state { query = q }) x trials ≡ testing plant state x trials
+unfolding testing
+other_test plant state q x trials = refl
 
 sum_more : (first n : ℕ) (ns : List ℕ) → first + n + sum ns ≡ first + sum (n ∷ ns)
 sum_more first n ns = let more = sum_by-cons (λ (k : ℕ). k) n ns in omega (arith, more)
@@ -49,6 +54,19 @@ module _ (plant : Plant) (state : SessionState) where
       ap (λ (s : SessionState). gone_on plant s ns) (one_recovery first n on.0) ∙ recoveries (first + n) ns on.1
       ∙ ap (λ (t : ℕ). record state { query = Recovery t }) (sum_more first n ns)
 
+  one_test : (x : VarId) (first n : ℕ) → (testing plant state x first).outcome ≡ Unsettled
+      → (more (Test x first) plant (record state { query = Test x first }) n).state ≡ record state { query = Test x (first + n) }
+  one_test x first n unsettled =
+      ap (λ (o : Outcome). (more_test_by o plant (record state { query = Test x first }) x (first + n)).state)
+      (ap (λ w. w.outcome) (other_test plant state (Test x first) x first) ∙ unsettled)
+
+  tests : (x : VarId) (first : ℕ) (ns : List ℕ) → GoesOn (λ trials. (testing plant state x trials).outcome) first ns
+      → gone_on plant (record state { query = Test x first }) ns ≡ record state { query = Test x (first + sum ns) }
+  tests x first [] on = let none : first ≡ first + sum [] = omega arith in ap (λ (t : ℕ). record state { query = Test x t }) none
+  tests x first (n ∷ ns) on =
+      ap (λ (s : SessionState). gone_on plant s ns) (one_test x first n on.0) ∙ tests x (first + n) ns on.1
+      ∙ ap (λ (t : ℕ). record state { query = Test x t }) (sum_more first n ns)
+
   pub diagnosis_slices : (first : ℕ) (ns : List ℕ) → state.query ≡ Diagnosis first → GoesOn (λ trials. (walked plant state trials).outcome) first ns
       → gone_on plant state ns ≡ record state { query = Diagnosis (first + sum ns) }
   diagnosis_slices first ns is on = ap (λ (q : Query). gone_on plant (record state { query = q }) ns) is ∙ slices first ns on
@@ -56,3 +74,7 @@ module _ (plant : Plant) (state : SessionState) where
   pub recovery_slices : (first : ℕ) (ns : List ℕ) → state.query ≡ Recovery first → GoesOn (λ trials. (recovery plant state trials).outcome) first ns
       → gone_on plant state ns ≡ record state { query = Recovery (first + sum ns) }
   recovery_slices first ns is on = ap (λ (q : Query). gone_on plant (record state { query = q }) ns) is ∙ recoveries first ns on
+
+  pub test_slices : (x : VarId) (first : ℕ) (ns : List ℕ) → state.query ≡ Test x first → GoesOn (λ trials. (testing plant state x trials).outcome) first ns
+      → gone_on plant state ns ≡ record state { query = Test x (first + sum ns) }
+  test_slices x first ns is on = ap (λ (q : Query). gone_on plant (record state { query = q }) ns) is ∙ tests x first ns on

@@ -109,6 +109,8 @@ pub record SlicesAreTheSum : Type 0 where
       → GoesOn (λ trials. (walked plant state trials).outcome) first ns → gone_on plant state ns ≡ record state { query = Diagnosis (first + sum ns) }
   pub of_recovery : (plant : Plant) (state : SessionState) (first : ℕ) (ns : List ℕ) → state.query ≡ Recovery first
       → GoesOn (λ trials. (recovery plant state trials).outcome) first ns → gone_on plant state ns ≡ record state { query = Recovery (first + sum ns) }
+  pub of_test : (plant : Plant) (state : SessionState) (x : VarId) (first : ℕ) (ns : List ℕ) → state.query ≡ Test x first
+      → GoesOn (λ trials. (testing plant state x trials).outcome) first ns → gone_on plant state ns ≡ record state { query = Test x (first + sum ns) }
 
 -- the start is a state of the plant, and what any line leads to from one is one: modes and values are there, no state costs more than
 -- its steps can, and all is within its limits
