@@ -41,6 +41,7 @@ from .replies import (
     Silence,
     State,
     States,
+    Test,
 )
 from .session import Model, Session
 from .transport import PipeTransport, Transport
@@ -49,5 +50,5 @@ __all__ = [
     "Accepted", "BadReply", "Candidate", "Certificate", "Committed", "Conflicts", "Diagnosis", "Label", "Labels",
     "LibraryNotFound", "LibraryTransport", "LivingstoneError", "Model", "ModelRefused", "Move", "PipeTransport", "Probe", "ProgramFailed", "ProgramNotFound",
     "Recovery", "Refusal", "Refused", "Reply", "ReplyCut", "Session", "SessionEnded", "Setting", "Silence", "State",
-    "States", "Transport",
+    "States", "Test", "Transport",
 ]

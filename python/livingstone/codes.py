@@ -30,7 +30,7 @@ _CODES: Dict[str, Tuple[str, str]] = {
             "variables"),
     "M15": ("the text has no part", "declare one: part NAME TYPE MODE"),
     "S01": ("the first word is none of a session's", "words: track budget command release observe retract goal drop "
-            "diagnose recover more conflicts certificate commit labels states reset quit probe"),
+            "diagnose recover more conflicts certificate commit labels states reset quit probe test"),
     "S02": ("the line has not the form of its word", "as in: command P.C = V, observe NAME P.O = V, goal NAME FORMULA"),
     "S03": ("there is no such part, or it has no such variable", ""),
     "S04": ("the variable is no control", "only controls are commanded and released"),

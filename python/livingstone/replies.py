@@ -122,6 +122,11 @@ class Recovery(Reply):
 
 
 @dataclass(frozen=True)
+class Test(Recovery):
+    """The same of settings that test an observable. The text of one that isn't settled is that of a recovery."""
+
+
+@dataclass(frozen=True)
 class Conflicts(Reply):
     """What rules candidates out: for a diagnosis moves, for a recovery settings. An empty one rules out everything."""
 
@@ -208,6 +213,8 @@ def _parse(word: str, text: str, first: str, rest: List[str]) -> Reply:
         return Refusal(text, head[1], explain(head[1]))
     if head[0] == "settled" or (head[0] == "unsettled" and len(head) == 4):
         return _diagnosis(text, head, rest)
+    if first == "no test" or head[0] == "test":
+        return _test(text, first)
     if head[0] in ("recovery", "no", "unsettled") and not rest:
         return _recovery(text, first)
     if head[0] == "conflicts":
@@ -287,6 +294,13 @@ def _recovery(text: str, first: str) -> Recovery:
         return Recovery(text, False, trials=int(unsettled.group(1)))
     found = _matched(r"recovery cost (\d+): (.+)", first)
     return Recovery(text, True, int(found.group(1)), tuple(_setting(item) for item in _items(found.group(2))))
+
+
+def _test(text: str, first: str) -> Test:
+    if first == "no test":
+        return Test(text, True)
+    found = _matched(r"test cost (\d+): (.+)", first)
+    return Test(text, True, int(found.group(1)), tuple(_setting(item) for item in _items(found.group(2))))
 
 
 def _probe(text: str, listed: int, rest: List[str]) -> Probe:

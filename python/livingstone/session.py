@@ -227,6 +227,10 @@ class Session:
     def probe(self) -> Probe:
         return self._expect("probe", Probe)
 
+    def test(self, observable: str) -> Recovery:
+        """Commands whose outcome at the observable tells the tracked states apart, as a Test where it is settled."""
+        return self._expect(f"test {observable}", Recovery)
+
     def certificate(self) -> Certificate:
         return self._expect("certificate", Certificate)
 

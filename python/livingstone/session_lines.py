@@ -32,6 +32,7 @@ FORMS: Dict[str, Tuple[str, ...]] = {
     "reset": (),
     "quit": (),
     "probe": (),
+    "test": _PATH,
 }
 
 

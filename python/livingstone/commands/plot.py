@@ -15,7 +15,7 @@ from typing import Any, Dict, Iterator, List, Optional
 from ..history import Held
 from ..pictures import Box, Scene, draw
 from ..plant import Plant
-from ..replies import Candidate, Committed, Conflicts, Diagnosis, Move, Recovery, Reply, State
+from ..replies import Candidate, Committed, Conflicts, Diagnosis, Move, Recovery, Reply, State, Test
 from ..session import Model, Session
 from ..text import cut_session, first_word
 
@@ -149,9 +149,10 @@ def _colour_moves(plant: Plant, boxes: Dict[str, Box], shown: Candidate) -> None
 
 def _title(answer: Optional[Reply], shown: Optional[Candidate], wanted: int) -> str:
     if isinstance(answer, Recovery):
+        what = "test" if isinstance(answer, Test) else "recovery"
         if answer.settings is None:
-            return "no recovery" if answer.settled else "no recovery yet"
-        return f"a recovery of cost {answer.cost}"
+            return f"no {what}" if answer.settled else f"no {what} yet"
+        return f"a {what} of cost {answer.cost}"
     if isinstance(answer, Diagnosis):
         if shown is None:
             return f"the diagnosis lists {len(answer.candidates)}" + ("" if answer.settled else " so far")
