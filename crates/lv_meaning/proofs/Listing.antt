@@ -118,7 +118,7 @@ pub record GoesOn (types : List ComponentType) (place : ℕ) (ps : List Part) (v
   pub choices_are : r.choices ≡ choices ++ more
 
 module _ (types : List ComponentType) (place : ℕ) where
-  goes_on : (ps : List Part) (vs : List ValId) (cost : ℕ) (choices : List ℕ) (r : Rank) → Among r (ranks_from types place ps vs cost choices) → GoesOn types place ps vs cost choices r
+  pub goes_on : (ps : List Part) (vs : List ValId) (cost : ℕ) (choices : List ℕ) (r : Rank) → Among r (ranks_from types place ps vs cost choices) → GoesOn types place ps vs cost choices r
   goes_on [] vs cost choices r (inl e) =
       record {
         more = [];
@@ -148,7 +148,7 @@ module _ (types : List ComponentType) (place : ℕ) where
         choices_are = rest.choices_are ∙ append_assoc choices (n ∷ []) rest.more;
       }
 
-  leads_there : (ps : List Part) (vs : List ValId) (cost : ℕ) (choices more : List ℕ) (r : Rank) → are_moves types ps vs more ≡ true
+  pub leads_there : (ps : List Part) (vs : List ValId) (cost : ℕ) (choices more : List ℕ) (r : Rank) → are_moves types ps vs more ≡ true
       → r.cost.0 ≡ cost + moves_cost types ps more → r.source ≡ place → r.choices ≡ choices ++ more → Among r (ranks_from types place ps vs cost choices)
   leads_there [] vs cost choices [] r moves total source are =
       inl (same_rank r (record { cost = record { 0 = cost }; source = place; choices = choices }) (total ∙ omega arith) source (are ∙ append-nil choices))

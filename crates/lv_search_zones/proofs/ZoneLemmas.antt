@@ -49,7 +49,7 @@ left_goes ms mode c =
     (λ goes. let below : c < length ms = goes_below ms mode c goes in lt-ltb c (length (costs_of ms)) (omega (arith, below, same)))
 
 -- the choices left are the moves that go from the modes
-left_are_moves : (types : List ComponentType) (ps : List Part) (vs : List ValId) (cs : List ℕ) → are_left (map (part_costs types) ps) (masks_of types ps vs) cs ≡ are_moves types ps vs cs
+pub left_are_moves : (types : List ComponentType) (ps : List Part) (vs : List ValId) (cs : List ℕ) → are_left (map (part_costs types) ps) (masks_of types ps vs) cs ≡ are_moves types ps vs cs
 left_are_moves types [] vs [] = refl
 left_are_moves types [] vs (c ∷ cs) = refl
 left_are_moves types (p ∷ ps) [] cs = refl
@@ -61,7 +61,7 @@ cost_of_move [] c = refl
 cost_of_move (m ∷ ms) zero = refl
 cost_of_move (m ∷ ms) (suc c) = cost_of_move ms c
 
-cost_of_moves : (types : List ComponentType) (ps : List Part) (cs : List ℕ) → choices_cost (map (part_costs types) ps) cs ≡ moves_cost types ps cs
+pub cost_of_moves : (types : List ComponentType) (ps : List Part) (cs : List ℕ) → choices_cost (map (part_costs types) ps) cs ≡ moves_cost types ps cs
 cost_of_moves types [] cs = refl
 cost_of_moves types (p ∷ ps) [] = refl
 cost_of_moves types (p ∷ ps) (c ∷ cs) = ap₂ (λ (a b : ℕ). a + b) (cost_of_move (type_moves types p) c) (cost_of_moves types ps cs)
@@ -157,11 +157,11 @@ module _ (plant : Plant) (tracked : List TrackedState) where
       (candidates_rise_law plant tracked) is_among_both
 
 -- a choice that is left for each part is a full choice
-moves_counted : (o : Option ComponentType) → length (costs_of (option_map_or (λ (t : ComponentType). t.moves) o [])) ≡ option_map_or (λ (t : ComponentType). length t.moves) o 0
+pub moves_counted : (o : Option ComponentType) → length (costs_of (option_map_or (λ (t : ComponentType). t.moves) o [])) ≡ option_map_or (λ (t : ComponentType). length t.moves) o 0
 moves_counted None = refl
 moves_counted (Some t) = length-map t.moves (λ (m : Move). m.cost)
 
-left_below : (types : List ComponentType) (ps : List Part) (masks cs : List ℕ) → are_left (map (part_costs types) ps) masks cs ≡ true → pointwise nat_lt cs (map (part_moves types) ps) ≡ true
+pub left_below : (types : List ComponentType) (ps : List Part) (masks cs : List ℕ) → are_left (map (part_costs types) ps) masks cs ≡ true → pointwise nat_lt cs (map (part_moves types) ps) ≡ true
 left_below types [] [] [] h = refl
 left_below types [] [] (c ∷ cs) h = absurd (cc h)
 left_below types [] (mask ∷ masks) [] h = absurd (cc h)
