@@ -13,12 +13,14 @@ use Rattle.lv_meaning.specs.Recovers.{meets_goals, recovers}
 use Rattle.lv_meaning.proofs.Among.{Among, contained}
 use Rattle.lv_meaning.proofs.RecoveryWalks.{walk_found}
 use Rattle.lv_reply.specs.declared.reply.Reply.TheVariants.{Settled as SettledReply}
-use Rattle.lv_session_request.specs.declared.goals.Goal.{Goal}
-use Rattle.lv_session_request.specs.Held.{observation_of}
-use Rattle.lv_session.specs.declared.query.Query.{Query}
-use Rattle.lv_session.specs.declared.query.Query.TheVariants.{Absent, Diagnosis, Recovery, Test}
-use Rattle.lv_session.specs.Session.{SessionState, RunningSession, aim_of, formula_of, recovery, reply_by, diagnosis_reply, stepped}
-use Rattle.lv_session.specs.Applying.{first_values, values_by, recovery_values, recovery_at, applied}
+use Rattle.lv_session.specs.lv_session_request.declared.goals.Goal.{Goal}
+use Rattle.lv_session.specs.lv_session_request.Held.{observation_of}
+use Rattle.lv_session.specs.lv_session_state.declared.query.Query.{Query}
+use Rattle.lv_session.specs.lv_session_state.declared.query.Query.TheVariants.{Absent, Diagnosis, Recovery, Test}
+use Rattle.lv_session.specs.lv_session_state.State.{SessionState, aim_of, formula_of, recovery, reply_by, diagnosis_reply}
+use Rattle.lv_session.specs.Session.{RunningSession, stepped}
+use Rattle.lv_session.specs.lv_session_state.Applying.{first_values, values_by, recovery_values, applied}
+use Rattle.lv_session.specs.Applying.{recovery_at}
 use Rattle.lv_plant_step.specs.declared.asked.PlantStep.{PlantStep}
 use Rattle.lv_plant_step.specs.PlantSteps.{plant_step}
 use Rattle.lv_plant_step.specs.Laws.{IsPlantStep, IsApplied}

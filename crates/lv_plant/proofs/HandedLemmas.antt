@@ -4,21 +4,21 @@ use Rattle.std.specs.Option.{option_map_or}
 use Rattle.std.specs.Cmp.Lexicographic.{same_text}
 use Rattle.lv_base.specs.Names.{is_named}
 use Rattle.lv_base.specs.declared.limits.TheConstants.{TRACKED, BUDGET}
-use Rattle.lv_formula_text.specs.Nesting.{is_too_deep}
+use Rattle.lv_session.specs.lv_formula_text.Nesting.{is_too_deep}
 use Rattle.lv_text.specs.Lexemes.{Lexeme, Reading, reads, has_bad_byte, is_too_long, line_reading, word_at, number_at}
 use Rattle.lv_model.specs.declared.plant.Plant.{Plant}
-use Rattle.lv_model_names.specs.declared.lists.Lists.{Lists}
-use Rattle.lv_model_names.specs.Lists.{lists_of}
+use Rattle.lv_session.specs.lv_model_names.declared.lists.Lists.{Lists}
+use Rattle.lv_session.specs.lv_model_names.Lists.{lists_of}
 use Rattle.lv_reply.specs.declared.reply.Refusal.{Refusal}
 use Rattle.lv_reply.specs.declared.reply.Refusal.TheVariants.{Form, TooComplex}
-use Rattle.lv_session_request.specs.declared.request.Request.{Request}
-use Rattle.lv_session_request.specs.declared.request.Request.TheVariants as request
-use Rattle.lv_session_request.specs.declared.words.Word.{Word}
-use Rattle.lv_session_request.specs.declared.words.Word.TheVariants as said
-use Rattle.lv_session_request.specs.Chain.{and_then}
-use Rattle.lv_session_request.specs.Forms.{first_word, has_distinct_form, limited, number_to}
-use Rattle.lv_session_request.specs.Goals.{goal_of}
-use Rattle.lv_session_request.specs.Requests.{command_of, release_of, retracted_of, request_by, asked_by_first, asked, asked_by as request_by_reading, request_of}
+use Rattle.lv_session.specs.lv_session_request.declared.request.Request.{Request}
+use Rattle.lv_session.specs.lv_session_request.declared.request.Request.TheVariants as request
+use Rattle.lv_session.specs.lv_session_request.declared.words.Word.{Word}
+use Rattle.lv_session.specs.lv_session_request.declared.words.Word.TheVariants as said
+use Rattle.lv_session.specs.lv_session_request.Chain.{and_then}
+use Rattle.lv_session.specs.lv_session_request.Forms.{first_word, has_distinct_form, limited, number_to}
+use Rattle.lv_session.specs.lv_session_request.Goals.{goal_of}
+use Rattle.lv_session.specs.lv_session_request.Requests.{command_of, release_of, retracted_of, request_by, asked_by_first, asked, asked_by as request_by_reading, request_of}
 use Rattle.lv_plant.specs.declared.fault.PlantFault.TheVariants.{NoForm}
 use Rattle.lv_plant.specs.Forms as forms
 use Rattle.lv_plant.specs.Forms.{goes_to_session, is_naming, is_alone, asked_of, asked_by_reading}

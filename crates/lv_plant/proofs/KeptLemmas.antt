@@ -10,16 +10,17 @@ use Rattle.lv_meaning.specs.Possible.{value}
 use Rattle.lv_reply.specs.declared.reply.Refusal.{Refusal}
 use Rattle.lv_reply.specs.declared.reply.Refusal.TheVariants.{NameHeld, NameNotHeld, NoGoal, TooManyHeld}
 use Rattle.lv_reply.specs.declared.reply.Reply.TheVariants.{Nothing as Silence, Refused}
-use Rattle.lv_session_request.specs.declared.goals.Goal.{Goal}
-use Rattle.lv_session_request.specs.declared.request.Sighting.{Sighting}
-use Rattle.lv_session_request.specs.declared.request.Request.{Request}
-use Rattle.lv_session_request.specs.declared.request.Request.TheVariants as request
-use Rattle.lv_session_request.specs.Held.{observation_of}
-use Rattle.lv_session_request.specs.Requests.{request_of, IsRequestOf}
-use Rattle.lv_session.specs.declared.query.Query.{Query}
-use Rattle.lv_session.specs.declared.query.Query.TheVariants.{Absent, Diagnosis, Recovery, Test}
-use Rattle.lv_session.specs.Session.{SessionState, rest, unchanged, cleared, is_held, has_no_room, observe, is_goal, has_no_goal_room, lacks_goal_name, set_goal, drop_goal, recovered, recover, conflicts, carried_out, answered, stepped}
-use Rattle.lv_session.specs.Applying.{applied}
+use Rattle.lv_session.specs.lv_session_request.declared.goals.Goal.{Goal}
+use Rattle.lv_session.specs.lv_session_request.declared.request.Sighting.{Sighting}
+use Rattle.lv_session.specs.lv_session_request.declared.request.Request.{Request}
+use Rattle.lv_session.specs.lv_session_request.declared.request.Request.TheVariants as request
+use Rattle.lv_session.specs.lv_session_request.Held.{observation_of}
+use Rattle.lv_session.specs.lv_session_request.Requests.{request_of, IsRequestOf}
+use Rattle.lv_session.specs.lv_session_state.declared.query.Query.{Query}
+use Rattle.lv_session.specs.lv_session_state.declared.query.Query.TheVariants.{Absent, Diagnosis, Recovery, Test}
+use Rattle.lv_session.specs.lv_session_state.State.{SessionState, rest, unchanged, cleared, is_held, has_no_room, observe, is_goal, has_no_goal_room, lacks_goal_name, set_goal, drop_goal, recovered, recover, conflicts}
+use Rattle.lv_session.specs.Session.{carried_out, answered, stepped}
+use Rattle.lv_session.specs.lv_session_state.Applying.{applied}
 use Rattle.lv_session.proofs.Steps.{request_in}
 use Rattle.lv_plant.specs.Forms as forms
 use Rattle.lv_plant.specs.Seeing.{seen_from}

@@ -27,7 +27,7 @@ use Rattle.lv_meaning.specs.CandidateLaws.{goes_from, are_moves}
 use Rattle.lv_meaning.specs.Recovers.{has_modes}
 use Rattle.lv_meaning.proofs.Possibility.{possible}
 use Rattle.lv_meaning.proofs.Reasons.{own_pairs}
-use Rattle.lv_tracker.specs.Distinct.{is_same_mode, has_modes as state_has_modes}
+use Rattle.lv_session.specs.lv_tracker.Distinct.{is_same_mode, has_modes as state_has_modes}
 use Rattle.lv_meaning.specs.Targets.{target_modes}
 use Rattle.lv_plant_step.specs.lv_system.Laws.{IsWholeStep}
 use Rattle.lv_plant_step.specs.Finding.{are_values}

@@ -25,19 +25,21 @@ use Rattle.lv_meaning.specs.Ranges.{modes_fit}
 use Rattle.lv_reply.specs.declared.reply.Refusal.TheVariants.{NameHeld, TooManyHeld}
 use Rattle.lv_reply.specs.declared.reply.Reply.{Reply}
 use Rattle.lv_reply.specs.declared.reply.Reply.TheVariants.{Nothing as Silence, Refused as RefusedReply}
-use Rattle.lv_session_request.specs.declared.request.Sighting.{Sighting}
-use Rattle.lv_session_request.specs.declared.request.Request.TheVariants.{Observe}
-use Rattle.lv_session_request.specs.declared.goals.Goal.{Goal}
-use Rattle.lv_session_request.specs.Goals.{IsGoalIn}
-use Rattle.lv_session_request.specs.Requests.{IsSightingIn}
+use Rattle.lv_session.specs.lv_session_request.declared.request.Sighting.{Sighting}
+use Rattle.lv_session.specs.lv_session_request.declared.request.Request.TheVariants.{Observe}
+use Rattle.lv_session.specs.lv_session_request.declared.goals.Goal.{Goal}
+use Rattle.lv_session.specs.lv_session_request.Goals.{IsGoalIn}
+use Rattle.lv_session.specs.lv_session_request.Requests.{IsSightingIn}
 use Rattle.lv_plant_step.specs.lv_system.Laws.{IsAssignment}
 use Rattle.lv_plant_step.specs.declared.asked.Asked.{Asked}
 use Rattle.lv_plant_step.specs.declared.asked.PlantStep.{PlantStep}
 use Rattle.lv_plant_step.specs.PlantSteps.{fault_fits, plant_step}
 use Rattle.lv_plant_step.proofs.StepLemmas.{step_is}
 use Rattle.lv_plant_step.proofs.NamedLemmas.{counted}
-use Rattle.lv_session.specs.Session.{SessionState, RunningSession, unchanged as session_unchanged, cleared, is_held, has_no_room, observe, carried_out, stepped, diagnosis_reply}
-use Rattle.lv_session.specs.Applying.{recovery_at, applied, performed}
+use Rattle.lv_session.specs.lv_session_state.State.{SessionState, unchanged as session_unchanged, cleared, is_held, has_no_room, observe, diagnosis_reply}
+use Rattle.lv_session.specs.Session.{RunningSession, carried_out, stepped}
+use Rattle.lv_session.specs.Applying.{recovery_at, performed}
+use Rattle.lv_session.specs.lv_session_state.Applying.{applied}
 use Rattle.lv_plant.specs.declared.naming.NamedFault.{NamedFault}
 use Rattle.lv_plant.specs.declared.fault.PlantFault.TheVariants.{NoFault, NoStep, NoMore, NoRecovery}
 use Rattle.lv_plant.specs.declared.reply.PlantReply.{PlantReply}

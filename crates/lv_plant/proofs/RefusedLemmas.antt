@@ -4,7 +4,8 @@ use Rattle.std.specs.Option.{option_map_or}
 use Rattle.lv_model.specs.declared.plant.Plant.{Plant}
 use Rattle.lv_plant_step.specs.declared.asked.PlantStep.{PlantStep}
 use Rattle.lv_plant_step.specs.PlantSteps.{plant_step}
-use Rattle.lv_session.specs.Applying.{recovery_at, applied}
+use Rattle.lv_session.specs.Applying.{recovery_at}
+use Rattle.lv_session.specs.lv_session_state.Applying.{applied}
 use Rattle.lv_plant.specs.declared.fault.PlantFault.{PlantFault}
 use Rattle.lv_plant.specs.declared.fault.PlantFault.TheVariants.{NoFault, NoMore, NoStep, NoRecovery}
 use Rattle.lv_plant.specs.declared.naming.NamedFault.{NamedFault}

@@ -20,9 +20,9 @@ use Rattle.lv_model.specs.Lists.{sizes, part_width, variable_count}
 use Rattle.lv_model.specs.Ranges.{plant_ranges}
 use Rattle.lv_model.specs.WellFormed.{is_well_formed, firsts_follow, PartEnds, PartReads}
 use Rattle.lv_model.proofs.Reading.{follow_pass, ends-of_well_formed, parts-of_well_formed, length-plant_ranges}
-use Rattle.lv_model_names.specs.Names.{is_observable_class, is_observable, type_classes, part_classes, classes}
+use Rattle.lv_session.specs.lv_model_names.Names.{is_observable_class, is_observable, type_classes, part_classes, classes}
 use Rattle.lv_meaning.specs.Ranges.{modes_fit}
-use Rattle.lv_session_request.specs.Requests.{IsSightingIn}
+use Rattle.lv_session.specs.lv_session_request.Requests.{IsSightingIn}
 use Rattle.lv_plant_step.specs.lv_system.Laws.{IsAssignment}
 use Rattle.lv_plant.specs.declared.seeing.TheConstants.{SEEN}
 use Rattle.lv_plant.specs.Seeing.{observables_from, part_observables, observables, letter, seen_from, seen, modes_in}

@@ -13,9 +13,9 @@ use Rattle.lv_formula.specs.Tree.{value_of}
 use Rattle.lv_model.specs.declared.plant.Plant.{Plant}
 use Rattle.lv_reply.specs.declared.reply.Refusal.TheVariants.{NameHeld, TooManyHeld}
 use Rattle.lv_reply.specs.declared.reply.Reply.TheVariants.{Refused as RefusedReply}
-use Rattle.lv_session_request.specs.declared.request.Sighting.{Sighting}
-use Rattle.lv_session_request.specs.Held.{has_name}
-use Rattle.lv_session.specs.Session.{SessionState, unchanged as session_unchanged, cleared, is_held, has_no_room, observe, diagnosis_reply}
+use Rattle.lv_session.specs.lv_session_request.declared.request.Sighting.{Sighting}
+use Rattle.lv_session.specs.lv_session_request.Held.{has_name}
+use Rattle.lv_session.specs.lv_session_state.State.{SessionState, unchanged as session_unchanged, cleared, is_held, has_no_room, observe, diagnosis_reply}
 use Rattle.lv_plant_step.specs.declared.asked.PlantStep.{PlantStep}
 use Rattle.lv_plant_step.specs.PlantSteps.{plant_step}
 use Rattle.lv_plant.specs.declared.plant.TheConstants.{STEPS}

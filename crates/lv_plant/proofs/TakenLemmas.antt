@@ -19,16 +19,16 @@ use Rattle.lv_meaning.specs.Targets.{target_modes, have_one_target, answer}
 use Rattle.lv_meaning.proofs.Among.{Among, among, contained}
 use Rattle.lv_meaning.proofs.Answering.{answer_law}
 use Rattle.lv_meaning.proofs.DiagnosisWalks.{answers}
-use Rattle.lv_tracker.specs.Targets.{target_state}
-use Rattle.lv_tracker.specs.Tracked.{advanced}
-use Rattle.lv_tracker.proofs.FirstLemmas.{first_of_each_law}
+use Rattle.lv_session.specs.lv_tracker.Targets.{target_state}
+use Rattle.lv_session.specs.lv_tracker.Tracked.{advanced}
+use Rattle.lv_session.proofs.lv_tracker.FirstLemmas.{first_of_each_law}
 use Rattle.lv_reply.specs.declared.reply.Refusal.TheVariants.{NothingListed, TooManyCommits}
 use Rattle.lv_reply.specs.declared.reply.Reply.TheVariants.{Refused as RefusedReply, Settled as SettledReply, Committed as CommittedReply}
-use Rattle.lv_session_request.specs.declared.request.Sighting.{Sighting}
-use Rattle.lv_session_request.specs.Held.{observation_of}
-use Rattle.lv_session.specs.declared.query.Query.{Query}
-use Rattle.lv_session.specs.declared.query.Query.TheVariants.{Absent, Diagnosis, Recovery, Test}
-use Rattle.lv_session.specs.Session.{SessionState, unchanged as session_unchanged, facts_of, walked, reply_by, diagnosis_reply, taken_over, advanced_to, commit_by, commit}
+use Rattle.lv_session.specs.lv_session_request.declared.request.Sighting.{Sighting}
+use Rattle.lv_session.specs.lv_session_request.Held.{observation_of}
+use Rattle.lv_session.specs.lv_session_state.declared.query.Query.{Query}
+use Rattle.lv_session.specs.lv_session_state.declared.query.Query.TheVariants.{Absent, Diagnosis, Recovery, Test}
+use Rattle.lv_session.specs.lv_session_state.State.{SessionState, unchanged as session_unchanged, facts_of, walked, reply_by, diagnosis_reply, taken_over, advanced_to, commit_by, commit}
 use Rattle.lv_plant_step.specs.declared.asked.PlantStep.{PlantStep}
 use Rattle.lv_plant_step.specs.Laws.{IsPlantStep}
 use Rattle.lv_plant_step.proofs.SolutionLemmas.{mv_number}

@@ -4,8 +4,8 @@ use Rattle.std.specs.List.{list_all, list_any}
 use Rattle.lv_base.specs.declared.ids.ValId.{ValId}
 use Rattle.lv_formula.specs.Tree.{truth_of, reads_below}
 use Rattle.lv_model.specs.declared.state.TrackedState.{TrackedState}
-use Rattle.lv_tracker.specs.Distinct.{has_modes}
-use Rattle.lv_session_request.specs.declared.goals.Goal.{Goal}
+use Rattle.lv_session.specs.lv_tracker.Distinct.{has_modes}
+use Rattle.lv_session.specs.lv_session_request.declared.goals.Goal.{Goal}
 use Rattle.lv_plant.specs.declared.reply.GoalsTold.{GoalsTold}
 use Rattle.lv_plant.specs.declared.reply.GoalsTold.TheVariants.{NoGoals, Met, Open}
 

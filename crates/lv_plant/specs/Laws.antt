@@ -9,8 +9,8 @@ use Rattle.lv_reply.specs.declared.reply.Reply.TheVariants.{Settled}
 use Rattle.lv_plant_step.specs.declared.asked.PlantStep.{PlantStep}
 use Rattle.lv_plant_step.specs.PlantSteps.{plant_step}
 use Rattle.lv_plant_step.specs.Laws.{IsPlantStep}
-use Rattle.lv_session.specs.declared.query.Query.TheVariants.{Recovery}
-use Rattle.lv_session.specs.Session.{SessionState}
+use Rattle.lv_session.specs.lv_session_state.declared.query.Query.TheVariants.{Recovery}
+use Rattle.lv_session.specs.lv_session_state.State.{SessionState}
 use Rattle.lv_session.specs.Applying.{recovery_at}
 use Rattle.lv_plant.specs.declared.fault.PlantFault.{PlantFault}
 use Rattle.lv_plant.specs.declared.fault.PlantFault.TheVariants.{NoRecovery}

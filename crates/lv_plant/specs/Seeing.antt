@@ -9,8 +9,8 @@ use Rattle.lv_model.specs.declared.plant.ComponentType.{ComponentType}
 use Rattle.lv_model.specs.declared.plant.Part.{Part}
 use Rattle.lv_model.specs.declared.plant.Variable.{Variable}
 use Rattle.lv_formula.specs.Tree.{value_of}
-use Rattle.lv_model_names.specs.Names.{is_observable_class}
-use Rattle.lv_session_request.specs.declared.request.Sighting.{Sighting}
+use Rattle.lv_session.specs.lv_model_names.Names.{is_observable_class}
+use Rattle.lv_session.specs.lv_session_request.declared.request.Sighting.{Sighting}
 use Rattle.lv_plant.specs.declared.seeing.TheConstants.{SEEN}
 
 -- the observables among variables that are numbered from the first

@@ -3,7 +3,7 @@ use Rattle.std.specs.Prelude.{◌≡◌, ◌≢◌, ◌≤◌, ℕ, Bool, true, 
 use Rattle.std.specs.List.{list_all}
 use Rattle.std.specs.Cmp.Lexicographic.{pointwise}
 use Rattle.lv_model.specs.declared.plant.Plant.{Plant}
-use Rattle.lv_session_request.specs.declared.request.Sighting.{Sighting}
+use Rattle.lv_session.specs.lv_session_request.declared.request.Sighting.{Sighting}
 use Rattle.lv_plant_step.specs.declared.asked.PlantStep.{PlantStep}
 use Rattle.lv_plant.specs.declared.reply.StepTold.{StepTold}
 use Rattle.lv_plant.specs.declared.seeing.TheConstants.{SEEN}

@@ -9,11 +9,13 @@ use Rattle.lv_plant_step.specs.declared.asked.PlantStep.{PlantStep}
 use Rattle.lv_plant_step.specs.PlantSteps.{plant_step}
 use Rattle.lv_reply.specs.declared.reply.Reply.{Reply}
 use Rattle.lv_reply.specs.declared.reply.Reply.TheVariants.{Settled}
-use Rattle.lv_session_request.specs.declared.request.Sighting.{Sighting}
-use Rattle.lv_session_request.specs.declared.request.Request.TheVariants.{Observe, Diagnose, Commit}
-use Rattle.lv_session.specs.Session.{SessionState, RunningSession, Stepped, facts_of, carried_out, stepped}
+use Rattle.lv_session.specs.lv_session_request.declared.request.Sighting.{Sighting}
+use Rattle.lv_session.specs.lv_session_request.declared.request.Request.TheVariants.{Observe, Diagnose, Commit}
+use Rattle.lv_session.specs.lv_session_state.State.{SessionState, Stepped, facts_of}
+use Rattle.lv_session.specs.Session.{RunningSession, carried_out, stepped}
 use Rattle.lv_session.specs.Answering.{begun}
-use Rattle.lv_session.specs.Applying.{recovery_at, applied}
+use Rattle.lv_session.specs.Applying.{recovery_at}
+use Rattle.lv_session.specs.lv_session_state.Applying.{applied}
 use Rattle.lv_plant.specs.declared.fault.PlantFault.TheVariants.{NoFault, NoStep, NoMore, NoRecovery}
 use Rattle.lv_plant.specs.declared.reply.PlantReply.{PlantReply}
 use Rattle.lv_plant.specs.declared.reply.PlantReply.TheVariants.{Silence, Accepted, Refused, Told, Moved}

@@ -2,13 +2,13 @@
 #![tactic(auto)]
 
 ghost use Rattle.std.specs.Prelude.{◌≡◌, All, length};
-ghost use Rattle.lv_tracker.specs.Distinct.{has_modes};
+ghost use Rattle.lv_session.specs.lv_tracker.Distinct.{has_modes};
 ghost use Rattle.lv_plant.specs.Findings.{is_held, is_met, are_met, goals_among, GoalReads};
 
 use crate::reply::GoalsTold;
 use lv_base::ValId;
 use lv_model::TrackedState;
-use lv_session_request::Goal;
+use lv_session::Goal;
 
 /// Whether a state has these modes.
 fn has_modes(state: &TrackedState, modes: &[ValId]) -> bool

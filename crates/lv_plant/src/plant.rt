@@ -3,7 +3,7 @@
 
 ghost use Rattle.std.specs.Prelude.{◌≡◌, ◌<◌, ◌%◌, All, IfOk, OnOk, OnErr, IsErr, IfSome, None, true, nat_eq, length, replicate};
 ghost use Rattle.lv_plant_step.specs.PlantSteps.{AskedFits, plant_step};
-ghost use Rattle.lv_session_request.specs.Requests.{IsSightingIn};
+ghost use Rattle.lv_session.specs.lv_session_request.Requests.{IsSightingIn};
 ghost use Rattle.lv_plant.specs.Plants.{EndsIn};
 ghost use Rattle.lv_plant.specs.Naming.{NamesMove};
 ghost use Rattle.lv_plant.specs.Seeing.{seen};
@@ -24,8 +24,7 @@ use lv_model::Part;
 use lv_plant_step::{Asked, PlantStep, PlantStepper};
 use lv_reply::Reply;
 use lv_serve::Responder;
-use lv_session::{CompiledModel, Session};
-use lv_session_request::{Request, Sighting};
+use lv_session::{CompiledModel, Request, Session, Sighting};
 use std::alloc::{AllocError, Global};
 use std::marker;
 

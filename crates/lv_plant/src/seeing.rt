@@ -6,8 +6,8 @@ ghost use Rattle.std.specs.Prelude.{◌≡◌, ◌+◌, ◌++◌, ◌∷◌, [],
 ghost use Rattle.lv_formula.specs.Tree.{value_of};
 ghost use Rattle.lv_model.specs.Lists.{sizes};
 ghost use Rattle.lv_model.specs.WellFormed.{PartEnds};
-ghost use Rattle.lv_model_names.specs.Names.{is_observable_class};
-ghost use Rattle.lv_session_request.specs.Requests.{IsSightingIn};
+ghost use Rattle.lv_session.specs.lv_model_names.Names.{is_observable_class};
+ghost use Rattle.lv_session.specs.lv_session_request.Requests.{IsSightingIn};
 ghost use Rattle.lv_plant_step.specs.lv_system.Laws.{IsAssignment};
 ghost use Rattle.lv_plant.specs.Seeing.{observables_from, part_observables, observables, letter, seen_from, seen, modes_in, start_modes};
 
@@ -15,7 +15,7 @@ use itoa::Buffer;
 use lv_base::{Class, Name, Seq, ValId, VarId};
 use lv_model::lookup::type_of;
 use lv_model::{ComponentType, Model, Part, Plant, Variable};
-use lv_session_request::Sighting;
+use lv_session::Sighting;
 use std::alloc::{AllocError, Global};
 
 /// How many observables are observed of a step at most.

@@ -12,9 +12,9 @@ use Rattle.lv_certcheck.specs.lv_cert_meaning.Judging.{Judged}
 use Rattle.lv_certcheck.specs.lv_cert_meaning.Laws.{IsValid}
 use Rattle.lv_certcheck.specs.Verdicts.{verdict_of, IsVerdictOn, of_lines}
 use Rattle.lv_certcheck.specs.declared.check.Verdict.TheVariants.{Valid}
-use Rattle.lv_session.specs.declared.query.Query.{Query}
-use Rattle.lv_session.specs.declared.query.Query.TheVariants.{Absent, Diagnosis, Recovery, Test}
-use Rattle.lv_session.specs.Session.{SessionState}
+use Rattle.lv_session.specs.lv_session_state.declared.query.Query.{Query}
+use Rattle.lv_session.specs.lv_session_state.declared.query.Query.TheVariants.{Absent, Diagnosis, Recovery, Test}
+use Rattle.lv_session.specs.lv_session_state.State.{SessionState}
 use Rattle.lv_session.specs.Certificates.{Certifies, IsTextOf}
 use Rattle.lv_session.specs.Transcript.{IsTranscriptFrom, ends, goes_on, AddsTranscript}
 use Rattle.lv_session.specs.lv_reply.declared.reply.Reply.{Reply}

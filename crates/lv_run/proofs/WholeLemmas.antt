@@ -24,9 +24,10 @@ use Rattle.lv_session.specs.lv_reply.Probes.{probed_line, best_text, probe_text}
 use Rattle.lv_session.specs.lv_reply.Labels.{moment_word, label_line, labels_text}
 use Rattle.lv_session.specs.lv_reply.States.{part_texts, state_lines, committed_text, states_text}
 use Rattle.lv_session.specs.lv_reply.Texts.{code_of, reply_text}
-use Rattle.lv_session.specs.declared.query.Query.{Query}
-use Rattle.lv_session.specs.declared.query.Query.TheVariants.{Absent, Diagnosis, Recovery, Test}
-use Rattle.lv_session.specs.Session.{SessionState, stepped}
+use Rattle.lv_session.specs.lv_session_state.declared.query.Query.{Query}
+use Rattle.lv_session.specs.lv_session_state.declared.query.Query.TheVariants.{Absent, Diagnosis, Recovery, Test}
+use Rattle.lv_session.specs.lv_session_state.State.{SessionState}
+use Rattle.lv_session.specs.Session.{stepped}
 use Rattle.lv_session.specs.Certificates.{Certifies, IsTextOf}
 use Rattle.lv_run.specs.OfLanes.{RepliesAreWhole}
 

@@ -7,7 +7,8 @@ use Rattle.lv_checker.specs.Verdicts.{IsVerdict, accepted}
 use Rattle.lv_certcheck.specs.Verdicts.{IsVerdictOn}
 use Rattle.lv_certcheck.specs.declared.check.Verdict.TheVariants.{Valid}
 use Rattle.lv_session.specs.lv_reply.declared.reply.Reply.TheVariants.{Certificate}
-use Rattle.lv_session.specs.Session.{SessionState, start, stepped}
+use Rattle.lv_session.specs.lv_session_state.State.{SessionState, start}
+use Rattle.lv_session.specs.Session.{stepped}
 use Rattle.lv_session.specs.Certificates.{IsTextOf}
 use Rattle.lv_session.specs.Transcript.{SessionStep}
 

@@ -49,7 +49,8 @@ pub fn livingstone<F: Shelf, O: Sink, E: Sink>(
         → AddsTranscript plant session (O.text out.old) (O.text out.new) × (E.text err.new ≡ E.text err.old) }
     // The same in the words of the definitions: in what is written each settled diagnosis is the first k candidates of the
     // tracked states that are possible under the facts, each recovery the first command set that recovers, and 'no
-    // recovery' stands exactly where none does (`lv_session::laws::settled_answers_are_first`).
+    // recovery' stands exactly where none does; each test is the first command set that tests its observable, and 'no
+    // test' stands exactly where none does (`lv_session::laws::settled_answers_are_first`).
     ensures answers { (plant : Plant) (session : List ℕ) → Asks Single (F.file shelf.old) (map string_bytes words.items) plant session → result ≡ Status.Done
         → AddsTrueTranscript plant session (O.text out.old) (O.text out.new) }
     // Each certificate among the replies is valid for the model, so that a check over it calls it valid.

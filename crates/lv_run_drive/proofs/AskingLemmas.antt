@@ -17,7 +17,8 @@ use Rattle.lv_session.specs.lv_session_request.Chain.{and_then}
 use Rattle.lv_session.specs.lv_session_request.Forms.{first_word, has_distinct_form, limited, number_to}
 use Rattle.lv_session.specs.lv_session_request.Goals.{goal_of}
 use Rattle.lv_session.specs.lv_session_request.Requests.{alone, command_of, release_of, tested_of, sighting_of, retracted_of, request_by, asked_by_first, asked, asked_by, request_of}
-use Rattle.lv_session.specs.Session.{SessionState, unchanged, answered, stepped}
+use Rattle.lv_session.specs.lv_session_state.State.{SessionState, unchanged}
+use Rattle.lv_session.specs.Session.{answered, stepped}
 use Rattle.lv_session.specs.Laws.{is_certificate}
 use Rattle.lv_session.proofs.StepLaws.{asks_certificate, request_told}
 

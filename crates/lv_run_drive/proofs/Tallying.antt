@@ -7,7 +7,8 @@ use Rattle.lv_gen.specs.Session.{session_text}
 use Rattle.lv_model.specs.declared.plant.Plant.{Plant}
 use Rattle.lv_reply.specs.declared.reply.Reply.{Reply}
 use Rattle.lv_reply.specs.Texts.{reply_text}
-use Rattle.lv_session.specs.Session.{SessionState, RunningSession, start, stepped}
+use Rattle.lv_session.specs.lv_session_state.State.{SessionState, start}
+use Rattle.lv_session.specs.Session.{RunningSession, stepped}
 use Rattle.lv_session.specs.Transcript.{IsTranscriptFrom}
 use Rattle.lv_session.specs.Laws.{replies_to, replies}
 use Rattle.lv_session.proofs.Transcripts.{some_transcript}

@@ -8,7 +8,8 @@ use Rattle.lv_serve.specs.Ends.{ended}
 use Rattle.lv_serve.proofs.Writing.{whole_front}
 use Rattle.lv_serve.proofs.ConversationLemmas.{none_of_front, front_of_lines}
 use Rattle.lv_serve.proofs.PieceLemmas.{front_of_all, front_of_longer}
-use Rattle.lv_session.specs.Session.{SessionState, RunningSession, stepped}
+use Rattle.lv_session_state.specs.State.{SessionState}
+use Rattle.lv_session.specs.Session.{RunningSession, stepped}
 use Rattle.lv_session.specs.Certificates.{IsTextOf}
 use Rattle.lv_session.specs.Transcript.{IsTranscriptFrom, ends, goes_on, AddsTranscript, AddsFrontOfTranscript}
 use Rattle.lv_session.specs.Answering.{begun, next_at, SaysAt}

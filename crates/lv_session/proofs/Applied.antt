@@ -10,20 +10,23 @@ use Rattle.lv_model.specs.Lists.{sizes, controls}
 use Rattle.lv_search_walk.specs.declared.outcome.Outcome.{Outcome}
 use Rattle.lv_search_walk.specs.declared.outcome.Outcome.TheVariants.{Settled, Unsettled}
 use Rattle.lv_search_walk.specs.Walk.{none_alike}
-use Rattle.lv_meaning.specs.Facts.{commanded, HasValue}
-use Rattle.lv_meaning.specs.Possible.{value}
-use Rattle.lv_meaning.specs.Commands.{is_command_set, command_sets}
-use Rattle.lv_meaning.specs.Recovery.{candidate_recovers, candidate_reason}
-use Rattle.lv_meaning.specs.RecoveryLaws.{IsCommandSet}
-use Rattle.lv_meaning.proofs.CommandSets.{listed_is_set}
-use Rattle.lv_session.specs.declared.query.Query.{Query}
-use Rattle.lv_session.specs.declared.query.Query.TheVariants.{Absent, Diagnosis, Recovery, Test}
+use Rattle.lv_session_state.specs.lv_meaning.Facts.{commanded, HasValue}
+use Rattle.lv_session_state.specs.lv_meaning.Possible.{value}
+use Rattle.lv_session_state.specs.lv_meaning.Commands.{is_command_set, command_sets}
+use Rattle.lv_session_state.specs.lv_meaning.Recovery.{candidate_recovers, candidate_reason}
+use Rattle.lv_session_state.specs.lv_meaning.RecoveryLaws.{IsCommandSet}
+use Rattle.lv_session_state.proofs.lv_meaning.CommandSets.{listed_is_set}
+use Rattle.lv_session_state.specs.declared.query.Query.{Query}
+use Rattle.lv_session_state.specs.declared.query.Query.TheVariants.{Absent, Diagnosis, Recovery, Test}
 use Rattle.lv_session.specs.declared.workings.Workings.{Workings}
-use Rattle.lv_session.specs.Session.{SessionState, RunningSession, aim_of, recovery}
-use Rattle.lv_session.specs.Applying.{values_by, recovery_values, applied, recovery_at}
-use Rattle.lv_session.specs.States.{IsStateOf}
-use Rattle.lv_session.specs.Current.{IsCurrent, IsSession}
-use Rattle.lv_session.proofs.Listed.{listed_all}
+use Rattle.lv_session_state.specs.State.{SessionState, aim_of, recovery}
+use Rattle.lv_session.specs.Session.{RunningSession}
+use Rattle.lv_session_state.specs.Applying.{values_by, recovery_values, applied}
+use Rattle.lv_session.specs.Applying.{recovery_at}
+use Rattle.lv_session_state.specs.States.{IsStateOf}
+use Rattle.lv_session_state.specs.Current.{IsCurrent}
+use Rattle.lv_session.specs.Kept.{IsSession}
+use Rattle.lv_session_state.proofs.Listed.{listed_all}
 
 -- a value for each control
 pub record Commands (sizes : List ℕ) (cs : List VarId) (u : List ℕ) : Type 0 where

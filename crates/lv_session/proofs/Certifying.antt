@@ -12,34 +12,34 @@ use Rattle.lv_text.proofs.ReadBack.{lexemes_have}
 use Rattle.lv_formula.specs.Tree.{Tree}
 use Rattle.lv_model.specs.declared.plant.Plant.{Plant}
 use Rattle.lv_model.specs.declared.state.TrackedState.{TrackedState}
-use Rattle.lv_model_names.specs.lv_formula_text.Canonical.{tokens_of, canonical_text}
-use Rattle.lv_model_names.specs.lv_formula_text.Resolving.{resolved}
-use Rattle.lv_model_names.specs.lv_formula_text.Descent.{phrase_of}
-use Rattle.lv_model_names.specs.Names.{plant_names}
+use Rattle.lv_session_state.specs.lv_model_names.lv_formula_text.Canonical.{tokens_of, canonical_text}
+use Rattle.lv_session_state.specs.lv_model_names.lv_formula_text.Resolving.{resolved}
+use Rattle.lv_session_state.specs.lv_model_names.lv_formula_text.Descent.{phrase_of}
+use Rattle.lv_session_state.specs.lv_model_names.Names.{plant_names}
 use Rattle.lv_search_walk.specs.declared.outcome.Outcome.{Outcome}
 use Rattle.lv_search_walk.specs.declared.outcome.Outcome.TheVariants.{Settled, Unsettled}
 use Rattle.lv_search_walk.specs.Walk.{Walked}
-use Rattle.lv_meaning.specs.Ranges.{StateFits}
-use Rattle.lv_tracker.specs.Tracked.{IsWithinCost}
+use Rattle.lv_session_state.specs.lv_meaning.Ranges.{StateFits}
+use Rattle.lv_session_state.specs.lv_tracker.Tracked.{IsWithinCost}
 use Rattle.lv_cert.specs.declared.line.Line.{Line}
 use Rattle.lv_cert.specs.Words.{is_word}
 use Rattle.lv_cert.specs.Texts.{text_of}
 use Rattle.lv_cert_diagnosis.specs.lv_cert_meaning.Stated.{simple_goal, goal_as, goal_in, goal_of}
 use Rattle.lv_cert_diagnosis.specs.lv_cert_meaning.Certifying.{CertifiesDiagnosis, CertifiesRecovery, StateStands, IsSeen, AreStates, AreFacts, IsSettledDiagnosis, IsAsked, IsSettledRecovery, AreTexts, AreFormed}
-use Rattle.lv_session_request.specs.Held.{observation_of}
-use Rattle.lv_session_request.specs.declared.goals.Goal.{Goal}
-use Rattle.lv_session_request.specs.declared.request.Sighting.{Sighting}
-use Rattle.lv_session_request.specs.Goals.{IsGoalIn}
-use Rattle.lv_session_request.specs.Requests.{IsSightingIn}
-use Rattle.lv_session_request.proofs.WordLaws.{formula_is_one}
-use Rattle.lv_session.specs.declared.running.Diagnosed.{Diagnosed}
-use Rattle.lv_session.specs.declared.running.Recovering.{Recovering}
-use Rattle.lv_session.specs.Session.{SessionState, facts_of, aim_of, formula_of, text_of_goal, walked, recovery, is_settled_by}
-use Rattle.lv_session.specs.States.{IsStateOf}
-use Rattle.lv_session.specs.Current.{IsDiagnosisAt, IsRecoveryAt}
+use Rattle.lv_session_state.specs.lv_session_request.Held.{observation_of}
+use Rattle.lv_session_state.specs.lv_session_request.declared.goals.Goal.{Goal}
+use Rattle.lv_session_state.specs.lv_session_request.declared.request.Sighting.{Sighting}
+use Rattle.lv_session_state.specs.lv_session_request.Goals.{IsGoalIn}
+use Rattle.lv_session_state.specs.lv_session_request.Requests.{IsSightingIn}
+use Rattle.lv_session_state.proofs.lv_session_request.WordLaws.{formula_is_one}
+use Rattle.lv_session_state.specs.declared.running.Diagnosed.{Diagnosed}
+use Rattle.lv_session_state.specs.declared.running.Recovering.{Recovering}
+use Rattle.lv_session_state.specs.State.{SessionState, facts_of, aim_of, formula_of, text_of_goal, walked, recovery, is_settled_by}
+use Rattle.lv_session_state.specs.States.{IsStateOf}
+use Rattle.lv_session_state.specs.Current.{IsDiagnosisAt, IsRecoveryAt}
 use Rattle.lv_session.specs.Certificates.{CertifiesWalked, CertifiesRecovered}
-use Rattle.lv_session.proofs.Asking.{facts_fit, facts_in_range}
-use Rattle.lv_session.proofs.Recovering.{aim_fits}
+use Rattle.lv_session_state.proofs.Asking.{facts_fit, facts_in_range}
+use Rattle.lv_session_state.proofs.Recovering.{aim_fits}
 
 -- what was observed are observables
 all_seen : (plant : Plant) (ss : List Sighting) → All (IsSightingIn plant) ss → All (IsSeen plant) (map observation_of ss)

@@ -8,21 +8,23 @@ use Rattle.lv_model.specs.declared.plant.Plant.{Plant}
 use Rattle.lv_model.specs.declared.state.TrackedState.{TrackedState}
 use Rattle.lv_search_walk.specs.declared.outcome.Outcome.{Outcome}
 use Rattle.lv_search_walk.specs.declared.outcome.Outcome.TheVariants.{Settled, Unsettled}
-use Rattle.lv_tracker.specs.Tracked.{advanced}
+use Rattle.lv_session_state.specs.lv_tracker.Tracked.{advanced}
 use Rattle.lv_reply.specs.declared.reply.Refusal.TheVariants.{NameHeld, NameNotHeld, OutOfLimits, NoQuery, NothingListed, TooManyHeld, TooManyCommits}
 use Rattle.lv_reply.specs.declared.reply.Reply.{Reply}
 use Rattle.lv_reply.specs.declared.reply.Reply.TheVariants.{Refused, Committed, Certificate as Certified}
-use Rattle.lv_session_request.specs.declared.goals.Goal.{Goal}
-use Rattle.lv_session_request.specs.declared.request.Sighting.{Sighting}
-use Rattle.lv_session_request.specs.declared.request.Request.{Request}
-use Rattle.lv_session_request.specs.declared.request.Request.TheVariants.{Nothing, Track, TrackDistinct, SetBudget, SetControl, Release, Observe, Retract, SetGoal, DropGoal, Diagnose, Recover, More, Commit, Conflicts, Certificate, Labels, LabelsFrom, States, Reset, Quit, Probe, Test as ToTest}
-use Rattle.lv_session.specs.declared.query.Query.{Query}
-use Rattle.lv_session.specs.declared.query.Query.TheVariants.{Absent, Diagnosis, Recovery, Test}
-use Rattle.lv_session.specs.declared.running.Running.{Running}
-use Rattle.lv_session.specs.declared.running.Running.TheVariants as kept
-use Rattle.lv_session_request.specs.Held.{lacks_name}
-use Rattle.lv_session.specs.Session.{SessionState, Stepped, unchanged, cleared, walked, recovery, is_held, has_no_room, observe, retract, is_goal, has_no_goal_room, lacks_goal_name, set_goal, drop_goal, labelled, labelled_from, is_certifiable, certificate, commit, commit_by, probed_reply, probe_by, probe, testing, conflicts, taken_over, advanced_to, carried_out}
-use Rattle.lv_session.specs.Current.{IsKeptOf, IsCurrent, IsCaredFor}
+use Rattle.lv_session_state.specs.lv_session_request.declared.goals.Goal.{Goal}
+use Rattle.lv_session_state.specs.lv_session_request.declared.request.Sighting.{Sighting}
+use Rattle.lv_session_state.specs.lv_session_request.declared.request.Request.{Request}
+use Rattle.lv_session_state.specs.lv_session_request.declared.request.Request.TheVariants.{Nothing, Track, TrackDistinct, SetBudget, SetControl, Release, Observe, Retract, SetGoal, DropGoal, Diagnose, Recover, More, Commit, Conflicts, Certificate, Labels, LabelsFrom, States, Reset, Quit, Probe, Test as ToTest}
+use Rattle.lv_session_state.specs.declared.query.Query.{Query}
+use Rattle.lv_session_state.specs.declared.query.Query.TheVariants.{Absent, Diagnosis, Recovery, Test}
+use Rattle.lv_session_state.specs.declared.running.Running.{Running}
+use Rattle.lv_session_state.specs.declared.running.Running.TheVariants as kept
+use Rattle.lv_session_state.specs.lv_session_request.Held.{lacks_name}
+use Rattle.lv_session_state.specs.State.{SessionState, Stepped, unchanged, cleared, walked, recovery, is_held, has_no_room, observe, retract, is_goal, has_no_goal_room, lacks_goal_name, set_goal, drop_goal, commit, commit_by, testing, conflicts, taken_over, advanced_to}
+use Rattle.lv_session.specs.Session.{labelled, labelled_from, is_certifiable, certificate, probed_reply, probe_by, probe, carried_out}
+use Rattle.lv_session_state.specs.Current.{IsKeptOf, IsCurrent}
+use Rattle.lv_session.specs.Kept.{IsCaredFor}
 
 same_walk : (plant : Plant) (state : SessionState) (budget : ℕ) (ended : Bool) (sum : ℕ) → walked plant (record state { budget = budget; is_ended = ended }) sum ≡ walked plant state sum
 unfolding walked

@@ -17,12 +17,12 @@ use Rattle.lv_model.specs.Lists.{sizes}
 use Rattle.lv_model.specs.Ranges.{plant_ranges, type_ranges}
 use Rattle.lv_model.specs.WellFormed.{is_well_formed, names_fit, counts_fit, formulas_fit, moves_fit, move_fits, kind_fits, guard_fits, part_fits, name_fits, moves_rise, stays_once}
 use Rattle.lv_model.proofs.Reading.{All-at, All-of_test, type_of_place, types_pass, parts_pass, follow_pass}
-use Rattle.lv_system.specs.lv_compile.Booleans.{booleans_now}
-use Rattle.lv_system.proofs.lv_compile.RangeLemmas.{have_part}
-use Rattle.lv_meaning.specs.Ranges.{modes_fit, StateFits}
-use Rattle.lv_meaning.specs.Targets.{target_mode, target_modes}
-use Rattle.lv_tracker.specs.Targets.{target_state, HasMoves}
-use Rattle.lv_tracker.specs.Tracked.{start_state}
+use Rattle.lv_session_state.specs.lv_system.lv_compile.Booleans.{booleans_now}
+use Rattle.lv_session_state.proofs.lv_system.lv_compile.RangeLemmas.{have_part}
+use Rattle.lv_session_state.specs.lv_meaning.Ranges.{modes_fit, StateFits}
+use Rattle.lv_session_state.specs.lv_meaning.Targets.{target_mode, target_modes}
+use Rattle.lv_session_state.specs.lv_tracker.Targets.{target_state, HasMoves}
+use Rattle.lv_session_state.specs.lv_tracker.Tracked.{start_state}
 
 -- a number below a variable's size is one of its values
 by_size : (ranges : List Range) (x v : ℕ) → v < slice_index_or (map (λ (r : Range). r.size) ranges) x 0 → has_value ranges x v ≡ true

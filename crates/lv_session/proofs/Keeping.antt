@@ -14,35 +14,36 @@ use Rattle.lv_model.specs.declared.plant.Part.{Part}
 use Rattle.lv_model.specs.Lists.{sizes, controls, variable_count, IsVariable}
 use Rattle.lv_model.proofs.Controls.{controls-in_range}
 use Rattle.lv_model.proofs.Reading.{All-at}
-use Rattle.lv_meaning.specs.Facts.{commanded, HasValue}
-use Rattle.lv_model_names.proofs.ScopeLemmas.{below_size}
-use Rattle.lv_model_names.proofs.PositiveLemmas.{variable_has_value}
+use Rattle.lv_session_state.specs.lv_meaning.Facts.{commanded, HasValue}
+use Rattle.lv_session_state.proofs.lv_model_names.ScopeLemmas.{below_size}
+use Rattle.lv_session_state.proofs.lv_model_names.PositiveLemmas.{variable_has_value}
 use Rattle.lv_model.specs.Ranges.{plant_ranges}
 use Rattle.lv_model.specs.WellFormed.{is_well_formed}
 use Rattle.lv_search_walk.specs.declared.outcome.Outcome.{Outcome}
 use Rattle.lv_search_walk.specs.declared.outcome.Outcome.TheVariants.{Settled, Unsettled}
-use Rattle.lv_tracker.specs.Targets.{target_state}
-use Rattle.lv_tracker.specs.Tracked.{start_state, advanced, HasModes}
-use Rattle.lv_tracker.proofs.ListLemmas.{first_all, targets_have_modes}
+use Rattle.lv_session_state.specs.lv_tracker.Targets.{target_state}
+use Rattle.lv_session_state.specs.lv_tracker.Tracked.{start_state, advanced, HasModes}
+use Rattle.lv_session_state.proofs.lv_tracker.ListLemmas.{first_all, targets_have_modes}
 use Rattle.lv_reply.specs.declared.reply.Refusal.TheVariants.{NameHeld, NameNotHeld, OutOfLimits, NoQuery, NothingListed, NoGoal, TooManyHeld, TooManyCommits}
 use Rattle.lv_reply.specs.declared.reply.Reply.{Reply}
 use Rattle.lv_reply.specs.declared.reply.Reply.TheVariants.{Refused, Committed, Certificate as Certified}
 use Rattle.lv_model.specs.declared.state.TrackedState.{TrackedState}
-use Rattle.lv_meaning.specs.Ranges.{StateFits}
-use Rattle.lv_session_request.specs.declared.goals.Goal.{Goal}
-use Rattle.lv_session_request.specs.declared.request.Sighting.{Sighting}
-use Rattle.lv_session_request.specs.declared.request.Request.{Request}
-use Rattle.lv_session_request.specs.declared.request.Request.TheVariants.{Nothing, Track, TrackDistinct, SetBudget, SetControl, Release, Observe, Retract, SetGoal, DropGoal, Diagnose, Recover, More, Commit, Conflicts, Certificate, Labels, LabelsFrom, States, Reset, Quit, Probe, Test as ToTest}
-use Rattle.lv_session_request.specs.Forms.{IsUpTo}
-use Rattle.lv_session_request.specs.Goals.{IsGoalIn}
-use Rattle.lv_session_request.specs.Requests.{IsSightingIn, IsRequestOf}
-use Rattle.lv_session.specs.declared.query.Query.{Query}
-use Rattle.lv_session.specs.declared.query.Query.TheVariants.{Absent, Diagnosis, Recovery, Test}
-use Rattle.lv_session_request.specs.Held.{lacks_name}
-use Rattle.lv_session.specs.Session.{SessionState, Stepped, start, rest, unchanged, cleared, walked, recovery, is_held, observe, retract, is_goal, lacks_goal_name, set_goal, drop_goal, recovered, recover, more, more_by, more_recovery_by, is_certifiable, certificate, labelled, labelled_from, commit, commit_by, probed_reply, probe_by, probe, testing, more_test_by, conflicts, taken_over, advanced_to, carried_out}
-use Rattle.lv_session.specs.States.{StateCosts, RankCosts, IsStateOf, IsListOf}
+use Rattle.lv_session_state.specs.lv_meaning.Ranges.{StateFits}
+use Rattle.lv_session_state.specs.lv_session_request.declared.goals.Goal.{Goal}
+use Rattle.lv_session_state.specs.lv_session_request.declared.request.Sighting.{Sighting}
+use Rattle.lv_session_state.specs.lv_session_request.declared.request.Request.{Request}
+use Rattle.lv_session_state.specs.lv_session_request.declared.request.Request.TheVariants.{Nothing, Track, TrackDistinct, SetBudget, SetControl, Release, Observe, Retract, SetGoal, DropGoal, Diagnose, Recover, More, Commit, Conflicts, Certificate, Labels, LabelsFrom, States, Reset, Quit, Probe, Test as ToTest}
+use Rattle.lv_session_state.specs.lv_session_request.Forms.{IsUpTo}
+use Rattle.lv_session_state.specs.lv_session_request.Goals.{IsGoalIn}
+use Rattle.lv_session_state.specs.lv_session_request.Requests.{IsSightingIn, IsRequestOf}
+use Rattle.lv_session_state.specs.declared.query.Query.{Query}
+use Rattle.lv_session_state.specs.declared.query.Query.TheVariants.{Absent, Diagnosis, Recovery, Test}
+use Rattle.lv_session_state.specs.lv_session_request.Held.{lacks_name}
+use Rattle.lv_session_state.specs.State.{SessionState, Stepped, start, rest, unchanged, cleared, walked, recovery, is_held, observe, retract, is_goal, lacks_goal_name, set_goal, drop_goal, recovered, recover, more, more_by, more_recovery_by, commit, commit_by, testing, more_test_by, conflicts, taken_over, advanced_to}
+use Rattle.lv_session.specs.Session.{is_certifiable, certificate, labelled, labelled_from, probed_reply, probe_by, probe, carried_out}
+use Rattle.lv_session_state.specs.States.{StateCosts, RankCosts, IsStateOf, IsListOf}
 use Rattle.lv_session.proofs.Fitting.{start_fits, all_fit}
-use Rattle.lv_session.proofs.Listed.{list_of}
+use Rattle.lv_session_state.proofs.Listed.{list_of}
 
 -- every control rests
 pub rest_whole : (cs : List VarId) → length (map (λ (c : VarId). rest) cs) ≡ length cs

@@ -15,12 +15,12 @@ use Rattle.lv_model.specs.Lists.{sizes, controls}
 use Rattle.lv_model.specs.WellFormed.{is_well_formed}
 use Rattle.lv_model.specs.Ranges.{plant_ranges}
 use Rattle.lv_formula.specs.Fits.{has_value}
-use Rattle.lv_meaning.specs.declared.facts.Observation.{Observation}
-use Rattle.lv_meaning.specs.Facts.{commanded, now_facts, HasValue}
-use Rattle.lv_system.specs.lv_compile.Booleans.{booleans_now}
-use Rattle.lv_system.specs.lv_compile.FormulaClauses.{size_of}
-use Rattle.lv_ident.proofs.lv_search_zones.ControlLemmas.{few_controls}
-use Rattle.lv_meaning.specs.Ranges.{modes_fit, StateFits}
+use Rattle.lv_session_state.specs.lv_meaning.declared.facts.Observation.{Observation}
+use Rattle.lv_session_state.specs.lv_meaning.Facts.{commanded, now_facts, HasValue}
+use Rattle.lv_session_state.specs.lv_system.lv_compile.Booleans.{booleans_now}
+use Rattle.lv_session_state.specs.lv_system.lv_compile.FormulaClauses.{size_of}
+use Rattle.lv_session_state.proofs.lv_ident.lv_search_zones.ControlLemmas.{few_controls}
+use Rattle.lv_session_state.specs.lv_meaning.Ranges.{modes_fit, StateFits}
 use Rattle.lv_reply.specs.declared.reply.Refusal.TheVariants.{OutOfLimits}
 use Rattle.lv_reply.specs.declared.reply.Reply.TheVariants.{Refused}
 use Rattle.lv_reply.specs.declared.labels.Moment.{Moment}
@@ -28,11 +28,12 @@ use Rattle.lv_reply.specs.declared.labels.Moment.TheVariants.{Now, Next}
 use Rattle.lv_labels.specs.Literals.{values_of}
 use Rattle.lv_labels.specs.Modes.{are_values}
 use Rattle.lv_labels.specs.Holding.{claim_at, IsClaimIn, AreFactsIn, HasOwnModes}
-use Rattle.lv_model_names.proofs.ScopeLemmas.{below_size}
-use Rattle.lv_session_request.specs.Held.{observation_of}
-use Rattle.lv_session.specs.Session.{SessionState, Stepped, unchanged, facts_of, labelled, labelled_from}
-use Rattle.lv_session.specs.States.{IsStateOf}
-use Rattle.lv_session.proofs.Asking.{facts_fit, facts_in_range}
+use Rattle.lv_session_state.proofs.lv_model_names.ScopeLemmas.{below_size}
+use Rattle.lv_session_state.specs.lv_session_request.Held.{observation_of}
+use Rattle.lv_session_state.specs.State.{SessionState, Stepped, unchanged, facts_of}
+use Rattle.lv_session.specs.Session.{labelled, labelled_from}
+use Rattle.lv_session_state.specs.States.{IsStateOf}
+use Rattle.lv_session_state.proofs.Asking.{facts_fit, facts_in_range}
 
 -- before the step and after it a variable has as many values
 claim_below : (plant : Plant) (moment : Moment) (o : Observation) → HasValue (sizes plant) o → IsClaimIn (values_of plant) (claim_at moment o)

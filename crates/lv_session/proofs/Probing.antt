@@ -9,23 +9,23 @@ use Rattle.lv_base.specs.declared.search.Candidate.{Candidate}
 use Rattle.lv_model.specs.declared.plant.Plant.{Plant}
 use Rattle.lv_search_walk.specs.declared.outcome.Outcome.TheVariants.{Settled}
 use Rattle.lv_search_walk.specs.Walk.{Walked, candidate_of, suit_all}
-use Rattle.lv_meaning.specs.Candidates.{candidates, is_possible_candidate}
-use Rattle.lv_meaning.specs.Diagnosis.{reason_of, diagnosis_walk}
-use Rattle.lv_meaning.specs.Targets.{are_alike}
-use Rattle.lv_ident.specs.Probing.{with_next}
-use Rattle.lv_ident.specs.lv_search_zones.Moves.{is_full_choice}
-use Rattle.lv_ident.proofs.lv_search_zones.ZoneLemmas.{candidates_are_full}
+use Rattle.lv_session_state.specs.lv_meaning.Candidates.{candidates, is_possible_candidate}
+use Rattle.lv_session_state.specs.lv_meaning.Diagnosis.{reason_of, diagnosis_walk}
+use Rattle.lv_session_state.specs.lv_meaning.Targets.{are_alike}
+use Rattle.lv_session_state.specs.lv_ident.Probing.{with_next}
+use Rattle.lv_session_state.specs.lv_ident.lv_search_zones.Moves.{is_full_choice}
+use Rattle.lv_session_state.proofs.lv_ident.lv_search_zones.ZoneLemmas.{candidates_are_full}
 use Rattle.lv_probe.specs.Probing.{IsFull, number_with}
 use Rattle.lv_probe.proofs.LawLemmas.{numbers_listed}
 use Rattle.lv_reply.specs.declared.reply.Refusal.TheVariants.{NameHeld, TooManyHeld}
 use Rattle.lv_reply.specs.declared.reply.Reply.TheVariants.{Refused}
-use Rattle.lv_session_request.specs.Held.{observation_of}
-use Rattle.lv_session_request.specs.declared.request.Sighting.{Sighting}
-use Rattle.lv_session.specs.declared.running.Diagnosed.{Diagnosed}
-use Rattle.lv_session.specs.Session.{SessionState, unchanged, cleared, facts_of, walked, is_held, has_no_room, observe}
-use Rattle.lv_session.specs.Current.{come_to, IsDiagnosisAt}
+use Rattle.lv_session_state.specs.lv_session_request.Held.{observation_of}
+use Rattle.lv_session_state.specs.lv_session_request.declared.request.Sighting.{Sighting}
+use Rattle.lv_session_state.specs.declared.running.Diagnosed.{Diagnosed}
+use Rattle.lv_session_state.specs.State.{SessionState, unchanged, cleared, facts_of, walked, is_held, has_no_room, observe}
+use Rattle.lv_session_state.specs.Current.{come_to, IsDiagnosisAt}
 use Rattle.lv_session.specs.Laws.{is_refused}
-use Rattle.lv_session.proofs.Listed.{listed_all}
+use Rattle.lv_session_state.proofs.Listed.{listed_all}
 
 -- the candidate of the rank has a move for each part
 record IsFullRank (plant : Plant) (r : Rank) : Type 0 where

@@ -6,9 +6,9 @@ use Rattle.lv_base.specs.declared.ids.VarId.{VarId}
 use Rattle.lv_model.specs.declared.plant.Plant.{Plant}
 use Rattle.lv_search_walk.specs.declared.outcome.Outcome.{Outcome}
 use Rattle.lv_search_walk.specs.declared.outcome.Outcome.TheVariants.{Unsettled}
-use Rattle.lv_session.specs.declared.query.Query.{Query}
-use Rattle.lv_session.specs.declared.query.Query.TheVariants.{Diagnosis, Recovery, Test}
-use Rattle.lv_session.specs.Session.{SessionState, walked, recovery, testing, more, more_by, more_recovery_by, more_test_by}
+use Rattle.lv_session_state.specs.declared.query.Query.{Query}
+use Rattle.lv_session_state.specs.declared.query.Query.TheVariants.{Diagnosis, Recovery, Test}
+use Rattle.lv_session_state.specs.State.{SessionState, walked, recovery, testing, more, more_by, more_recovery_by, more_test_by}
 use Rattle.lv_session.specs.Laws.{gone_on, GoesOn}
 
 -- which query is current plays no part in what one comes to

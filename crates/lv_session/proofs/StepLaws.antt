@@ -11,7 +11,7 @@ use Rattle.lv_model.specs.declared.state.TrackedState.{TrackedState}
 use Rattle.lv_search_walk.specs.declared.outcome.Outcome.{Outcome}
 use Rattle.lv_search_walk.specs.declared.outcome.Outcome.TheVariants.{Settled, Unsettled}
 use Rattle.lv_search_walk.specs.Walk.{Walked}
-use Rattle.lv_tracker.specs.Tracked.{advanced}
+use Rattle.lv_session_state.specs.lv_tracker.Tracked.{advanced}
 use Rattle.lv_reply.specs.declared.reply.Refusal.{Refusal}
 use Rattle.lv_reply.specs.declared.reply.Refusal.TheVariants.{NameHeld, NameNotHeld, OutOfLimits, NoQuery, NothingListed, NoGoal, TooManyHeld, TooManyCommits}
 use Rattle.lv_reply.specs.declared.reply.Reply.{Reply}
@@ -20,15 +20,16 @@ use Rattle.lv_labels.specs.declared.labelling.Labelling.{Labelling}
 use Rattle.lv_labels.specs.declared.labelling.Labelling.TheVariants as labelling
 use Rattle.lv_labels.specs.Literals.{fact_literals, state_literals}
 use Rattle.lv_labels.specs.Finding.{labelling}
-use Rattle.lv_session_request.specs.declared.goals.Goal.{Goal}
-use Rattle.lv_session_request.specs.declared.request.Sighting.{Sighting}
-use Rattle.lv_session_request.specs.declared.request.Request.{Request}
-use Rattle.lv_session_request.specs.declared.request.Request.TheVariants.{Nothing, Track, TrackDistinct, SetBudget, SetControl, Release, Observe, Retract, SetGoal, DropGoal, Diagnose, Recover, More, Commit, Conflicts, Certificate, Labels, LabelsFrom, States, Reset, Quit, Probe, Test as ToTest}
-use Rattle.lv_session_request.specs.Requests.{request_of}
-use Rattle.lv_session.specs.declared.query.Query.{Query}
-use Rattle.lv_session.specs.declared.query.Query.TheVariants.{Absent, Diagnosis, Recovery, Test}
-use Rattle.lv_session_request.specs.Held.{lacks_name}
-use Rattle.lv_session.specs.Session.{SessionState, Stepped, unchanged, cleared, walked, recovery, is_held, has_no_room, observe, retract, is_goal, has_no_goal_room, lacks_goal_name, set_goal, drop_goal, reply_by, diagnosis_reply, diagnosed, found, recovery_reply_by, recovery_reply, recovered, recover, more, more_by, more_recovery_by, is_certifiable, certificate, facts_of, labels_reply, labelled, labelled_from, commit, commit_by, probed_reply, probe_by, probe, testing, test_reply_by, test_reply, found_test, tested, more_test_by, conflicts, taken_over, advanced_to, carried_out, answered, stepped}
+use Rattle.lv_session_state.specs.lv_session_request.declared.goals.Goal.{Goal}
+use Rattle.lv_session_state.specs.lv_session_request.declared.request.Sighting.{Sighting}
+use Rattle.lv_session_state.specs.lv_session_request.declared.request.Request.{Request}
+use Rattle.lv_session_state.specs.lv_session_request.declared.request.Request.TheVariants.{Nothing, Track, TrackDistinct, SetBudget, SetControl, Release, Observe, Retract, SetGoal, DropGoal, Diagnose, Recover, More, Commit, Conflicts, Certificate, Labels, LabelsFrom, States, Reset, Quit, Probe, Test as ToTest}
+use Rattle.lv_session_state.specs.lv_session_request.Requests.{request_of}
+use Rattle.lv_session_state.specs.declared.query.Query.{Query}
+use Rattle.lv_session_state.specs.declared.query.Query.TheVariants.{Absent, Diagnosis, Recovery, Test}
+use Rattle.lv_session_state.specs.lv_session_request.Held.{lacks_name}
+use Rattle.lv_session_state.specs.State.{SessionState, Stepped, unchanged, cleared, walked, recovery, is_held, has_no_room, observe, retract, is_goal, has_no_goal_room, lacks_goal_name, set_goal, drop_goal, reply_by, diagnosis_reply, diagnosed, found, recovery_reply_by, recovery_reply, recovered, recover, more, more_by, more_recovery_by, facts_of, commit, commit_by, testing, test_reply_by, test_reply, found_test, tested, more_test_by, conflicts, taken_over, advanced_to}
+use Rattle.lv_session.specs.Session.{is_certifiable, certificate, labels_reply, labelled, labelled_from, probed_reply, probe_by, probe, carried_out, answered, stepped}
 use Rattle.lv_session.specs.Certificates.{IsDue}
 use Rattle.lv_session.specs.Laws.{is_refused, is_certificate, clears}
 

@@ -8,32 +8,33 @@ use Rattle.lv_base.specs.declared.limits.TheConstants.{TRACKED, BUDGET}
 use Rattle.lv_text.specs.declared.lexer.TokenKind.{TokenKind}
 use Rattle.lv_text.specs.declared.lexer.TokenKind.TheVariants as kind
 use Rattle.lv_text.specs.Lexemes.{Lexeme, Reading, reads, has_bad_byte, is_too_long, line_reading, number_at}
-use Rattle.lv_model_names.specs.lv_formula_text.Canonical.{canonical_text}
-use Rattle.lv_model_names.specs.lv_formula_text.Descent.{phrase_of}
-use Rattle.lv_model_names.specs.lv_formula_text.Laws.{is_flat}
-use Rattle.lv_model_names.specs.lv_formula_text.Nesting.{is_too_deep}
+use Rattle.lv_session_state.specs.lv_model_names.lv_formula_text.Canonical.{canonical_text}
+use Rattle.lv_session_state.specs.lv_model_names.lv_formula_text.Descent.{phrase_of}
+use Rattle.lv_session_state.specs.lv_model_names.lv_formula_text.Laws.{is_flat}
+use Rattle.lv_session_state.specs.lv_model_names.lv_formula_text.Nesting.{is_too_deep}
 use Rattle.lv_model.specs.declared.plant.Plant.{Plant}
 use Rattle.lv_model.specs.WellFormed.{is_well_formed}
-use Rattle.lv_model_names.specs.Lists.{lists_of}
+use Rattle.lv_session_state.specs.lv_model_names.Lists.{lists_of}
 use Rattle.lv_reply.specs.declared.reply.Refusal.{Refusal}
 use Rattle.lv_reply.specs.declared.reply.Refusal.TheVariants.{Form, OutOfLimits, TooComplex}
 use Rattle.lv_reply.specs.declared.reply.Reply.TheVariants.{Nothing as Silence}
-use Rattle.lv_session_request.specs.declared.goals.Goal.{Goal}
-use Rattle.lv_session_request.specs.declared.request.Command.{Command}
-use Rattle.lv_session_request.specs.declared.request.Sighting.{Sighting}
-use Rattle.lv_session_request.specs.declared.request.Request.{Request}
-use Rattle.lv_session_request.specs.declared.request.Request.TheVariants as request
-use Rattle.lv_session_request.specs.declared.words.Word.{Word}
-use Rattle.lv_session_request.specs.declared.words.Word.TheVariants as said
-use Rattle.lv_session_request.specs.Chain.{and_then}
-use Rattle.lv_session_request.specs.Forms.{first_word, has_number_form, has_command_signs, has_release_signs, has_observe_signs, name_at, has_distinct_form, from_1_to, limited, number_to, IsUpTo}
-use Rattle.lv_session_request.specs.Goals.{phrase_in, formula_of, simple, goal_of, AreRead, IsGoalIn}
-use Rattle.lv_session_request.specs.Names.{control_of, observable_of, value_in}
-use Rattle.lv_session_request.specs.Requests.{word, alone, track_of, command_of, release_of, tested_of, sighting_of, retracted_of, labels_of, request_by, asked_by_first, asked, asked_by, request_of, IsCommandIn, IsSightingIn, IsObservableOf, IsRequestOf}
-use Rattle.lv_session_request.proofs.GoalLaws.{reads_back, goal_is_in}
-use Rattle.lv_session_request.proofs.RequestLaws.{command_fits, tested_fits, sighting_fits}
-use Rattle.lv_session.specs.Session.{SessionState, unchanged, answered, stepped}
-use Rattle.lv_session.specs.States.{IsStateOf}
+use Rattle.lv_session_state.specs.lv_session_request.declared.goals.Goal.{Goal}
+use Rattle.lv_session_state.specs.lv_session_request.declared.request.Command.{Command}
+use Rattle.lv_session_state.specs.lv_session_request.declared.request.Sighting.{Sighting}
+use Rattle.lv_session_state.specs.lv_session_request.declared.request.Request.{Request}
+use Rattle.lv_session_state.specs.lv_session_request.declared.request.Request.TheVariants as request
+use Rattle.lv_session_state.specs.lv_session_request.declared.words.Word.{Word}
+use Rattle.lv_session_state.specs.lv_session_request.declared.words.Word.TheVariants as said
+use Rattle.lv_session_state.specs.lv_session_request.Chain.{and_then}
+use Rattle.lv_session_state.specs.lv_session_request.Forms.{first_word, has_number_form, has_command_signs, has_release_signs, has_observe_signs, name_at, has_distinct_form, from_1_to, limited, number_to, IsUpTo}
+use Rattle.lv_session_state.specs.lv_session_request.Goals.{phrase_in, formula_of, simple, goal_of, AreRead, IsGoalIn}
+use Rattle.lv_session_state.specs.lv_session_request.Names.{control_of, observable_of, value_in}
+use Rattle.lv_session_state.specs.lv_session_request.Requests.{word, alone, track_of, command_of, release_of, tested_of, sighting_of, retracted_of, labels_of, request_by, asked_by_first, asked, asked_by, request_of, IsCommandIn, IsSightingIn, IsObservableOf, IsRequestOf}
+use Rattle.lv_session_state.proofs.lv_session_request.GoalLaws.{reads_back, goal_is_in}
+use Rattle.lv_session_state.proofs.lv_session_request.RequestLaws.{command_fits, tested_fits, sighting_fits}
+use Rattle.lv_session_state.specs.State.{SessionState, unchanged}
+use Rattle.lv_session.specs.Session.{answered, stepped}
+use Rattle.lv_session_state.specs.States.{IsStateOf}
 use Rattle.lv_session.proofs.Keeping.{request_kept}
 
 -- what came first in a chain that is not refused, and what followed

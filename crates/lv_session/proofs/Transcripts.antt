@@ -7,7 +7,8 @@ use Rattle.lv_model.specs.declared.plant.Plant.{Plant}
 use Rattle.lv_reply.specs.declared.reply.Reply.{Reply}
 use Rattle.lv_reply.specs.declared.reply.Reply.TheVariants.{Nothing, Accepted, Refused, Settled, Unsettled, Conflicts, Committed, States, Recovered, NoRecovery, Undecided, CommandConflicts, Labels, Contradiction, Certificate, Probed, Tested, NoTest}
 use Rattle.lv_reply.specs.Texts.{reply_text}
-use Rattle.lv_session.specs.Session.{SessionState, stepped}
+use Rattle.lv_session_state.specs.State.{SessionState}
+use Rattle.lv_session.specs.Session.{stepped}
 use Rattle.lv_session.specs.Certificates.{IsTextOf}
 use Rattle.lv_session.specs.Transcript.{SessionStep, IsTranscriptFrom, ends, goes_on}
 use Rattle.lv_session.specs.Laws.{is_certificate, replies_to, replies}

@@ -2,9 +2,10 @@
 use Rattle.std.specs.Prelude.{ℕ, Bool, false, true, not, ◌&&◌, List}
 use Rattle.lv_model.specs.declared.plant.Plant.{Plant}
 use Rattle.lv_serve.specs.Served.{quits as quits_at, fits as fits_at}
-use Rattle.lv_session.specs.declared.query.Query.{Query}
-use Rattle.lv_session.specs.declared.query.Query.TheVariants.{Absent, Diagnosis, Recovery, Test}
-use Rattle.lv_session.specs.Session.{SessionState, RunningSession, start, stepped, is_settled}
+use Rattle.lv_session_state.specs.declared.query.Query.{Query}
+use Rattle.lv_session_state.specs.declared.query.Query.TheVariants.{Absent, Diagnosis, Recovery, Test}
+use Rattle.lv_session_state.specs.State.{SessionState, start, is_settled}
+use Rattle.lv_session.specs.Session.{RunningSession, stepped}
 use Rattle.lv_session.specs.Certificates.{IsTextOf}
 
 -- a session at its start
@@ -22,17 +23,6 @@ SaysAt s line text = IsTextOf s.plant (stepped s.plant s.state line).state (step
 -- a `quit` was accepted
 abbrev pub has_quit : RunningSession → Bool
 has_quit s = s.state.is_ended
-
--- a query is current
-abbrev pub is_asked : Query → Bool
-is_asked Absent = false
-is_asked (Diagnosis sum) = true
-is_asked (Recovery sum) = true
-is_asked (Test x sum) = true
-
--- a query is current that `more` goes on with
-abbrev pub is_unsettled : Plant → SessionState → Bool
-is_unsettled plant state = not state.is_ended && is_asked state.query && not (is_settled state.query plant state)
 
 -- another session over the same plant, at its start
 abbrev pub begun_again : RunningSession → RunningSession

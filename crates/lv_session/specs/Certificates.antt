@@ -7,9 +7,10 @@ use Rattle.lv_cert_diagnosis.specs.lv_cert_meaning.Certifying.{CertifiesDiagnosi
 use Rattle.lv_reply.specs.declared.reply.Reply.{Reply}
 use Rattle.lv_reply.specs.declared.reply.Reply.TheVariants.{Certificate}
 use Rattle.lv_reply.specs.Texts.{reply_text}
-use Rattle.lv_session.specs.declared.query.Query.{Query}
-use Rattle.lv_session.specs.declared.query.Query.TheVariants.{Absent, Diagnosis, Recovery, Test}
-use Rattle.lv_session.specs.Session.{SessionState, facts_of, aim_of, walked, recovery, is_certifiable}
+use Rattle.lv_session_state.specs.declared.query.Query.{Query}
+use Rattle.lv_session_state.specs.declared.query.Query.TheVariants.{Absent, Diagnosis, Recovery, Test}
+use Rattle.lv_session_state.specs.State.{SessionState, facts_of, aim_of, walked, recovery}
+use Rattle.lv_session.specs.Session.{is_certifiable}
 
 -- the text of lines that certify what the diagnosis with so many trials lists
 pub record CertifiesWalked (plant : Plant) (state : SessionState) (sum : ℕ) (text : List ℕ) : Type 0 where

@@ -13,13 +13,14 @@ use Rattle.lv_probe.specs.Probing.{number_with}
 use Rattle.lv_reply.specs.declared.reply.Reply.{Reply}
 use Rattle.lv_reply.specs.declared.reply.Reply.TheVariants.{Nothing, Refused, Certificate}
 use Rattle.lv_reply.specs.Texts.{reply_text}
-use Rattle.lv_session_request.specs.Held.{observation_of}
-use Rattle.lv_session_request.specs.declared.request.Sighting.{Sighting}
-use Rattle.lv_session_request.specs.declared.request.Request.{Request}
-use Rattle.lv_session_request.specs.declared.request.Request.TheVariants.{Track, TrackDistinct, SetControl, Release, Observe, Retract, SetGoal, DropGoal, More, Commit, Reset}
-use Rattle.lv_session.specs.declared.query.Query.TheVariants.{Absent, Diagnosis, Recovery, Test}
-use Rattle.lv_session.specs.Session.{SessionState, start, facts_of, walked, recovery, observe, testing, diagnosis_reply, recovery_reply, test_reply, is_certifiable, carried_out, stepped}
-use Rattle.lv_session.specs.States.{IsStateOf}
+use Rattle.lv_session_state.specs.lv_session_request.Held.{observation_of}
+use Rattle.lv_session_state.specs.lv_session_request.declared.request.Sighting.{Sighting}
+use Rattle.lv_session_state.specs.lv_session_request.declared.request.Request.{Request}
+use Rattle.lv_session_state.specs.lv_session_request.declared.request.Request.TheVariants.{Track, TrackDistinct, SetControl, Release, Observe, Retract, SetGoal, DropGoal, More, Commit, Reset}
+use Rattle.lv_session_state.specs.declared.query.Query.TheVariants.{Absent, Diagnosis, Recovery, Test}
+use Rattle.lv_session_state.specs.State.{SessionState, start, facts_of, walked, recovery, observe, testing, diagnosis_reply, recovery_reply, test_reply}
+use Rattle.lv_session.specs.Session.{is_certifiable, carried_out, stepped}
+use Rattle.lv_session_state.specs.States.{IsStateOf}
 use Rattle.lv_session.specs.Transcript.{IsTranscript, AddsFrontOfTranscript}
 
 -- the replies to lines, in order

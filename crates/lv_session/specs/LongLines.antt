@@ -5,11 +5,12 @@ use Rattle.lv_base.specs.declared.limits.TheConstants.{LINE_BYTES}
 use Rattle.lv_text.specs.Tokens.{long_line, all_tokens}
 use Rattle.lv_text.specs.Lexemes.{line_reading, reading_by, is_too_long}
 use Rattle.lv_model.specs.declared.plant.Plant.{Plant}
-use Rattle.lv_model_names.specs.Lists.{lists_of}
+use Rattle.lv_session_state.specs.lv_model_names.Lists.{lists_of}
 use Rattle.lv_reply.specs.declared.reply.Refusal.TheVariants.{LineTooLong}
 use Rattle.lv_reply.specs.declared.reply.Reply.TheVariants.{Nothing as Silence}
-use Rattle.lv_session_request.specs.Requests.{request_of, asked_by}
-use Rattle.lv_session.specs.Session.{SessionState, RunningSession, Stepped, unchanged, answered, stepped}
+use Rattle.lv_session_state.specs.lv_session_request.Requests.{request_of, asked_by}
+use Rattle.lv_session_state.specs.State.{SessionState, Stepped, unchanged}
+use Rattle.lv_session.specs.Session.{RunningSession, answered, stepped}
 use Rattle.lv_session.specs.Certificates.{IsTextOf}
 use Rattle.lv_session.specs.Answering.{next_at, SaysAt, has_quit}
 

@@ -5,7 +5,8 @@ use Rattle.std.specs.Io.KnownBytes.{append_known}
 use Rattle.lv_io.specs.Whole.{AddsFront}
 use Rattle.lv_text.specs.Lines.{lines_of}
 use Rattle.lv_model.specs.declared.plant.Plant.{Plant}
-use Rattle.lv_session.specs.Session.{SessionState, start, stepped}
+use Rattle.lv_session_state.specs.State.{SessionState, start}
+use Rattle.lv_session.specs.Session.{stepped}
 use Rattle.lv_session.specs.Certificates.{IsTextOf}
 
 -- a line takes the session from one state to the next, and this text may be its reply

@@ -2,11 +2,10 @@
 #![tactic(auto)]
 
 ghost use Rattle.std.specs.Prelude.{◌≡◌, IfOk};
-ghost use Rattle.lv_system.specs.System.{IsSystemOf};
+ghost use Rattle.lv_session_state.specs.lv_system.System.{IsSystemOf};
 
 use lv_model::Model;
-use lv_model_names::Lists;
-use lv_system::{StepSystem, compile};
+use lv_session_state::{Lists, StepSystem, compile};
 use std::alloc::{AllocError, Global};
 use std::marker;
 

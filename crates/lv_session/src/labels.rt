@@ -3,19 +3,19 @@
 
 ghost use Rattle.std.specs.Prelude.{◌≡◌, ◌-◌, ◌++◌, None, IfOk, slice_get};
 ghost use Rattle.std.specs.Option.{option_copied};
-ghost use Rattle.lv_system.specs.System.{IsSystemOf};
+ghost use Rattle.lv_session_state.specs.lv_system.System.{IsSystemOf};
 ghost use Rattle.lv_labels.specs.Literals.{fact_literals, state_literals};
 ghost use Rattle.lv_labels.specs.Finding.{labelling};
 ghost use Rattle.lv_labels.specs.Holding.{HasOwnModes};
-ghost use Rattle.lv_session.specs.Session.{facts_of, labels_reply, labelled, labelled_from};
-ghost use Rattle.lv_session.specs.States.{IsStateOf};
-ghost use Rattle.lv_session.specs.Current.{IsLabellerOf};
+ghost use Rattle.lv_session_state.specs.State.{facts_of};
+ghost use Rattle.lv_session.specs.Session.{labels_reply, labelled, labelled_from};
+ghost use Rattle.lv_session_state.specs.States.{IsStateOf};
+ghost use Rattle.lv_session.specs.Kept.{IsLabellerOf};
 
-use crate::state::State;
 use lv_labels::{Labeller, Labelling};
 use lv_model::{Model, State as Modes, TrackedState};
 use lv_reply::{Refusal, Reply};
-use lv_system::StepSystem;
+use lv_session_state::{State, StepSystem};
 use std::alloc::{AllocError, Global};
 
 /// What propagation finds, as a reply.
@@ -53,83 +53,81 @@ fn numbered(tracked: &[TrackedState], n: u32) -> Option<&TrackedState>
     tracked.get((n as usize).saturating_sub(1))
 }
 
-impl State {
-    /// What propagation finds under the facts and, if a state is given, its modes.
-    fn told(
-        &self,
-        alloc: Global,
-        model: &Model,
-        labeller: &mut Labeller<'_>,
-        of: Option<&Modes>,
-    ) -> Result<Labelling, AllocError>
-        requires state { IsStateOf model.now self.now }
-        requires labeller { labeller.old ≡ model.now }
-        requires modes { HasOwnModes model.now (option_copied of) }
-        ensures found { IfOk result (λ told. told ≡ labelling model.now (fact_literals model.now (facts_of self.now) ++ state_literals model.now (option_copied of.entry))) }
-        ensures labeller { labeller.new ≡ model.now }
-    {
-        let _plant = model.plant();
-        let facts = self.facts(alloc)?;
-        labeller.tell(&facts, of)
-    }
+/// What propagation finds under the facts and, if a state is given, its modes.
+fn told(
+    state: &State,
+    alloc: Global,
+    model: &Model,
+    labeller: &mut Labeller<'_>,
+    of: Option<&Modes>,
+) -> Result<Labelling, AllocError>
+    requires state { IsStateOf model.now state.now }
+    requires labeller { labeller.old ≡ model.now }
+    requires modes { HasOwnModes model.now (option_copied of) }
+    ensures found { IfOk result (λ told. told ≡ labelling model.now (fact_literals model.now (facts_of state.now) ++ state_literals model.now (option_copied of.entry))) }
+    ensures labeller { labeller.new ≡ model.now }
+{
+    let _plant = model.plant();
+    let facts = state.facts(alloc)?;
+    labeller.tell(&facts, of)
+}
 
-    /// The same as a reply, asked of the labeller that is held from line to line.
-    fn labelled<'a>(
-        &self,
-        alloc: Global,
-        model: &'a Model,
-        system: &StepSystem,
-        held: &mut Option<Labeller<'a>>,
-        of: Option<&Modes>,
-    ) -> Result<Reply, AllocError>
-        requires state { IsStateOf model.now self.now }
-        requires system { IsSystemOf model.now system.now }
-        requires held { IsLabellerOf model.now held.old }
-        requires modes { HasOwnModes model.now (option_copied of) }
-        ensures reply { IfOk result (λ reply. record { state = self.now; reply = reply } ≡ labelled model.now self.now (option_copied of.entry)) }
-        ensures held { IsLabellerOf model.now held.new }
-    {
-        let mut labeller = taken(alloc, model, system, held)?;
-        let told = self.told(alloc, model, &mut labeller, of);
-        *held = Some(labeller);
-        Ok(labels_reply(told?))
-    }
+/// The same as a reply, asked of the labeller that is held from line to line.
+fn labelled<'a>(
+    state: &State,
+    alloc: Global,
+    model: &'a Model,
+    system: &StepSystem,
+    held: &mut Option<Labeller<'a>>,
+    of: Option<&Modes>,
+) -> Result<Reply, AllocError>
+    requires state { IsStateOf model.now state.now }
+    requires system { IsSystemOf model.now system.now }
+    requires held { IsLabellerOf model.now held.old }
+    requires modes { HasOwnModes model.now (option_copied of) }
+    ensures reply { IfOk result (λ reply. record { state = state.now; reply = reply } ≡ labelled model.now state.now (option_copied of.entry)) }
+    ensures held { IsLabellerOf model.now held.new }
+{
+    let mut labeller = taken(alloc, model, system, held)?;
+    let told = told(state, alloc, model, &mut labeller, of);
+    *held = Some(labeller);
+    Ok(labels_reply(told?))
+}
 
-    /// `labels`
-    pub(crate) fn labels<'a>(
-        &self,
-        alloc: Global,
-        model: &'a Model,
-        system: &StepSystem,
-        held: &mut Option<Labeller<'a>>,
-    ) -> Result<Reply, AllocError>
-        requires state { IsStateOf model.now self.now }
-        requires system { IsSystemOf model.now system.now }
-        requires held { IsLabellerOf model.now held.old }
-        ensures reply { IfOk result (λ reply. record { state = self.now; reply = reply } ≡ labelled model.now self.now None) }
-        ensures held { IsLabellerOf model.now held.new }
-    {
-        self.labelled(alloc, model, system, held, None)
-    }
+/// `labels`
+pub(crate) fn labels<'a>(
+    state: &State,
+    alloc: Global,
+    model: &'a Model,
+    system: &StepSystem,
+    held: &mut Option<Labeller<'a>>,
+) -> Result<Reply, AllocError>
+    requires state { IsStateOf model.now state.now }
+    requires system { IsSystemOf model.now system.now }
+    requires held { IsLabellerOf model.now held.old }
+    ensures reply { IfOk result (λ reply. record { state = state.now; reply = reply } ≡ labelled model.now state.now None) }
+    ensures held { IsLabellerOf model.now held.new }
+{
+    labelled(state, alloc, model, system, held, None)
+}
 
-    /// `labels I`: with the modes of the tracked state of this number, counted from 1.
-    pub(crate) fn labels_from<'a>(
-        &self,
-        alloc: Global,
-        model: &'a Model,
-        system: &StepSystem,
-        held: &mut Option<Labeller<'a>>,
-        n: u32,
-    ) -> Result<Reply, AllocError>
-        requires state { IsStateOf model.now self.now }
-        requires system { IsSystemOf model.now system.now }
-        requires held { IsLabellerOf model.now held.old }
-        ensures reply { IfOk result (λ reply. record { state = self.now; reply = reply } ≡ labelled_from model.now self.now n) }
-        ensures held { IsLabellerOf model.now held.new }
-    {
-        match numbered(self.tracked.as_slice(), n) {
-            Some(s) => self.labelled(alloc, model, system, held, Some(&s.state)),
-            None => Ok(Reply::Refused(Refusal::OutOfLimits)),
-        }
+/// `labels I`: with the modes of the tracked state of this number, counted from 1.
+pub(crate) fn labels_from<'a>(
+    state: &State,
+    alloc: Global,
+    model: &'a Model,
+    system: &StepSystem,
+    held: &mut Option<Labeller<'a>>,
+    n: u32,
+) -> Result<Reply, AllocError>
+    requires state { IsStateOf model.now state.now }
+    requires system { IsSystemOf model.now system.now }
+    requires held { IsLabellerOf model.now held.old }
+    ensures reply { IfOk result (λ reply. record { state = state.now; reply = reply } ≡ labelled_from model.now state.now n) }
+    ensures held { IsLabellerOf model.now held.new }
+{
+    match numbered(state.tracked().as_slice(), n) {
+        Some(s) => labelled(state, alloc, model, system, held, Some(&s.state)),
+        None => Ok(Reply::Refused(Refusal::OutOfLimits)),
     }
 }

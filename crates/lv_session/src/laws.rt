@@ -47,7 +47,8 @@ pub fn ended_is_silent()
 
 /// Each settled diagnosis of every transcript lists the first k candidates of the tracked states that are possible under
 /// the facts, in the order of their ranks, or all if fewer are; each settled recovery is the first command set that takes
-/// every tracked state nominally to the goals, and `no recovery` is told exactly where none does.
+/// every tracked state nominally to the goals, and `no recovery` is told exactly where none does; each settled test is the
+/// first command set that tests the observable from the tracked states, and `no test` is told exactly where none does.
 pub fn settled_answers_are_first()
     ensures { SettledAnswersAreFirst }
 {}

@@ -3,28 +3,26 @@
 
 ghost use Rattle.std.specs.Prelude.{◌≡◌, All, IfOk, IfSome, OnOk, OnErr, IsErr, is_some, true, false};
 ghost use Rattle.std.specs.Option.{option_copied};
-ghost use Rattle.lv_meaning.specs.Facts.{FactsFit, FactsInRange};
-ghost use Rattle.lv_meaning.specs.Ranges.{StateFits};
-ghost use Rattle.lv_session_request.specs.Goals.{IsGoalIn};
-ghost use Rattle.lv_session_request.specs.Requests.{IsRequestOf};
-ghost use Rattle.lv_session.specs.Session.{stepped, is_certifiable, facts_of};
-ghost use Rattle.lv_session.specs.Applying.{recovery_at, applied, performed};
+ghost use Rattle.lv_session_state.specs.lv_meaning.Facts.{FactsFit, FactsInRange};
+ghost use Rattle.lv_session_state.specs.lv_meaning.Ranges.{StateFits};
+ghost use Rattle.lv_session_state.specs.lv_session_request.Goals.{IsGoalIn};
+ghost use Rattle.lv_session_state.specs.lv_session_request.Requests.{IsRequestOf};
+ghost use Rattle.lv_session.specs.Session.{stepped, is_certifiable};
+ghost use Rattle.lv_session_state.specs.State.{facts_of};
+ghost use Rattle.lv_session.specs.Applying.{recovery_at, performed};
+ghost use Rattle.lv_session_state.specs.Applying.{applied};
 ghost use Rattle.lv_session.specs.Answering.{begun, next_at, SaysAt, is_open};
-ghost use Rattle.lv_session.specs.Current.{IsSession};
+ghost use Rattle.lv_session.specs.Kept.{IsSession};
 ghost use Rattle.lv_session.specs.Certificates.{Certifies, IsTextOf, IsDue};
 
-use crate::applying::values_of;
 use crate::compiled::CompiledModel;
-use crate::state::State;
 use crate::workings::{Workings, answer, perform};
 use lv_base::ValId;
-use lv_ident::QueryEffort;
 use lv_lanes::Lane;
-use lv_meaning::Facts;
 use lv_model::TrackedState;
 use lv_reply::{Reply, reply_text};
 use lv_serve::Responder;
-use lv_session_request::{Goal, Held, Request};
+use lv_session_state::{Facts, Goal, Held, QueryEffort, Request, State, values_of};
 use std::alloc::{AllocError, Global};
 use std::marker;
 
@@ -40,7 +38,7 @@ pub struct Session<'a> {
 
 impl<'a> marker::Model for Session<'a> {
     ghost use Rattle.lv_session.specs.Session.{RunningSession};
-    ghost use Rattle.lv_session.specs.Current.{IsSession};
+    ghost use Rattle.lv_session.specs.Kept.{IsSession};
     ghost use Rattle.std.specs.Coded.{codes};
     ghost use Rattle.lv_formula.specs.contracts.Condition as condition;
 
@@ -143,21 +141,21 @@ impl<'a> Session<'a> {
         ensures tracked { result.now ≡ self.now.state.tracked }
         ensures fit { All (StateFits self.now.plant) result.now }
     {
-        self.state.tracked.as_slice()
+        self.state.tracked().as_slice()
     }
 
     /// The values that the controls are commanded to, in written order. Takes no memory.
     pub fn controls(&self) -> &[ValId]
         ensures { result.now ≡ self.now.state.controls }
     {
-        self.state.controls.as_slice()
+        self.state.controls()
     }
 
     /// What is observed now, by its names. Takes no memory.
     pub fn present(&self) -> &Held
         ensures { result.now ≡ self.now.state.present }
     {
-        &self.state.present
+        self.state.present()
     }
 
     /// The goals. Takes no memory.
@@ -165,7 +163,7 @@ impl<'a> Session<'a> {
         ensures goals { result.now ≡ self.now.state.goals }
         ensures fit { All (IsGoalIn self.now.plant) result.now }
     {
-        self.state.goals.as_slice()
+        self.state.goals()
     }
 
     /// The facts of a diagnosis of the state as it is.

@@ -2,18 +2,18 @@
 #![tactic(auto)]
 
 ghost use Rattle.std.specs.Prelude.{◌≡◌, IfOk, None, OnOk, OnErr};
-ghost use Rattle.lv_session_request.specs.Requests.{IsRequestOf};
+ghost use Rattle.lv_session_state.specs.lv_session_request.Requests.{IsRequestOf};
 ghost use Rattle.lv_session.specs.Session.{carried_out, stepped};
 ghost use Rattle.lv_session.specs.Applying.{performed};
-ghost use Rattle.lv_session.specs.States.{IsStateOf};
-ghost use Rattle.lv_session.specs.Current.{IsCurrent, IsLabellerOf};
+ghost use Rattle.lv_session_state.specs.States.{IsStateOf};
+ghost use Rattle.lv_session_state.specs.Current.{IsCurrent};
+ghost use Rattle.lv_session.specs.Kept.{IsLabellerOf};
 
 use crate::compiled::CompiledModel;
-use crate::running::Running;
-use crate::state::State;
+use crate::requests;
 use lv_labels::Labeller;
 use lv_reply::Reply;
-use lv_session_request::{Request, Unread, request_of};
+use lv_session_state::{Request, Running, State, Unread, request_of};
 use lv_text::Token;
 use std::alloc::{AllocError, Global};
 
@@ -66,11 +66,12 @@ fn carry_out<'a>(
 {
     let model = compiled.model;
     let _plant = model.plant();
-    state.carry_out(
+    requests::carry_out(
         alloc,
         model,
         &compiled.system,
         &compiled.lists,
+        state,
         &mut workings.running,
         &mut workings.labeller,
         request,

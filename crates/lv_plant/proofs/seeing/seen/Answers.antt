@@ -2,7 +2,7 @@ use Rattle.std.proofs.Common.{◌≡◌, true, sym, subst, All}
 use Rattle.std.proofs.lemmas.Result.{IfOk-weaker}
 use Rattle.lv_model.specs.declared.plant.Plant.{Plant}
 use Rattle.lv_model.specs.WellFormed.{is_well_formed}
-use Rattle.lv_session_request.specs.Requests.{IsSightingIn}
+use Rattle.lv_session.specs.lv_session_request.Requests.{IsSightingIn}
 use Rattle.lv_plant.specs.Seeing.{seen}
 use Rattle.lv_plant.proofs.SeeingLemmas.{seen_in}
 use Rattle.lv_plant.proofs.seeing.seen.Goals as goal

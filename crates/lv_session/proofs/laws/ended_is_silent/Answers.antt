@@ -1,5 +1,5 @@
 use Rattle.std.proofs.Common.{ap}
-use Rattle.lv_session.specs.Session.{Stepped}
+use Rattle.lv_session_state.specs.State.{Stepped}
 use Rattle.lv_session.proofs.StepLaws.{ended_stays}
 use Rattle.lv_session.proofs.laws.ended_is_silent.Goals as goal
 

@@ -1,5 +1,5 @@
 use Rattle.lv_text.specs.Lines.{lines_of}
-use Rattle.lv_session.specs.Session.{start}
+use Rattle.lv_session_state.specs.State.{start}
 use Rattle.lv_session.proofs.Transcripts.{some_transcript, one_transcript, front_of_transcript}
 use Rattle.lv_session.proofs.laws.transcript_is_one.Goals as goal
 

@@ -3,9 +3,9 @@ use Rattle.std.proofs.Common.{◌≡◌, true, subst, sym}
 use Rattle.std.specs.Prelude.{OnOk}
 use Rattle.lv_model.specs.declared.plant.Plant.{Plant}
 use Rattle.lv_model.specs.WellFormed.{is_well_formed}
-use Rattle.lv_session_request.specs.Requests.{IsRequestOf}
-use Rattle.lv_session.specs.States.{IsStateOf}
-use Rattle.lv_session.specs.Current.{IsCurrent}
+use Rattle.lv_session_state.specs.lv_session_request.Requests.{IsRequestOf}
+use Rattle.lv_session_state.specs.States.{IsStateOf}
+use Rattle.lv_session_state.specs.Current.{IsCurrent}
 use Rattle.lv_session.proofs.Keeping.{state_kept}
 use Rattle.lv_session.proofs.CurrentLemmas.{current_kept}
 use Rattle.lv_session.proofs.workings.carry_out.Goals as goal

@@ -2,7 +2,7 @@
 use Rattle.std.proofs.Common.{◌≡◌, sym, subst, ap, length, All, List}
 use Rattle.lv_base.specs.declared.ids.ValId.{ValId}
 use Rattle.lv_model.specs.declared.plant.Plant.{Plant}
-use Rattle.lv_session_request.specs.Goals.{IsGoalIn}
+use Rattle.lv_session.specs.lv_session_request.Goals.{IsGoalIn}
 use Rattle.lv_plant.specs.Findings.{GoalReads}
 use Rattle.lv_plant.specs.Standing.{Standing}
 use Rattle.lv_plant.proofs.PlantLemmas.{goals_read}

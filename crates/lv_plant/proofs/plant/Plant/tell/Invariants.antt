@@ -1,5 +1,5 @@
 use Rattle.std.proofs.Common.{◌≡◌, All}
-use Rattle.lv_session_request.specs.Requests.{IsSightingIn}
+use Rattle.lv_session.specs.lv_session_request.Requests.{IsSightingIn}
 use Rattle.lv_plant.specs.Standing.{told_all}
 use Rattle.lv_plant.proofs.plant.Plant.tell.Given as goal
 

@@ -2,7 +2,8 @@
 use Rattle.std.proofs.Common.{rules, ◌≡◌, Some, sym, ap, ◌∙◌}
 use Rattle.std.specs.Option.{option_copied}
 use Rattle.lv_session.specs.Session.{RunningSession}
-use Rattle.lv_session.specs.Applying.{applied, recovery_at}
+use Rattle.lv_session_state.specs.Applying.{applied}
+use Rattle.lv_session.specs.Applying.{recovery_at}
 use Rattle.lv_session.proofs.Applied.{session_applied}
 use Rattle.lv_session.proofs.session.Session.apply.Goals as goal
 

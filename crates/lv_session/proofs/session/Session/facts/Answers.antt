@@ -1,10 +1,11 @@
 -- the facts are those of a state of the plant
 use Rattle.std.proofs.Common.{rules, ◌≡◌, sym, subst, IfOk}
 use Rattle.std.proofs.lemmas.Result.{IfOk-weaker}
-use Rattle.lv_meaning.specs.Facts.{FactsFit, FactsInRange}
-use Rattle.lv_session.specs.Session.{RunningSession, facts_of}
-use Rattle.lv_session.specs.States.{IsStateOf}
-use Rattle.lv_session.proofs.Asking.{facts_fit, facts_in_range}
+use Rattle.lv_session_state.specs.lv_meaning.Facts.{FactsFit, FactsInRange}
+use Rattle.lv_session.specs.Session.{RunningSession}
+use Rattle.lv_session_state.specs.State.{facts_of}
+use Rattle.lv_session_state.specs.States.{IsStateOf}
+use Rattle.lv_session_state.proofs.Asking.{facts_fit, facts_in_range}
 use Rattle.lv_session.proofs.session.Session.facts.Goals as goal
 
 pub returns-clause-fit : goal.returns-clause-fit

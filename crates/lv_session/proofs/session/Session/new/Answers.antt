@@ -2,9 +2,10 @@
 use Rattle.std.proofs.Common.{◌≡◌, true, sym, subst, ap, ◌∙◌}
 use Rattle.lv_model.specs.declared.plant.Plant.{Plant}
 use Rattle.lv_model.specs.WellFormed.{is_well_formed}
-use Rattle.lv_session.specs.Session.{SessionState, start}
-use Rattle.lv_session.specs.States.{IsStateOf}
-use Rattle.lv_session.specs.Current.{IsCurrent, IsLabellerOf}
+use Rattle.lv_session_state.specs.State.{SessionState, start}
+use Rattle.lv_session_state.specs.States.{IsStateOf}
+use Rattle.lv_session_state.specs.Current.{IsCurrent}
+use Rattle.lv_session.specs.Kept.{IsLabellerOf}
 use Rattle.lv_session.proofs.Keeping.{start_kept}
 use Rattle.lv_session.proofs.session.Session.new.Goals as goal
 

@@ -1,0 +1,29 @@
+-- What a session keeps beside its state from line to line.
+use Rattle.std.specs.Prelude.{◌≡◌, Bool, false, Option, IfSome}
+use Rattle.lv_model.specs.declared.plant.Plant.{Plant}
+use Rattle.lv_session_state.specs.lv_session_request.declared.request.Request.{Request}
+use Rattle.lv_session_state.specs.lv_session_request.declared.request.Request.TheVariants.{Diagnose, Recover, More, Test as ToTest}
+use Rattle.lv_session_state.specs.declared.running.Running.{Running}
+use Rattle.lv_session_state.specs.declared.running.Running.TheVariants as kept
+use Rattle.lv_session.specs.declared.workings.Workings.{Workings}
+use Rattle.lv_session_state.specs.State.{SessionState}
+use Rattle.lv_session_state.specs.States.{IsStateOf}
+use Rattle.lv_session_state.specs.Current.{IsCurrent}
+
+-- a request that runs a query leaves what is kept of it; every other one leaves what was kept
+abbrev pub IsCaredFor : Request → Plant → SessionState → Running → Running → Type 0
+IsCaredFor Diagnose plant next before after = IsCurrent plant next after
+IsCaredFor Recover plant next before after = IsCurrent plant next after
+IsCaredFor (More n) plant next before after = IsCurrent plant next after
+IsCaredFor (ToTest x) plant next before after = IsCurrent plant next after
+IsCaredFor request plant next before after = after ≡ before
+
+-- what is held to ask for labels, if anything, is of the plant
+abbrev pub IsLabellerOf : Plant → Option Plant → Type 0
+IsLabellerOf plant held = IfSome held (λ (of : Plant). of ≡ plant)
+
+-- the state is one of the plant; as long as memory sufficed, its current query is kept
+pub record IsSession (plant : Plant) (w : Workings) (now : SessionState) (is_out_of_memory : Bool) : Type 0 where
+  pub labeller_is : IsLabellerOf plant w.labeller
+  pub is_state : IsStateOf plant now
+  pub current : is_out_of_memory ≡ false → IsCurrent plant now w.running

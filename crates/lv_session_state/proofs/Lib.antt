@@ -1,0 +1,12 @@
+pub mod Listed
+pub mod Asking
+pub mod Recovering
+pub mod TestsAsked
+pub mod TestReadings
+pub mod TestWalks
+pub use Rattle.lv_model_names.proofs as lv_model_names
+pub use Rattle.lv_meaning.proofs as lv_meaning
+pub use Rattle.lv_tracker.proofs as lv_tracker
+pub use Rattle.lv_system.proofs as lv_system
+pub use Rattle.lv_ident.proofs as lv_ident
+pub use Rattle.lv_session_request.proofs as lv_session_request

@@ -1,0 +1,52 @@
+-- a search that isn't settled made all its trials, and lists few
+use Rattle.std.proofs.Common.{◌≡◌, ℕ, ◌+◌, ◌<◌, ◌≤◌, ◌^◌, true, sym, ap, subst, ◌∙◌, arith}
+use Rattle.lv_base.specs.declared.limits.TheConstants.{BUDGET}
+use Rattle.std.proofs.lemmas.Result.{IfOk-weaker}
+use Rattle.lv_model.specs.declared.plant.Plant.{Plant}
+use Rattle.lv_model.specs.WellFormed.{is_well_formed}
+use Rattle.lv_session_state.specs.State.{diagnosis_reply}
+use Rattle.lv_session_state.proofs.Asking.{listed_at, trials_at, gone_on, when_ok}
+use Rattle.lv_session_state.proofs.state.State.run_on.Goals as goal
+
+pub trials-trials-requires : goal.trials-trials-requires
+trials-trials-requires c =
+    let well : is_well_formed c.args.model.now ≡ true = subst (λ (p : Plant). is_well_formed p ≡ true) c.plant-plant.ensures.plant c.plant-plant.ensures.well_formed in
+    (listed_at c.args.model.now c.args.self.now c.args.sum c.args.run.now well c.requires.state c.requires.at).few
+
+-- all trials made before and those to come fit
+room : (made sum n : ℕ) → made ≡ sum → n ≤ BUDGET → made + BUDGET < 2 ^ 64 → sum + n < 2 ^ 64
+room made sum n same few fits = omega (arith, same, few, fits)
+
+pub returns-in_err-run-clause-room : goal.returns-in_err-run-clause-room
+returns-in_err-run-clause-room c =
+    room c.trials-trials.result c.args.sum c.args.n (c.trials-trials.ensures.trials ∙ trials_at c.args.model.now c.args.self.now c.args.sum c.args.run.now c.requires.at c.requires.unsettled)
+    c.requires.few c.trials-trials.ensures.room
+
+pub returns-clause-room : goal.returns-clause-room
+returns-clause-room c =
+    room c.trials-trials.result c.args.sum c.args.n (c.trials-trials.ensures.trials ∙ trials_at c.args.model.now c.args.self.now c.args.sum c.args.run.now c.requires.at c.requires.unsettled)
+    c.requires.few c.trials-trials.ensures.room
+
+pub reply_of-requires : goal.reply_of-requires
+reply_of-requires c =
+    let well : is_well_formed c.args.model.now ≡ true = subst (λ (p : Plant). is_well_formed p ≡ true) c.plant-plant.ensures.plant c.plant-plant.ensures.well_formed in
+    let at =
+    gone_on c.args.model.now c.args.self.now c.args.sum c.args.n c.args.run.now c.run.new.self c.in_ok-run.field-0 c.requires.at c.requires.unsettled
+    (c.in_ok-run.ensures.query c.args.self.now.tracked c.requires.at.on_walk) (c.in_ok-run.ensures.walk c.args.self.now.tracked c.requires.at.on_walk)
+    c.in_ok-run.ensures.plant c.in_ok-run.ensures.facts c.in_ok-run.ensures.k c.in_ok-run.ensures.distinct in
+    (listed_at c.args.model.now c.args.self.now (c.args.sum + c.args.n) (record { query = c.run.new.self; outcome = c.in_ok-run.field-0 }) well c.requires.state at).few
+
+pub returns-clause-reply : goal.returns-clause-reply
+returns-clause-reply c =
+    let at =
+    gone_on c.args.model.now c.args.self.now c.args.sum c.args.n c.args.run.now c.run.new.self c.in_ok-run.field-0 c.requires.at c.requires.unsettled
+    (c.in_ok-run.ensures.query c.args.self.now.tracked c.requires.at.on_walk) (c.in_ok-run.ensures.walk c.args.self.now.tracked c.requires.at.on_walk)
+    c.in_ok-run.ensures.plant c.in_ok-run.ensures.facts c.in_ok-run.ensures.k c.in_ok-run.ensures.distinct in
+    IfOk-weaker c.reply_of.result _ _ (λ reply h. h ∙ ap diagnosis_reply (sym at.came_to)) c.reply_of.ensures
+
+pub returns-clause-at : goal.returns-clause-at
+returns-clause-at c =
+    when_ok c.reply_of.result
+    (gone_on c.args.model.now c.args.self.now c.args.sum c.args.n c.args.run.now c.run.new.self c.in_ok-run.field-0 c.requires.at c.requires.unsettled
+    (c.in_ok-run.ensures.query c.args.self.now.tracked c.requires.at.on_walk) (c.in_ok-run.ensures.walk c.args.self.now.tracked c.requires.at.on_walk)
+    c.in_ok-run.ensures.plant c.in_ok-run.ensures.facts c.in_ok-run.ensures.k c.in_ok-run.ensures.distinct)

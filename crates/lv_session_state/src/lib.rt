@@ -1,0 +1,41 @@
+//! The state of a session over a model, and what is asked of it: diagnoses, recoveries and tests.
+//!
+//! | file | what it is |
+//! |---|---|
+//! | `state` | the state, and what a request does to it |
+//! | `observations` | the observations held, by their names |
+//! | `goals` | the goals held, by their names |
+//! | `diagnoses` | diagnoses asked for, gone on with and taken over |
+//! | `recoveries` | recoveries asked for and gone on with |
+//! | `tests` | tests asked for and gone on with |
+//! | `applying` | the values that the current recovery gives the controls |
+//! | `queries` | the current query gone on with, shown and taken over, and whether it is settled |
+//! | `query` | the current query |
+//! | `running` | what is kept of it from line to line |
+//! | `laws` | what a settled test is |
+//!
+//! What a request does is a function of the state: the state that it leads to, and the reply.
+#![tactic(auto)]
+
+mod applying;
+mod diagnoses;
+mod goals;
+pub mod laws;
+mod observations;
+mod queries;
+pub mod query;
+mod recoveries;
+pub mod running;
+pub mod state;
+mod tests;
+
+pub use applying::values_of;
+pub use goals::texts_of;
+pub use lv_ident::QueryEffort;
+pub use lv_meaning::Facts;
+pub use lv_model_names::Lists;
+pub use lv_session_request::{Command, Goal, Held, Request, Sighting, Unread, request_of};
+pub use lv_system::{StepSystem, compile};
+pub use query::Query;
+pub use running::{Diagnosed, Recovering, Running, Testing};
+pub use state::State;
