@@ -154,3 +154,30 @@ fn certificates_of_no_settled_query(rt: HostRuntime) -> Result<(), AllocError> {
     assert!(rt; right);
     Ok(())
 }
+
+#[test]
+fn commands_that_test(rt: HostRuntime) -> Result<(), AllocError> {
+    let right = session_replies(
+        rt.alloc(),
+        &[
+            "observe o v.out = zero",
+            "diagnose",
+            "commit",
+            "test v.out",
+            "conflicts",
+            "commit",
+            "test v.inn",
+        ],
+        &[
+            "ok\n",
+            "settled 2\n1 cost 0 from 1: -\n2 cost 3 from 1: v closed>stuck_closed #3\n",
+            "time 1 tracked 2\n",
+            "test cost 1: v.cmd=open\n",
+            "conflicts 1 trials 2\n1: v.cmd=none\n",
+            "error S10\n",
+            "error S05\n",
+        ],
+    )?;
+    assert!(rt; right);
+    Ok(())
+}
