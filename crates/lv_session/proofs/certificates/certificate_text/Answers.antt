@@ -13,7 +13,7 @@ use Rattle.lv_session.proofs.certificates.certificate_text.Goals as goal
 
 pub diagnosis_text-requires-clause-settled : goal.diagnosis_text-requires-clause-settled
 diagnosis_text-requires-clause-settled c =
-    let query = ap (λ (s : SessionState). s.query) (sym c.self.view_is) ∙ c.in-Diagnosis.is in
+    let query = sym c.query.ensures ∙ c.in-Diagnosis.is in
     let at = subst (λ (d : Diagnosed). IsDiagnosisAt c.args.model.now c.args.state.now c.in-Diagnosis.field-0 d) (sym c.deref.ensures)
     (kept_is c.args.state.now.query c.args.model.now c.args.state.now c.args.running.now c.in-Diagnosis.field-0 c.in-Diagnosis-running.run' query c.in-Diagnosis-running.is c.requires.running) in
     settled_diagnosis c.args.model.now c.args.state.now c.in-Diagnosis.field-0 c.deref.result.now at
@@ -21,7 +21,7 @@ diagnosis_text-requires-clause-settled c =
 
 pub recovery_text-requires-clause-settled : goal.recovery_text-requires-clause-settled
 recovery_text-requires-clause-settled c =
-    let query = ap (λ (s : SessionState). s.query) (sym c.self.view_is) ∙ c.in-Recovery.is in
+    let query = sym c.query.ensures ∙ c.in-Recovery.is in
     let at = subst (λ (r : Recovering). IsRecoveryAt c.args.model.now c.args.state.now c.in-Recovery.field-0 r) (sym c.deref-in-Recovery-running-2.ensures)
     (kept_recovery c.args.state.now.query c.args.model.now c.args.state.now c.args.running.now c.in-Recovery.field-0 c.in-Recovery-running-2.run' query c.in-Recovery-running-2.is c.requires.running) in
     settled_recovery c.args.model.now c.args.state.now c.in-Recovery.field-0 c.deref-in-Recovery-running-2.result.now at

@@ -13,7 +13,7 @@ use Rattle.lv_session.proofs.certificates.recovery_certificate.Goals as goal
 
 pub certify_recovery-cert-requires-clause-asked : goal.certify_recovery-cert-requires-clause-asked
 certify_recovery-cert-requires-clause-asked c =
-    let tracked : c.as_slice-tracked.result.now ≡ c.args.state.now.tracked = c.as_slice-tracked.ensures.states ∙ ap (λ (s : SessionState). s.tracked) c.self.view_is in
+    let tracked : c.as_slice-tracked.result.now ≡ c.args.state.now.tracked = c.as_slice-tracked.ensures.states ∙ c.tracked.ensures in
     let states =
     are_states c.args.model.now c.args.state.now c.requires.state
     (subst (λ (ss : List TrackedState). 1 ≤ length ss) tracked c.as_slice-tracked.ensures.some)
@@ -23,9 +23,9 @@ certify_recovery-cert-requires-clause-asked c =
 
 pub certify_recovery-cert-requires-clause-texts : goal.certify_recovery-cert-requires-clause-texts
 certify_recovery-cert-requires-clause-texts c =
-    let goals : c.as_slice.result.now ≡ c.args.state.now.goals = c.as_slice.ensures.value ∙ ap (λ (s : SessionState). s.goals) c.self.view_is in
-    let texts : c.as_slice-2.result.now ≡ map text_of_goal c.args.state.now.goals =
-    c.as_slice-2.ensures.value ∙ c.in_ok-texts.ensures ∙ ap (λ (gs : List Goal). map text_of_goal gs) goals in
+    let goals : c.goals.result.now ≡ c.args.state.now.goals = c.goals.ensures in
+    let texts : c.as_slice.result.now ≡ map text_of_goal c.args.state.now.goals =
+    c.as_slice.ensures.value ∙ c.in_ok-texts.ensures ∙ ap (λ (gs : List Goal). map text_of_goal gs) goals in
     let formulas : c.in_ok-aim.aim.goals ≡ map formula_of c.args.state.now.goals = ap (λ (a : Aim). a.goals) c.in_ok-aim.ensures in
     subst (λ (ts : List (List ℕ)). AreTexts c.args.model.now ts c.in_ok-aim.aim.goals) (sym texts)
     (subst (λ (fs : List Tree). AreTexts c.args.model.now (map text_of_goal c.args.state.now.goals) fs) (sym formulas) (are_texts c.args.model.now c.args.state.now c.requires.state))

@@ -12,7 +12,7 @@ use Rattle.lv_session.proofs.probes.probe.Goals as goal
 
 pub probed-requires-clause-full : goal.probed-requires-clause-full
 probed-requires-clause-full c =
-    let query = ap (λ (s : SessionState). s.query) (sym c.self.view_is) ∙ c.in-Diagnosis.is in
+    let query = sym c.query.ensures ∙ c.in-Diagnosis.is in
     let at = subst (λ (d : Diagnosed). IsDiagnosisAt c.args.model.now c.args.state.now c.in-Diagnosis.field-0 d) (sym c.deref-in-Settled.ensures)
     (kept_is c.args.state.now.query c.args.model.now c.args.state.now c.args.running.now c.in-Diagnosis.field-0 c.in-Diagnosis-running.run' query c.in-Diagnosis-running.is c.requires.running) in
     subst (λ (rs : List Rank). All (IsFull c.args.model.now) (map candidate_of rs)) (sym c.listed.ensures)
