@@ -39,7 +39,7 @@ use Rattle.lv_session_state.specs.States.{IsStateOf}
 use Rattle.lv_session_state.specs.Current.{IsDiagnosisAt, IsRecoveryAt}
 use Rattle.lv_session.specs.Certificates.{CertifiesWalked, CertifiesRecovered}
 use Rattle.lv_session_state.proofs.Asking.{facts_fit, facts_in_range}
-use Rattle.lv_session_state.proofs.Recovering.{aim_fits}
+use Rattle.lv_session_state.proofs.RecoveriesAsked.{aim_fits}
 
 -- what was observed are observables
 all_seen : (plant : Plant) (ss : List Sighting) → All (IsSightingIn plant) ss → All (IsSeen plant) (map observation_of ss)

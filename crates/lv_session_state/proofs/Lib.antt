@@ -1,6 +1,6 @@
 pub mod Listed
 pub mod Asking
-pub mod Recovering
+pub mod RecoveriesAsked
 pub mod TestsAsked
 pub mod TestReadings
 pub mod TestWalks

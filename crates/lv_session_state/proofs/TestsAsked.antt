@@ -18,7 +18,7 @@ use Rattle.lv_model.specs.Lists.{type_width, part_width, variable_count}
 use Rattle.lv_model_names.specs.Names.{type_classes, part_classes, classes, is_observable_class, is_observable}
 use Rattle.lv_search_walk.specs.declared.outcome.Outcome.{Outcome}
 use Rattle.lv_search_walk.specs.declared.outcome.Outcome.TheVariants.{Settled, Unsettled}
-use Rattle.lv_search_walk.specs.Walk.{Walked}
+use Rattle.lv_search_walk.specs.Walk.{Walked, none_alike}
 use Rattle.lv_search_walk.proofs.WalkLemmas.{at_most, used_up_unsettled}
 use Rattle.lv_ident.specs.lv_search.Standing.{trials_of}
 use Rattle.lv_meaning.specs.declared.aim.Aim.{Aim}
@@ -37,7 +37,7 @@ use Rattle.lv_session_state.specs.declared.running.Running.TheVariants as kept
 use Rattle.lv_session_state.specs.Current.{test_come_to, IsTestAt, IsKeptOf}
 use Rattle.lv_session_state.specs.State.{SessionState, test_aim_of, unchanged, testing, trials, tested, more, more_test_by, conflicts}
 use Rattle.lv_session_state.specs.States.{IsStateOf}
-use Rattle.lv_session_state.proofs.Recovering.{observations_fit}
+use Rattle.lv_session_state.proofs.RecoveriesAsked.{observations_fit}
 
 -- each variable has a class
 width_of : (types : List ComponentType) (p : Part) → length (part_classes types p) ≡ part_width types p
@@ -72,12 +72,12 @@ test_aim_fits plant state is = record {
 
 few_tested : (plant : Plant) (state : SessionState) (x : VarId) (n : ℕ) → length (testing plant state x n).listed ≤ 1
 unfolding testing
-few_tested plant state x n = at_most (candidate_tests plant (test_aim_of state) x) (candidate_test_reason plant (test_aim_of state)) 1 n (command_sets plant) [] [] (omega arith)
+few_tested plant state x n = at_most none_alike (candidate_tests plant (test_aim_of state) x) (candidate_test_reason plant (test_aim_of state)) 1 n (command_sets plant) [] [] (omega arith)
 
 -- a walk that isn't settled made as many trials as it may
 all_tried : (plant : Plant) (state : SessionState) (x : VarId) (n : ℕ) → (testing plant state x n).outcome ≡ Unsettled → trials (testing plant state x n) ≡ n
 unfolding testing
-all_tried plant state x n = used_up_unsettled (candidate_tests plant (test_aim_of state) x) (candidate_test_reason plant (test_aim_of state)) 1 n (command_sets plant) [] []
+all_tried plant state x n = used_up_unsettled none_alike (candidate_tests plant (test_aim_of state) x) (candidate_test_reason plant (test_aim_of state)) 1 n (command_sets plant) [] []
 
 -- the walk of this aim is that of the state which it is of
 test_at : (plant : Plant) (state : SessionState) (x : VarId) (p : Plant) (aim : Aim) (y : VarId) (m sum : ℕ) → p ≡ plant → aim ≡ test_aim_of state → y ≡ x → m ≡ sum → test_walk p aim y m ≡ testing plant state x sum

@@ -7,7 +7,7 @@ use Rattle.lv_session_state.specs.State.{SessionState}
 use Rattle.lv_session.specs.Session.{is_certifiable}
 use Rattle.lv_session_state.specs.Current.{IsDiagnosisAt, IsRecoveryAt}
 use Rattle.lv_session_state.proofs.Asking.{kept_is}
-use Rattle.lv_session_state.proofs.Recovering.{kept_recovery}
+use Rattle.lv_session_state.proofs.RecoveriesAsked.{kept_recovery}
 use Rattle.lv_session.proofs.Certifying.{settled_diagnosis, settled_recovery}
 use Rattle.lv_session.proofs.certificates.certificate_text.Goals as goal
 

@@ -8,7 +8,7 @@ use Rattle.lv_session_state.specs.declared.running.Testing.{Testing}
 use Rattle.lv_session_state.specs.State.{SessionState}
 use Rattle.lv_session_state.specs.Current.{IsDiagnosisAt, IsRecoveryAt, IsTestAt}
 use Rattle.lv_session_state.proofs.Asking.{listed_at, kept_is}
-use Rattle.lv_session_state.proofs.Recovering.{few_at, kept_recovery}
+use Rattle.lv_session_state.proofs.RecoveriesAsked.{few_at, kept_recovery}
 use Rattle.lv_session_state.proofs.TestsAsked.{few_at_test, kept_test}
 use Rattle.lv_session_state.proofs.state.State.conflicts.Goals as goal
 

@@ -3,7 +3,7 @@ use Rattle.std.proofs.Common.{◌+◌, sym, subst}
 use Rattle.lv_session_state.specs.declared.query.Query.TheVariants.{Recovery}
 use Rattle.lv_session_state.specs.State.{SessionState}
 use Rattle.lv_session_state.specs.Current.{IsRecoveryAt}
-use Rattle.lv_session_state.proofs.Recovering.{recovery_of_other_query}
+use Rattle.lv_session_state.proofs.RecoveriesAsked.{recovery_of_other_query}
 use Rattle.lv_session_state.proofs.state.State.go_on_recovering.Goals as goal
 
 pub returns-clause-at : goal.returns-clause-at

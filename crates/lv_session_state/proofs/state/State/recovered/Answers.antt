@@ -4,7 +4,7 @@ use Rattle.lv_session_state.specs.declared.query.Query.TheVariants.{Recovery}
 use Rattle.lv_session_state.specs.declared.running.Recovering.{Recovering}
 use Rattle.lv_session_state.specs.State.{SessionState}
 use Rattle.lv_session_state.specs.Current.{IsRecoveryAt}
-use Rattle.lv_session_state.proofs.Recovering.{few_at, recovery_of_other_query}
+use Rattle.lv_session_state.proofs.RecoveriesAsked.{few_at, recovery_of_other_query}
 use Rattle.lv_session_state.proofs.state.State.recovered.Goals as goal
 
 pub reply_of-requires : goal.reply_of-requires

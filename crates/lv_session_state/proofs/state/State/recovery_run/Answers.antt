@@ -3,7 +3,7 @@ use Rattle.std.proofs.Common.{◌≡◌, sym, ap, subst, ◌∙◌, arith}
 use Rattle.lv_meaning.specs.Ranges.{AimFits}
 use Rattle.lv_ident.specs.lv_search.Standing.{trials_of}
 use Rattle.lv_reconf.specs.Query.{QueryValue}
-use Rattle.lv_session_state.proofs.Recovering.{aim_fits, recovery_has_run}
+use Rattle.lv_session_state.proofs.RecoveriesAsked.{aim_fits, recovery_has_run}
 use Rattle.lv_session_state.proofs.state.State.recovery_run.Goals as goal
 
 pub recover-requires-clause-fits : goal.recover-requires-clause-fits

@@ -4,7 +4,7 @@ use Rattle.lv_base.specs.declared.limits.TheConstants.{BUDGET}
 use Rattle.std.proofs.lemmas.Result.{IfOk-weaker}
 use Rattle.lv_session_state.specs.State.{recovery_reply}
 use Rattle.lv_session_state.proofs.Asking.{when_ok}
-use Rattle.lv_session_state.proofs.Recovering.{few_at, tried_at, recovery_gone_on}
+use Rattle.lv_session_state.proofs.RecoveriesAsked.{few_at, tried_at, recovery_gone_on}
 use Rattle.lv_session_state.proofs.state.State.run_recovery_on.Goals as goal
 
 pub trials-trials-requires : goal.trials-trials-requires
