@@ -4,6 +4,7 @@ pub mod SecondLemmas
 pub mod ExpectedLemmas
 pub mod OpenLemmas
 pub mod TopLemmas
+pub mod EndLemmas
 pub mod NameLemmas
 pub mod PrintedLemmas
 pub mod WholeLemmas

@@ -10,3 +10,4 @@ pub mod Services
 pub mod Statuses
 pub mod Telling
 pub mod Top
+pub mod Ends

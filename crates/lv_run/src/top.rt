@@ -5,7 +5,7 @@ ghost use Rattle.std.specs.Io.KnownBytes.{append_known};
 ghost use Rattle.lv_io.specs.Outside.{Rose};
 ghost use Rattle.lv_io.specs.declared.Role.{Role};
 ghost use Rattle.lv_io.specs.declared.Role.TheVariants.{Model as OfModel, Second as OfSecond};
-ghost use Rattle.lv_run_words.specs.Words.{command_of};
+ghost use Rattle.lv_run_words.specs.Words.{command_of, drives};
 ghost use Rattle.lv_run_words.specs.declared.commands.Service.{Service};
 ghost use Rattle.lv_run_words.specs.declared.commands.Service.TheVariants.{Single, Lanes, Simulation};
 ghost use Rattle.lv_run.specs.OfLanes.{AddsLanes, AddsOwnParts};
@@ -19,6 +19,7 @@ ghost use Rattle.lv_session.specs.Transcript.{AddsTranscript};
 ghost use Rattle.lv_session.specs.Answers.{AddsTrueTranscript};
 ghost use Rattle.lv_run.specs.Printed.{AddsCertified};
 ghost use Rattle.lv_run.specs.Top.{Asks, AsksToCheck, AsksForText, HasNoFault, TellsItsVerdict, EndsWithVerdict, TellsOwnEnd};
+ghost use Rattle.lv_run.specs.Ends.{AreTold, EndsAsExpected};
 ghost use Rattle.lv_run.specs.Judged.{verdict_status};
 ghost use Rattle.lv_certcheck.specs.Verdicts.{IsVerdictOn};
 ghost use Rattle.lv_certcheck.specs.declared.check.Verdict.{Verdict};
@@ -110,10 +111,17 @@ pub fn livingstone<F: Shelf, O: Sink, E: Sink>(
     ensures exact { (e : Expected) → Expects (F.file shelf.old) (command_of (map string_bytes words.items)) e
         → HasNoFault (F.faults shelf.old) (F.faults shelf.new) (O.faults out.old) (O.faults out.new) (E.faults err.old) (E.faults err.new)
         → (result ≡ status_expected e) ⊎ (result ≡ Status.OutOfMemory) }
+    // Every bytes have a verdict as a model, and every certificate one for a model: so where the shelf tells the files that the words
+    // speak of, something is expected, and with no fault the call ends so.
+    ensures ends { AreTold (F.file shelf.old) (command_of (map string_bytes words.items))
+        → HasNoFault (F.faults shelf.old) (F.faults shelf.new) (O.faults out.old) (O.faults out.new) (E.faults err.old) (E.faults err.new)
+        → EndsAsExpected (F.file shelf.old) (command_of (map string_bytes words.items)) result }
     ensures meets { (e : Expected) → Expects (F.file shelf.old) (command_of (map string_bytes words.items)) e → Meets e (O.text out.old) (O.text out.new) result }
     ensures follows { Follows (F.file shelf.old) (command_of (map string_bytes words.items)) result }
     ensures words { result ≡ Status.WordsRefused → command_of (map string_bytes words.items) ≡ None }
     ensures refused { command_of (map string_bytes words.items) ≡ None → result ≢ Status.OutputFailed → result ≢ Status.OutOfMemory → result ≡ Status.WordsRefused }
+    // Each model that is made for a number is accepted, so the words `drive N` never end with a refused one.
+    ensures driven { (n : ℕ) → command_of (map string_bytes words.items) ≡ Some (drives n) → result ≢ Status.ModelRefused }
     ensures model_refused { (e : Expected) → Expects (F.file shelf.old) (command_of (map string_bytes words.items)) e
         → status_expected e ≡ Status.ModelRefused → ¬ Rose (F.faults shelf.old OfModel) (F.faults shelf.new OfModel)
         → result ≢ Status.OutputFailed → result ≢ Status.OutOfMemory → result ≡ Status.ModelRefused }

@@ -1,3 +1,4 @@
 pub mod Tallying
 pub mod AskingLemmas
 pub mod CalmTexts
+pub mod FrontLemmas

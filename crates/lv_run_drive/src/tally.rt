@@ -21,9 +21,9 @@ pub struct Tally {
     pub errors: u64,
     /// Diagnoses that settled.
     pub settled: u64,
-    /// Diagnoses whose budget was used up before.
+    /// Diagnoses, recoveries and tests whose budget was used up before.
     pub unsettled: u64,
-    /// The trials told where conflicts were shown, all together.
+    /// The trials told where conflicts were shown, of diagnoses, recoveries and tests, all together.
     pub trials: u128,
     /// The tracked states told by the last reply; none where it tells no such number.
     pub tracked: u64,
@@ -74,11 +74,11 @@ impl Tally {
                 settled: self.settled + 1,
                 ..self.replied(0)
             },
-            Reply::Unsettled(_, _) => Tally {
+            Reply::Unsettled(_, _) | Reply::Undecided(_) => Tally {
                 unsettled: self.unsettled + 1,
                 ..self.replied(0)
             },
-            Reply::Conflicts(_, trials) => Tally {
+            Reply::Conflicts(_, trials) | Reply::CommandConflicts(_, trials) => Tally {
                 trials: self.trials + *trials as u128,
                 ..self.replied(0)
             },

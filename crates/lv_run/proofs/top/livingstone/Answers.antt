@@ -3,13 +3,14 @@ use Rattle.std.proofs.Common.{sym, ◌∙◌, map, subst, Global}
 use Rattle.std.specs.Prelude.{string_bytes}
 use Rattle.lv_run_words.specs.Words.{command_of}
 use Rattle.lv_run.specs.Inputs.{opens_of}
-use Rattle.lv_run.specs.Expected.{Meets, serves, judges, shows}
+use Rattle.lv_run.specs.Expected.{Meets, Follows, serves, judges, shows}
 use Rattle.lv_run.specs.Faults.{ended_status}
 use Rattle.lv_run.specs.declared.status.Status.{Status}
 use Rattle.lv_run_words.specs.declared.commands.Service.TheVariants.{Single, Lanes, Simulation}
 use Rattle.lv_run.proofs.ServiceLemmas.{adds_lanes, adds_own_parts, adds_script}
 use Rattle.lv_run.proofs.TopLemmas.{reported_meets, status_due, expected_run, expected_check, expected_text, told_verdict, ended_done, session_not_long, certificate_not_long, output_cause}
 use Rattle.lv_certcheck.proofs.ProvingLemmas.{exists}
+use Rattle.lv_run.proofs.EndLemmas.{expectation, never_refused}
 use Rattle.lv_run.proofs.OpenLemmas.{all_opened}
 use Rattle.lv_session.proofs.TrueAnswers.{adds_true}
 use Rattle.lv_run.proofs.PrintedLemmas.{adds_certified}
@@ -118,6 +119,18 @@ pub returns-clause-judged : goal.returns-clause-judged
 returns-clause-judged g c =
     λ plant certificate verdict asks is none. returns-clause-exact g c (judges verdict)
     (expected_check (g.F.Shelf.file c.args.shelf.now) (map (string_bytes {Z = Global}) c.args.words.items) plant certificate verdict asks is) none
+
+pub returns-clause-ends : goal.returns-clause-ends
+returns-clause-ends g c =
+    λ told none.
+    let due = expectation (g.F.Shelf.file c.args.shelf.now) (command_of (map (string_bytes {Z = Global}) c.args.words.items)) told in
+    record { expected = due.expected; is = due.is; ends = returns-clause-exact g c due.expected due.is none }
+
+pub returns-clause-driven : goal.returns-clause-driven
+returns-clause-driven g c =
+    λ n is refused. never_refused (g.F.Shelf.file c.args.shelf.now) (command_of (map (string_bytes {Z = Global}) c.args.words.items)) n is
+    (subst (λ (s : Status). Follows (g.F.Shelf.file c.args.shelf.now) (command_of (map (string_bytes {Z = Global}) c.args.words.items)) s)
+    (sym (c.tell_end.ensures.status (λ f. cc) (λ f. cc)) ∙ refused) (rw c.as_slice.ensures.value at c.carry_out-ended.ensures.follows))
 
 pub returns-clause-settles : goal.returns-clause-settles
 returns-clause-settles g c =
