@@ -199,6 +199,9 @@ pub fn lower_all(
 {
     let mut looked = done;
     for lit in fallen {
+        if looked == 0 {
+            return 0;
+        }
         let near_done = lower(*lit, near, far, labels, looked);
         looked = lower(*lit, far, near, labels, near_done);
     }
