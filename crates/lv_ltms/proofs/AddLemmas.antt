@@ -8,12 +8,13 @@ use Rattle.lv_clauses.specs.Literals.{neg, is_clause}
 use Rattle.lv_clauses.specs.ClauseMap.{Slots, clause_at, AreClauses}
 use Rattle.lv_clauses.specs.Marks.{Marks, is_marked, is_free}
 use Rattle.lv_clauses.proofs.LiteralLemmas.{lit_cases, Contains-nil}
+use Rattle.lv_ltms.specs.declared.watchers.Next.{Next}
 use Rattle.lv_ltms.specs.declared.watchers.Watch.{Watch}
 use Rattle.lv_ltms.specs.declared.propagation.Pair.{Pair}
 use Rattle.lv_ltms.specs.declared.propagation.Progress.{Progress}
 use Rattle.lv_ltms.specs.Trail.{same_lit}
 use Rattle.lv_ltms.specs.Labelled.{Labelled, AreLabels, Grows}
-use Rattle.lv_ltms.specs.Watching.{Rows, heads_of, head_of, lit_at, next_at, with_watch, times_in, Fits, IsRow, watch_count, IsThreaded, IsGuarded, AreGuarded, IsWatching}
+use Rattle.lv_ltms.specs.Watching.{Rows, clause_of, last, heads_of, head_of, lit_at, next_at, with_watch, times_in, Fits, IsRow, watch_count, IsThreaded, IsGuarded, AreGuarded, IsWatching}
 use Rattle.lv_ltms.specs.Standing.{PutsSlot, NoneEmpty, TellsEmpty, IsFalsified, Picks, Settles, true_before}
 use Rattle.lv_ltms.proofs.CountLemmas.{times_in-none, times_same, times_other, same_lit-self}
 use Rattle.lv_ltms.proofs.FindLemmas.{some_is}
@@ -37,19 +38,19 @@ pub threaded_fits : (rows fitted : Rows) (slots : Slots) (bools : ℕ) → Fits 
 threaded_fits rows fitted slots bools fits is =
     record {
       list = is.list;
-      row = λ l. subst (λ (s : Option ClauseId). IsRow (next_at fitted) s (is.list l)) (sym (heads l)) (row_same (next_at rows) (next_at fitted) (head_of rows l) (is.list l) (λ id h. ap (λ (w : Watch). w.next) (fits.same id.0)) (is.row l));
+      row = λ l. subst (λ (s : Option ClauseId). IsRow (next_at fitted) s (is.list l)) (sym (heads l)) (row_same (next_at rows) (next_at fitted) (head_of rows l) (is.list l) (λ id h. ap (λ (w : Watch). clause_of w.next) (fits.same id.0)) (is.row l));
       exact = λ l id. is.exact l id ∙ ap (λ (w : Watch). watch_count (clause_at slots id) w.lit l) (sym (fits.same id));
-      of_true = ap (λ (x : List (Option ClauseId)). length x) fits.of_true ∙ is.of_true;
-      of_false = ap (λ (x : List (Option ClauseId)). length x) fits.of_false ∙ is.of_false;
+      of_true = ap (λ (x : List Next). length x) fits.of_true ∙ is.of_true;
+      of_false = ap (λ (x : List Next). length x) fits.of_false ∙ is.of_false;
       room = λ id some. omega (arith, is.room id some, fits.more);
     }
   where
     heads : (l : Lit) → head_of fitted l ≡ head_of rows l
-    heads l = by_sign l.sign
+    heads l = ap clause_of (by_sign l.sign)
       where
-        by_sign : (b : Bool) → get_or (heads_of fitted b) l.var.0 None ≡ get_or (heads_of rows b) l.var.0 None
-        by_sign true = ap (λ (x : List (Option ClauseId)). get_or x l.var.0 None) fits.of_true
-        by_sign false = ap (λ (x : List (Option ClauseId)). get_or x l.var.0 None) fits.of_false
+        by_sign : (b : Bool) → get_or (heads_of fitted b) l.var.0 last ≡ get_or (heads_of rows b) l.var.0 last
+        by_sign true = ap (λ (x : List Next). get_or x l.var.0 last) fits.of_true
+        by_sign false = ap (λ (x : List Next). get_or x l.var.0 last) fits.of_false
 
 module _ (rows : Rows) (slots after : Slots) (bools : ℕ) (id : ClauseId) (is : IsThreaded rows slots bools) (room : id.0 < length rows.watches) (none : clause_at slots id.0 ≡ None) where
   -- a clause without literals watches none

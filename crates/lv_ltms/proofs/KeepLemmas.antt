@@ -13,9 +13,10 @@ use Rattle.lv_ltms.specs.declared.labels.Link.{Link}
 use Rattle.lv_ltms.specs.declared.labels.Reason.{Reason}
 use Rattle.lv_ltms.specs.declared.labels.Reason.TheVariants.{Assumed, Clause}
 use Rattle.lv_ltms.specs.declared.network.Network.{Network}
+use Rattle.lv_ltms.specs.declared.watchers.Next.{Next}
 use Rattle.lv_ltms.specs.Trail.{IsDerivation, IsReason, start, next}
 use Rattle.lv_ltms.specs.Labelled.{Labelled, Grows, GoesOn, with_link}
-use Rattle.lv_ltms.specs.Watching.{Rows, lit_at, heads_of, IsThreaded}
+use Rattle.lv_ltms.specs.Watching.{Rows, last, clause_of, lit_at, heads_of, IsThreaded}
 use Rattle.lv_ltms.specs.Standing.{IsNetwork, IsLooked, IsFalsified, PutsSlot, true_before}
 use Rattle.lv_ltms.specs.Networks.{IsAlive, IsRested}
 use Rattle.lv_ltms.specs.Revising.{AreMarked, AreFixed}
@@ -147,11 +148,11 @@ module _ {s : System} {near far : Rows} {labels : Labelled} {done : ℕ} {confli
     pub assume_falsified : IfSome conflict (λ id. IsFalsified s.clauses (with_link labels assume_link).marks id.0)
     assume_falsified = falsified_grown s.clauses labels (with_link labels assume_link) conflict assume_grows (stops_falsified s.clauses labels done conflict kept.stops)
 
-    pub assume_derivation : (last : Labelled) → GoesOn s.clauses (with_link labels assume_link) last → IsDerivation s.clauses (is_marked (marked s.assumed lit)) last.trail
-    assume_derivation last goes = goes.derivation (is_marked (marked s.assumed lit)) (next labels.trail assume_link over (assumed_here kept lit assume_within free) refl)
+    pub assume_derivation : (after : Labelled) → GoesOn s.clauses (with_link labels assume_link) after → IsDerivation s.clauses (is_marked (marked s.assumed lit)) after.trail
+    assume_derivation after goes = goes.derivation (is_marked (marked s.assumed lit)) (next labels.trail assume_link over (assumed_here kept lit assume_within free) refl)
 
-    pub assume_marked : (last : Labelled) → GoesOn s.clauses (with_link labels assume_link) last → AreMarked (is_marked (marked s.assumed lit)) last
-    assume_marked last goes =
+    pub assume_marked : (after : Labelled) → GoesOn s.clauses (with_link labels assume_link) after → AreMarked (is_marked (marked s.assumed lit)) after
+    assume_marked after goes =
         record {
           marked =
               λ l e.
@@ -167,13 +168,13 @@ all_none : (n : ℕ) → count_by is_none (nothing n) ≡ n
 all_none zero = refl
 all_none (suc n) = omega (arith, count_yes {X = Option Bool} is_none None (nothing n) refl, all_none n)
 
-no_head : (n k : ℕ) → get_or (replicate {A = Option ClauseId} n None) k None ≡ None
+no_head : (n k : ℕ) → get_or (replicate {A = Next} n last) k last ≡ last
 no_head zero k = refl
 no_head (suc n) zero = refl
 no_head (suc n) (suc k) = no_head n k
 
 abbrev pub blank_rows : ℕ → Rows
-blank_rows bools = record { of_true = replicate bools None; of_false = replicate bools None; watches = [] }
+blank_rows bools = record { of_true = replicate bools last; of_false = replicate bools last; watches = [] }
 
 abbrev pub blank_labels : ℕ → Labelled
 blank_labels bools = record { marks = nothing bools; supports = replicate bools Assumed; trail = [] }
@@ -182,14 +183,14 @@ blank_threaded : (bools : ℕ) → IsThreaded (blank_rows bools) [] bools
 blank_threaded bools =
     record {
       list = λ l. [];
-      row = λ l. by_sign l.sign l.var.0;
+      row = λ l. ap clause_of (by_sign l.sign l.var.0);
       exact = λ l id. refl;
-      of_true = length-replicate {A = Option ClauseId} bools None;
-      of_false = length-replicate {A = Option ClauseId} bools None;
+      of_true = length-replicate {A = Next} bools last;
+      of_false = length-replicate {A = Next} bools last;
       room = λ id some. absurd (no_some id some);
     }
   where
-    by_sign : (b : Bool) (v : ℕ) → get_or (heads_of (blank_rows bools) b) v None ≡ None
+    by_sign : (b : Bool) (v : ℕ) → get_or (heads_of (blank_rows bools) b) v last ≡ last
     by_sign true v = no_head bools v
     by_sign false v = no_head bools v
 

@@ -6,7 +6,7 @@ use Rattle.lv_base.specs.declared.ids.Lit.{Lit}
 use Rattle.lv_base.specs.declared.ids.ClauseId.{ClauseId}
 use Rattle.lv_clauses.proofs.LiteralLemmas.{Contains-head, Contains-tail, Contains-cases, Contains-nil, lit_of}
 use Rattle.lv_ltms.specs.declared.watchers.Watch.{Watch}
-use Rattle.lv_ltms.specs.Watching.{Rows, blank, heads_of, head_of, lit_at, next_at, with_head, with_head_of, with_watch, times_in, has_number, IsRow}
+use Rattle.lv_ltms.specs.Watching.{Rows, clause_of, next_of, last, blank, heads_of, head_at, head_of, lit_at, next_at, with_head, with_head_of, with_watch, times_in, has_number, IsRow}
 use Rattle.lv_ltms.proofs.BoolLemmas.{eq_is}
 use Rattle.lv_ltms.proofs.CountLemmas.{count_yes, count_no}
 
@@ -107,72 +107,77 @@ fits_below (suc n) ids once below =
           (filter_below n ids (λ id h. omega (arith, below id h))),
     )
 
+-- a clause or none is read back as it was written
+pub clause_again : (c : Option ClauseId) → clause_of (next_of c) ≡ c
+clause_again None = refl
+clause_again (Some id) = refl
+
 -- what another first clause of a literal changes
 module _ (rows : Rows) (l : Lit) (first : Option ClauseId) where
   pub head_watches : (with_head rows l first).watches ≡ rows.watches
   head_watches = by_sign l.sign
     where
-      by_sign : (b : Bool) → (with_head_of rows b l.var.0 first).watches ≡ rows.watches
+      by_sign : (b : Bool) → (with_head_of rows b l.var.0 (next_of first)).watches ≡ rows.watches
       by_sign true = refl
       by_sign false = refl
 
   pub head_same : l.var.0 < length (heads_of rows l.sign) → head_of (with_head rows l first) l ≡ first
-  head_same within = by_sign l.sign within
+  head_same within = ap clause_of (by_sign l.sign within) ∙ clause_again first
     where
-      by_sign : (b : Bool) → l.var.0 < length (heads_of rows b) → get_or (heads_of (with_head_of rows b l.var.0 first) b) l.var.0 None ≡ first
-      by_sign true h = get_or-set_same rows.of_true l.var.0 first None h
-      by_sign false h = get_or-set_same rows.of_false l.var.0 first None h
+      by_sign : (b : Bool) → l.var.0 < length (heads_of rows b) → get_or (heads_of (with_head_of rows b l.var.0 (next_of first)) b) l.var.0 last ≡ next_of first
+      by_sign true h = get_or-set_same rows.of_true l.var.0 (next_of first) last h
+      by_sign false h = get_or-set_same rows.of_false l.var.0 (next_of first) last h
 
   pub head_other : (m : Lit) → m ≢ l → head_of (with_head rows l first) m ≡ head_of rows m
-  head_other m differs = by_signs l.sign m.sign (cases_eq m.var.0 l.var.0) (λ v s. differs (lit_of m l v s))
+  head_other m differs = ap clause_of (by_signs l.sign m.sign (cases_eq m.var.0 l.var.0) (λ v s. differs (lit_of m l v s)))
     where
-      by_signs : (a b : Bool) → (m.var.0 ≡ l.var.0) ⊎ (m.var.0 ≢ l.var.0) → (m.var.0 ≡ l.var.0 → b ≡ a → ⊥) → get_or (heads_of (with_head_of rows a l.var.0 first) b) m.var.0 None ≡ get_or (heads_of rows b) m.var.0 None
+      by_signs : (a b : Bool) → (m.var.0 ≡ l.var.0) ⊎ (m.var.0 ≢ l.var.0) → (m.var.0 ≡ l.var.0 → b ≡ a → ⊥) → get_or (heads_of (with_head_of rows a l.var.0 (next_of first)) b) m.var.0 last ≡ get_or (heads_of rows b) m.var.0 last
       by_signs true true (inl v) never = absurd (never v refl)
-      by_signs true true (inr v) never = get_or-set_other rows.of_true l.var.0 m.var.0 first None v
+      by_signs true true (inr v) never = get_or-set_other rows.of_true l.var.0 m.var.0 (next_of first) last v
       by_signs true false way never = refl
       by_signs false true way never = refl
       by_signs false false (inl v) never = absurd (never v refl)
-      by_signs false false (inr v) never = get_or-set_other rows.of_false l.var.0 m.var.0 first None v
+      by_signs false false (inr v) never = get_or-set_other rows.of_false l.var.0 m.var.0 (next_of first) last v
 
   pub head_next : (i : ℕ) → next_at (with_head rows l first) i ≡ next_at rows i
-  head_next i = ap (λ (ws : List Watch). (get_or ws i (record { lit = record { var = record { 0 = 0 }; sign = false }; next = None })).next) head_watches
+  head_next i = ap (λ (ws : List Watch). clause_of (get_or ws i blank).next) head_watches
 
   pub head_lit : (i : ℕ) → lit_at (with_head rows l first) i ≡ lit_at rows i
-  head_lit i = ap (λ (ws : List Watch). (get_or ws i (record { lit = record { var = record { 0 = 0 }; sign = false }; next = None })).lit) head_watches
+  head_lit i = ap (λ (ws : List Watch). (get_or ws i blank).lit) head_watches
 
   pub head_of_true : length (with_head rows l first).of_true ≡ length rows.of_true
   head_of_true = by_sign l.sign
     where
-      by_sign : (b : Bool) → length (with_head_of rows b l.var.0 first).of_true ≡ length rows.of_true
-      by_sign true = length-set rows.of_true l.var.0 first
+      by_sign : (b : Bool) → length (with_head_of rows b l.var.0 (next_of first)).of_true ≡ length rows.of_true
+      by_sign true = length-set rows.of_true l.var.0 (next_of first)
       by_sign false = refl
 
   pub head_of_false : length (with_head rows l first).of_false ≡ length rows.of_false
   head_of_false = by_sign l.sign
     where
-      by_sign : (b : Bool) → length (with_head_of rows b l.var.0 first).of_false ≡ length rows.of_false
+      by_sign : (b : Bool) → length (with_head_of rows b l.var.0 (next_of first)).of_false ≡ length rows.of_false
       by_sign true = refl
-      by_sign false = length-set rows.of_false l.var.0 first
+      by_sign false = length-set rows.of_false l.var.0 (next_of first)
 
 -- what another watch of a clause changes
 module _ (rows : Rows) (id : ClauseId) (l : Lit) (room : id.0 < length rows.watches) where
   abbrev pub written : Rows
-  written = record { of_true = rows.of_true; of_false = rows.of_false; watches = set rows.watches id.0 (record { lit = l; next = head_of rows l }) }
+  written = record { of_true = rows.of_true; of_false = rows.of_false; watches = set rows.watches id.0 (record { lit = l; next = head_at rows l }) }
 
   pub put_lit_same : lit_at (with_watch rows id l) id.0 ≡ l
-  put_lit_same = head_lit written l (Some id) id.0 ∙ ap (λ (w : Watch). w.lit) (get_or-set_same rows.watches id.0 (record { lit = l; next = head_of rows l }) (record { lit = record { var = record { 0 = 0 }; sign = false }; next = None }) room)
+  put_lit_same = head_lit written l (Some id) id.0 ∙ ap (λ (w : Watch). w.lit) (get_or-set_same rows.watches id.0 (record { lit = l; next = head_at rows l }) blank room)
 
   pub put_lit_other : (i : ℕ) → i ≢ id.0 → lit_at (with_watch rows id l) i ≡ lit_at rows i
-  put_lit_other i differs = head_lit written l (Some id) i ∙ ap (λ (w : Watch). w.lit) (get_or-set_other rows.watches id.0 i (record { lit = l; next = head_of rows l }) (record { lit = record { var = record { 0 = 0 }; sign = false }; next = None }) differs)
+  put_lit_other i differs = head_lit written l (Some id) i ∙ ap (λ (w : Watch). w.lit) (get_or-set_other rows.watches id.0 i (record { lit = l; next = head_at rows l }) blank differs)
 
   pub put_next_same : next_at (with_watch rows id l) id.0 ≡ head_of rows l
-  put_next_same = head_next written l (Some id) id.0 ∙ ap (λ (w : Watch). w.next) (get_or-set_same rows.watches id.0 (record { lit = l; next = head_of rows l }) (record { lit = record { var = record { 0 = 0 }; sign = false }; next = None }) room)
+  put_next_same = head_next written l (Some id) id.0 ∙ ap (λ (w : Watch). clause_of w.next) (get_or-set_same rows.watches id.0 (record { lit = l; next = head_at rows l }) blank room)
 
   pub put_next_other : (i : ℕ) → i ≢ id.0 → next_at (with_watch rows id l) i ≡ next_at rows i
-  put_next_other i differs = head_next written l (Some id) i ∙ ap (λ (w : Watch). w.next) (get_or-set_other rows.watches id.0 i (record { lit = l; next = head_of rows l }) (record { lit = record { var = record { 0 = 0 }; sign = false }; next = None }) differs)
+  put_next_other i differs = head_next written l (Some id) i ∙ ap (λ (w : Watch). clause_of w.next) (get_or-set_other rows.watches id.0 i (record { lit = l; next = head_at rows l }) blank differs)
 
   pub put_size : length (with_watch rows id l).watches ≡ length rows.watches
-  put_size = ap (λ (x : List Watch). length x) (head_watches written l (Some id)) ∙ length-set rows.watches id.0 (record { lit = l; next = head_of rows l })
+  put_size = ap (λ (x : List Watch). length x) (head_watches written l (Some id)) ∙ length-set rows.watches id.0 (record { lit = l; next = head_at rows l })
 
   pub put_head_same : l.var.0 < length (heads_of rows l.sign) → head_of (with_watch rows id l) l ≡ Some id
   put_head_same within = head_same written l (Some id) (by_sign l.sign within)
@@ -182,9 +187,9 @@ module _ (rows : Rows) (id : ClauseId) (l : Lit) (room : id.0 < length rows.watc
       by_sign false h = h
 
   pub put_head_other : (m : Lit) → m ≢ l → head_of (with_watch rows id l) m ≡ head_of rows m
-  put_head_other m differs = head_other written l (Some id) m differs ∙ by_sign m.sign
+  put_head_other m differs = head_other written l (Some id) m differs ∙ ap clause_of (by_sign m.sign)
     where
-      by_sign : (b : Bool) → get_or (heads_of written b) m.var.0 None ≡ get_or (heads_of rows b) m.var.0 None
+      by_sign : (b : Bool) → get_or (heads_of written b) m.var.0 last ≡ get_or (heads_of rows b) m.var.0 last
       by_sign true = refl
       by_sign false = refl
 

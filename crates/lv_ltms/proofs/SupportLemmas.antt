@@ -1,5 +1,6 @@
 -- Another support of a boolean that lost its label.
-use Rattle.std.proofs.Common.{◌≡◌, ◌⊎◌, ℕ, ◌<◌, Bool, true, false, not, ◌&&◌, ◌||◌, List, [], ◌∷◌, length, Some, None, refl, sym, ap, ap₂, subst, ◌∙◌, inl, inr, Contains}
+use Rattle.std.proofs.Common.{◌≡◌, ◌⊎◌, ℕ, ◌+◌, ◌<◌, drop, get_or, Bool, true, false, not, ◌&&◌, ◌||◌, List, [], ◌∷◌, length, Some, None, refl, sym, ap, ap₂, subst, ◌∙◌, inl, inr, Contains}
+use Rattle.std.proofs.lemmas.List.{drop_more}
 use Rattle.lv_base.specs.declared.ids.Lit.{Lit}
 use Rattle.lv_clauses.specs.Literals.{neg, same_truth, same_var}
 use Rattle.lv_clauses.specs.ClauseMap.{Slots, clause_at}
@@ -12,8 +13,9 @@ use Rattle.lv_ltms.specs.declared.labels.Reason.TheVariants.{Assumed, Clause}
 use Rattle.lv_ltms.specs.Trail.{same_lit, IsReason, IsDerivation, next}
 use Rattle.lv_ltms.specs.Labelled.{Labelled, Agrees, AreLabels, Grows, with_link}
 use Rattle.lv_ltms.specs.Watching.{Rows, lit_at, is_fallen, has_lit, IsThreaded, IsGuarded, AreGuarded, AreSettled}
-use Rattle.lv_ltms.specs.Revising.{NoneAgainst, IsOneSided, is_wanted_by, GivesReason, GetsSupport, IsUnitOf, AreMarkedOrWait, AreMarked, AreFixed, IsSwept}
+use Rattle.lv_ltms.specs.Revising.{NoneAgainst, IsOneSided, AreUpright, NoneOpposed, TurnedToo, is_wanted_by, GivesReason, GetsSupport, IsUnitOf, AreMarkedOrWait, AreMarked, AreFixed, IsSwept}
 use Rattle.lv_ltms.proofs.BoolLemmas.{eq_from, not_true, or_left, or_right_only}
+use Rattle.lv_ltms.proofs.CountLemmas.{same_lit-self}
 use Rattle.lv_ltms.proofs.LabelLemmas.{Grows-push, Grows-self, Grows-then, pushed_has, has_not_free, neg_not_free, not_free_cases}
 use Rattle.lv_ltms.proofs.TrailLemmas.{same_lit-equal, or_cases}
 use Rattle.lv_ltms.proofs.TraverseLemmas.{Watches, listed_watches, watch_listed}
@@ -113,31 +115,37 @@ wanted_parts assumed truth l e = by_value (truth l) (truth (neg l)) (assumed (ne
     by_value false false true p q r h = absurd (cc h)
     by_value false false false p q r h = record { not_true = p; not_false = q; free = r }
 
+-- the literal at a place is among those from there on
+pub first_waits : (all : List Lit) (i : ℕ) (d : Lit) → i < length all → has_lit (drop i all) (get_or all i d) ≡ true
+first_waits all i d within = ap (λ (ls : List Lit). has_lit ls (get_or all i d)) (drop_more all i d within) ∙ or_left (same_lit (get_or all i d) (get_or all i d)) (has_lit (drop (i + 1) all) (get_or all i d)) (same_lit-self (get_or all i d))
+
 -- booleans that wait for another support, and the labels meanwhile
-pub record IsSupporting (assumed : Lit → Bool) (near far : Rows) (start : Labelled) (all waiting : List Lit) (labels : Labelled) : Type 0 where
+pub record IsSupporting (assumed : Lit → Bool) (near far : Rows) (both : Bool) (start : Labelled) (all waiting : List Lit) (labels : Labelled) : Type 0 where
   pub grows : Grows start labels
+  pub among : (f : Lit) → has_lit waiting f ≡ true → has_lit all f ≡ true
   pub derivation : (slots : Slots) (bools : ℕ) (truth : Lit → Bool) (marks : Marks) (fallen : List Lit) → IsThreaded near slots bools → AreGuarded slots (lit_at near) (lit_at far) truth marks fallen
       → IsDerivation slots assumed start.trail → IsDerivation slots assumed labels.trail
   pub against : NoneAgainst assumed (is_marked labels.marks)
   pub marked : AreMarkedOrWait assumed labels waiting
-  pub settled : (slots : Slots) (bools : ℕ) → IsThreaded near slots bools → AreSettled slots (lit_at near) (lit_at far) start.marks all → AreSettled slots (lit_at near) (lit_at far) labels.marks waiting
+  pub settled : (slots : Slots) (bools : ℕ) → IsThreaded near slots bools → (both ≡ false → NoneOpposed slots (lit_at near) (lit_at far) all) → AreSettled slots (lit_at near) (lit_at far) start.marks all → AreSettled slots (lit_at near) (lit_at far) labels.marks waiting
 
-pub supporting_start : (assumed : Lit → Bool) (near far : Rows) (start : Labelled) (all : List Lit) (bools : ℕ) → AreLabels bools start → NoneAgainst assumed (is_marked start.marks) → AreMarkedOrWait assumed start all → IsSupporting assumed near far start all all start
-supporting_start assumed near far start all bools labels against marked =
+pub supporting_start : (assumed : Lit → Bool) (near far : Rows) (both : Bool) (start : Labelled) (all : List Lit) (bools : ℕ) → AreLabels bools start → NoneAgainst assumed (is_marked start.marks) → AreMarkedOrWait assumed start all → IsSupporting assumed near far both start all all start
+supporting_start assumed near far both start all bools labels against marked =
     record {
       grows = Grows-self start labels.agrees;
+      among = λ f e. e;
       derivation = λ slots bools truth marks fallen threaded guarded d. d;
       against = against;
       marked = marked;
-      settled = λ slots bools threaded settled. settled;
+      settled = λ slots bools threaded none settled. settled;
     }
 
 none_fell : (l : Lit) (waiting : List Lit) → waiting ≡ [] → is_fallen waiting l ≡ true → ⊥
 none_fell l [] e f = cc f
 none_fell l (w ∷ ws) e f = cc e
 
-pub supporting_end : (assumed : Lit → Bool) (near far : Rows) (start : Labelled) (all waiting : List Lit) (labels : Labelled) → waiting ≡ [] → IsSupporting assumed near far start all waiting labels → AreMarked assumed labels
-supporting_end assumed near far start all waiting labels none is =
+pub supporting_end : (assumed : Lit → Bool) (near far : Rows) (both : Bool) (start : Labelled) (all waiting : List Lit) (labels : Labelled) → waiting ≡ [] → IsSupporting assumed near far both start all waiting labels → AreMarked assumed labels
+supporting_end assumed near far both start all waiting labels none is =
     record {
       marked = λ l a. elim (or_cases (is_marked labels.marks l) (is_fallen waiting l) (is.marked.marked l a)) [
         | inl here ↦ here
@@ -145,8 +153,31 @@ supporting_end assumed near far start all waiting labels none is =
       ];
     }
 
-module _ (assumed : Lit → Bool) (near far : Rows) (start : Labelled) (all : List Lit) (old mid new : Labelled) (f : Lit) (waiting : List Lit) (is : IsSupporting assumed near far start all (f ∷ waiting) old)
-    (first : GetsSupport assumed near far old mid f) (second : GetsSupport assumed near far mid new (neg f)) where
+-- the negation is looked at too
+pub turned_by : (assumed : Lit → Bool) (near far : Rows) (both : Bool) (all : List Lit) (old new : Labelled) (f : Lit) → GetsSupport assumed near far old new (neg f) → TurnedToo assumed near far both all old new f
+turned_by assumed near far both all old new f gets =
+    record {
+      grows = gets.grows;
+      against = gets.against;
+      by_assumption = gets.by_assumption;
+      derivation = gets.derivation;
+      by_unit = λ slots bools threaded none. gets.by_unit slots bools threaded;
+    }
+
+-- nothing gives the negation
+pub turned_never : (assumed : Lit → Bool) (near far : Rows) (both : Bool) (all : List Lit) (old : Labelled) (f : Lit) → Agrees old.marks old.supports old.trail → NoneAgainst assumed (is_marked old.marks) → both ≡ false → AreUpright assumed all → has_lit all f ≡ true
+    → TurnedToo assumed near far both all old old f
+turned_never assumed near far both all old f agrees against never upright among =
+    record {
+      grows = Grows-self old agrees;
+      against = against;
+      by_assumption = λ a. absurd (cc (a, upright.upright f among));
+      derivation = λ slots bools truth marks fallen threaded guarded d. d;
+      by_unit = λ slots bools threaded none id unit free. absurd ((none never).opposed f among id unit);
+    }
+
+module _ (assumed : Lit → Bool) (near far : Rows) (both : Bool) (start : Labelled) (all : List Lit) (old mid new : Labelled) (f : Lit) (waiting : List Lit) (is : IsSupporting assumed near far both start all (f ∷ waiting) old)
+    (first : GetsSupport assumed near far old mid f) (second : TurnedToo assumed near far both all mid new f) where
   grows_both : Grows old new
   grows_both = Grows-then old mid new first.grows second.grows
 
@@ -160,44 +191,45 @@ module _ (assumed : Lit → Bool) (near far : Rows) (start : Labelled) (all : Li
       ap (is_marked new.marks) turned ∙ second.by_assumption a2
 
   -- a clause of one literal of the boolean has it marked
-  unit_marked : (slots : Slots) (bools : ℕ) → IsThreaded near slots bools → (l : Lit) (id : ℕ) → IsUnitOf slots (lit_at near) (lit_at far) l id → (l ≡ f) ⊎ (l ≡ neg f) → (b : Bool) → assumed (neg l) ≡ b → is_free new.marks l ≡ false
-  unit_marked slots bools threaded l id unit way true a = neg_not_free new.marks l (assumed_marked (neg l) a (turn way))
+  unit_marked : (slots : Slots) (bools : ℕ) → IsThreaded near slots bools → (both ≡ false → NoneOpposed slots (lit_at near) (lit_at far) all) → (l : Lit) (id : ℕ) → IsUnitOf slots (lit_at near) (lit_at far) l id → (l ≡ f) ⊎ (l ≡ neg f) → (b : Bool) → assumed (neg l) ≡ b → is_free new.marks l ≡ false
+  unit_marked slots bools threaded none l id unit way true a = neg_not_free new.marks l (assumed_marked (neg l) a (turn way))
     where
       turn : (l ≡ f) ⊎ (l ≡ neg f) → (neg l ≡ f) ⊎ (neg l ≡ neg f)
       turn (inl same) = inr (ap neg same)
       turn (inr turned) = inl (ap neg turned ∙ neg_neg f)
-  unit_marked slots bools threaded l id unit (inl same) false a =
+  unit_marked slots bools threaded none l id unit (inl same) false a =
       ap (is_free new.marks) same
       ∙ kept_free mid new second.grows f
       (first.by_unit slots bools threaded id (subst (λ (k : Lit). IsUnitOf slots (lit_at near) (lit_at far) k id) same unit) (ap (λ k. assumed (neg k)) (sym same) ∙ a))
-  unit_marked slots bools threaded l id unit (inr turned) false a =
+  unit_marked slots bools threaded none l id unit (inr turned) false a =
       ap (is_free new.marks) turned
-      ∙ second.by_unit slots bools threaded id (subst (λ (k : Lit). IsUnitOf slots (lit_at near) (lit_at far) k id) turned unit) (ap (λ k. assumed (neg k)) (sym turned) ∙ a)
+      ∙ second.by_unit slots bools threaded none id (subst (λ (k : Lit). IsUnitOf slots (lit_at near) (lit_at far) k id) turned unit) (ap (λ k. assumed (neg k)) (sym turned) ∙ a)
 
   way_of : (l : Lit) → same_var f l ≡ true → (l ≡ f) ⊎ (l ≡ neg f)
   way_of l e = same_or_neg l f (sym (eq_from f.var.0 l.var.0 e))
 
-  pub both_supported : IsSupporting assumed near far start all waiting new
+  pub both_supported : IsSupporting assumed near far both start all waiting new
   both_supported =
       record {
         grows = Grows-then start old new is.grows grows_both;
+        among = λ g e. is.among g (or_right (same_lit f g) (has_lit waiting g) e);
         derivation =
             λ slots bools truth marks fallen threaded guarded d.
             second.derivation slots bools truth marks fallen threaded guarded (first.derivation slots bools truth marks fallen threaded guarded (is.derivation slots bools truth marks fallen threaded guarded d));
         against = second.against;
         marked = record { marked = λ l a. by_same l a (same_var f l) refl };
         settled =
-            λ slots bools threaded settled.
+            λ slots bools threaded none settled.
             record {
-              settled = λ id c m at h e fine. settled_at slots bools threaded (is.settled slots bools threaded settled) id c m at h e fine (same_var f (lit_at near id)) refl;
+              settled = λ id c m at h e fine. settled_at slots bools threaded none (is.settled slots bools threaded none settled) id c m at h e fine (same_var f (lit_at near id)) refl;
             };
       }
     where
-      settled_at : (slots : Slots) (bools : ℕ) → IsThreaded near slots bools → AreSettled slots (lit_at near) (lit_at far) old.marks (f ∷ waiting) → (id : ℕ) (c : List Lit) (m : Lit) → clause_at slots id ≡ Some c → Contains c m → lit_at near id ≡ lit_at far id
+      settled_at : (slots : Slots) (bools : ℕ) → IsThreaded near slots bools → (both ≡ false → NoneOpposed slots (lit_at near) (lit_at far) all) → AreSettled slots (lit_at near) (lit_at far) old.marks (f ∷ waiting) → (id : ℕ) (c : List Lit) (m : Lit) → clause_at slots id ≡ Some c → Contains c m → lit_at near id ≡ lit_at far id
           → is_fallen waiting (lit_at near id) ≡ false → (b : Bool) → same_var f (lit_at near id) ≡ b → is_free new.marks (lit_at near id) ≡ false
-      settled_at slots bools threaded settled id c m at h e fine true v =
-          unit_marked slots bools threaded (lit_at near id) id (record { clause = c; member = m; present = at; has = h; near_lit = refl; far_lit = sym e }) (way_of (lit_at near id) v) (assumed (neg (lit_at near id))) refl
-      settled_at slots bools threaded settled id c m at h e fine false v =
+      settled_at slots bools threaded none settled id c m at h e fine true v =
+          unit_marked slots bools threaded none (lit_at near id) id (record { clause = c; member = m; present = at; has = h; near_lit = refl; far_lit = sym e }) (way_of (lit_at near id) v) (assumed (neg (lit_at near id))) refl
+      settled_at slots bools threaded none settled id c m at h e fine false v =
           kept_free old new grows_both (lit_at near id) (settled.settled id c m at h e (ap (λ b. b || is_fallen waiting (lit_at near id)) v ∙ fine))
 
       by_same : (l : Lit) → assumed l ≡ true → (b : Bool) → same_var f l ≡ b → (is_marked new.marks l || is_fallen waiting l) ≡ true

@@ -2,8 +2,8 @@
 use Rattle.std.proofs.Common.{◌≡◌, ◌⊎◌, ℕ, suc, zero, ◌+◌, ◌<◌, ◌≤◌, Bool, true, false, not, ◌&&◌, ◌||◌, nat_lt, List, min, [], ◌∷◌, ◌++◌, length, take, drop, get_or, set, None, refl, sym, ap, ap₂, subst, ◌∙◌, arith, inl, inr}
 use Rattle.std.specs.List.{list_all}
 use Rattle.std.proofs.lemmas.Grind.{drop_more_same}
-use Rattle.std.proofs.lemmas.List.{length-append, length-set, take-append-drop, take_more_set, drop_more, drop_all, drop-set-lt, length-take-le, take-set-le, take-take, append_assoc, append-nil}
-use Rattle.std.proofs.lemmas.List.Folds.{list_all-append, list_any_more}
+use Rattle.std.proofs.lemmas.List.{take_all, length-append, length-set, take-append-drop, take_more_set, drop_more, drop_all, drop-set-lt, length-take-le, take-set-le, take-take, append_assoc, append-nil}
+use Rattle.std.proofs.lemmas.List.Folds.{list_all-append, list_any-append, list_any_more}
 use Rattle.lv_base.specs.declared.ids.Lit.{Lit}
 use Rattle.lv_clauses.specs.Literals.{neg, in_range}
 use Rattle.lv_clauses.specs.ClauseMap.{Slots}
@@ -36,6 +36,7 @@ pub record IsSweeping (assumed : Lit → Bool) (bools : ℕ) (clauses : Slots) (
   pub against : NoneAgainst assumed (trail_has (take kept labels.trail))
   pub marked : (l : Lit) → is_marked old.marks l ≡ true → (is_marked labels.marks l || has_lit fallen l) ≡ true
   pub range : list_all (in_range bools) fallen ≡ true
+  pub were : (f : Lit) → has_lit fallen f ≡ true → true_before at old.trail f ≡ true
   pub front_was : (l : Lit) → true_before kept labels.trail l ≡ true → true_before at old.trail l ≡ true
   pub looked_within : looked ≤ kept
   pub looked_was : (l : Lit) → true_before looked labels.trail l ≡ true → true_before done old.trail l ≡ true
@@ -72,6 +73,7 @@ module _ (assumed : Lit → Bool) (bools : ℕ) (old : Labelled) where
         against = shaken.against;
         marked = λ l e. or_left (is_marked old.marks l) false e;
         range = refl;
+        were = λ f e. absurd (cc e);
         front_was = λ l e. e;
         looked_within = omega arith;
         looked_was = λ l e. before_le old.trail (min from done) done l (omega arith) e;
@@ -176,6 +178,7 @@ module _ (assumed : Lit → Bool) (bools : ℕ) (old : Labelled) where
                 };
             marked = is.marked;
             range = is.range;
+            were = λ f e. was_before f (is.were f e);
             front_was = front_now;
             looked_within = elim way [ inl more ↦ omega (arith, more.0) | inr still ↦ omega (arith, still, is.looked_within) ];
             looked_was = λ l e. was_at l e way;
@@ -204,13 +207,28 @@ module _ (assumed : Lit → Bool) (bools : ℕ) (old : Labelled) where
           range =
               list_all-append (in_range bools) fallen (link.lit ∷ [])
               ∙ and_both (list_all (in_range bools) fallen) (nat_lt link.lit.var.0 bools && true) is.range (and_both (nat_lt link.lit.var.0 bools) true (lt_is link.lit.var.0 bools (omega (arith, sweeping_link_within, is.marks))) refl);
+          were = were_at;
           front_was = λ l e. was_before l (is.front_was l e);
           looked_within = is.looked_within;
           looked_was = is.looked_was;
         }
+      where
+        alone : (b : Bool) → (b || false) ≡ true → b ≡ true
+        alone true h = refl
+        alone false h = absurd (cc h)
+
+        or_true : (b : Bool) → (b || true) ≡ true
+        or_true true = refl
+        or_true false = refl
+
+        were_at : (f : Lit) → has_lit (fallen ++ link.lit ∷ []) f ≡ true → true_before (at + 1) old.trail f ≡ true
+        were_at f e = elim (or_cases (has_lit fallen f) (same_lit link.lit f || false) (sym (list_any-append (λ (k : Lit). same_lit k f) fallen (link.lit ∷ [])) ∙ e)) [
+          | inl before ↦ was_before f (is.were f before)
+          | inr last ↦ old_more f ∙ ap (λ b. true_before at old.trail f || b) (alone (same_lit link.lit f) last) ∙ or_true (true_before at old.trail f)
+        ]
 
   -- at the end of the trail what was kept is the trail
-  module _ (clauses : Slots) (done at kept looked : ℕ) (labels : Labelled) (fallen : List Lit) (past : length labels.trail ≤ at) (is : IsSweeping assumed bools clauses old done at kept looked labels fallen) where
+  module _ (clauses : Slots) (done at kept looked : ℕ) (labels : Labelled) (fallen : List Lit) (past : length labels.trail ≤ at) (once : Agrees old.marks old.supports old.trail) (is : IsSweeping assumed bools clauses old done at kept looked labels fallen) where
     cut_is : standing_trail labels.trail kept at ≡ take kept labels.trail
     cut_is = ap (λ (t : List Link). take kept labels.trail ++ t) (drop_all at labels.trail past) ∙ append-nil (take kept labels.trail)
 
@@ -229,6 +247,7 @@ module _ (assumed : Lit → Bool) (bools : ℕ) (old : Labelled) where
           derivation = is.derivation;
           against = record { against = λ l e. agrees_cut.same (neg l) ∙ is.against.against l e };
           kept = is.marked;
+          were = λ f e. once.same f ∙ sym (ap (λ (t : List Link). trail_has t f) (take_all at old.trail (omega (arith, past, is.len)))) ∙ is.were f e;
         }
 
     pub sweeping_within : looked ≤ length (take kept labels.trail)

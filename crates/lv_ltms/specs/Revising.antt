@@ -38,6 +38,7 @@ pub record IsShaken (assumed : Lit → Bool) (clauses : Slots) (trail : List Lin
 
 -- the labels that lost their support are gone, and what stays is derived
 pub record IsSwept (assumed : Lit → Bool) (clauses : Slots) (old new : Labelled) (fallen : List Lit) : Type 0 where
+  pub were : (f : Lit) → has_lit fallen f ≡ true → is_marked old.marks f ≡ true
   pub derivation : IsDerivation clauses assumed new.trail
   pub against : NoneAgainst assumed (is_marked new.marks)
   pub kept : (l : Lit) → is_marked old.marks l ≡ true → (is_marked new.marks l || has_lit fallen l) ≡ true
@@ -69,6 +70,24 @@ pub record GetsSupport (assumed : Lit → Bool) (near far : Rows) (old new : Lab
   pub derivation : (slots : Slots) (bools : ℕ) (truth : Lit → Bool) (marks : Marks) (fallen : List Lit) → IsThreaded near slots bools → AreGuarded slots (lit_at near) (lit_at far) truth marks fallen
       → IsDerivation slots assumed old.trail → IsDerivation slots assumed new.trail
   pub by_unit : (slots : Slots) (bools : ℕ) → IsThreaded near slots bools → (id : ℕ) → IsUnitOf slots (lit_at near) (lit_at far) l id → assumed (neg l) ≡ false → is_free new.marks l ≡ false
+
+-- the negations of these aren't assumed
+pub record AreUpright (assumed : Lit → Bool) (fallen : List Lit) : Type 0 where
+  pub upright : (f : Lit) → has_lit fallen f ≡ true → assumed (neg f) ≡ false
+
+-- and no clause has one of them alone
+pub record NoneOpposed (slots : Slots) (near far : ℕ → Lit) (fallen : List Lit) : Type 0 where
+  pub opposed : (f : Lit) → has_lit fallen f ≡ true → (id : ℕ) → IsUnitOf slots near far (neg f) id → ⊥
+
+-- the negation of a literal got its label too, if an assumption or a clause of one literal gives it; or nothing of these does
+pub record TurnedToo (assumed : Lit → Bool) (near far : Rows) (both : Bool) (all : List Lit) (old new : Labelled) (f : Lit) : Type 0 where
+  pub grows : Grows old new
+  pub against : NoneAgainst assumed (is_marked new.marks)
+  pub by_assumption : assumed (neg f) ≡ true → is_marked new.marks (neg f) ≡ true
+  pub derivation : (slots : Slots) (bools : ℕ) (truth : Lit → Bool) (marks : Marks) (fallen : List Lit) → IsThreaded near slots bools → AreGuarded slots (lit_at near) (lit_at far) truth marks fallen
+      → IsDerivation slots assumed old.trail → IsDerivation slots assumed new.trail
+  pub by_unit : (slots : Slots) (bools : ℕ) → IsThreaded near slots bools → (both ≡ false → NoneOpposed slots (lit_at near) (lit_at far) all) → (id : ℕ) → IsUnitOf slots (lit_at near) (lit_at far) (neg f) id → assumed (neg (neg f)) ≡ false
+      → is_free new.marks (neg f) ≡ false
 
 -- each assumption has its boolean marked
 pub record AreFixed (assumed : Lit → Bool) (labels : Labelled) : Type 0 where

@@ -1,31 +1,50 @@
 -- For each literal the clauses that watch it, as lists through an arena of watches, and what is true of these.
-use Rattle.std.specs.Prelude.{◌≡◌, ℕ, ◌<◌, ◌≤◌, Bool, true, false, List, [], ◌∷◌, length, nat_eq, count_by, slice_index_or, slice_set, if◌then◌else◌, Option, Some, None, IsSome, Contains}
+use Rattle.std.specs.Prelude.{◌≡◌, ℕ, zero, suc, ◌<◌, ◌≤◌, Bool, true, false, List, [], ◌∷◌, length, nat_eq, count_by, slice_index_or, slice_set, if◌then◌else◌, Option, Some, None, IsSome, Contains}
 use Rattle.std.specs.List.{list_any}
 use Rattle.lv_base.specs.declared.ids.Lit.{Lit}
 use Rattle.lv_base.specs.declared.ids.ClauseId.{ClauseId}
 use Rattle.lv_clauses.specs.Literals.{neg, same_var}
 use Rattle.lv_clauses.specs.ClauseMap.{Slots, clause_at}
 use Rattle.lv_clauses.specs.Marks.{Marks, is_marked, is_free}
+use Rattle.lv_ltms.specs.declared.watchers.Next.{Next}
 use Rattle.lv_ltms.specs.declared.watchers.Watch.{Watch}
 use Rattle.lv_ltms.specs.Trail.{same_lit}
 
+-- the clause of the number before this one, 0 for none
+abbrev pub clause_before : ℕ → Option ClauseId
+clause_before zero = None
+clause_before (suc n) = Some (record { 0 = n })
+
+abbrev pub clause_of : Next → Option ClauseId
+clause_of n = clause_before n.0
+
+abbrev pub next_of : Option ClauseId → Next
+next_of None = record { 0 = 0 }
+next_of (Some id) = record { 0 = suc id.0 }
+
 -- the first clause of each boolean's true literal, that of its false literal, and the watch of each clause
 pub record Rows : Type 0 where
-  pub of_true : List (Option ClauseId)
-  pub of_false : List (Option ClauseId)
+  pub of_true : List Next
+  pub of_false : List Next
   pub watches : List Watch
 
-abbrev pub heads_of : Rows → Bool → List (Option ClauseId)
+abbrev pub heads_of : Rows → Bool → List Next
 heads_of rows true = rows.of_true
 heads_of rows false = rows.of_false
 
+abbrev pub last : Next
+last = record { 0 = 0 }
+
+abbrev pub head_at : Rows → Lit → Next
+head_at rows l = slice_index_or (heads_of rows l.sign) l.var.0 last
+
 -- the first clause that watches the literal
 abbrev pub head_of : Rows → Lit → Option ClauseId
-head_of rows l = slice_index_or (heads_of rows l.sign) l.var.0 None
+head_of rows l = clause_of (head_at rows l)
 
 -- what stands in the place of a clause that watches nothing
 abbrev pub blank : Watch
-blank = record { lit = record { var = record { 0 = 0 }; sign = false }; next = None }
+blank = record { lit = record { var = record { 0 = 0 }; sign = false }; next = last }
 
 abbrev pub watch_at : Rows → ℕ → Watch
 watch_at rows id = slice_index_or rows.watches id blank
@@ -35,20 +54,20 @@ abbrev pub lit_at : Rows → ℕ → Lit
 lit_at rows id = (watch_at rows id).lit
 
 abbrev pub next_at : Rows → ℕ → Option ClauseId
-next_at rows id = (watch_at rows id).next
+next_at rows id = clause_of (watch_at rows id).next
 
-abbrev pub with_head_of : Rows → Bool → ℕ → Option ClauseId → Rows
+abbrev pub with_head_of : Rows → Bool → ℕ → Next → Rows
 with_head_of rows true v first = record { of_true = slice_set rows.of_true v first; of_false = rows.of_false; watches = rows.watches }
 with_head_of rows false v first = record { of_true = rows.of_true; of_false = slice_set rows.of_false v first; watches = rows.watches }
 
 -- the rows with another first clause of the literal
 abbrev pub with_head : Rows → Lit → Option ClauseId → Rows
-with_head rows l first = with_head_of rows l.sign l.var.0 first
+with_head rows l first = with_head_of rows l.sign l.var.0 (next_of first)
 
 -- the rows with the clause at the head of the literal's list
 abbrev pub with_watch : Rows → ClauseId → Lit → Rows
 with_watch rows id l =
-    with_head (record { of_true = rows.of_true; of_false = rows.of_false; watches = slice_set rows.watches id.0 (record { lit = l; next = head_of rows l }) }) l (Some id)
+    with_head (record { of_true = rows.of_true; of_false = rows.of_false; watches = slice_set rows.watches id.0 (record { lit = l; next = head_at rows l }) }) l (Some id)
 
 -- there is as much room or more, and all that is watched is as it was
 pub record Fits (old new : Rows) : Type 0 where

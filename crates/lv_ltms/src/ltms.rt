@@ -87,7 +87,7 @@ impl Ltms {
         let trail = self.network.labels.trail();
         let from = first_given(trail, id).unwrap_or(trail.len());
         self.network.remove(id);
-        self.network.revise(from, self.assumed.as_slice());
+        self.network.revise(from, self.assumed.as_slice(), false);
     }
 
     /// Adds an assumption: a literal that isn't assumed, nor its negation. Where its negation is derived, that label
@@ -103,7 +103,7 @@ impl Ltms {
         }
         if is_marked(self.network.labels.marks(), negation(lit)) {
             let from = self.network.labels.place_of(lit);
-            self.network.revise(from, self.assumed.as_slice());
+            self.network.revise(from, self.assumed.as_slice(), true);
             return;
         }
         self.network.labels.push(Link {
@@ -120,7 +120,7 @@ impl Ltms {
     {
         unmark(&mut self.assumed, lit);
         let from = self.network.labels.place_of(lit);
-        self.network.revise(from, self.assumed.as_slice());
+        self.network.revise(from, self.assumed.as_slice(), false);
     }
 
     /// Whether a literal is one of the assumptions present.

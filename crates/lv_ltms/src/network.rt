@@ -2,7 +2,7 @@
 //! Its calls find what follows, and take away what no longer does.
 #![tactic(auto)]
 
-ghost use Rattle.std.specs.Prelude.{◌≡◌, ℕ, ◌<◌, ◌≤◌, ◌||◌, [], length, replicate, is_some, slice_set, vec_capacity, IsTrue, IsSome, IfOk, IfNone, OnErr, None, Some};
+ghost use Rattle.std.specs.Prelude.{◌≡◌, ℕ, ◌<◌, ◌≤◌, ◌||◌, false, [], length, replicate, is_some, slice_set, vec_capacity, IsTrue, IsSome, IfOk, IfNone, OnErr, None, Some};
 ghost use Rattle.lv_clauses.specs.Literals.{is_clause};
 ghost use Rattle.lv_clauses.specs.ClauseMap.{clause_at, AreClauses};
 ghost use Rattle.lv_clauses.specs.Marks.{nothing, is_marked};
@@ -10,7 +10,7 @@ ghost use Rattle.lv_ltms.specs.declared.labels.Reason.TheVariants.{Assumed};
 ghost use Rattle.lv_ltms.specs.Labelled.{GoesOn};
 ghost use Rattle.lv_ltms.specs.Standing.{PutsSlot, NoneEmpty, TellsEmpty};
 ghost use Rattle.lv_ltms.specs.Networks.{IsAlive, IsRested, KeepsAll};
-ghost use Rattle.lv_ltms.specs.Watching.{lit_at, IsThreaded, AreMembers};
+ghost use Rattle.lv_ltms.specs.Watching.{last, lit_at, IsThreaded, AreMembers};
 ghost use Rattle.lv_ltms.specs.Revising.{IsShaken, AreFixed, AreMarked};
 ghost use Rattle.lv_ltms.specs.Reaching.{IsWithout, StaysOn};
 ghost use Rattle.lv_ltms.specs.Trail.{IsDerivation};
@@ -40,8 +40,8 @@ impl Network {
     /// The network of no clauses over so many booleans.
     pub fn new(alloc: Global, bools: u32) -> Result<Network, AllocError>
         ensures arena { IfOk result (λ n. n.arena ≡ []) }
-        ensures near { IfOk result (λ n. n.near ≡ record { of_true = replicate bools None; of_false = replicate bools None; watches = [] }) }
-        ensures far { IfOk result (λ n. n.far ≡ record { of_true = replicate bools None; of_false = replicate bools None; watches = [] }) }
+        ensures near { IfOk result (λ n. n.near ≡ record { of_true = replicate bools last; of_false = replicate bools last; watches = [] }) }
+        ensures far { IfOk result (λ n. n.far ≡ record { of_true = replicate bools last; of_false = replicate bools last; watches = [] }) }
         ensures labels { IfOk result (λ n. n.labels ≡ record { marks = nothing bools; supports = replicate bools Assumed; trail = [] }) }
         ensures progress { IfOk result (λ n. n.progress ≡ record { done = 0; conflict = None }) }
         ensures empty { IfOk result (λ n. n.empty ≡ None) }
@@ -120,12 +120,14 @@ impl Network {
     }
 
     /// Labels anew what the labels from a place of the trail on leave: those that lost their support fall, and what
-    /// follows from the others is marked.
-    pub fn revise(&mut self, from: usize, assumed: &[Option<bool>])
+    /// follows from the others is marked. Where no clause was known to be false, and no assumption turns a label, none
+    /// that falls is turned.
+    pub fn revise(&mut self, from: usize, assumed: &[Option<bool>], turns: bool)
         requires alive { IsAlive self.old }
         requires place { from ≤ length self.old.labels.trail }
         requires shaken { IsShaken (is_marked assumed.now) self.old.arena self.old.labels.trail from }
         requires marked { AreFixed (is_marked assumed.now) self.old.labels }
+        requires straight { turns ≡ false → AreMarked (is_marked assumed.now) self.old.labels }
         requires room { length self.old.labels.marks ≤ vec_capacity self.old.fallen }
         ensures rested { IsRested self.new }
         ensures arena { self.new.arena ≡ self.old.arena }
@@ -137,6 +139,7 @@ impl Network {
         ensures room { vec_capacity self.new.fallen ≡ vec_capacity self.old.fallen }
     {
         self.fallen.clear();
+        let both = self.may_turn(turns);
         let looked = sweep(
             from,
             self.progress.done,
@@ -147,6 +150,7 @@ impl Network {
         );
         support_all(
             self.fallen.as_slice(),
+            both,
             assumed,
             &self.near,
             &self.far,
@@ -166,6 +170,14 @@ impl Network {
             &mut self.far,
             &mut self.labels,
         );
+    }
+
+    /// Whether a literal that falls may be turned: some assumption turns one, or not all links were looked at.
+    fn may_turn(&self, turns: bool) -> bool
+        ensures turns { result ≡ false → turns ≡ false }
+        ensures done { result ≡ false → length self.now.labels.trail ≤ self.now.progress.done }
+    {
+        turns || self.progress.done < self.labels.trail().len()
     }
 
     /// Whether a clause is known to be false.
@@ -188,13 +200,13 @@ fn unwatch(id: ClauseId, arena: &Arena, rows: &mut Watchers)
     if arena.is_blank(id) {
         return;
     }
-    let lit = rows.watch(id).lit;
+    let lit = rows.lit(id);
     let mut at = rows.take(lit);
     for _ in 0..rows.room() {
         let Some(other) = at else {
             return;
         };
-        at = rows.watch(other).next;
+        at = rows.next(other);
         if other.0 != id.0 {
             rows.put(other, lit);
         }

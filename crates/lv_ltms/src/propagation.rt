@@ -121,8 +121,8 @@ fn visit(
         let Some(id) = at else {
             return found;
         };
-        at = near.watch(id).next;
-        match meet(id, far.watch(id).lit, arena, labels) {
+        at = near.next(id);
+        match meet(id, far.lit(id), arena, labels) {
             Meeting::Holds => near.put(id, lit),
             Meeting::Moves(other) => near.put(id, other),
             Meeting::Fails => {

@@ -13,7 +13,7 @@ ghost use Rattle.lv_clauses.specs.Marks.{Marks, is_marked};
 ghost use Rattle.lv_ltms.specs.Labelled.{Agrees, AreLabels, Grows};
 ghost use Rattle.lv_ltms.specs.Standing.{true_before};
 ghost use Rattle.lv_ltms.specs.Watching.{lit_at, has_lit, IsThreaded, AreRows, InRow, AllInRow, AreGuarded, AreSettled};
-ghost use Rattle.lv_ltms.specs.Revising.{IsShaken, IsSwept, AreMarked, AreMarkedOrWait, NoneAgainst, IsOneSided, GetsSupport, GivesReason, is_wanted_by, derives_lit, is_other_or_false, reason_stands};
+ghost use Rattle.lv_ltms.specs.Revising.{IsShaken, IsSwept, AreUpright, NoneOpposed, TurnedToo, AreMarked, AreMarkedOrWait, NoneAgainst, IsOneSided, GetsSupport, GivesReason, is_wanted_by, derives_lit, is_other_or_false, reason_stands};
 ghost use Rattle.lv_ltms.specs.Reaching.{IsWithout, StaysOn};
 ghost use Rattle.lv_ltms.specs.Trail.{IsDerivation};
 
@@ -95,9 +95,11 @@ fn are_false_but(lits: &[Lit], lit: Lit, marks: &[Option<bool>]) -> bool
     lits.iter().all(|other| *other == lit || is_marked(marks, negation(*other)))
 }
 
-/// Gives each boolean that lost its label that of an assumption or of a clause of one literal, if there is one.
+/// Gives each boolean that lost its label that of an assumption or of a clause of one literal, if there is one. The
+/// negations of the literals that fell are looked at only where this says so.
 pub fn support_all(
     fallen: &[Lit],
+    both: bool,
     assumed: &[Option<bool>],
     near: &Watchers,
     far: &Watchers,
@@ -109,17 +111,41 @@ pub fn support_all(
     requires one_sided { IsOneSided (is_marked assumed.now) }
     requires against { NoneAgainst (is_marked assumed.now) (is_marked labels.old.marks) }
     requires marked { AreMarkedOrWait (is_marked assumed.now) labels.old fallen.now }
+    requires upright { both ≡ false → AreUpright (is_marked assumed.now) fallen.now }
     ensures grows { Grows labels.old labels.new }
     ensures marked { AreMarked (is_marked assumed.now) labels.new }
     ensures derivation { (slots : Slots) (bools : ℕ) (truth : Lit → Bool) (marks : Marks) → IsThreaded near.now slots bools → AreGuarded slots (lit_at near.now) (lit_at far.now) truth marks fallen.now
         → IsDerivation slots (is_marked assumed.now) labels.old.trail → IsDerivation slots (is_marked assumed.now) labels.new.trail }
-    ensures settled { (slots : Slots) (bools : ℕ) → IsThreaded near.now slots bools → AreSettled slots (lit_at near.now) (lit_at far.now) labels.old.marks fallen.now
+    ensures settled { (slots : Slots) (bools : ℕ) → IsThreaded near.now slots bools → (both ≡ false → NoneOpposed slots (lit_at near.now) (lit_at far.now) fallen.now) → AreSettled slots (lit_at near.now) (lit_at far.now) labels.old.marks fallen.now
         → AreSettled slots (lit_at near.now) (lit_at far.now) labels.new.marks [] }
 {
     for lit in fallen {
         support(*lit, assumed, near, far, labels);
-        support(negation(*lit), assumed, near, far, labels);
+        support_negation(*lit, both, assumed, near, far, labels);
     }
+}
+
+/// Marks the negation of a literal in the same way, where both are looked at.
+fn support_negation(
+    lit: Lit,
+    both: bool,
+    assumed: &[Option<bool>],
+    near: &Watchers,
+    far: &Watchers,
+    labels: &mut Labels,
+)
+    requires rows { AreRows near.now far.now }
+    requires labels { AreLabels (length labels.old.marks) labels.old }
+    requires range { lit.var.0 < length labels.old.marks }
+    requires one_sided { IsOneSided (is_marked assumed.now) }
+    requires against { NoneAgainst (is_marked assumed.now) (is_marked labels.old.marks) }
+    ensures { (all : List Lit) → (both ≡ false → AreUpright (is_marked assumed.now) all) → has_lit all lit ≡ true
+        → TurnedToo (is_marked assumed.now) near.now far.now both all labels.old labels.new lit }
+{
+    if !both {
+        return;
+    }
+    support(negation(lit), assumed, near, far, labels);
 }
 
 /// Marks a literal where it is assumed, or a clause has no other; unless its boolean is marked, or its negation is
@@ -176,7 +202,7 @@ fn find_unit(lit: Lit, near: &Watchers, far: &Watchers) -> Option<ClauseId>
         if far.is_watch(id, lit) {
             return Some(id);
         }
-        at = near.watch(id).next;
+        at = near.next(id);
     }
     None
 }
@@ -221,9 +247,9 @@ fn lower(lit: Lit, near: &Watchers, far: &Watchers, labels: &Labels, done: usize
         let Some(id) = at else {
             return looked;
         };
-        let other = far.watch(id).lit;
+        let other = far.lit(id);
         looked = labels.before_false(other, looked);
-        at = near.watch(id).next;
+        at = near.next(id);
     }
     looked
 }

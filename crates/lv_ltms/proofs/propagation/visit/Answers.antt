@@ -1,10 +1,9 @@
 -- each clause gone over is put into a list again
-use Rattle.std.proofs.Common.{ℕ, length, Option, None, refl, sym, ap, subst, ◌∙◌, arith, Contains}
+use Rattle.std.proofs.Common.{ℕ, length, Option, None, refl, sym, subst, ◌∙◌, arith, Contains}
 use Rattle.lv_base.specs.declared.ids.Lit.{Lit}
 use Rattle.lv_base.specs.declared.ids.ClauseId.{ClauseId}
 use Rattle.lv_clauses.specs.Literals.{neg}
 use Rattle.lv_clauses.specs.ClauseMap.{clause_at, AreClauses}
-use Rattle.lv_ltms.specs.declared.watchers.Watch.{Watch}
 use Rattle.lv_ltms.specs.declared.propagation.Meeting.TheVariants.{Moves}
 use Rattle.lv_ltms.specs.Watching.{Rows, lit_at, with_head}
 use Rattle.lv_ltms.specs.Standing.{Meets}
@@ -34,11 +33,11 @@ returns-in_default-clause-goes_on c = c.loop.invariant.goes_on
 pub returns-in_default-clause-found : goal.returns-in_default-clause-found
 returns-in_default-clause-found c = c.loop.invariant.falsified
 
-pub watch-at-requires : goal.watch-at-requires
-watch-at-requires c = visit_room c.args.arena.now (length c.args.labels.now.marks) c.args.near.now c.args.far.now c.args.labels.now c.args.lit c.room-end.result c.loop.counter c.loop.near c.loop.labels c.loop.at c.loop.found c.in-Some.id c.loop.invariant c.in-Some.is c.requires.turned (has_within c.args.labels.now.marks (neg c.args.lit) c.requires.turned)
+pub next-at-requires : goal.next-at-requires
+next-at-requires c = visit_room c.args.arena.now (length c.args.labels.now.marks) c.args.near.now c.args.far.now c.args.labels.now c.args.lit c.room-end.result c.loop.counter c.loop.near c.loop.labels c.loop.at c.loop.found c.in-Some.id c.loop.invariant c.in-Some.is c.requires.turned (has_within c.args.labels.now.marks (neg c.args.lit) c.requires.turned)
 
-pub watch-requires : goal.watch-requires
-watch-requires c =
+pub lit-requires : goal.lit-requires
+lit-requires c =
     c.requires.network.far_rows.room c.in-Some.id.0 (is_there (clause_at c.args.arena.now c.in-Some.id.0) (watches c.args.arena.now (length c.args.labels.now.marks) c.args.near.now c.args.far.now c.args.labels.now c.args.lit c.room-end.result c.loop.counter c.loop.near c.loop.labels c.loop.at c.loop.found c.in-Some.id c.loop.invariant c.in-Some.is c.requires.turned (has_within c.args.labels.now.marks (neg c.args.lit) c.requires.turned)).clause (watches c.args.arena.now (length c.args.labels.now.marks) c.args.near.now c.args.far.now c.args.labels.now c.args.lit c.room-end.result c.loop.counter c.loop.near c.loop.labels c.loop.at c.loop.found c.in-Some.id c.loop.invariant c.in-Some.is c.requires.turned (has_within c.args.labels.now.marks (neg c.args.lit) c.requires.turned)).present)
 
 pub meet-requires-clause-present : goal.meet-requires-clause-present
@@ -47,8 +46,8 @@ meet-requires-clause-present c = is_there (clause_at c.args.arena.now c.in-Some.
 pub meet-requires-clause-member : goal.meet-requires-clause-member
 meet-requires-clause-member c =
     let hand = watches c.args.arena.now (length c.args.labels.now.marks) c.args.near.now c.args.far.now c.args.labels.now c.args.lit c.room-end.result c.loop.counter c.loop.near c.loop.labels c.loop.at c.loop.found c.in-Some.id c.loop.invariant c.in-Some.is c.requires.turned (has_within c.args.labels.now.marks (neg c.args.lit) c.requires.turned) in
-    if_some (λ x. Contains x c.watch.result.lit) (clause_at c.args.arena.now c.in-Some.id.0) hand.clause hand.present
-    (subst (Contains hand.clause) (sym (ap (λ (w : Watch). w.lit) c.watch.ensures)) (c.requires.members.member c.in-Some.id.0 hand.clause hand.member hand.present hand.has))
+    if_some (λ x. Contains x c.lit.result) (clause_at c.args.arena.now c.in-Some.id.0) hand.clause hand.present
+    (subst (Contains hand.clause) (sym (c.lit.ensures)) (c.requires.members.member c.in-Some.id.0 hand.clause hand.member hand.present hand.has))
 
 pub meet-requires-clause-clauses : goal.meet-requires-clause-clauses
 meet-requires-clause-clauses c = subst (λ (n : ℕ). AreClauses n c.args.arena.now) (sym c.loop.invariant.goes_on.grows.marks) c.requires.network.clauses
@@ -79,26 +78,26 @@ put-requires-in-Fails-clause-room c = visit_room c.args.arena.now (length c.args
 pub put-requires-in-Moves-clause-range : goal.put-requires-in-Moves-clause-range
 put-requires-in-Moves-clause-range c =
     let hand = watches c.args.arena.now (length c.args.labels.now.marks) c.args.near.now c.args.far.now c.args.labels.now c.args.lit c.room-end.result c.loop.counter c.loop.near c.loop.labels c.loop.at c.loop.found c.in-Some.id c.loop.invariant c.in-Some.is c.requires.turned (has_within c.args.labels.now.marks (neg c.args.lit) c.requires.turned) in
-    let told = from_some (λ x. Meets x c.watch.result.lit c.loop.labels.marks c.meet.new.labels.marks (Moves c.in-Moves.other)) (clause_at c.args.arena.now c.in-Some.id.0) hand.clause hand.present c.in-Moves.ensures.meets in
+    let told = from_some (λ x. Meets x c.lit.result c.loop.labels.marks c.meet.new.labels.marks (Moves c.in-Moves.other)) (clause_at c.args.arena.now c.in-Some.id.0) hand.clause hand.present c.in-Moves.ensures.meets in
     omega (arith, clause_range (length c.args.labels.now.marks) hand.clause c.in-Moves.other (c.requires.network.clauses c.in-Some.id.0 hand.clause hand.present) told.0, c.loop.invariant.traversing.of_true)
 
 pub loop-preserved : goal.loop-preserved
 loop-preserved c =
     let hand = watches c.args.arena.now (length c.args.labels.now.marks) c.args.near.now c.args.far.now c.args.labels.now c.args.lit c.room-end.result c.loop.counter c.loop.near c.loop.labels c.loop.at c.loop.found c.in-Some.id c.loop.invariant c.in-Some.is c.requires.turned (has_within c.args.labels.now.marks (neg c.args.lit) c.requires.turned) in
     let meets : Meets hand.clause (lit_at c.args.far.now c.in-Some.id.0) c.loop.labels.marks c.meet.new.labels.marks c.meet.result =
-    subst (λ (l : Lit). Meets hand.clause l c.loop.labels.marks c.meet.new.labels.marks c.meet.result) (ap (λ (w : Watch). w.lit) c.watch.ensures)
-    (from_some (λ x. Meets x c.watch.result.lit c.loop.labels.marks c.meet.new.labels.marks c.meet.result) (clause_at c.args.arena.now c.in-Some.id.0) hand.clause hand.present c.meet.ensures.meets) in
+    subst (λ (l : Lit). Meets hand.clause l c.loop.labels.marks c.meet.new.labels.marks c.meet.result) (c.lit.ensures)
+    (from_some (λ x. Meets x c.lit.result c.loop.labels.marks c.meet.new.labels.marks c.meet.result) (clause_at c.args.arena.now c.in-Some.id.0) hand.clause hand.present c.meet.ensures.meets) in
     elim c.match-meet.branch [
       | in-Holds w ↦
-          visiting_same (w.near-is ∙ w.put.ensures) (ap (λ (x : Watch). x.next) c.watch-at.ensures) w.found-is
+          visiting_same (w.near-is ∙ w.put.ensures) c.next-at.ensures w.found-is
           (visited_holds c.args.arena.now (length c.args.labels.now.marks) c.args.near.now c.args.far.now c.args.labels.now c.args.lit c.room-end.result c.loop.counter c.loop.near c.loop.labels c.loop.at c.loop.found c.in-Some.id c.loop.invariant c.in-Some.is c.requires.turned (has_within c.args.labels.now.marks (neg c.args.lit) c.requires.turned) c.meet.new.labels c.meet.result meets c.meet.ensures.goes_on w.in-Holds.is)
       | in-Moves w ↦
-          visiting_same (w.near-is ∙ w.put-in-Moves.ensures) (ap (λ (x : Watch). x.next) c.watch-at.ensures) w.found-is
+          visiting_same (w.near-is ∙ w.put-in-Moves.ensures) c.next-at.ensures w.found-is
           (visited_moves c.args.arena.now (length c.args.labels.now.marks) c.args.near.now c.args.far.now c.args.labels.now c.args.lit c.room-end.result c.loop.counter c.loop.near c.loop.labels c.loop.at c.loop.found c.in-Some.id c.loop.invariant c.in-Some.is c.requires.turned (has_within c.args.labels.now.marks (neg c.args.lit) c.requires.turned) c.meet.new.labels c.meet.result meets c.meet.ensures.goes_on w.in-Moves.other w.in-Moves.is
           (clause_range (length c.args.labels.now.marks) hand.clause w.in-Moves.other (c.requires.network.clauses c.in-Some.id.0 hand.clause hand.present)
           (subst (Meets hand.clause (lit_at c.args.far.now c.in-Some.id.0) c.loop.labels.marks c.meet.new.labels.marks) w.in-Moves.is meets).0))
       | in-Fails w ↦
-          visiting_same (w.near-is ∙ w.put-in-Fails.ensures) (ap (λ (x : Watch). x.next) c.watch-at.ensures) w.found-is
+          visiting_same (w.near-is ∙ w.put-in-Fails.ensures) c.next-at.ensures w.found-is
           (visited_fails c.args.arena.now (length c.args.labels.now.marks) c.args.near.now c.args.far.now c.args.labels.now c.args.lit c.room-end.result c.loop.counter c.loop.near c.loop.labels c.loop.at c.loop.found c.in-Some.id c.loop.invariant c.in-Some.is c.requires.turned (has_within c.args.labels.now.marks (neg c.args.lit) c.requires.turned) c.meet.new.labels c.meet.result meets c.meet.ensures.goes_on w.in-Fails.is)
     ]
 

@@ -2,7 +2,6 @@
 use Rattle.std.proofs.Common.{◌≡◌, ◌≢◌, ◌+◌, false, length, Option, sym, ap, subst, ◌∙◌, arith}
 use Rattle.lv_base.specs.declared.ids.Lit.{Lit}
 use Rattle.lv_base.specs.declared.ids.ClauseId.{ClauseId}
-use Rattle.lv_ltms.specs.declared.watchers.Watch.{Watch}
 use Rattle.lv_ltms.specs.Trail.{same_lit}
 use Rattle.lv_ltms.specs.Watching.{lit_at}
 use Rattle.lv_ltms.proofs.CountLemmas.{same_lit-self}
@@ -28,13 +27,13 @@ returns-then-is_watch-clause-some c = reading_in c.loop.invariant c.in-Some.id c
 pub returns-then-is_watch-clause-unit : goal.returns-then-is_watch-clause-unit
 returns-then-is_watch-clause-unit c = same_lit-equal (lit_at c.args.far.now c.in-Some.id.0) c.args.lit (sym c.is_watch.ensures ∙ c.if-is_watch.true)
 
-pub watch-at-requires : goal.watch-at-requires
-watch-at-requires c = reading_near c.loop.invariant c.in-Some.id c.in-Some.is c.requires
+pub next-at-requires : goal.next-at-requires
+next-at-requires c = reading_near c.loop.invariant c.in-Some.id c.in-Some.is c.requires
 
 pub loop-preserved : goal.loop-preserved
 loop-preserved c =
     let apart : same_lit (lit_at c.args.far.now c.in-Some.id.0) c.args.lit ≡ false = sym c.is_watch.ensures ∙ c.if-is_watch.false in
-    subst (λ (s : Option ClauseId). IsReading c.args.near.now c.args.lit c.room-end.result (c.loop.counter + 1) s (λ (id : ClauseId). lit_at c.args.far.now id.0 ≢ c.args.lit)) (sym (ap (λ (w : Watch). w.next) c.watch-at.ensures))
+    subst (λ (s : Option ClauseId). IsReading c.args.near.now c.args.lit c.room-end.result (c.loop.counter + 1) s (λ (id : ClauseId). lit_at c.args.far.now id.0 ≢ c.args.lit)) (sym c.next-at.ensures)
     (reading_next c.loop.invariant c.in-Some.id c.in-Some.is (λ (id : ClauseId). lit_at c.args.far.now id.0 ≢ c.args.lit) (λ i h. h) (λ e. absurd (cc (ap (λ (l : Lit). same_lit l c.args.lit) e, same_lit-self c.args.lit, apart))))
 
 pub returns-clause-none : goal.returns-clause-none

@@ -79,22 +79,22 @@ loop-at-preserved c =
 pub returns-clause-labels : goal.returns-clause-labels
 returns-clause-labels c =
     subst (AreLabels (length c.args.labels.now.marks)) (sym c.cut.ensures)
-    (sweeping_labels (is_marked c.args.assumed.now) (length c.args.labels.now.marks) c.args.labels.now c.args.arena.now c.args.done c.loop-at.at c.loop-at.kept c.loop-at.looked c.loop-at.labels c.loop-at.fallen.items (omega (arith, c.loop-at-test.false, ap (λ (t : List Link). length t) c.trail-at-end.ensures, c.loop-at.invariant.sweeping.len)) c.loop-at.invariant.sweeping)
+    (sweeping_labels (is_marked c.args.assumed.now) (length c.args.labels.now.marks) c.args.labels.now c.args.arena.now c.args.done c.loop-at.at c.loop-at.kept c.loop-at.looked c.loop-at.labels c.loop-at.fallen.items (omega (arith, c.loop-at-test.false, ap (λ (t : List Link). length t) c.trail-at-end.ensures, c.loop-at.invariant.sweeping.len)) c.requires.labels.agrees c.loop-at.invariant.sweeping)
 
 pub returns-clause-swept : goal.returns-clause-swept
 returns-clause-swept c =
     subst (λ (x : Labelled). IsSwept (is_marked c.args.assumed.now) c.args.arena.now c.args.labels.now x c.loop-at.fallen.items) (sym c.cut.ensures)
-    (sweeping_done (is_marked c.args.assumed.now) (length c.args.labels.now.marks) c.args.labels.now c.args.arena.now c.args.done c.loop-at.at c.loop-at.kept c.loop-at.looked c.loop-at.labels c.loop-at.fallen.items (omega (arith, c.loop-at-test.false, ap (λ (t : List Link). length t) c.trail-at-end.ensures, c.loop-at.invariant.sweeping.len)) c.loop-at.invariant.sweeping)
+    (sweeping_done (is_marked c.args.assumed.now) (length c.args.labels.now.marks) c.args.labels.now c.args.arena.now c.args.done c.loop-at.at c.loop-at.kept c.loop-at.looked c.loop-at.labels c.loop-at.fallen.items (omega (arith, c.loop-at-test.false, ap (λ (t : List Link). length t) c.trail-at-end.ensures, c.loop-at.invariant.sweeping.len)) c.requires.labels.agrees c.loop-at.invariant.sweeping)
 
 pub returns-clause-within : goal.returns-clause-within
 returns-clause-within c =
     subst (λ (x : Labelled). c.loop-at.looked ≤ length x.trail) (sym c.cut.ensures)
-    (sweeping_within (is_marked c.args.assumed.now) (length c.args.labels.now.marks) c.args.labels.now c.args.arena.now c.args.done c.loop-at.at c.loop-at.kept c.loop-at.looked c.loop-at.labels c.loop-at.fallen.items (omega (arith, c.loop-at-test.false, ap (λ (t : List Link). length t) c.trail-at-end.ensures, c.loop-at.invariant.sweeping.len)) c.loop-at.invariant.sweeping)
+    (sweeping_within (is_marked c.args.assumed.now) (length c.args.labels.now.marks) c.args.labels.now c.args.arena.now c.args.done c.loop-at.at c.loop-at.kept c.loop-at.looked c.loop-at.labels c.loop-at.fallen.items (omega (arith, c.loop-at-test.false, ap (λ (t : List Link). length t) c.trail-at-end.ensures, c.loop-at.invariant.sweeping.len)) c.requires.labels.agrees c.loop-at.invariant.sweeping)
 
 pub returns-clause-looked : goal.returns-clause-looked
 returns-clause-looked c =
     subst (λ (x : Labelled). (l : Lit) → true_before c.loop-at.looked x.trail l ≡ true → true_before c.args.done c.args.labels.now.trail l ≡ true) (sym c.cut.ensures)
-    (sweeping_looked (is_marked c.args.assumed.now) (length c.args.labels.now.marks) c.args.labels.now c.args.arena.now c.args.done c.loop-at.at c.loop-at.kept c.loop-at.looked c.loop-at.labels c.loop-at.fallen.items (omega (arith, c.loop-at-test.false, ap (λ (t : List Link). length t) c.trail-at-end.ensures, c.loop-at.invariant.sweeping.len)) c.loop-at.invariant.sweeping)
+    (sweeping_looked (is_marked c.args.assumed.now) (length c.args.labels.now.marks) c.args.labels.now c.args.arena.now c.args.done c.loop-at.at c.loop-at.kept c.loop-at.looked c.loop-at.labels c.loop-at.fallen.items (omega (arith, c.loop-at-test.false, ap (λ (t : List Link). length t) c.trail-at-end.ensures, c.loop-at.invariant.sweeping.len)) c.requires.labels.agrees c.loop-at.invariant.sweeping)
 
 pub returns-clause-range : goal.returns-clause-range
 returns-clause-range c = c.loop-at.invariant.sweeping.range

@@ -7,6 +7,7 @@ abbrev pub invariant-loop-watches : goal.invariant-loop-watches
 invariant-loop-watches l =
     record {
       more : length l.fn.watches.items ≤ length l.watches.items;
+      most : length l.watches.items ≤ 4294967295;
       same : (i : ℕ) → get_or l.watches.items i blank ≡ get_or l.fn.watches.items i blank;
     }
 

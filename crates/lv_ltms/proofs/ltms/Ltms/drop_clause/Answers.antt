@@ -44,6 +44,12 @@ revise-requires-clause-marked c =
     subst (AreFixed (is_marked c.as_slice.result.now)) (sym c.remove.ensures.labels)
     (subst (λ (m : Marks). AreFixed (is_marked m) c.self.inside.network.labels) (sym c.as_slice.ensures.value) (fixed_of c.self.inside.assumed.items c.self.inside.network.labels c.self.invariant.assumptions))
 
+pub revise-requires-clause-straight : goal.revise-requires-clause-straight
+revise-requires-clause-straight c =
+    λ same.
+    subst (AreMarked (is_marked c.as_slice.result.now)) (sym c.remove.ensures.labels)
+    (subst (λ (m : Marks). AreMarked (is_marked m) c.self.inside.network.labels) (sym c.as_slice.ensures.value) c.self.invariant.assumptions)
+
 pub revise-requires-clause-room : goal.revise-requires-clause-room
 revise-requires-clause-room c = omega (arith, c.self.invariant.room, c.remove.ensures.room, c.self.invariant.network.are_labels.marks, ap (λ (x : Labelled). length x.marks) c.remove.ensures.labels)
 

@@ -30,6 +30,12 @@ revise-requires-clause-marked c =
     subst (λ (m : Marks). AreFixed (is_marked m) c.self.inside.network.labels) (sym (c.as_slice.ensures.value ∙ c.unmark.ensures))
     (record { fixed = λ l e. has_not_free c.self.inside.network.labels.marks l (c.self.invariant.assumptions.marked l (has_unset c.self.inside.assumed.items c.args.lit.var.0 l e)) })
 
+pub revise-requires-clause-straight : goal.revise-requires-clause-straight
+revise-requires-clause-straight c =
+    λ same.
+    subst (λ (m : Marks). AreMarked (is_marked m) c.self.inside.network.labels) (sym (c.as_slice.ensures.value ∙ c.unmark.ensures))
+    (record { marked = λ l e. c.self.invariant.assumptions.marked l (has_unset c.self.inside.assumed.items c.args.lit.var.0 l e) })
+
 pub revise-requires-clause-room : goal.revise-requires-clause-room
 revise-requires-clause-room c = omega (arith, c.self.invariant.room, c.self.invariant.network.are_labels.marks)
 

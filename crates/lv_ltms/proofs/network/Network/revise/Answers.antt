@@ -7,9 +7,9 @@ use Rattle.lv_clauses.specs.Marks.{is_marked}
 use Rattle.lv_ltms.specs.Labelled.{AreLabels}
 use Rattle.lv_ltms.specs.Watching.{lit_at, has_lit, AllInRow, AreGuarded, AreSettled}
 use Rattle.lv_ltms.specs.Standing.{true_before}
-use Rattle.lv_ltms.specs.Revising.{AreMarkedOrWait}
+use Rattle.lv_ltms.specs.Revising.{AreMarkedOrWait, AreUpright, NoneOpposed}
 use Rattle.lv_ltms.proofs.RestLemmas.{stops_falsified, network_sized}
-use Rattle.lv_ltms.proofs.ReviseLemmas.{revised_guarded, revised_settled, revised_network, revised_looked}
+use Rattle.lv_ltms.proofs.ReviseLemmas.{swept_upright, swept_unopposed, revised_guarded, revised_settled, revised_network, revised_looked}
 use Rattle.lv_ltms.proofs.StayLemmas.{stays_grown}
 use Rattle.lv_ltms.proofs.SupportLemmas.{swept_marked}
 use Rattle.lv_ltms.proofs.TraverseLemmas.{rows_of_both}
@@ -38,6 +38,12 @@ support_all-requires-clause-marked c =
     subst (AreMarkedOrWait (is_marked c.args.assumed.now) c.sweep-looked.new.labels) (sym c.as_slice.ensures.value)
     (swept_marked (is_marked c.args.assumed.now) c.args.self.now.arena c.args.self.now.labels c.sweep-looked.new.labels c.sweep-looked.new.fallen.items c.requires.marked c.sweep-looked.ensures.swept)
 
+pub support_all-requires-clause-upright : goal.support_all-requires-clause-upright
+support_all-requires-clause-upright c =
+    λ calm.
+    subst (AreUpright (is_marked c.args.assumed.now)) (sym c.as_slice.ensures.value)
+    (swept_upright (is_marked c.args.assumed.now) c.args.self.now.arena c.args.self.now.labels c.sweep-looked.new.labels c.sweep-looked.new.fallen.items c.sweep-looked.ensures.swept (c.requires.straight (c.may_turn-both.ensures.turns calm)))
+
 pub lower_all-done-requires-clause-near : goal.lower_all-done-requires-clause-near
 lower_all-done-requires-clause-near c =
     rows_of_both c.args.self.now.near c.args.self.now.far c.args.self.now.arena (length c.args.self.now.labels.marks) c.requires.alive.network.near_rows c.requires.alive.network.far_rows
@@ -56,6 +62,7 @@ pub propagate-self-requires-clause-looked : goal.propagate-self-requires-clause-
 propagate-self-requires-clause-looked c =
     revised_looked (is_marked c.args.assumed.now) c.args.self.now.arena (length c.args.self.now.labels.marks) c.args.self.now.near c.args.self.now.far c.args.self.now.labels c.sweep-looked.new.labels c.support_all.new.labels c.sweep-looked.new.fallen.items c.args.self.now.progress.done c.sweep-looked.result c.lower_all-done.result c.requires.alive.network c.requires.alive.looked c.sweep-looked.ensures.swept c.sweep-looked.ensures.labels c.sweep-looked.ensures.looked c.sweep-looked.ensures.within c.support_all.ensures.grows c.lower_all-done.ensures.within
     (c.support_all.ensures.settled c.args.self.now.arena (length c.args.self.now.labels.marks) c.requires.alive.network.near_rows
+    (λ calm. subst (NoneOpposed c.args.self.now.arena (lit_at c.args.self.now.near) (lit_at c.args.self.now.far)) (sym c.as_slice.ensures.value) (swept_unopposed (is_marked c.args.assumed.now) c.args.self.now.arena c.args.self.now.near c.args.self.now.far c.args.self.now.labels c.sweep-looked.new.labels c.sweep-looked.new.fallen.items c.args.self.now.progress.done c.sweep-looked.ensures.swept c.requires.alive.network.are_labels.agrees c.requires.alive.looked (c.may_turn-both.ensures.done calm)))
     (subst (AreSettled c.args.self.now.arena (lit_at c.args.self.now.near) (lit_at c.args.self.now.far) c.sweep-looked.new.labels.marks) (sym c.as_slice.ensures.value) (revised_settled (is_marked c.args.assumed.now) c.args.self.now.arena (length c.args.self.now.labels.marks) c.args.self.now.near c.args.self.now.far c.args.self.now.labels c.sweep-looked.new.labels c.support_all.new.labels c.sweep-looked.new.fallen.items c.args.self.now.progress.done c.sweep-looked.result c.lower_all-done.result c.requires.alive.network c.requires.alive.looked c.sweep-looked.ensures.swept c.sweep-looked.ensures.labels c.sweep-looked.ensures.looked c.sweep-looked.ensures.within c.support_all.ensures.grows c.lower_all-done.ensures.within)))
     (subst (λ (ls : List Lit). (f : Lit) → has_lit ls f ≡ true → AllInRow c.args.self.now.near f (λ id. true_before c.lower_all-done.result c.support_all.new.labels.trail (neg (lit_at c.args.self.now.far id.0)) ≡ false)) c.as_slice-2.ensures.value c.lower_all-done.ensures.near)
     (subst (λ (ls : List Lit). (f : Lit) → has_lit ls f ≡ true → AllInRow c.args.self.now.far f (λ id. true_before c.lower_all-done.result c.support_all.new.labels.trail (neg (lit_at c.args.self.now.near id.0)) ≡ false)) c.as_slice-2.ensures.value c.lower_all-done.ensures.far)
