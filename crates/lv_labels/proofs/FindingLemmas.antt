@@ -15,7 +15,7 @@ use Rattle.lv_ltms.specs.System.{in_list}
 use Rattle.lv_ltms.proofs.TrailLemmas.{same_lit-equal, or_cases}
 use Rattle.lv_ltms.proofs.CountLemmas.{same_lit-self, count_yes, count_no}
 use Rattle.lv_ltms.proofs.BoolLemmas.{from_not}
-use Rattle.lv_ltms.proofs.SupportLemmas.{found_passes, none_passes}
+use Rattle.lv_ltms.proofs.FindLemmas.{found_passes, none_passes}
 use Rattle.lv_model.specs.declared.plant.Plant.{Plant}
 use Rattle.lv_compile.specs.FormulaClauses.{Clauses}
 use Rattle.lv_compile.specs.ModelClauses.{model_clauses}

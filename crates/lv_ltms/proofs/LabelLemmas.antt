@@ -14,7 +14,7 @@ use Rattle.lv_ltms.specs.declared.labels.Link.{Link}
 use Rattle.lv_ltms.specs.declared.labels.Reason.TheVariants.{Assumed}
 use Rattle.lv_ltms.specs.Trail.{same_lit, trail_has}
 use Rattle.lv_ltms.specs.Labelled.{Labelled, Agrees, Grows, with_link, has_boolean, is_once, support_at}
-use Rattle.lv_ltms.specs.Propagating.{true_before}
+use Rattle.lv_ltms.specs.Standing.{true_before}
 use Rattle.lv_ltms.proofs.TrailLemmas.{trail_has-push, free_count-push}
 use Rattle.lv_ltms.proofs.CountLemmas.{HasMore, same_lit-self}
 use Rattle.lv_ltms.proofs.BoolLemmas.{eq_from, eq_is, eq_swap, from_not, not_true, or_parts}

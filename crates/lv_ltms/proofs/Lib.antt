@@ -1,19 +1,26 @@
 pub mod BoolLemmas
-pub mod OccurrenceLemmas
-pub mod ArenaLemmas
 pub mod TrailLemmas
 pub mod CountLemmas
 pub mod LabelLemmas
-pub mod SettleLemmas
-pub mod PropagationLemmas
-pub mod SweepLemmas
-pub mod SweepingLemmas
-pub mod SupportLemmas
-pub mod SupportAllLemmas
-pub mod SystemLemmas
-pub mod AddLemmas
-pub mod ShakenLemmas
-pub mod StayLemmas
-pub mod DropLemmas
-pub mod AssumeLemmas
-pub mod CoreLemmas
+mod RowLemmas
+mod TraverseLemmas
+pub mod FindLemmas
+mod MeetLemmas
+mod VisitLemmas
+mod FalsifyLemmas
+mod SweepLemmas
+mod SweepingLemmas
+mod ShakenLemmas
+mod SystemLemmas
+mod StayLemmas
+mod ReadLemmas
+mod SupportLemmas
+mod ReviseLemmas
+mod AddLemmas
+mod BlankLemmas
+mod RestLemmas
+mod PickLemmas
+mod NetworkLemmas
+mod KeepLemmas
+mod UnwatchLemmas
+mod CoreLemmas

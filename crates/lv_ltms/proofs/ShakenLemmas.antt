@@ -4,6 +4,7 @@ use Rattle.std.specs.List.{position_or_len}
 use Rattle.std.proofs.lemmas.Bool.{cases_eq, cases_lt}
 use Rattle.std.proofs.lemmas.Bool.Decides.{nat_tests}
 use Rattle.std.proofs.lemmas.List.{length-append, get_or-set_same, get_or-set_other, set_past, take-append-le, take_all, length-take-le, get_or-take}
+use Rattle.std.proofs.lemmas.List.Elements.{Contains-append_left, Contains-append_right}
 use Rattle.std.proofs.lemmas.List.Sums.{prefix_len-le-length, prefix_len_passes}
 use Rattle.std.proofs.Math.Seq.{get_or-append_seam, take-append_seam}
 use Rattle.std.proofs.Math.ListN.{get_or-append}
@@ -18,15 +19,21 @@ use Rattle.lv_ltms.specs.declared.labels.Link.{Link}
 use Rattle.lv_ltms.specs.declared.labels.Reason.{Reason}
 use Rattle.lv_ltms.specs.declared.labels.Reason.TheVariants.{Assumed, Clause}
 use Rattle.lv_ltms.specs.Trail.{trail_has, IsDerivation, IsReason, start, next}
-use Rattle.lv_ltms.specs.Occurrences.{Rows}
-use Rattle.lv_ltms.specs.Counters.{Counted}
+use Rattle.lv_ltms.specs.Watching.{Rows}
 use Rattle.lv_ltms.specs.System.{System, IsKept}
 use Rattle.lv_ltms.specs.Labelled.{Labelled, gives, is_reason}
-use Rattle.lv_ltms.specs.Propagating.{true_before}
+use Rattle.lv_ltms.specs.Standing.{true_before}
 use Rattle.lv_ltms.specs.Revising.{IsBacked, IsShaken}
-use Rattle.lv_ltms.proofs.AddLemmas.{derivation_to}
 use Rattle.lv_ltms.proofs.LabelLemmas.{has_not_neg, before_has, trail_boolean, free_not_has}
 use Rattle.lv_ltms.proofs.BoolLemmas.{eq_is, not_true, or_left}
+
+-- a derivation goes over to other clauses and assumptions where each reason does
+pub derivation_to : (clauses after : Slots) (assumed now : Lit → Bool) → {trail : List Link} → IsDerivation clauses assumed trail
+    → ((before : List Link) (k : Link) → Contains trail k → IsReason clauses assumed before k.lit k.reason → IsReason after now before k.lit k.reason) → IsDerivation after now trail
+derivation_to clauses after assumed now start good = start
+derivation_to clauses after assumed now (next {trail} before link derived reason grown) good =
+    next before link (derivation_to clauses after assumed now derived (λ b k h is. good b k (subst (λ (t : List Link). Contains t k) (sym grown) (Contains-append_left before (link ∷ []) k h)) is))
+    (good before link (subst (λ (t : List Link). Contains t link) (sym grown) (Contains-append_right before (link ∷ []) link (0, omega arith, refl))) reason) grown
 
 -- a front of a derivation is one
 pub derivation_front : {clauses : Slots} {assumed : Lit → Bool} {trail : List Link} (n : ℕ) → IsDerivation clauses assumed trail → IsDerivation clauses assumed (take n trail)
@@ -139,30 +146,27 @@ unset_other marks v l differs e = ap (λ (o : Option Bool). mark_is o l.sign) (g
 apart_from : (a b : ℕ) → nat_eq a b ≡ false → a ≡ b → ⊥
 apart_from a b e f = cc (eq_is a b f, e)
 
-module _ (s : System) (rows : Rows) (counted : Counted) (labels : Labelled) (space : ℕ) (kept : IsKept s rows counted labels space) where
+module _ {s : System} {near far : Rows} {labels : Labelled} {done : ℕ} {conflict empty : Option ClauseId} {space : ℕ} (kept : IsKept s near far labels done conflict empty space) where
   -- an assumption isn't false
   pub assumed_not_false : (n : ℕ) (l : Lit) → is_marked s.assumed l ≡ true → true_before n labels.trail (neg l) ≡ false
   assumed_not_false n l e =
       not_true (true_before n labels.trail (neg l))
-      (λ f. cc (kept.state.agrees.same (neg l), before_has n labels.trail (neg l) f, has_not_neg labels.marks l (kept.assumptions.marked l e)))
-
-  same_slots : (id : ℕ) (c : List Lit) → clause_at counted.clauses id ≡ Some c → clause_at s.clauses id ≡ Some c
-  same_slots id c at = ap (λ (x : Slots). clause_at x id) kept.clauses ∙ at
+      (λ f. cc (kept.network.are_labels.agrees.same (neg l), before_has n labels.trail (neg l) f, has_not_neg labels.marks l (kept.assumptions.marked l e)))
 
   -- the reasons go over to other assumptions
-  pub derivation_assumed : (now : Lit → Bool) (trail : List Link) → IsDerivation s.clauses (is_marked s.assumed) trail → ((k : Link) → Contains trail k → is_marked s.assumed k.lit ≡ true → now k.lit ≡ true) → IsDerivation counted.clauses now trail
-  derivation_assumed now trail derived good = derivation_to s.clauses counted.clauses (is_marked s.assumed) now derived (λ before k h is. by_reason before k h k.reason is)
+  pub derivation_assumed : (now : Lit → Bool) (trail : List Link) → IsDerivation s.clauses (is_marked s.assumed) trail → ((k : Link) → Contains trail k → is_marked s.assumed k.lit ≡ true → now k.lit ≡ true) → IsDerivation s.clauses now trail
+  derivation_assumed now trail derived good = derivation_to s.clauses s.clauses (is_marked s.assumed) now derived (λ before k h is. by_reason before k h k.reason is)
     where
-      by_reason : (before : List Link) (k : Link) → Contains trail k → (r : Reason) → IsReason s.clauses (is_marked s.assumed) before k.lit r → IsReason counted.clauses now before k.lit r
+      by_reason : (before : List Link) (k : Link) → Contains trail k → (r : Reason) → IsReason s.clauses (is_marked s.assumed) before k.lit r → IsReason s.clauses now before k.lit r
       by_reason before k h Assumed is = good k h is
-      by_reason before k h (Clause id) is = subst (λ (c : Slots). IsReason c now before k.lit (Clause id)) kept.clauses is
+      by_reason before k h (Clause id) is = is
 
-  pub shaken_retract : (lit : Lit) (now : Marks) → now ≡ set s.assumed lit.var.0 None → IsShaken (is_marked now) counted.clauses labels.trail (unwrap_or (position (λ (k : Link). same_var k.lit lit) labels.trail) (length labels.trail))
+  pub shaken_retract : (lit : Lit) (now : Marks) → now ≡ set s.assumed lit.var.0 None → IsShaken (is_marked now) s.clauses labels.trail (unwrap_or (position (λ (k : Link). same_var k.lit lit) labels.trail) (length labels.trail))
   shaken_retract lit now is =
-      subst (λ (m : Marks). IsShaken (is_marked m) counted.clauses labels.trail (unwrap_or (position (λ (k : Link). same_var k.lit lit) labels.trail) (length labels.trail))) (sym is)
+      subst (λ (m : Marks). IsShaken (is_marked m) s.clauses labels.trail (unwrap_or (position (λ (k : Link). same_var k.lit lit) labels.trail) (length labels.trail))) (sym is)
       (record {
         one_sided = record { one_side = λ l e. has_not_neg (set s.assumed lit.var.0 None) l e };
-        backed = derivation_backed counted.clauses same_slots kept.derivation;
+        backed = derivation_backed s.clauses (λ id c at. at) kept.derivation;
         derivation =
             derivation_assumed (is_marked (set s.assumed lit.var.0 None)) (take (unwrap_or (position (λ (k : Link). same_var k.lit lit) labels.trail) (length labels.trail)) labels.trail)
             (derivation_front (unwrap_or (position (λ (k : Link). same_var k.lit lit) labels.trail) (length labels.trail)) kept.derivation)
@@ -179,12 +183,12 @@ module _ (s : System) (rows : Rows) (counted : Counted) (labels : Labelled) (spa
     pub assumed_here : is_marked (marked s.assumed lit) lit ≡ true
     assumed_here = ap (λ (o : Option Bool). mark_is o lit.sign) (get_or-set_same s.assumed lit.var.0 (Some lit.sign) None within) ∙ same_truth-self lit.sign
 
-    pub shaken_assume : (now : Marks) → now ≡ marked s.assumed lit → IsShaken (is_marked now) counted.clauses labels.trail (unwrap_or (position (λ (k : Link). same_var k.lit lit) labels.trail) (length labels.trail))
+    pub shaken_assume : (now : Marks) → now ≡ marked s.assumed lit → IsShaken (is_marked now) s.clauses labels.trail (unwrap_or (position (λ (k : Link). same_var k.lit lit) labels.trail) (length labels.trail))
     shaken_assume now is =
-        subst (λ (m : Marks). IsShaken (is_marked m) counted.clauses labels.trail (unwrap_or (position (λ (k : Link). same_var k.lit lit) labels.trail) (length labels.trail))) (sym is)
+        subst (λ (m : Marks). IsShaken (is_marked m) s.clauses labels.trail (unwrap_or (position (λ (k : Link). same_var k.lit lit) labels.trail) (length labels.trail))) (sym is)
         (record {
           one_sided = record { one_side = λ l e. has_not_neg (marked s.assumed lit) l e };
-          backed = derivation_backed counted.clauses same_slots kept.derivation;
+          backed = derivation_backed s.clauses (λ id c at. at) kept.derivation;
           derivation =
               derivation_assumed (is_marked (marked s.assumed lit)) (take (unwrap_or (position (λ (k : Link). same_var k.lit lit) labels.trail) (length labels.trail)) labels.trail)
               (derivation_front (unwrap_or (position (λ (k : Link). same_var k.lit lit) labels.trail) (length labels.trail)) kept.derivation) (λ k h e. assumed_more k.lit e);
@@ -200,7 +204,7 @@ module _ (s : System) (rows : Rows) (counted : Counted) (labels : Labelled) (spa
             let found = any_member (λ (k : Link). same_var k.lit (neg l)) front (trail_boolean front (neg l) f) in
             cc (before_fails (λ (j : Link). same_var j.lit lit) labels.trail found.0 found.1, same, found.2))
 
-  pub shaken_drop : (id : ClauseId) (after : Slots) → clause_at after id.0 ≡ None → ((other : ℕ) → other ≢ id.0 → clause_at after other ≡ clause_at counted.clauses other)
+  pub shaken_drop : (id : ClauseId) (after : Slots) → clause_at after id.0 ≡ None → ((other : ℕ) → other ≢ id.0 → clause_at after other ≡ clause_at s.clauses other)
       → IsShaken (is_marked s.assumed) after labels.trail (unwrap_or (position (gives id) labels.trail) (length labels.trail))
   shaken_drop id after gone others =
       record {
@@ -215,7 +219,7 @@ module _ (s : System) (rows : Rows) (counted : Counted) (labels : Labelled) (spa
       still : (i : ℕ) (c : List Lit) → clause_at after i ≡ Some c → clause_at s.clauses i ≡ Some c
       still i c at = elim (cases_eq i id.0) [
         | inl same ↦ absurd (cc (sym at ∙ ap (clause_at after) same ∙ gone))
-        | inr differs ↦ same_slots i c (sym (others i differs) ∙ at)
+        | inr differs ↦ sym (others i differs) ∙ at
       ]
 
       by_reason : (before : List Link) (k : Link) (r : Reason) → is_reason id r ≡ false → IsReason s.clauses (is_marked s.assumed) before k.lit r → IsReason after (is_marked s.assumed) before k.lit r
@@ -223,7 +227,7 @@ module _ (s : System) (rows : Rows) (counted : Counted) (labels : Labelled) (spa
       by_reason before k (Clause i) e is =
           record {
             clause = is.clause;
-            present = others i.0 (apart_from i.0 id.0 e) ∙ ap (λ (x : Slots). clause_at x i.0) (sym kept.clauses) ∙ is.present;
+            present = others i.0 (apart_from i.0 id.0 e) ∙ is.present;
             member = is.member;
             others = is.others;
           }

@@ -1,31 +1,30 @@
 -- What doesn't rest on the assumption that went stays, with its reason.
-use Rattle.std.proofs.Common.{◌≡◌, ◌≢◌, ◌⊎◌, ℕ, ◌+◌, ◌<◌, Bool, true, false, not, ◌&&◌, nat_eq, List, [], ◌∷◌, ◌++◌, length, take, drop, get_or, set, Option, Some, None, IsSome, is_some, refl, sym, ap, subst, ◌∙◌, arith, inl, inr, Contains}
+use Rattle.std.proofs.Common.{◌≡◌, ◌≢◌, ◌⊎◌, ℕ, ◌+◌, ◌<◌, Bool, true, false, not, ◌&&◌, List, [], ◌∷◌, ◌++◌, length, take, drop, get_or, set, Option, Some, None, IsSome, refl, sym, ap, subst, ◌∙◌, inl, inr, Contains}
 use Rattle.std.specs.List.{list_all}
 use Rattle.std.proofs.lemmas.List.{get_or_default, take_more, take_more_set}
 use Rattle.std.proofs.lemmas.List.Elements.{Contains-append_cases, Contains-append_left, Contains-append_right}
 use Rattle.std.proofs.lemmas.List.Folds.{list_any-append}
 use Rattle.lv_base.specs.declared.ids.Lit.{Lit}
 use Rattle.lv_base.specs.declared.ids.ClauseId.{ClauseId}
-use Rattle.lv_clauses.specs.Literals.{neg, distinct, in_range}
-use Rattle.lv_clauses.specs.ClauseMap.{Slots, clause_at, AreClauses}
+use Rattle.lv_clauses.specs.Literals.{neg}
+use Rattle.lv_clauses.specs.ClauseMap.{Slots, clause_at}
 use Rattle.lv_clauses.specs.Marks.{Marks, is_marked}
-use Rattle.lv_clauses.proofs.LiteralLemmas.{any_member, and_both, and_right, same_or_neg, Contains-nil, Contains-cases}
+use Rattle.lv_clauses.proofs.LiteralLemmas.{any_member, and_both, or_right, same_or_neg, lit_cases, Contains-nil, Contains-cases, Contains-head, Contains-tail}
 use Rattle.lv_ltms.specs.declared.labels.Link.{Link}
 use Rattle.lv_ltms.specs.declared.labels.Reason.{Reason}
 use Rattle.lv_ltms.specs.declared.labels.Reason.TheVariants.{Assumed, Clause}
 use Rattle.lv_ltms.specs.Trail.{same_lit, trail_has, reason_in, IsDerivation, IsReason, start, next}
-use Rattle.lv_ltms.specs.Occurrences.{Rows, IsIndex}
-use Rattle.lv_ltms.specs.Counters.{Counted, open_at}
+use Rattle.lv_ltms.specs.Watching.{Rows}
 use Rattle.lv_ltms.specs.Labelled.{Labelled, Agrees, Grows}
-use Rattle.lv_ltms.specs.Propagating.{left_count, true_before}
-use Rattle.lv_ltms.specs.Revising.{IsBacked, reason_stands}
+use Rattle.lv_ltms.specs.Standing.{true_before}
+use Rattle.lv_ltms.specs.Revising.{IsBacked, reason_stands, derives_lit, is_other_or_false}
 use Rattle.lv_ltms.specs.Reaching.{Reaches, itself, by_reason, IsWithout, StaysOn}
 use Rattle.lv_ltms.specs.System.{System, IsKept, KeepsReasons}
-use Rattle.lv_ltms.proofs.BoolLemmas.{eq_is, not_true, or_left}
-use Rattle.lv_ltms.proofs.CountLemmas.{just_one_left}
+use Rattle.lv_ltms.proofs.BoolLemmas.{not_true, or_left}
+use Rattle.lv_ltms.proofs.CountLemmas.{same_lit-self}
 use Rattle.lv_ltms.proofs.LabelLemmas.{contained_has, has_not_neg}
 use Rattle.lv_ltms.proofs.ShakenLemmas.{has_unset, unset_other}
-use Rattle.lv_ltms.proofs.SweepingLemmas.{IsSweeping, agrees_here, counted_here, old_within, old_link}
+use Rattle.lv_ltms.proofs.SweepingLemmas.{IsSweeping, agrees_here, old_within, old_link}
 use Rattle.lv_ltms.proofs.SystemLemmas.{reason_of}
 use Rattle.lv_ltms.proofs.TrailLemmas.{same_lit-equal}
 
@@ -45,30 +44,29 @@ stays_same {clauses} {trail} {part} {l} {k} {kept} {x} {labels} ek ex is =
 only_one : (link k : Link) → Contains (link ∷ []) k → link ≡ k
 only_one link k h = elim (Contains-cases link k [] h) [ inl same ↦ same | inr more ↦ absurd (Contains-nil k more) ]
 
-module _ (assumed : Lit → Bool) (bools : ℕ) (rows : Rows) (old : Labelled) (clauses : Slots) (at kept : ℕ) (now : Counted) (labels : Labelled) (fallen : List Lit) (link d : Link) (index : IsIndex rows clauses) (backed : IsBacked clauses old.trail)
-    (once : Agrees old.marks old.supports old.trail) (within : at < length labels.trail) (is_link : get_or labels.trail at d ≡ link) (is : IsSweeping assumed bools clauses old at kept now labels fallen) (valid : AreClauses bools clauses) (to : Lit)
+-- what holds of each of a list holds of all
+all_from : {X : Type 0} (p : X → Bool) (xs : List X) → ((x : X) → Contains xs x → p x ≡ true) → list_all p xs ≡ true
+all_from p [] each = refl
+all_from p (x ∷ xs) each = and_both (p x) (list_all p xs) (each x (Contains-head x xs)) (all_from p xs (λ y h. each y (Contains-tail x y xs h)))
+
+module _ (assumed : Lit → Bool) (bools : ℕ) (old : Labelled) (clauses : Slots) (done at kept looked : ℕ) (labels : Labelled) (fallen : List Lit) (link d : Link) (backed : IsBacked clauses old.trail)
+    (once : Agrees old.marks old.supports old.trail) (within : at < length labels.trail) (is_link : get_or labels.trail at d ≡ link) (is : IsSweeping assumed bools clauses old done at kept looked labels fallen) (to : Lit)
     (without : IsWithout assumed clauses old.trail to) (here : StaysOn clauses old.trail to (take at old.trail) (take kept labels.trail)) where
   standing : List Link
   standing = take kept labels.trail ++ link ∷ drop (at + 1) labels.trail
 
   inside : at < length old.trail
-  inside = old_within assumed bools rows old clauses at kept now labels fallen link d index backed once within is_link is
+  inside = old_within assumed bools old clauses done at kept looked labels fallen link d backed once within is_link is
 
   at_link : get_or old.trail at d ≡ link
-  at_link = old_link assumed bools rows old clauses at kept now labels fallen link d index backed once within is_link is
+  at_link = old_link assumed bools old clauses done at kept looked labels fallen link d backed once within is_link is
 
   in_old : Contains old.trail link
   in_old = (at, inside, get_or_default old.trail at link d inside ∙ at_link)
 
   whole : Agrees labels.marks labels.supports standing
   unfolding standing
-  whole = agrees_here assumed bools rows old clauses at kept now labels fallen link d index backed once within is_link is
-
-  not_false : trail_has standing (neg link.lit) ≡ false
-  unfolding standing
-  not_false =
-      sym (whole.same (neg link.lit))
-      ∙ has_not_neg labels.marks link.lit (whole.same link.lit ∙ contained_has standing link (Contains-append_right (take kept labels.trail) (link ∷ drop (at + 1) labels.trail) link (0, omega arith, refl)))
+  whole = agrees_here assumed bools old clauses done at kept looked labels fallen link d backed once within is_link is
 
   module _ (never : ¬ Reaches clauses old.trail to link.lit) where
     others_fall : (id : ClauseId) (c : List Lit) → link.reason ≡ Clause id → clause_at clauses id.0 ≡ Some c → (m : Lit) → Contains c m → m ≢ link.lit → trail_has standing (neg m) ≡ true
@@ -84,26 +82,23 @@ module _ (assumed : Lit → Bool) (bools : ℕ) (rows : Rows) (old : Labelled) (
         ∙ or_left (trail_has (take kept labels.trail) (neg m)) (trail_has (link ∷ drop (at + 1) labels.trail) (neg m))
         (ap (trail_has (take kept labels.trail)) (sym same) ∙ contained_has (take kept labels.trail) found.0 (here.stays found.0 found.1 apart))
 
-    clause_stands : (id : ClauseId) → link.reason ≡ Clause id → (slot : Option (List Lit)) → clause_at clauses id.0 ≡ slot → reason_stands assumed now link.lit (Clause id) ≡ true
+    clause_stands : (id : ClauseId) → link.reason ≡ Clause id → (slot : Option (List Lit)) → clause_at clauses id.0 ≡ slot → reason_stands assumed clauses (is_marked labels.marks) link.lit (Clause id) ≡ true
     unfolding standing
     clause_stands id reason None at_id = absurd (no_clause (clause_at clauses id.0) at_id (without.present link id in_old reason))
       where
         no_clause : (o : Option (List Lit)) → o ≡ None → IsSome o → ⊥
         no_clause None e f = absurd (cc)
         no_clause (Some c) e f = absurd (cc)
-    clause_stands id reason (Some c) at_id =
-        let at_now : clause_at now.clauses id.0 ≡ Some c = ap (λ (s : Slots). clause_at s id.0) is.same_clauses ∙ at_id in
-        let given : (get_or old.trail at d).reason ≡ Clause id = ap (λ (k : Link). k.reason) at_link ∙ reason in
-        let member : Contains c link.lit = subst (λ (k : Link). Contains c k.lit) at_link (backed.member at d id c inside given at_id) in
-        let apart : distinct c ≡ true = and_right (list_all (in_range bools) c) (distinct c) (valid id.0 c at_id) in
-        let left : left_count (trail_has standing) c ≡ 1 = just_one_left (trail_has standing) c link.lit apart member not_false (others_fall id c reason at_id) in
-        let counted : open_at now id.0 ≡ left_count (trail_has standing) c + 0 = (counted_here assumed bools rows old clauses at kept now labels fallen link d index backed once within is_link is).present id.0 c at_now in
-        and_both (is_some (clause_at now.clauses id.0)) (nat_eq (open_at now id.0) 1) (ap is_some at_now) (eq_is (open_at now id.0) 1 (omega (arith, counted, left)))
-
-    pub still_stands : (not (assumed (neg link.lit)) && reason_stands assumed now link.lit link.reason) ≡ true
-    still_stands = and_both (not (assumed (neg link.lit))) (reason_stands assumed now link.lit link.reason) (ap not (without.against link in_old)) (by_kind link.reason refl)
+    clause_stands id reason (Some c) at_id = ap (derives_lit (is_marked labels.marks) link.lit) at_id ∙ all_from (is_other_or_false (is_marked labels.marks) link.lit) c (λ m h. each m h (lit_cases m link.lit))
       where
-        by_kind : (r : Reason) → link.reason ≡ r → reason_stands assumed now link.lit r ≡ true
+        each : (m : Lit) → Contains c m → (m ≡ link.lit) ⊎ (m ≢ link.lit) → is_other_or_false (is_marked labels.marks) link.lit m ≡ true
+        each m h (inl same) = or_left (same_lit m link.lit) (is_marked labels.marks (neg m)) (ap (λ k. same_lit k link.lit) same ∙ same_lit-self link.lit)
+        each m h (inr differs) = or_right (same_lit m link.lit) (is_marked labels.marks (neg m)) (whole.same (neg m) ∙ others_fall id c reason at_id m h differs)
+
+    pub still_stands : (not (assumed (neg link.lit)) && reason_stands assumed clauses (is_marked labels.marks) link.lit link.reason) ≡ true
+    still_stands = and_both (not (assumed (neg link.lit))) (reason_stands assumed clauses (is_marked labels.marks) link.lit link.reason) (ap not (without.against link in_old)) (by_kind link.reason refl)
+      where
+        by_kind : (r : Reason) → link.reason ≡ r → reason_stands assumed clauses (is_marked labels.marks) link.lit r ≡ true
         by_kind Assumed e = without.assumptions link in_old e (λ f. never (subst (Reaches clauses old.trail to) (sym f) itself))
         by_kind (Clause id) e = clause_stands id e (clause_at clauses id.0) refl
 
@@ -124,7 +119,7 @@ module _ (assumed : Lit → Bool) (bools : ℕ) (rows : Rows) (old : Labelled) (
       }
 
   -- and one that falls reaches the literal
-  pub stays_fallen : (not (assumed (neg link.lit)) && reason_stands assumed now link.lit link.reason) ≡ false → StaysOn clauses old.trail to (take (at + 1) old.trail) (take kept labels.trail)
+  pub stays_fallen : (not (assumed (neg link.lit)) && reason_stands assumed clauses (is_marked labels.marks) link.lit link.reason) ≡ false → StaysOn clauses old.trail to (take (at + 1) old.trail) (take kept labels.trail)
   stays_fallen falls =
       record {
         stays =
@@ -145,18 +140,18 @@ derivation_reason {clauses} {assumed} {trail} (next before link derived reason g
     by_place (inl early) rest = rest early
     by_place (inr last) rest = (before, subst (λ (j : Link). IsReason clauses assumed before j.lit j.reason) (only_one link k last) reason)
 
-module _ (s : System) (rows : Rows) (counted : Counted) (labels : Labelled) (space : ℕ) (kept : IsKept s rows counted labels space) where
+module _ {s : System} {near far : Rows} {labels : Labelled} {done : ℕ} {conflict empty : Option ClauseId} {space : ℕ} (kept : IsKept s near far labels done conflict empty space) where
   -- a retraction takes away no other assumption and no clause
-  pub without_retract : (lit : Lit) (now : Marks) → is_marked s.assumed lit ≡ true → now ≡ set s.assumed lit.var.0 None → IsWithout (is_marked now) counted.clauses labels.trail lit
+  pub without_retract : (lit : Lit) (now : Marks) → is_marked s.assumed lit ≡ true → now ≡ set s.assumed lit.var.0 None → IsWithout (is_marked now) s.clauses labels.trail lit
   without_retract lit now there is =
-      subst (λ (m : Marks). IsWithout (is_marked m) counted.clauses labels.trail lit) (sym is)
+      subst (λ (m : Marks). IsWithout (is_marked m) s.clauses labels.trail lit) (sym is)
       (record {
         against =
             λ k h.
             not_true (is_marked (set s.assumed lit.var.0 None) (neg k.lit))
             (λ e.
             cc (
-              has_not_neg labels.marks k.lit (kept.state.agrees.same k.lit ∙ contained_has labels.trail k h),
+              has_not_neg labels.marks k.lit (kept.network.are_labels.agrees.same k.lit ∙ contained_has labels.trail k h),
               kept.assumptions.marked (neg k.lit) (has_unset s.assumed lit.var.0 (neg k.lit) e),
             ));
         assumptions = λ k h given differs. unset_other s.assumed lit.var.0 k.lit (apart k differs (was_assumed k h given)) (was_assumed k h given);
@@ -166,11 +161,11 @@ module _ (s : System) (rows : Rows) (counted : Counted) (labels : Labelled) (spa
       was_assumed : (k : Link) → Contains labels.trail k → k.reason ≡ Assumed → is_marked s.assumed k.lit ≡ true
       was_assumed k h given = let found = derivation_reason kept.derivation k h in subst (IsReason s.clauses (is_marked s.assumed) found.0 k.lit) given found.1
 
-      was_present : (k : Link) (id : ClauseId) → Contains labels.trail k → k.reason ≡ Clause id → IsSome (clause_at counted.clauses id.0)
+      was_present : (k : Link) (id : ClauseId) → Contains labels.trail k → k.reason ≡ Clause id → IsSome (clause_at s.clauses id.0)
       was_present k id h given =
           let found = derivation_reason kept.derivation k h in
           let reason : IsReason s.clauses (is_marked s.assumed) found.0 k.lit (Clause id) = subst (IsReason s.clauses (is_marked s.assumed) found.0 k.lit) given found.1 in
-          subst (λ (x : Slots). IsSome (clause_at x id.0)) kept.clauses (subst IsSome (sym reason.present) refl)
+          subst IsSome (sym reason.present) refl
 
       apart : (k : Link) → k.lit ≢ lit → is_marked s.assumed k.lit ≡ true → k.lit.var.0 ≡ lit.var.0 → ⊥
       apart k differs e same = elim (same_or_neg k.lit lit same) [

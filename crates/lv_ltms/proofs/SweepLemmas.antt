@@ -1,29 +1,28 @@
 -- Going along the trail: what stands stays, what doesn't is taken out.
-use Rattle.std.proofs.Common.{◌≡◌, ◌≢◌, ◌⊎◌, ℕ, ◌+◌, ◌<◌, Bool, true, false, not, ◌&&◌, ◌||◌, nat_eq, List, [], ◌∷◌, ◌++◌, length, take, drop, get_or, set, Option, Some, None, is_none, is_some, cond, refl, sym, ap, ap₂, subst, ◌∙◌, arith, inl, inr, Contains}
-use Rattle.std.specs.List.{list_any}
+use Rattle.std.proofs.Common.{◌≡◌, ◌≢◌, ◌⊎◌, ℕ, ◌<◌, Bool, true, false, not, ◌&&◌, ◌||◌, nat_eq, List, [], ◌∷◌, ◌++◌, length, take, drop, get_or, set, Option, Some, None, is_none, cond, refl, sym, ap, ap₂, ◌∙◌, arith, inl, inr, subst, Contains}
+use Rattle.std.specs.List.{list_any, list_all}
 use Rattle.std.proofs.lemmas.Bool.{cases_eq}
-use Rattle.std.proofs.lemmas.Bool.Decides.{nat_tests}
 use Rattle.std.proofs.lemmas.List.{length-append, length-set, get_or-set_same, get_or-set_other, take-append-drop}
 use Rattle.std.proofs.lemmas.List.Elements.{Contains-append_cases, Contains-append_left, Contains-append_right}
 use Rattle.std.proofs.lemmas.List.Folds.{list_any-append}
-use Rattle.std.proofs.lemmas.List.Sums.{sum_by-set, count_by-le-length}
+use Rattle.std.proofs.lemmas.List.Sums.{sum_by-set}
 use Rattle.lv_base.specs.declared.ids.Lit.{Lit}
 use Rattle.lv_clauses.specs.Literals.{neg, same_truth, same_var}
 use Rattle.lv_clauses.specs.ClauseMap.{Slots, clause_at}
 use Rattle.lv_clauses.specs.Marks.{Marks, is_marked, mark_is}
-use Rattle.lv_clauses.proofs.LiteralLemmas.{Contains-tail, and_left, and_right, and_both}
+use Rattle.lv_clauses.proofs.LiteralLemmas.{Contains-tail, and_left, and_right, and_both, all_member, same_or_neg}
 use Rattle.lv_ltms.specs.declared.labels.Link.{Link}
 use Rattle.lv_ltms.specs.declared.labels.Reason.{Reason}
 use Rattle.lv_ltms.specs.declared.labels.Reason.TheVariants.{Assumed, Clause}
 use Rattle.lv_ltms.specs.Trail.{same_lit, trail_has, IsReason}
-use Rattle.lv_ltms.specs.Occurrences.{Rows, row_of, times_in, lit_count, slot_lit_count, IsIndex}
-use Rattle.lv_ltms.specs.Counters.{Counted, open_at}
 use Rattle.lv_ltms.specs.Labelled.{Agrees, has_boolean, is_once}
-use Rattle.lv_ltms.specs.Propagating.{left_count, is_left, IsCounted, IsSettled, true_before}
-use Rattle.lv_ltms.specs.Revising.{is_fallen, IsBacked, CanRaise, IsRaised, reason_stands}
-use Rattle.lv_ltms.proofs.CountLemmas.{HasMore, left_count-more, none_left, one_left}
+use Rattle.lv_ltms.specs.Standing.{true_before}
+use Rattle.lv_ltms.specs.Watching.{has_lit}
+use Rattle.lv_ltms.specs.Revising.{IsBacked, reason_stands, derives_lit, is_other_or_false}
+use Rattle.lv_ltms.proofs.CountLemmas.{HasMore, same_lit-self}
+use Rattle.lv_ltms.proofs.TrailLemmas.{same_lit-equal, or_cases}
 use Rattle.lv_ltms.proofs.LabelLemmas.{trail_boolean, contained_has, has_within, has_not_neg}
-use Rattle.lv_ltms.proofs.BoolLemmas.{eq_from, eq_is, eq_isnt, eq_swap, from_not, not_true, or_false, or_parts}
+use Rattle.lv_ltms.proofs.BoolLemmas.{eq_from, eq_isnt, eq_swap, from_not, not_true, or_false, or_left, or_parts}
 
 -- a link in the middle of a trail on which no boolean stands twice: its boolean isn't before or behind it
 pub record IsAlone (front rest : List Link) (link : Link) : Type 0 where
@@ -121,90 +120,40 @@ module _ (front rest : List Link) (link : Link) (marks : Marks) (supports : List
             ]);
       }
 
-  row_count : (rows : Rows) (clauses : Slots) (id : ℕ) (c : List Lit) → IsIndex rows clauses → clause_at clauses id ≡ Some c → times_in (row_of rows (neg link.lit)) id ≡ lit_count (neg link.lit) c
-  row_count rows clauses id c index at = index.exact (neg link.lit) id ∙ ap (slot_lit_count (neg link.lit)) at
-
-  -- the clauses of the negation can be counted up
-  pub can_raise : (rows : Rows) (now : Counted) → IsIndex rows now.clauses → IsCounted now (trail_has (front ++ link ∷ rest)) [] → CanRaise now (row_of rows (neg link.lit))
-  can_raise rows now index counted =
-      record {
-        present =
-            λ id c at.
-            omega (
-              arith,
-              counted.present id c at,
-              row_count rows now.clauses id c index at,
-              left_count-more (trail_has (front ++ rest)) (trail_has (front ++ link ∷ rest)) link.lit has_more c,
-              count_by-le-length (is_left (trail_has (front ++ rest))) c,
-            );
-        absent = λ id at. index.exact (neg link.lit) id ∙ ap (slot_lit_count (neg link.lit)) at;
-      }
-
-  pub counted_without : (rows : Rows) (now after : Counted) → IsIndex rows now.clauses → IsCounted now (trail_has (front ++ link ∷ rest)) [] → IsRaised now after (row_of rows (neg link.lit))
-      → IsCounted after (trail_has (front ++ rest)) []
-  counted_without rows now after index counted raised =
-      record {
-        present =
-            λ id c at.
-            let was : clause_at now.clauses id ≡ Some c = ap (λ (s : Slots). clause_at s id) (sym raised.clauses) ∙ at in
-            omega (
-              arith,
-              raised.counters id,
-              counted.present id c was,
-              row_count rows now.clauses id c index was,
-              left_count-more (trail_has (front ++ rest)) (trail_has (front ++ link ∷ rest)) link.lit has_more c,
-            );
-        absent =
-            λ id at.
-            let was : clause_at now.clauses id ≡ None = ap (λ (s : Slots). clause_at s id) (sym raised.clauses) ∙ at in
-            omega (arith, raised.counters id, counted.absent id was, (can_raise rows now index counted).absent id was);
-      }
-
-  pub settled_without : (clauses : Slots) (fallen : List Lit) → IsSettled clauses (trail_has (front ++ link ∷ rest)) marks [] (is_fallen fallen)
-      → IsSettled clauses (trail_has (front ++ rest)) (set marks link.lit.var.0 None) [] (is_fallen (fallen ++ link.lit ∷ []))
-  settled_without clauses fallen settled =
-      record {
-        marked =
-            λ id c l at none one in_clause left fine.
-            let parts = or_parts (is_fallen fallen l) (same_var link.lit l || false) (sym (list_any-append (λ f. same_var f l) fallen (link.lit ∷ [])) ∙ fine) in
-            let apart : same_var link.lit l ≡ false = (or_parts (same_var link.lit l) false parts.1).0 in
-            let differs : l.var.0 ≢ link.lit.var.0 = λ e. absurd (cc (eq_is link.lit.var.0 l.var.0 (sym e), apart)) in
-            let still : trail_has (front ++ link ∷ rest) (neg l) ≡ false = has_more.grown (neg l) ∙ ap₂ (λ a b. a || b) left (other_var (neg l) differs) in
-            let counts : left_count (trail_has (front ++ rest)) c ≡ left_count (trail_has (front ++ link ∷ rest)) c + lit_count (neg link.lit) c =
-            left_count-more (trail_has (front ++ rest)) (trail_has (front ++ link ∷ rest)) link.lit has_more c in
-            let was : left_count (trail_has (front ++ link ∷ rest)) c ≡ 1 =
-            one_of (left_count (trail_has (front ++ link ∷ rest)) c) (lit_count (neg link.lit) c) (sym counts ∙ one)
-            (λ nothing. cc (none_left (trail_has (front ++ link ∷ rest)) c l nothing in_clause, still)) in
-            ap is_none (other_mark l.var.0 differs) ∙ settled.marked id c l at none was in_clause still parts.0;
-      }
+  -- what was marked is marked still, or fell
+  pub kept_without : (fallen : List Lit) (l : Lit) → (is_marked marks l || has_lit fallen l) ≡ true → (is_marked (set marks link.lit.var.0 None) l || has_lit (fallen ++ link.lit ∷ []) l) ≡ true
+  kept_without fallen l e = by_var (cases_eq l.var.0 link.lit.var.0) (or_cases (is_marked marks l) (has_lit fallen l) e)
     where
-      one_of : (a b : ℕ) → a + b ≡ 1 → (a ≡ 0 → ⊥) → a ≡ 1
-      one_of a b e never = elim (cases_eq a 0) [ inl nothing ↦ absurd (never nothing) | inr some ↦ omega (arith, e, some) ]
+      pushed : has_lit (fallen ++ link.lit ∷ []) l ≡ (has_lit fallen l || (same_lit link.lit l || false))
+      pushed = list_any-append (λ f. same_lit f l) fallen (link.lit ∷ [])
 
-  -- what was marked is marked still, or its boolean fell
-  pub kept_without : (fallen : List Lit) (l : Lit) → (is_marked marks l || is_fallen fallen l) ≡ true → (is_marked (set marks link.lit.var.0 None) l || is_fallen (fallen ++ link.lit ∷ []) l) ≡ true
-  kept_without fallen l e = by_var (cases_eq l.var.0 link.lit.var.0)
-    where
-      pushed : is_fallen (fallen ++ link.lit ∷ []) l ≡ (is_fallen fallen l || (same_var link.lit l || false))
-      pushed = list_any-append (λ f. same_var f l) fallen (link.lit ∷ [])
+      first_true : (a b c : Bool) → b ≡ true → (a || (b || c)) ≡ true
+      first_true true b c f = refl
+      first_true false true c f = refl
+      first_true false false c f = absurd (cc f)
 
-      last_true : (a b : Bool) → (a || (b || (true || false))) ≡ true
-      last_true true b = refl
-      last_true false true = refl
-      last_true false false = refl
+      last_true : (a b c : Bool) → c ≡ true → (a || (b || (c || false))) ≡ true
+      last_true true b c f = refl
+      last_true false true c f = refl
+      last_true false false true f = refl
+      last_true false false false f = absurd (cc f)
 
-      keep : (a b c : Bool) → (a || b) ≡ true → (a || (b || c)) ≡ true
-      keep true b c f = refl
-      keep false true c f = refl
-      keep false false c f = absurd (cc)
+      fell_before : has_lit fallen l ≡ true → (is_marked (set marks link.lit.var.0 None) l || has_lit (fallen ++ link.lit ∷ []) l) ≡ true
+      fell_before f =
+          ap (λ b. is_marked (set marks link.lit.var.0 None) l || b) pushed
+          ∙ first_true (is_marked (set marks link.lit.var.0 None) l) (has_lit fallen l) (same_lit link.lit l || false) f
 
-      by_var : (l.var.0 ≡ link.lit.var.0) ⊎ (l.var.0 ≢ link.lit.var.0) → (is_marked (set marks link.lit.var.0 None) l || is_fallen (fallen ++ link.lit ∷ []) l) ≡ true
-      by_var (inl same) =
-          ap (λ b. is_marked (set marks link.lit.var.0 None) l || b) (pushed ∙ ap (λ b. is_fallen fallen l || (b || false)) (eq_is link.lit.var.0 l.var.0 (sym same)))
-          ∙ last_true (is_marked (set marks link.lit.var.0 None) l) (is_fallen fallen l)
-      by_var (inr differs) =
-          ap₂ (λ a b. a || b) (ap (λ (o : Option Bool). mark_is o l.sign) (other_mark l.var.0 differs)) pushed
-          ∙ keep (is_marked marks l) (is_fallen fallen l) (same_var link.lit l || false) e
+      by_var : (l.var.0 ≡ link.lit.var.0) ⊎ (l.var.0 ≢ link.lit.var.0) → (is_marked marks l ≡ true) ⊎ (has_lit fallen l ≡ true) → (is_marked (set marks link.lit.var.0 None) l || has_lit (fallen ++ link.lit ∷ []) l) ≡ true
+      by_var way (inr f) = fell_before f
+      by_var (inr differs) (inl f) =
+          or_left (is_marked (set marks link.lit.var.0 None) l) (has_lit (fallen ++ link.lit ∷ []) l) (ap (λ (o : Option Bool). mark_is o l.sign) (other_mark l.var.0 differs) ∙ f)
+      by_var (inl same) (inl f) =
+          let is : same_lit link.lit l ≡ true = elim (same_or_neg l link.lit same) [
+            | inl e ↦ ap (same_lit link.lit) e ∙ same_lit-self link.lit
+            | inr turned ↦ absurd (cc (has_not_neg marks link.lit link_marked, ap (is_marked marks) turned, f))
+          ] in
+          ap (λ b. is_marked (set marks link.lit.var.0 None) l || b) pushed
+          ∙ last_true (is_marked (set marks link.lit.var.0 None) l) (has_lit fallen l) (same_lit link.lit l) is
 
 -- where no boolean stands twice one that stands in front doesn't stand behind
 once_apart : (front rest : List Link) (l : Lit) → is_once (front ++ rest) ≡ true → has_boolean front l ≡ true → has_boolean rest l ≡ false
@@ -219,31 +168,25 @@ once_apart (k ∷ ks) rest l once e = by_value (same_var k.lit l) refl (λ (f : 
     by_value false p later = later (sym (ap (λ b. b || has_boolean ks l) p) ∙ e)
 
 -- the reason of a link that stands is good with what stands before it
-pub stands_reason : (assumed : Lit → Bool) (now : Counted) (old front rest : List Link) (at : ℕ) (d link : Link) (marks : Marks) (supports : List Reason) → is_once old ≡ true → at < length old
-    → get_or old at d ≡ link → drop at old ≡ link ∷ rest → IsBacked now.clauses old → Agrees marks supports (front ++ link ∷ rest) → IsCounted now (trail_has (front ++ link ∷ rest)) []
-    → (r : Reason) → link.reason ≡ r → reason_stands assumed now link.lit r ≡ true → IsReason now.clauses assumed front link.lit r
-stands_reason assumed now old front rest at d link marks supports once within is behind backed agrees counted Assumed e stands = stands
-stands_reason assumed now old front rest at d link marks supports once within is behind backed agrees counted (Clause id) e stands = by_slot (clause_at now.clauses id.0) refl
+pub stands_reason : (assumed : Lit → Bool) (slots : Slots) (old front rest : List Link) (at : ℕ) (d link : Link) (marks : Marks) (supports : List Reason) → is_once old ≡ true → at < length old
+    → get_or old at d ≡ link → drop at old ≡ link ∷ rest → IsBacked slots old → Agrees marks supports (front ++ link ∷ rest)
+    → (r : Reason) → link.reason ≡ r → reason_stands assumed slots (is_marked marks) link.lit r ≡ true → IsReason slots assumed front link.lit r
+stands_reason assumed slots old front rest at d link marks supports once within is behind backed agrees Assumed e stands = stands
+stands_reason assumed slots old front rest at d link marks supports once within is behind backed agrees (Clause id) e stands = by_slot (clause_at slots id.0) refl
   where
-    one_from : (n : ℕ) → nat_eq n 1 ≡ true → n ≡ 1
-    one_from n f = grind (arith, nat_tests)
-
-    by_slot : (slot : Option (List Lit)) → clause_at now.clauses id.0 ≡ slot → IsReason now.clauses assumed front link.lit (Clause id)
-    by_slot None at_id = absurd (cc (sym (ap (λ (o : Option (List Lit)). is_some o && nat_eq (open_at now id.0) 1) at_id) ∙ stands))
+    by_slot : (slot : Option (List Lit)) → clause_at slots id.0 ≡ slot → IsReason slots assumed front link.lit (Clause id)
+    by_slot None at_id = absurd (cc (sym (ap (derives_lit (is_marked marks) link.lit) at_id) ∙ stands))
     by_slot (Some c) at_id =
-        let one : open_at now id.0 ≡ 1 = one_from (open_at now id.0) (and_right (is_some (clause_at now.clauses id.0)) (nat_eq (open_at now id.0) 1) stands) in
-        let left : left_count (trail_has (front ++ link ∷ rest)) c ≡ 1 = omega (arith, one, counted.present id.0 c at_id) in
+        let all : list_all (is_other_or_false (is_marked marks) link.lit) c ≡ true = sym (ap (derives_lit (is_marked marks) link.lit) at_id) ∙ stands in
         let reason : (get_or old at d).reason ≡ Clause id = ap (λ (k : Link). k.reason) is ∙ e in
         let member : Contains c link.lit = subst (λ (k : Link). Contains c k.lit) is (backed.member at d id c within reason at_id) in
-        let not_false : trail_has (front ++ link ∷ rest) (neg link.lit) ≡ false =
-        sym (agrees.same (neg link.lit)) ∙ has_not_neg marks link.lit (agrees.same link.lit ∙ contained_has (front ++ link ∷ rest) link (Contains-append_right front (link ∷ rest) link (0, omega arith, refl))) in
         record {
           clause = c;
           present = at_id;
           member = member;
           others =
               λ m in_clause differs.
-              let falls : trail_has (front ++ link ∷ rest) (neg m) ≡ true = one_left (trail_has (front ++ link ∷ rest)) c link.lit m left member not_false in_clause differs in
+              let falls : trail_has (front ++ link ∷ rest) (neg m) ≡ true = sym (agrees.same (neg m)) ∙ is_false m (or_cases (same_lit m link.lit) (is_marked marks (neg m)) (all_member (is_other_or_false (is_marked marks) link.lit) c m all in_clause)) differs in
               let before : true_before at old (neg m) ≡ true = backed.others at d id c m within reason at_id in_clause (λ f. differs (f ∙ ap (λ (k : Link). k.lit) is)) in
               let apart : has_boolean (drop at old) (neg m) ≡ false =
               once_apart (take at old) (drop at old) (neg m) (ap is_once (take-append-drop at old) ∙ once) (trail_boolean (take at old) (neg m) before) in
@@ -254,3 +197,7 @@ stands_reason assumed now old front rest at d link marks supports once within is
               ∙ sym (list_any-append (λ (k : Link). same_lit k.lit (neg m)) front (link ∷ rest))
               ∙ falls;
         }
+      where
+        is_false : (m : Lit) → (same_lit m link.lit ≡ true) ⊎ (is_marked marks (neg m) ≡ true) → m ≢ link.lit → is_marked marks (neg m) ≡ true
+        is_false m (inl same) differs = absurd (differs (same_lit-equal m link.lit same))
+        is_false m (inr falls) differs = falls

@@ -1,125 +1,117 @@
 -- What the labels that are kept tell of the clauses and assumptions present.
-use Rattle.std.proofs.Common.{◌≡◌, ◌≢◌, ℕ, suc, zero, ◌<◌, Bool, true, false, nat_eq, List, [], ◌∷◌, length, get_or, Option, Some, None, is_none, cond, find, option_map, refl, sym, ap, subst, ◌∙◌, arith, inl, inr, Contains}
-use Rattle.std.specs.List.{list_any, list_all}
-use Rattle.std.proofs.lemmas.Bool.{cases_lt}
+use Rattle.std.proofs.Common.{◌≡◌, ◌≢◌, ◌⊎◌, ℕ, Bool, true, false, ◌||◌, nat_eq, List, [], ◌∷◌, length, get_or, Option, Some, None, is_none, is_some, cond, find, option_map, refl, sym, ap, subst, ◌∙◌, arith, inl, inr, Contains}
 use Rattle.std.proofs.lemmas.Bool.Decides.{nat_tests}
-use Rattle.std.proofs.lemmas.List.{get_or_past}
-use Rattle.std.proofs.lemmas.List.Folds.{list_any_at}
 use Rattle.std.proofs.Math.Seq.{take-length}
 use Rattle.lv_base.specs.declared.ids.Lit.{Lit}
-use Rattle.lv_clauses.specs.Literals.{neg, same_var, distinct, in_range}
+use Rattle.lv_base.specs.declared.ids.ClauseId.{ClauseId}
+use Rattle.lv_clauses.specs.Literals.{neg, same_var}
 use Rattle.lv_clauses.specs.ClauseMap.{Slots, clause_at}
 use Rattle.lv_clauses.specs.Closure.{InClosure, IsContradictory, unit, both_signs, empty_clause}
 use Rattle.lv_clauses.specs.Laws.{IsClosed}
 use Rattle.lv_clauses.specs.Marks.{Marks, is_marked, is_free}
-use Rattle.lv_clauses.proofs.LiteralLemmas.{Contains-head, any_member, and_right, lit_cases}
+use Rattle.lv_clauses.proofs.LiteralLemmas.{Contains-head, any_member, lit_cases}
 use Rattle.lv_clauses.proofs.ClosureLemmas.{least}
 use Rattle.lv_ltms.specs.declared.labels.Link.{Link}
 use Rattle.lv_ltms.specs.declared.labels.Reason.{Reason}
 use Rattle.lv_ltms.specs.declared.labels.Reason.TheVariants.{Assumed}
 use Rattle.lv_ltms.specs.Trail.{same_lit, trail_has, IsDerivation, reason_in}
-use Rattle.lv_ltms.specs.Occurrences.{Rows}
-use Rattle.lv_ltms.specs.Counters.{Counted, open_at, has_zero}
 use Rattle.lv_ltms.specs.Labelled.{Labelled, Agrees, support_at, support_if_marked}
-use Rattle.lv_ltms.specs.Propagating.{left_count, true_before}
+use Rattle.lv_ltms.specs.Watching.{Rows, lit_at, IsGuarded}
+use Rattle.lv_ltms.specs.Standing.{Stops, TellsEmpty, NoneEmpty, true_before}
 use Rattle.lv_ltms.specs.System.{System, IsKept, IsDerived, IsRefuted, IsWholeTrail}
 use Rattle.lv_ltms.proofs.TrailLemmas.{derivation_sound, same_lit-equal}
-use Rattle.lv_ltms.proofs.CountLemmas.{none_left, just_one_left, nothing_left}
 use Rattle.lv_ltms.proofs.LabelLemmas.{not_free_cases, has_not_free, has_not_neg, contained_has}
-use Rattle.lv_ltms.proofs.SupportLemmas.{found_passes, none_passes}
-use Rattle.lv_ltms.proofs.BoolLemmas.{eq_from}
+use Rattle.lv_ltms.proofs.FindLemmas.{found_passes, none_passes}
+use Rattle.lv_ltms.proofs.BoolLemmas.{eq_from, or_parts}
 
 -- a clause whose literals are all negated in the closure contradicts it
 refuted_by : (slots : Slots) (assumed : Lit → Bool) (id : ℕ) (c : List Lit) → clause_at slots id ≡ Some c → ((m : Lit) → Contains c m → InClosure slots assumed (neg m)) → IsContradictory slots assumed
 refuted_by slots assumed id [] at all = empty_clause id at
 refuted_by slots assumed id (m ∷ ms) at all = both_signs m (unit id (m ∷ ms) at (Contains-head m ms) (λ k in_clause differs. all k in_clause)) (all m (Contains-head m ms))
 
--- a counter at 0 has a number
-zero_at : (counters : List ℕ) → list_any (λ n. nat_eq n 0) counters ≡ true → (id : ℕ) × (get_or counters id 1 ≡ 0)
-zero_at counters e =
-    let found = any_member (λ n. nat_eq n 0) counters e in
-    (found.1.0, same_default counters found.1.0 found.0 1 found.1.1 ∙ found.1.2 ∙ eq_from found.0 0 found.2)
-  where
-    same_default : (xs : List ℕ) (i a b : ℕ) → i < length xs → get_or xs i b ≡ get_or xs i a
-    same_default [] i a b within = absurd (omega (arith, within))
-    same_default (x ∷ xs) zero a b within = refl
-    same_default (x ∷ xs) (suc i) a b within = same_default xs i a b (omega (arith, within))
-
-none_zero : (counters : List ℕ) → list_any (λ n. nat_eq n 0) counters ≡ false → (id : ℕ) → get_or counters id 1 ≡ 0 → ⊥
-none_zero counters e id z = elim (cases_lt id (length counters)) [
-  | inl within ↦ cc (list_any_at (λ n. nat_eq n 0) counters id 1 within (is_zero (get_or counters id 1) z), e)
-  | inr past ↦ absurd (omega (arith, z, get_or_past counters id 1 past))
-]
-  where
-    is_zero : (n : ℕ) → n ≡ 0 → nat_eq n 0 ≡ true
-    is_zero n f = grind (arith, nat_tests)
-
-module _ (s : System) (rows : Rows) (counted : Counted) (labels : Labelled) (space : ℕ) (kept : IsKept s rows counted labels space) where
+module _ {s : System} {near far : Rows} {labels : Labelled} {done : ℕ} {conflict empty : Option ClauseId} {space : ℕ} (kept : IsKept s near far labels done conflict empty space) where
   -- what is marked is derived
   pub marked_derived : (l : Lit) → is_marked labels.marks l ≡ true → IsDerived s l
-  marked_derived l e = derivation_sound kept.derivation l (sym (kept.state.agrees.same l) ∙ e)
+  marked_derived l e = derivation_sound kept.derivation l (sym (kept.network.are_labels.agrees.same l) ∙ e)
 
-  counted_truth : (l : Lit) → true_before (length labels.trail) labels.trail l ≡ is_marked labels.marks l
-  counted_truth l = ap (λ (t : List Link). trail_has t l) (take-length labels.trail) ∙ sym (kept.state.agrees.same l)
-
-  clause_there : (id : ℕ) → clause_at s.clauses id ≡ clause_at counted.clauses id
-  clause_there id = ap (λ (c : Slots). clause_at c id) kept.clauses
-
-  -- a clause that is false contradicts
-  pub zero_refutes : has_zero counted ≡ true → IsRefuted s
-  zero_refutes e =
-      let found = zero_at counted.counters e in
-      by_slot found.0 found.1 (clause_at counted.clauses found.0) refl
+  -- a clause that is false contradicts, and so does one without literals
+  pub some_refutes : (is_some conflict || is_some empty) ≡ true → IsRefuted s
+  some_refutes e = by_both conflict empty kept.stops kept.tells_empty e
     where
-      by_slot : (id : ℕ) → open_at counted id ≡ 0 → (slot : Option (List Lit)) → clause_at counted.clauses id ≡ slot → IsRefuted s
-      by_slot id z None at = absurd (omega (arith, z, kept.state.counters.absent id at))
-      by_slot id z (Some c) at =
-          let none : left_count (true_before (length labels.trail) labels.trail) c ≡ 0 = omega (arith, z, kept.state.counters.present id c at) in
-          refuted_by s.clauses (is_marked s.assumed) id c (clause_there id ∙ at)
-          (λ m in_clause. marked_derived (neg m) (sym (counted_truth (neg m)) ∙ none_left (true_before (length labels.trail) labels.trail) c m none in_clause))
+      by_both : (f g : Option ClauseId) → Stops s.clauses labels done f → TellsEmpty s.clauses g → (is_some f || is_some g) ≡ true → IsRefuted s
+      by_both None None p q h = absurd (cc h)
+      by_both (Some id) g p q h = refuted_by s.clauses (is_marked s.assumed) id.0 p.clause p.present (λ m in_clause. marked_derived (neg m) (p.all_false m in_clause))
+      by_both None (Some id) p q h = empty_clause id.0 q
 
-  module _ (calm : has_zero counted ≡ false) where
-    never_zero : (id : ℕ) (c : List Lit) → clause_at counted.clauses id ≡ Some c → left_count (true_before (length labels.trail) labels.trail) c ≡ 0 → ⊥
-    never_zero id c at none = none_zero counted.counters calm id (omega (arith, none, kept.state.counters.present id c at))
+  module _ (calm : (is_some conflict || is_some empty) ≡ false) where
+    whole : done ≡ length labels.trail
+    whole = by_conflict conflict kept.stops (or_parts (is_some conflict) (is_some empty) calm).0
+      where
+        by_conflict : (f : Option ClauseId) → Stops s.clauses labels done f → is_some f ≡ false → done ≡ length labels.trail
+        by_conflict None p h = p
+        by_conflict (Some id) p h = absurd (cc h)
+
+    none_empty : NoneEmpty s.clauses
+    none_empty = by_empty empty kept.tells_empty (or_parts (is_some conflict) (is_some empty) calm).1
+      where
+        by_empty : (g : Option ClauseId) → TellsEmpty s.clauses g → is_some g ≡ false → NoneEmpty s.clauses
+        by_empty None q h = q
+        by_empty (Some id) q h = absurd (cc h)
+
+    looked_truth : (l : Lit) → true_before done labels.trail l ≡ is_marked labels.marks l
+    looked_truth l =
+        ap (λ (n : ℕ). true_before n labels.trail l) whole ∙ ap (λ (t : List Link). trail_has t l) (take-length labels.trail) ∙ sym (kept.network.are_labels.agrees.same l)
 
     -- what is marked is closed
     closed : IsClosed s.clauses (is_marked s.assumed) (is_marked labels.marks)
     closed =
         record {
           assumptions = kept.assumptions.marked;
-          units = λ id c l at in_clause others. by_turned id c l (sym (clause_there id) ∙ at) in_clause (λ m h differs. counted_truth (neg m) ∙ others m h differs) (is_marked labels.marks (neg l)) refl;
+          units = λ id c l at in_clause others. unit_marked id c l at in_clause others;
         }
       where
-        by_turned : (id : ℕ) (c : List Lit) (l : Lit) → clause_at counted.clauses id ≡ Some c → Contains c l → ((m : Lit) → Contains c m → m ≢ l → true_before (length labels.trail) labels.trail (neg m) ≡ true)
-            → (b : Bool) → is_marked labels.marks (neg l) ≡ b → is_marked labels.marks l ≡ true
-        by_turned id c l at in_clause others true e =
-            absurd (never_zero id c at (nothing_left (true_before (length labels.trail) labels.trail) c (λ m h. elim (lit_cases m l) [
-              | inl same ↦ ap (λ k. true_before (length labels.trail) labels.trail (neg k)) same ∙ counted_truth (neg l) ∙ e
-              | inr differs ↦ others m h differs
-            ])))
-        by_turned id c l at in_clause others false e =
-            let left : true_before (length labels.trail) labels.trail (neg l) ≡ false = counted_truth (neg l) ∙ e in
-            let d : distinct c ≡ true = and_right (list_all (in_range s.bools) c) (distinct c) (kept.state.clauses id c at) in
-            let one : left_count (true_before (length labels.trail) labels.trail) c ≡ 1 = just_one_left (true_before (length labels.trail) labels.trail) c l d in_clause left others in
-            elim (not_free_cases labels.marks l (kept.state.settled.marked id c l at refl one in_clause left refl)) [
-              | inl here ↦ here
-              | inr turned ↦ absurd (cc (turned, e))
-            ]
+        unit_marked : (id : ℕ) (c : List Lit) (l : Lit) → clause_at s.clauses id ≡ Some c → Contains c l → ((m : Lit) → Contains c m → m ≢ l → is_marked labels.marks (neg m) ≡ true) → is_marked labels.marks l ≡ true
+        unit_marked id c l at in_clause others = by_near (lit_cases (lit_at near id) l) (lit_cases (lit_at far id) l)
+          where
+            near_is : IsGuarded c (lit_at near id) (lit_at far id) (true_before done labels.trail) labels.marks []
+            near_is = kept.looked.watching.near_side.guarded id c l at in_clause
+
+            far_is : IsGuarded c (lit_at far id) (lit_at near id) (true_before done labels.trail) labels.marks []
+            far_is = kept.looked.watching.far_side.guarded id c l at in_clause
+
+            holds_far : is_marked labels.marks (neg (lit_at near id)) ≡ true → is_marked labels.marks (lit_at far id) ≡ true
+            holds_far e = near_is.held (looked_truth (neg (lit_at near id)) ∙ e) refl
+
+            holds_near : is_marked labels.marks (neg (lit_at far id)) ≡ true → is_marked labels.marks (lit_at near id) ≡ true
+            holds_near e = far_is.held (looked_truth (neg (lit_at far id)) ∙ e) refl
+
+            by_near : (lit_at near id ≡ l) ⊎ (lit_at near id ≢ l) → (lit_at far id ≡ l) ⊎ (lit_at far id ≢ l) → is_marked labels.marks l ≡ true
+            by_near (inr p) (inl q) = ap (is_marked labels.marks) (sym q) ∙ holds_far (others (lit_at near id) near_is.member p)
+            by_near (inr p) (inr q) =
+                absurd (cc (has_not_neg labels.marks (lit_at far id) (holds_far (others (lit_at near id) near_is.member p)), others (lit_at far id) far_is.member q))
+            by_near (inl p) (inr q) = ap (is_marked labels.marks) (sym p) ∙ holds_near (others (lit_at far id) far_is.member q)
+            by_near (inl p) (inl q) =
+                elim (not_free_cases labels.marks l (ap (is_free labels.marks) (sym p) ∙ kept.looked.watching.settled.settled id c l at in_clause (p ∙ sym q) refl)) [
+                  | inl here ↦ here
+                  | inr turned ↦
+                      let far_true : is_marked labels.marks (lit_at far id) ≡ true = holds_far (ap (λ (k : Lit). is_marked labels.marks (neg k)) p ∙ turned) in
+                      ap (is_marked labels.marks) (sym q) ∙ far_true
+                ]
 
     pub consistent : IsRefuted s → ⊥
     consistent (both_signs l p q) = cc (has_not_neg labels.marks l (least (is_marked labels.marks) closed l p), least (is_marked labels.marks) closed (neg l) q)
-    consistent (empty_clause id at) = never_zero id [] (sym (clause_there id) ∙ at) refl
+    consistent (empty_clause id at) = none_empty.never id at
 
     pub derived_calm : (l : Lit) → IsDerived s l → is_marked labels.marks l ≡ true
     derived_calm l h = least (is_marked labels.marks) closed l h
 
   -- what is derived is marked where there is no contradiction
   pub derived_marked : ¬ IsRefuted s → (l : Lit) → IsDerived s l → is_marked labels.marks l ≡ true
-  derived_marked fine l h = by_zero (has_zero counted) refl
+  derived_marked fine l h = by_some (is_some conflict || is_some empty) refl
     where
-      by_zero : (b : Bool) → has_zero counted ≡ b → is_marked labels.marks l ≡ true
-      by_zero true e = absurd (fine (zero_refutes e))
-      by_zero false e = derived_calm e l h
+      by_some : (b : Bool) → (is_some conflict || is_some empty) ≡ b → is_marked labels.marks l ≡ true
+      by_some true e = absurd (fine (some_refutes e))
+      by_some false e = derived_calm e l h
 
   pub unmarked_not_derived : ¬ IsRefuted s → (l : Lit) → is_marked labels.marks l ≡ false → IsDerived s l → ⊥
   unmarked_not_derived fine l e h = cc (derived_marked fine l h, e)
@@ -128,7 +120,7 @@ module _ (s : System) (rows : Rows) (counted : Counted) (labels : Labelled) (spa
   whole_trail fine =
       record {
         derivation = subst (IsDerivation s.clauses (is_marked s.assumed)) (sym kept.trail) kept.derivation;
-        complete = λ l h. ap (λ t. trail_has t l) kept.trail ∙ sym (kept.state.agrees.same l) ∙ derived_marked fine l h;
+        complete = λ l h. ap (λ t. trail_has t l) kept.trail ∙ sym (kept.network.are_labels.agrees.same l) ∙ derived_marked fine l h;
       }
 
 -- the reason kept is that on the trail

@@ -1,5 +1,5 @@
 -- Labels: a mark or none for each boolean, the support of each label, and the trail of the literals marked.
-use Rattle.std.specs.Prelude.{◌≡◌, ◌+◌, Bool, true, false, nat_eq, not, ◌&&◌, List, [], ◌∷◌, ◌++◌, length, drop, is_none, Option, Some, None, if◌then◌else◌, count_by, slice_index_or, slice_set, Contains}
+use Rattle.std.specs.Prelude.{◌≡◌, ℕ, ◌+◌, Bool, true, false, nat_eq, not, ◌&&◌, List, [], ◌∷◌, ◌++◌, length, drop, is_none, Option, Some, None, if◌then◌else◌, count_by, slice_index_or, slice_set, Contains}
 use Rattle.std.specs.List.{list_any}
 use Rattle.lv_base.specs.declared.ids.Lit.{Lit}
 use Rattle.lv_base.specs.declared.ids.ClauseId.{ClauseId}
@@ -48,6 +48,12 @@ pub record Agrees (marks : Marks) (supports : List Reason) (trail : List Link) :
   pub once : is_once trail ≡ true
   pub room : length trail + count_by is_none marks ≡ length marks
   pub backed : (k : Link) → Contains trail k → support_at supports k.lit ≡ k.reason
+
+-- labels of so many booleans
+pub record AreLabels (bools : ℕ) (labels : Labelled) : Type 0 where
+  pub marks : length labels.marks ≡ bools
+  pub supports : length labels.supports ≡ bools
+  pub agrees : Agrees labels.marks labels.supports labels.trail
 
 -- the labels with one literal more
 abbrev pub with_link : Labelled → Link → Labelled

@@ -1,11 +1,11 @@
 pub mod Trail
-pub mod Occurrences
-pub mod Counters
-pub mod Arena
 pub mod Labelled
-pub mod Propagating
+pub mod Watching
+pub mod Standing
+pub mod Visiting
 pub mod Revising
 pub mod Reaching
 pub mod Marked
+pub mod Networks
 pub mod System
 pub mod Told

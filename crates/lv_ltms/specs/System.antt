@@ -2,6 +2,7 @@
 use Rattle.std.specs.Prelude.{◌≡◌, ◌≢◌, ℕ, ◌≤◌, Bool, true, List, length, Option, None, slice_set}
 use Rattle.std.specs.List.{list_any}
 use Rattle.lv_base.specs.declared.ids.Lit.{Lit}
+use Rattle.lv_base.specs.declared.ids.ClauseId.{ClauseId}
 use Rattle.lv_clauses.specs.Literals.{distinct}
 use Rattle.lv_clauses.specs.ClauseMap.{Slots, clause_at}
 use Rattle.lv_clauses.specs.Closure.{InClosure, IsContradictory}
@@ -11,10 +12,9 @@ use Rattle.lv_ltms.specs.declared.ltms.Status.{Status}
 use Rattle.lv_ltms.specs.declared.ltms.Status.TheVariants.{Consistent, Contradiction}
 use Rattle.lv_ltms.specs.Trail.{same_lit, trail_has, reason_in, IsDerivation}
 use Rattle.lv_ltms.specs.Reaching.{Reaches}
-use Rattle.lv_ltms.specs.Occurrences.{Rows}
-use Rattle.lv_ltms.specs.Counters.{Counted}
 use Rattle.lv_ltms.specs.Labelled.{Labelled}
-use Rattle.lv_ltms.specs.Propagating.{IsPropagating, none_excused}
+use Rattle.lv_ltms.specs.Watching.{Rows}
+use Rattle.lv_ltms.specs.Standing.{IsNetwork, IsLooked, Stops, TellsEmpty}
 use Rattle.lv_ltms.specs.Revising.{AreMarked}
 
 -- the clauses present over so many booleans, the assumptions present as marks, and the trail of the true literals
@@ -76,13 +76,16 @@ pub record IsCore (s : System) (core : List Lit) : Type 0 where
   pub distinct : distinct core ≡ true
   pub contradictory : IsContradictory s.clauses (in_list core)
 
--- what is kept beside the system: all that is marked is counted and settled, derived by what is present, and each
--- assumption is marked; and there is room for each boolean to fall
-pub record IsKept (s : System) (rows : Rows) (counted : Counted) (labels : Labelled) (space : ℕ) : Type 0 where
+-- what is kept beside the system: clauses, what they watch, and labels agree; the trail is derived by what is present and
+-- has each assumption; it was looked at to its end, or a clause is known that is false; and there is room for each
+-- boolean to fall
+pub record IsKept (s : System) (near far : Rows) (labels : Labelled) (done : ℕ) (conflict empty : Option ClauseId) (space : ℕ) : Type 0 where
   pub assumed : length s.assumed ≡ s.bools
-  pub clauses : s.clauses ≡ counted.clauses
   pub trail : s.trail ≡ labels.trail
-  pub state : IsPropagating s.bools rows counted labels (length labels.trail) none_excused
+  pub network : IsNetwork s.bools s.clauses near far labels
+  pub looked : IsLooked s.clauses near far labels done
+  pub stops : Stops s.clauses labels done conflict
+  pub tells_empty : TellsEmpty s.clauses empty
   pub derivation : IsDerivation s.clauses (is_marked s.assumed) labels.trail
   pub assumptions : AreMarked (is_marked s.assumed) labels
   pub room : s.bools ≤ space

@@ -2,14 +2,16 @@
 //! literals marked in the order in which they were derived. The trail has room for every boolean from the start.
 #![tactic(auto)]
 
-ghost use Rattle.std.specs.Prelude.{◌≡◌, ◌<◌, ◌≤◌, [], length, take, position, unwrap_or, IfOk, IsTrue, slice_set, replicate};
-ghost use Rattle.lv_clauses.specs.Literals.{same_var};
+ghost use Rattle.std.specs.Prelude.{◌≡◌, ◌<◌, ◌≤◌, false, [], length, take, position, unwrap_or, IfOk, IsTrue, slice_set, replicate};
+ghost use Rattle.lv_clauses.specs.Literals.{neg, same_var};
 ghost use Rattle.lv_clauses.specs.Marks.{nothing};
 ghost use Rattle.lv_ltms.specs.declared.labels.Reason.TheVariants.{Assumed};
 ghost use Rattle.lv_ltms.specs.Labelled.{with_link, without_mark, support_if_marked, Agrees};
 ghost use Rattle.lv_ltms.specs.Trail.{reason_in};
+ghost use Rattle.lv_ltms.specs.Standing.{true_before};
 
 use lv_base::{BoolId, ClauseId, Lit};
+use lv_clauses::{is_marked, negation};
 use std::alloc::{AllocError, Global};
 use std::marker::Model;
 
@@ -115,6 +117,19 @@ impl Labels {
         ensures { result ≡ unwrap_or (position (λ k. same_var k.lit lit) self.now.trail) (length self.now.trail) }
     {
         first_of(self.trail.as_slice(), lit).unwrap_or(self.trail.len())
+    }
+
+    /// At most so many links of the trail, before which the literal isn't false.
+    pub fn before_false(&self, lit: Lit, len: usize) -> usize
+        requires agrees { Agrees self.now.marks self.now.supports self.now.trail }
+        ensures within { result ≤ len }
+        ensures clear { true_before result self.now.trail (neg lit) ≡ false }
+    {
+        if is_marked(self.marks(), negation(lit)) {
+            self.place_of(lit).min(len)
+        } else {
+            len
+        }
     }
 
     /// The reason of a literal or its negation, None where neither is marked.

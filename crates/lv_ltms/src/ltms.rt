@@ -12,7 +12,6 @@ ghost use Rattle.lv_ltms.specs.Labelled.{gives};
 
 use super::labels::{Link, Reason};
 use super::network::Network;
-use super::propagation::{left_in, settle};
 use lv_base::{BoolId, ClauseId, Lit};
 use lv_clauses::{is_marked, negation, unmark};
 use std::alloc::{AllocError, Global};
@@ -48,9 +47,9 @@ impl Model for Ltms {
 
     ghost Value = { System };
 
-    ghost view = { λ s. record { bools = s.bools; clauses = s.network.arena.clauses; assumed = s.assumed.items; trail = s.network.labels.trail } };
+    ghost view = { λ s. record { bools = s.bools; clauses = s.network.arena; assumed = s.assumed.items; trail = s.network.labels.trail } };
 
-    ghost invariant = { λ s. IsKept (record { bools = s.bools; clauses = s.network.arena.clauses; assumed = s.assumed.items; trail = s.network.labels.trail }) s.network.occurrences s.network.arena s.network.labels (vec_capacity s.network.fallen) };
+    ghost invariant = { λ s. IsKept (record { bools = s.bools; clauses = s.network.arena; assumed = s.assumed.items; trail = s.network.labels.trail }) s.network.near s.network.far s.network.labels s.network.progress.done s.network.progress.conflict s.network.empty (vec_capacity s.network.fallen) };
 }
 
 impl Ltms {
@@ -75,14 +74,8 @@ impl Ltms {
         ensures added { IfOk result (λ id. PutsClause self.old self.new id.0 (Some lits.now)) }
         ensures kept { OnErr result (self.new ≡ self.old) }
     {
-        let from = self.network.labels.trail().len();
-        let left = left_in(lits, self.network.labels.marks());
-        let id = self
-            .network
-            .arena
-            .add(lits, left, &mut self.network.occurrences)?;
-        settle(id, &self.network.arena, &mut self.network.labels);
-        self.network.propagate(from);
+        let id = self.network.add(lits)?;
+        self.network.propagate();
         Ok(id)
     }
 
@@ -93,8 +86,8 @@ impl Ltms {
     {
         let trail = self.network.labels.trail();
         let from = first_given(trail, id).unwrap_or(trail.len());
-        self.network.arena.remove(id, &mut self.network.occurrences);
-        self.network.revise(from, self.assumed.as_slice());
+        self.network.remove(id);
+        self.network.revise(from, self.assumed.as_slice(), false);
     }
 
     /// Adds an assumption: a literal that isn't assumed, nor its negation. Where its negation is derived, that label
@@ -110,15 +103,14 @@ impl Ltms {
         }
         if is_marked(self.network.labels.marks(), negation(lit)) {
             let from = self.network.labels.place_of(lit);
-            self.network.revise(from, self.assumed.as_slice());
+            self.network.revise(from, self.assumed.as_slice(), true);
             return;
         }
-        let from = self.network.labels.trail().len();
         self.network.labels.push(Link {
             lit,
             reason: Reason::Assumed,
         });
-        self.network.propagate(from);
+        self.network.propagate();
     }
 
     /// Takes back an assumption. From a consistent system each true literal that didn't rest on it keeps its reason.
@@ -128,7 +120,7 @@ impl Ltms {
     {
         unmark(&mut self.assumed, lit);
         let from = self.network.labels.place_of(lit);
-        self.network.revise(from, self.assumed.as_slice());
+        self.network.revise(from, self.assumed.as_slice(), false);
     }
 
     /// Whether a literal is one of the assumptions present.
@@ -165,7 +157,7 @@ impl Ltms {
         ensures status { TellsStatus self.now result }
         ensures trail { ¬ IsRefuted self.now → IsWholeTrail self.now }
     {
-        if self.network.arena.has_false() {
+        if self.network.has_false() {
             Status::Contradiction
         } else {
             Status::Consistent

@@ -1,155 +1,255 @@
 //! Taking labels away. Where an assumption or a clause went, one pass along the trail takes away the labels whose
-//! support is gone; a counter per label that stays is read, and only clauses of labels that fall are touched. Then
-//! another support is looked for at each boolean that lost its label, among the assumptions and the clauses that hold
-//! it, and what follows is propagated. This is the well-known way of truth maintenance systems: a label lives as long as
-//! one support of it does.
+//! support is gone. Then an assumption or a clause of one literal may support a boolean that lost its label; and where a
+//! clause watched a label that fell beside a literal that is false still, the trail is looked at anew from that literal
+//! on. This is the well-known way of truth maintenance systems: a label lives as long as one support of it does.
 #![tactic(auto)]
 
-ghost use Rattle.std.specs.Prelude.{◌≡◌, ◌<◌, ◌≤◌, ◌&&◌, [], length, not, find, vec_capacity, IsTrue};
+ghost use Rattle.std.specs.Prelude.{◌≡◌, ◌≢◌, ℕ, ◌<◌, ◌≤◌, ◌&&◌, [], List, true, false, length, not, vec_capacity, IsTrue, IfSome, IfNone, Bool};
 ghost use Rattle.std.specs.List.{list_all};
+ghost use Rattle.lv_base.specs.declared.ids.ClauseId.{ClauseId};
 ghost use Rattle.lv_clauses.specs.Literals.{neg, in_range};
-ghost use Rattle.lv_clauses.specs.Marks.{is_marked};
-ghost use Rattle.lv_ltms.specs.Occurrences.{row_of};
-ghost use Rattle.lv_ltms.specs.Labelled.{Agrees, Grows};
-ghost use Rattle.lv_ltms.specs.Propagating.{IsPropagating, none_excused};
-ghost use Rattle.lv_ltms.specs.Revising.{IsShaken, IsSwept, AreMarked, AreMarkedOrWait, NoneAgainst, IsOneSided, GetsSupport, CanRaise, IsRaised, is_fallen, reason_stands, reason_found, is_unit_at};
+ghost use Rattle.lv_clauses.specs.ClauseMap.{Slots, clause_at};
+ghost use Rattle.lv_clauses.specs.Marks.{Marks, is_marked};
+ghost use Rattle.lv_ltms.specs.Labelled.{Agrees, AreLabels, Grows};
+ghost use Rattle.lv_ltms.specs.Standing.{true_before};
+ghost use Rattle.lv_ltms.specs.Watching.{lit_at, has_lit, IsThreaded, AreRows, InRow, AllInRow, AreGuarded, AreSettled};
+ghost use Rattle.lv_ltms.specs.Revising.{IsShaken, IsSwept, AreUpright, NoneOpposed, TurnedToo, AreMarked, AreMarkedOrWait, NoneAgainst, IsOneSided, GetsSupport, GivesReason, is_wanted_by, derives_lit, is_other_or_false, reason_stands};
 ghost use Rattle.lv_ltms.specs.Reaching.{IsWithout, StaysOn};
 ghost use Rattle.lv_ltms.specs.Trail.{IsDerivation};
 
 use super::arena::Arena;
 use super::labels::{Labels, Link, Reason};
-use super::occurrences::Occurrences;
+use super::watchers::Watchers;
 use lv_base::{ClauseId, Lit};
 use lv_clauses::{is_marked, negation};
 
 /// Goes along the trail from a place on: what still stands closes up, what doesn't loses its mark and is written down.
+/// Answers how many are kept of the links before the place up to which the trail was looked at.
 pub fn sweep(
     from: usize,
+    done: usize,
     assumed: &[Option<bool>],
-    index: &Occurrences,
-    arena: &mut Arena,
+    arena: &Arena,
     labels: &mut Labels,
     fallen: &mut Vec<Lit>,
-)
-    requires state { IsPropagating (length labels.old.marks) index.now arena.old labels.old (length labels.old.trail) none_excused }
+) -> usize
+    requires labels { AreLabels (length labels.old.marks) labels.old }
     requires place { from ≤ length labels.old.trail }
-    requires shaken { IsShaken (is_marked assumed.now) arena.old.clauses labels.old.trail from }
+    requires shaken { IsShaken (is_marked assumed.now) arena.now labels.old.trail from }
     requires room { length labels.old.marks ≤ vec_capacity fallen.old }
     requires empty { fallen.old.items ≡ [] }
-    ensures clauses { arena.new.clauses ≡ arena.old.clauses }
-    ensures state { IsPropagating (length labels.old.marks) index.now arena.new labels.new (length labels.new.trail) (is_fallen fallen.new.items) }
+    ensures labels { AreLabels (length labels.old.marks) labels.new }
     ensures range { IsTrue (list_all (in_range (length labels.old.marks)) fallen.new.items) }
-    ensures swept { IsSwept (is_marked assumed.now) arena.old.clauses labels.old labels.new fallen.new.items }
-    ensures stays { (l : Lit) → IsWithout (is_marked assumed.now) arena.old.clauses labels.old.trail l
-        → StaysOn arena.old.clauses labels.old.trail l labels.old.trail labels.new.trail }
+    ensures swept { IsSwept (is_marked assumed.now) arena.now labels.old labels.new fallen.new.items }
+    ensures stays { (l : Lit) → IsWithout (is_marked assumed.now) arena.now labels.old.trail l
+        → StaysOn arena.now labels.old.trail l labels.old.trail labels.new.trail }
+    ensures within { result ≤ length labels.new.trail }
+    ensures looked { (l : Lit) → true_before result labels.new.trail l ≡ true → true_before done labels.old.trail l ≡ true }
     ensures room { vec_capacity fallen.new ≡ vec_capacity fallen.old }
 {
     let mut kept = from;
+    let mut looked = from.min(done);
     for at in from..labels.trail().len() {
         let link = labels.trail()[at];
-        if stands(link, assumed, arena) {
+        if stands(link, assumed, arena, labels.marks()) {
             labels.put(kept, link);
             kept += 1;
+            if at < done {
+                looked = kept;
+            }
         } else {
             labels.unmark(link.lit);
-            raise_all(negation(link.lit), index, arena);
             fallen.push_reserved(link.lit);
         }
     }
     labels.cut(kept);
+    looked
 }
 
-/// Whether a label's reason still supports it: the assumption is present, or the clause is and has no other literal
-/// left. An assumption of the negation takes the label away.
-fn stands(link: Link, assumed: &[Option<bool>], arena: &Arena) -> bool
-    ensures { result ≡ (not (is_marked assumed.now (neg link.lit)) && reason_stands (is_marked assumed.now) arena.now link.lit link.reason) }
+/// Whether a label's reason still supports it: the assumption is present, or the clause is and its other literals are
+/// false. An assumption of the negation takes the label away.
+fn stands(link: Link, assumed: &[Option<bool>], arena: &Arena, marks: &[Option<bool>]) -> bool
+    ensures { result ≡ (not (is_marked assumed.now (neg link.lit)) && reason_stands (is_marked assumed.now) arena.now (is_marked marks.now) link.lit link.reason) }
 {
     !is_marked(assumed, negation(link.lit))
         && match link.reason {
             Reason::Assumed => is_marked(assumed, link.lit),
-            Reason::Clause(id) => arena.is_unit(id),
+            Reason::Clause(id) => derives(id, link.lit, arena, marks),
         }
 }
 
-/// Counts up each clause that holds a literal which is no longer false.
-fn raise_all(lit: Lit, index: &Occurrences, arena: &mut Arena)
-    requires { CanRaise arena.old (row_of index.now lit) }
-    ensures { IsRaised arena.old arena.new (row_of index.now lit) }
+/// Whether a clause is there whose literals but this one are false.
+fn derives(id: ClauseId, lit: Lit, arena: &Arena, marks: &[Option<bool>]) -> bool
+    ensures { result ≡ derives_lit (is_marked marks.now) lit (clause_at arena.now id.0) }
 {
-    for id in index.of(lit) {
-        arena.raise(*id);
+    match arena.find(id) {
+        Some(lits) => are_false_but(lits, lit, marks),
+        None => false,
     }
 }
 
-/// Looks for another support of each boolean that lost its label.
+/// Whether all literals but this one are false.
+fn are_false_but(lits: &[Lit], lit: Lit, marks: &[Option<bool>]) -> bool
+    ensures { result ≡ list_all (is_other_or_false (is_marked marks.now) lit) lits.now }
+{
+    lits.iter().all(|other| *other == lit || is_marked(marks, negation(*other)))
+}
+
+/// Gives each boolean that lost its label that of an assumption or of a clause of one literal, if there is one. The
+/// negations of the literals that fell are looked at only where this says so.
 pub fn support_all(
     fallen: &[Lit],
+    both: bool,
     assumed: &[Option<bool>],
-    index: &Occurrences,
-    arena: &Arena,
+    near: &Watchers,
+    far: &Watchers,
     labels: &mut Labels,
 )
-    requires state { IsPropagating (length labels.old.marks) index.now arena.now labels.old (length labels.old.trail) (is_fallen fallen.now) }
+    requires rows { AreRows near.now far.now }
+    requires labels { AreLabels (length labels.old.marks) labels.old }
     requires range { IsTrue (list_all (in_range (length labels.old.marks)) fallen.now) }
     requires one_sided { IsOneSided (is_marked assumed.now) }
     requires against { NoneAgainst (is_marked assumed.now) (is_marked labels.old.marks) }
     requires marked { AreMarkedOrWait (is_marked assumed.now) labels.old fallen.now }
-    ensures state { IsPropagating (length labels.old.marks) index.now arena.now labels.new (length labels.old.trail) none_excused }
-    ensures derivation { IsDerivation arena.now.clauses (is_marked assumed.now) labels.old.trail → IsDerivation arena.now.clauses (is_marked assumed.now) labels.new.trail }
-    ensures marked { AreMarked (is_marked assumed.now) labels.new }
+    requires upright { both ≡ false → AreUpright (is_marked assumed.now) fallen.now }
     ensures grows { Grows labels.old labels.new }
+    ensures marked { AreMarked (is_marked assumed.now) labels.new }
+    ensures derivation { (slots : Slots) (bools : ℕ) (truth : Lit → Bool) (marks : Marks) → IsThreaded near.now slots bools → AreGuarded slots (lit_at near.now) (lit_at far.now) truth marks fallen.now
+        → IsDerivation slots (is_marked assumed.now) labels.old.trail → IsDerivation slots (is_marked assumed.now) labels.new.trail }
+    ensures settled { (slots : Slots) (bools : ℕ) → IsThreaded near.now slots bools → (both ≡ false → NoneOpposed slots (lit_at near.now) (lit_at far.now) fallen.now) → AreSettled slots (lit_at near.now) (lit_at far.now) labels.old.marks fallen.now
+        → AreSettled slots (lit_at near.now) (lit_at far.now) labels.new.marks [] }
 {
     for lit in fallen {
-        support(*lit, assumed, index, arena, labels);
-        support(negation(*lit), assumed, index, arena, labels);
+        support(*lit, assumed, near, far, labels);
+        support_negation(*lit, both, assumed, near, far, labels);
     }
 }
 
-/// Marks a literal where it is assumed, or some clause has no other literal left; unless its boolean is marked, or its
-/// negation is assumed.
-fn support(
+/// Marks the negation of a literal in the same way, where both are looked at.
+fn support_negation(
     lit: Lit,
+    both: bool,
     assumed: &[Option<bool>],
-    index: &Occurrences,
-    arena: &Arena,
+    near: &Watchers,
+    far: &Watchers,
     labels: &mut Labels,
 )
+    requires rows { AreRows near.now far.now }
+    requires labels { AreLabels (length labels.old.marks) labels.old }
     requires range { lit.var.0 < length labels.old.marks }
-    requires supports { length labels.old.supports ≡ length labels.old.marks }
-    requires agrees { Agrees labels.old.marks labels.old.supports labels.old.trail }
     requires one_sided { IsOneSided (is_marked assumed.now) }
     requires against { NoneAgainst (is_marked assumed.now) (is_marked labels.old.marks) }
-    ensures { GetsSupport (is_marked assumed.now) index.now arena.now labels.old labels.new lit }
+    ensures { (all : List Lit) → (both ≡ false → AreUpright (is_marked assumed.now) all) → has_lit all lit ≡ true
+        → TurnedToo (is_marked assumed.now) near.now far.now both all labels.old labels.new lit }
 {
-    if is_marked(labels.marks(), lit)
-        || is_marked(labels.marks(), negation(lit))
-        || is_marked(assumed, negation(lit))
-    {
+    if !both {
         return;
     }
-    if let Some(reason) = reason_for(lit, assumed, index, arena) {
+    support(negation(lit), assumed, near, far, labels);
+}
+
+/// Marks a literal where it is assumed, or a clause has no other; unless its boolean is marked, or its negation is
+/// assumed.
+fn support(lit: Lit, assumed: &[Option<bool>], near: &Watchers, far: &Watchers, labels: &mut Labels)
+    requires rows { AreRows near.now far.now }
+    requires labels { AreLabels (length labels.old.marks) labels.old }
+    requires range { lit.var.0 < length labels.old.marks }
+    requires one_sided { IsOneSided (is_marked assumed.now) }
+    requires against { NoneAgainst (is_marked assumed.now) (is_marked labels.old.marks) }
+    ensures { GetsSupport (is_marked assumed.now) near.now far.now labels.old labels.new lit }
+{
+    if !is_wanted(lit, assumed, labels.marks()) {
+        return;
+    }
+    if let Some(reason) = reason_for(lit, assumed, near, far) {
         labels.push(Link { lit, reason });
     }
 }
 
-/// An assumption or a clause that gives a literal its label.
-fn reason_for(
-    lit: Lit,
-    assumed: &[Option<bool>],
-    index: &Occurrences,
-    arena: &Arena,
-) -> Option<Reason>
-    ensures { result ≡ reason_found (is_marked assumed.now lit) arena.now (row_of index.now lit) }
+/// Whether the literal's boolean is unmarked, and its negation isn't assumed.
+fn is_wanted(lit: Lit, assumed: &[Option<bool>], marks: &[Option<bool>]) -> bool
+    ensures { result ≡ is_wanted_by (is_marked assumed.now) (is_marked marks.now) lit }
+{
+    !is_marked(marks, lit) && !is_marked(marks, negation(lit)) && !is_marked(assumed, negation(lit))
+}
+
+/// An assumption or a clause of one literal that gives a literal its label.
+fn reason_for(lit: Lit, assumed: &[Option<bool>], near: &Watchers, far: &Watchers) -> Option<Reason>
+    requires { AreRows near.now far.now }
+    ensures { GivesReason (is_marked assumed.now) near.now far.now lit result }
 {
     if is_marked(assumed, lit) {
         return Some(Reason::Assumed);
     }
-    first_unit(index.of(lit), arena).map(|id| Reason::Clause(id))
+    match find_unit(lit, near, far) {
+        Some(id) => Some(Reason::Clause(id)),
+        None => None,
+    }
 }
 
-/// The first clause of a row that has one literal left.
-fn first_unit(row: &[ClauseId], arena: &Arena) -> Option<ClauseId>
-    ensures { result ≡ find (is_unit_at arena.now) row.now }
+/// A clause that watches the literal on both sides: it has no other.
+fn find_unit(lit: Lit, near: &Watchers, far: &Watchers) -> Option<ClauseId>
+    requires { AreRows near.now far.now }
+    ensures some { IfSome result (λ id. InRow near.now lit id) }
+    ensures unit { IfSome result (λ id. lit_at far.now id.0 ≡ lit) }
+    ensures none { IfNone result (AllInRow near.now lit (λ id. lit_at far.now id.0 ≢ lit)) }
 {
-    row.iter().copied().find(|id| arena.is_unit(*id))
+    let mut at = near.first(lit);
+    for _ in 0..near.room() {
+        let Some(id) = at else {
+            return None;
+        };
+        if far.is_watch(id, lit) {
+            return Some(id);
+        }
+        at = near.next(id);
+    }
+    None
+}
+
+/// How many first links of the trail, at most so many, leave no clause in which a literal that fell is watched with one
+/// that is false.
+pub fn lower_all(
+    fallen: &[Lit],
+    near: &Watchers,
+    far: &Watchers,
+    labels: &Labels,
+    done: usize,
+) -> usize
+    requires near { AreRows near.now far.now }
+    requires far { AreRows far.now near.now }
+    requires agrees { Agrees labels.now.marks labels.now.supports labels.now.trail }
+    ensures within { result ≤ done }
+    ensures near { (f : Lit) → has_lit fallen.now f ≡ true → AllInRow near.now f (λ id. true_before result labels.now.trail (neg (lit_at far.now id.0)) ≡ false) }
+    ensures far { (f : Lit) → has_lit fallen.now f ≡ true → AllInRow far.now f (λ id. true_before result labels.now.trail (neg (lit_at near.now id.0)) ≡ false) }
+{
+    let mut looked = done;
+    for lit in fallen {
+        if looked == 0 {
+            return 0;
+        }
+        let near_done = lower(*lit, near, far, labels, looked);
+        looked = lower(*lit, far, near, labels, near_done);
+    }
+    looked
+}
+
+/// The same for the clauses that watch one literal on one side.
+fn lower(lit: Lit, near: &Watchers, far: &Watchers, labels: &Labels, done: usize) -> usize
+    requires rows { AreRows near.now far.now }
+    requires agrees { Agrees labels.now.marks labels.now.supports labels.now.trail }
+    ensures within { result ≤ done }
+    ensures clear { AllInRow near.now lit (λ id. true_before result labels.now.trail (neg (lit_at far.now id.0)) ≡ false) }
+{
+    let mut looked = done;
+    let mut at = near.first(lit);
+    for _ in 0..near.room() {
+        let Some(id) = at else {
+            return looked;
+        };
+        let other = far.lit(id);
+        looked = labels.before_false(other, looked);
+        at = near.next(id);
+    }
+    looked
 }

@@ -1,8 +1,8 @@
 -- the booleans not gone over wait
 use Rattle.std.proofs.Common.{drop}
 use Rattle.lv_clauses.specs.Marks.{is_marked}
-use Rattle.lv_ltms.proofs.SupportAllLemmas.{IsSupporting}
+use Rattle.lv_ltms.proofs.SupportLemmas.{IsSupporting}
 use Rattle.lv_ltms.proofs.revision.support_all.Given as goal
 
 abbrev pub invariant-loop-lit : goal.invariant-loop-lit
-invariant-loop-lit l = IsSupporting (is_marked l.assumed) l.index l.arena l.fn.labels (drop l.lit-index l.fallen) l.labels
+invariant-loop-lit l = IsSupporting (is_marked l.assumed) l.near l.far l.both l.fn.labels l.fallen (drop l.lit-index l.fallen) l.labels

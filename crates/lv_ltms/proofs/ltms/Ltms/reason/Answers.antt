@@ -1,10 +1,8 @@
 -- the trail is that of the clauses and assumptions present
-use Rattle.std.proofs.Common.{vec_capacity, subst}
-use Rattle.lv_ltms.specs.System.{System, IsKept}
+use Rattle.std.proofs.Common.{subst}
+use Rattle.lv_ltms.specs.System.{System, IsRefuted, IsWholeTrail}
 use Rattle.lv_ltms.proofs.SystemLemmas.{whole_trail}
 use Rattle.lv_ltms.proofs.ltms.Ltms.reason.Goals as goal
 
 pub returns-clause-trail : goal.returns-clause-trail
-returns-clause-trail c =
-    whole_trail c.args.self.now c.self.inside.network.occurrences c.self.inside.network.arena c.self.inside.network.labels (vec_capacity c.self.inside.network.fallen)
-    (subst (λ (s : System). IsKept s c.self.inside.network.occurrences c.self.inside.network.arena c.self.inside.network.labels (vec_capacity c.self.inside.network.fallen)) c.self.view_is c.self.invariant) c.requires
+returns-clause-trail c = subst (λ (s : System). ¬ IsRefuted s → IsWholeTrail s) c.self.view_is (whole_trail c.self.invariant) c.requires

@@ -1,25 +1,17 @@
--- a clause is false, or what is marked is closed
-use Rattle.std.proofs.Common.{vec_capacity, sym, subst}
-use Rattle.lv_ltms.specs.System.{System, IsKept}
-use Rattle.lv_ltms.proofs.SystemLemmas.{zero_refutes, consistent, whole_trail}
+-- a clause is false or without literals, or what is marked is closed
+use Rattle.std.proofs.Common.{sym, subst}
+use Rattle.lv_ltms.specs.System.{System, IsRefuted, IsWholeTrail}
+use Rattle.lv_ltms.proofs.SystemLemmas.{some_refutes, consistent, whole_trail}
 use Rattle.lv_ltms.proofs.ltms.Ltms.status.Goals as goal
 
 pub returns-then-has_false-clause-status : goal.returns-then-has_false-clause-status
-returns-then-has_false-clause-status c =
-    zero_refutes c.args.self.now c.self.inside.network.occurrences c.self.inside.network.arena c.self.inside.network.labels (vec_capacity c.self.inside.network.fallen)
-    (subst (λ (s : System). IsKept s c.self.inside.network.occurrences c.self.inside.network.arena c.self.inside.network.labels (vec_capacity c.self.inside.network.fallen)) c.self.view_is c.self.invariant) (sym c.if-has_false.ensures)
+returns-then-has_false-clause-status c = subst IsRefuted c.self.view_is (some_refutes c.self.invariant (sym c.if-has_false.ensures))
 
 pub returns-else-has_false-clause-status : goal.returns-else-has_false-clause-status
-returns-else-has_false-clause-status c =
-    consistent c.args.self.now c.self.inside.network.occurrences c.self.inside.network.arena c.self.inside.network.labels (vec_capacity c.self.inside.network.fallen)
-    (subst (λ (s : System). IsKept s c.self.inside.network.occurrences c.self.inside.network.arena c.self.inside.network.labels (vec_capacity c.self.inside.network.fallen)) c.self.view_is c.self.invariant) (sym c.if-has_false.ensures)
+returns-else-has_false-clause-status c = subst (λ (s : System). ¬ IsRefuted s) c.self.view_is (consistent c.self.invariant (sym c.if-has_false.ensures))
 
 pub returns-then-has_false-clause-trail : goal.returns-then-has_false-clause-trail
-returns-then-has_false-clause-trail c =
-    whole_trail c.args.self.now c.self.inside.network.occurrences c.self.inside.network.arena c.self.inside.network.labels (vec_capacity c.self.inside.network.fallen)
-    (subst (λ (s : System). IsKept s c.self.inside.network.occurrences c.self.inside.network.arena c.self.inside.network.labels (vec_capacity c.self.inside.network.fallen)) c.self.view_is c.self.invariant)
+returns-then-has_false-clause-trail c = subst (λ (s : System). ¬ IsRefuted s → IsWholeTrail s) c.self.view_is (whole_trail c.self.invariant)
 
 pub returns-else-has_false-clause-trail : goal.returns-else-has_false-clause-trail
-returns-else-has_false-clause-trail c =
-    whole_trail c.args.self.now c.self.inside.network.occurrences c.self.inside.network.arena c.self.inside.network.labels (vec_capacity c.self.inside.network.fallen)
-    (subst (λ (s : System). IsKept s c.self.inside.network.occurrences c.self.inside.network.arena c.self.inside.network.labels (vec_capacity c.self.inside.network.fallen)) c.self.view_is c.self.invariant)
+returns-else-has_false-clause-trail c = subst (λ (s : System). ¬ IsRefuted s → IsWholeTrail s) c.self.view_is (whole_trail c.self.invariant)
