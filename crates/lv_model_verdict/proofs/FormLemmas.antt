@@ -8,7 +8,6 @@ use Rattle.lv_formula_text.specs.lv_text.declared.lexer.TokenKind.{TokenKind}
 use Rattle.lv_formula_text.specs.lv_text.declared.lexer.TokenKind.TheVariants.{Word}
 use Rattle.lv_formula_text.specs.lv_text.Lexemes.{Lexeme, says, word_at, is_word}
 use Rattle.lv_formula_text.specs.PhraseTree.{PhraseTree}
-use Rattle.lv_formula_text.specs.Descent.{phrase_of}
 use Rattle.lv_formula_text.proofs.Complete.{phrase_complete}
 use Rattle.lv_formula_text.proofs.Sound.{phrase_sound}
 use Rattle.lv_reader.specs.declared.keyword.Keyword.{Keyword}

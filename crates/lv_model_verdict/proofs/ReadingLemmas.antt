@@ -1,15 +1,13 @@
 -- The verdict that the function tells is that of the bytes.
-use Rattle.std.proofs.Common.{◌≡◌, ◌≢◌, ◌≤◌, ◌<◌, ℕ, ◌+◌, Bool, true, false, nat_eq, nat_le, cond, List, [], ◌∷◌, ◌++◌, length, Option, Some, None, is_some, refl, sym, ◌∙◌, ap, subst, arith}
+use Rattle.std.proofs.Common.{◌≡◌, ◌≢◌, ◌≤◌, ◌<◌, ℕ, ◌+◌, Bool, true, false, nat_eq, nat_le, cond, List, [], ◌∷◌, length, Option, Some, None, is_some, refl, sym, ◌∙◌, ap, arith}
 use Rattle.std.proofs.lemmas.Bool.{eqb-true, eqb-false}
 use Rattle.lv_base.specs.declared.limits.TheConstants.{MODEL_BYTES}
 use Rattle.lv_formula_text.specs.lv_text.Lexemes.{Lexeme, Reading, reads, has_bad_byte, is_too_long, line_reading}
 use Rattle.lv_formula_text.specs.lv_text.Lines.{lines_of}
 use Rattle.lv_formula_text.specs.Nesting.{is_too_deep}
-use Rattle.lv_reader.specs.declared.code.ModelCode.{ModelCode}
-use Rattle.lv_reader.specs.declared.code.ModelCode.TheVariants.{TextTooLong, BadByte, LongLine, UnknownStatement, Form, NumberOutOfRange, TooDeep}
+use Rattle.lv_reader.specs.declared.code.ModelCode.TheVariants.{TextTooLong, Form, NumberOutOfRange, TooDeep}
 use Rattle.lv_reader.specs.declared.keyword.Keyword.{Keyword}
 use Rattle.lv_reader.specs.declared.statement.Statement.{Statement}
-use Rattle.lv_reader.specs.declared.statement.NumberedStatement.{NumberedStatement}
 use Rattle.lv_reader.specs.declared.version.Version.{Version}
 use Rattle.lv_reader.specs.Keywords.{keyword_of}
 use Rattle.lv_reader.specs.Statements.{word_of, has_form_of, number_fits, HasForm, HasNoFormIn}
@@ -17,7 +15,7 @@ use Rattle.lv_reader.specs.Versions.{version_in, known_behind, stated}
 use Rattle.lv_reader.specs.Lines.{SaysBy, SaysOf, RefusedBy, RefusedOf}
 use Rattle.lv_reader.specs.Texts.{numbered, AreStatements, none_left, one_more, IsFirstRefused, at_once, later, too_long, refused as on_line}
 use Rattle.lv_reader.proofs.FormLemmas.{not_of_version}
-use Rattle.lv_checker.specs.Verdicts.{Verdict, refused, IsVerdict, not_read, is_checked}
+use Rattle.lv_checker.specs.Verdicts.{refused, IsVerdict, not_read, is_checked}
 use Rattle.lv_model_verdict.specs.Forms.{form_by}
 use Rattle.lv_model_verdict.specs.Reading.{Told, says, fails, told_of_form, told_of_word, told_of_lexemes, told_of, Statements, are, stop_at, behind, with_line, statements_of, verdict_by, verdict_on}
 use Rattle.lv_model_verdict.specs.Laws.{VerdictExists}

@@ -4,9 +4,7 @@ use Rattle.std.proofs.lemmas.Bool.{and_parts, eqb-true, eqb-false}
 use Rattle.std.specs.Fmt.{digits}
 use Rattle.lv_gen.specs.Series.{valve_type, part_lines, link_lines, model_text}
 use Rattle.lv_formula_text.specs.Descent.{phrase_of}
-use Rattle.lv_model.specs.declared.plant.Plant.{Plant}
 use Rattle.lv_reader.specs.Keywords.{keyword_of}
-use Rattle.lv_reader.specs.declared.code.ModelCode.{ModelCode}
 use Rattle.lv_checker.specs.Checking.{checked}
 use Rattle.lv_checker.specs.Entries.{inside_entry, outside_entry}
 use Rattle.lv_checker.specs.Faults.{fault_of_entry}

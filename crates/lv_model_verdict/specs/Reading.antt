@@ -1,5 +1,5 @@
 -- The verdict on bytes as a model's text, as a function.
-use Rattle.std.specs.Prelude.{ℕ, ◌+◌, Bool, List, [], ◌∷◌, ◌++◌, length, nat_eq, nat_le, if◌then◌else◌, Option, Some, None}
+use Rattle.std.specs.Prelude.{ℕ, ◌+◌, List, [], ◌∷◌, ◌++◌, length, nat_eq, nat_le, if◌then◌else◌, Option, Some, None}
 use Rattle.lv_base.specs.declared.limits.TheConstants.{MODEL_BYTES}
 use Rattle.lv_formula_text.specs.lv_text.Lexemes.{Lexeme, Reading, reads, has_bad_byte, is_too_long, line_reading}
 use Rattle.lv_formula_text.specs.lv_text.Lines.{lines_of}
@@ -9,7 +9,6 @@ use Rattle.lv_reader.specs.declared.code.ModelCode.TheVariants.{TextTooLong, Bad
 use Rattle.lv_reader.specs.declared.keyword.Keyword.{Keyword}
 use Rattle.lv_reader.specs.declared.statement.Statement.{Statement}
 use Rattle.lv_reader.specs.declared.statement.NumberedStatement.{NumberedStatement}
-use Rattle.lv_reader.specs.declared.statement.ModelText.{ModelText}
 use Rattle.lv_reader.specs.declared.version.Version.{Version}
 use Rattle.lv_reader.specs.Keywords.{keyword_of}
 use Rattle.lv_reader.specs.Statements.{has_form_of, number_fits}

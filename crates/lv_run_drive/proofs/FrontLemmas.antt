@@ -1,10 +1,8 @@
 -- What a reply adds to the counts, by its cases.
-use Rattle.std.proofs.Common.{◌≡◌, ◌≢◌, ℕ, ◌+◌, Bool, true, false, [], refl, codes}
+use Rattle.std.proofs.Common.{refl}
 use Rattle.lv_model.specs.declared.plant.Plant.{Plant}
-use Rattle.lv_reply.specs.declared.reply.Refusal.{Refusal}
 use Rattle.lv_reply.specs.declared.reply.Reply.{Reply}
 use Rattle.lv_reply.specs.declared.reply.Reply.TheVariants.{Nothing, Accepted, Refused, Settled, Unsettled, Conflicts, Committed, States, Recovered, NoRecovery, Undecided, CommandConflicts, Labels, Contradiction, Certificate, Probed, Tested, NoTest}
-use Rattle.lv_reply.specs.Texts.{reply_text}
 use Rattle.lv_reply.specs.Diagnosis.{settled_text, unsettled_text}
 use Rattle.lv_reply.specs.Conflicts.{conflicts_text, command_conflicts_text}
 use Rattle.lv_reply.specs.Recovery.{recovery_text, test_text, undecided_text}
@@ -12,8 +10,7 @@ use Rattle.lv_reply.specs.Labels.{labels_text}
 use Rattle.lv_reply.specs.Probes.{probe_text}
 use Rattle.lv_reply.specs.States.{committed_text, states_text}
 use Rattle.lv_run_drive.specs.declared.tally.Tally.{Tally}
-use Rattle.lv_run_drive.specs.Tallies.{counted}
-use Rattle.lv_run_drive.specs.Fronts.{begins_with, CountsFront, CountsAreOfFronts}
+use Rattle.lv_run_drive.specs.Fronts.{CountsFront, CountsAreOfFronts}
 
 module _ (plant : Plant) (t : Tally) where
   counts_front : (reply : Reply) → CountsFront plant t reply
