@@ -4,7 +4,7 @@ use Rattle.lv_model.specs.declared.plant.Plant.{Plant}
 use Rattle.lv_serve.specs.Served.{quits as quits_at, fits as fits_at}
 use Rattle.lv_session_state.specs.declared.query.Query.{Query}
 use Rattle.lv_session_state.specs.declared.query.Query.TheVariants.{Absent, Diagnosis, Recovery, Test}
-use Rattle.lv_session_state.specs.State.{SessionState, start, is_settled}
+use Rattle.lv_session_state.specs.State.{SessionState, start, is_unsettled}
 use Rattle.lv_session.specs.Session.{RunningSession, stepped}
 use Rattle.lv_session.specs.Certificates.{IsTextOf}
 

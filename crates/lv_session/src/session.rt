@@ -15,6 +15,7 @@ ghost use Rattle.lv_session.specs.Answering.{begun, next_at, SaysAt, is_open};
 ghost use Rattle.lv_session.specs.Kept.{IsSession};
 ghost use Rattle.lv_session.specs.Certificates.{Certifies, IsTextOf, IsDue};
 
+use crate::certificates::certificate_text;
 use crate::compiled::CompiledModel;
 use crate::workings::{Workings, answer, perform};
 use lv_base::ValId;
@@ -265,7 +266,8 @@ impl<'a> Session<'a> {
             return Err(AllocError);
         }
         let compiled = self.compiled;
-        self.state.certificate_text(
+        certificate_text(
+            &self.state,
             self.alloc,
             compiled.model,
             &compiled.system,
