@@ -1,0 +1,2 @@
+pub mod Valve
+pub mod Laws
