@@ -1,10 +1,8 @@
 -- A command set tests a variable exactly where it tells any two of the tracked states apart.
-use Rattle.std.proofs.Common.{◌≡◌, ℕ, zero, suc, ◌<◌, Bool, true, false, ◌&&◌, ◌||◌, not, nat_eq, nat_lt, slice_index_or, slice_get, Some, List, [], ◌∷◌, length, map, Contains, cond, inl, inr, refl, sym, subst, ◌∙◌, ap, arith}
+use Rattle.std.proofs.Common.{◌≡◌, ℕ, zero, suc, ◌<◌, Bool, true, false, ◌&&◌, ◌||◌, not, nat_eq, nat_lt, slice_index_or, slice_get, Some, List, [], ◌∷◌, length, map, refl, sym, subst, ◌∙◌, ap, arith}
 use Rattle.std.specs.List.{list_all, list_any}
 use Rattle.std.proofs.lemmas.Bool.{and_parts, and_from, eqb-true, eq-eqb, ltb-true, lt-ltb}
 use Rattle.lv_base.specs.declared.ids.VarId.{VarId}
-use Rattle.lv_base.specs.declared.ids.ValId.{ValId}
-use Rattle.lv_base.specs.declared.search.Pair.{Pair}
 use Rattle.lv_base.specs.Choices.{pairs_of}
 use Rattle.lv_formula.specs.Tree.{number_of}
 use Rattle.lv_model.specs.declared.plant.Plant.{Plant}
@@ -14,14 +12,12 @@ use Rattle.lv_model.proofs.Sizes.{length-sizes}
 use Rattle.lv_meaning.specs.declared.aim.Aim.{Aim}
 use Rattle.lv_meaning.specs.Possible.{value}
 use Rattle.lv_meaning.specs.PossibleLaws.{are_below}
-use Rattle.lv_meaning.specs.Search.{some_below}
-use Rattle.lv_meaning.specs.Recovers.{some_nominal_step}
 use Rattle.lv_meaning.specs.RecoveryLaws.{NominalStep}
-use Rattle.lv_meaning.proofs.Among.{Among, among, contained, all_among}
+use Rattle.lv_meaning.proofs.Among.{among, contained, all_among}
 use Rattle.lv_meaning.proofs.NominalSteps.{StepFound, step_found, found_step, each_passes}
 use Rattle.lv_meaning.proofs.SomeList.{Found, below_found, found_below}
 use Rattle.lv_reconf.specs.Tests.{can_step, can_show, two_pass, some_shared, tests}
-use Rattle.lv_session_state.specs.TestLaws.{TellsApart, Tests}
+use Rattle.lv_session_state.specs.TestLaws.{Tests}
 
 module _ {X : Type 0} (p : X → Bool) where
   -- an item that passes, at its place

@@ -19,7 +19,7 @@ use Rattle.lv_meaning.proofs.CommandSets.{sets_rise, set_among, among_is_set}
 use Rattle.lv_meaning.specs.declared.aim.Aim.{Aim}
 use Rattle.lv_meaning.specs.Commands.{is_command_set, command_rank, command_sets}
 use Rattle.lv_reconf.specs.LawfulTests.{reason_apart}
-use Rattle.lv_reconf.specs.Tests.{tests, candidate_tests, candidate_test_reason, rank_tests, test_walk}
+use Rattle.lv_reconf.specs.Tests.{candidate_tests, candidate_test_reason, rank_tests, test_walk}
 use Rattle.lv_session_state.specs.TestLaws.{IsTest, NoneTests}
 
 -- the first of ranks in order that passes

@@ -1,5 +1,5 @@
 -- The state of a session, and what a request does to it.
-use Rattle.std.specs.Prelude.{ℕ, ◌+◌, ◌-◌, Bool, false, true, ◌||◌, ◌&&◌, not, nat_eq, nat_le, nat_lt, List, [], ◌∷◌, ◌++◌, length, map, filter, slice_set, if◌then◌else◌}
+use Rattle.std.specs.Prelude.{ℕ, ◌+◌, Bool, false, true, ◌||◌, ◌&&◌, not, nat_eq, nat_le, nat_lt, List, [], ◌∷◌, ◌++◌, length, map, filter, slice_set, if◌then◌else◌}
 use Rattle.std.specs.List.{list_any}
 use Rattle.lv_base.specs.declared.ids.ValId.{ValId}
 use Rattle.lv_base.specs.declared.ids.VarId.{VarId}
