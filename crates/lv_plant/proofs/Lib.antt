@@ -8,3 +8,4 @@ pub mod PlantLemmas
 pub mod ScriptLemmas
 pub mod RefusedLemmas
 pub mod SeenLemmas
+pub use Rattle.lv_session.proofs as lv_session

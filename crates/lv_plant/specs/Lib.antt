@@ -10,3 +10,4 @@ pub mod Scripts
 pub mod LongLines
 pub mod Laws
 pub mod Seen
+pub use Rattle.lv_session.specs as lv_session

@@ -23,5 +23,6 @@ pub mod reply;
 mod seeing;
 
 pub use fault::PlantFault;
+pub use lv_session::{CompiledModel, Session};
 pub use plant::Plant;
 pub use reply::{GoalsTold, PlantReply, StepTold, plant_text};

@@ -14,7 +14,7 @@ use Rattle.lv_base.specs.declared.ids.VarId.{VarId}
 use Rattle.lv_model.specs.declared.plant.Plant.{Plant}
 use Rattle.lv_model.proofs.Reading.{All-at}
 use Rattle.lv_certcheck.specs.lv_cert.Words.{is_word}
-use Rattle.lv_session.proofs.lv_session_request.WordLaws.{word_is_one}
+use Rattle.lv_plant.proofs.lv_session.lv_session_request.WordLaws.{word_is_one}
 use Rattle.lv_reader.specs.declared.code.ModelCode.{ModelCode}
 use Rattle.lv_reader.specs.declared.code.ModelCode.TheVariants.{UnknownName, NoFit, Misplaced, LimitPassed, NotEnded, NoPart}
 use Rattle.lv_reader.specs.declared.statement.Statement.{Statement}

@@ -12,12 +12,12 @@ use Rattle.lv_certcheck.specs.lv_cert_meaning.Judging.{Judged}
 use Rattle.lv_certcheck.specs.lv_cert_meaning.Laws.{IsValid}
 use Rattle.lv_certcheck.specs.Verdicts.{verdict_of, IsVerdictOn, of_lines}
 use Rattle.lv_certcheck.specs.declared.check.Verdict.TheVariants.{Valid}
-use Rattle.lv_session.specs.lv_session_state.declared.query.Query.{Query}
-use Rattle.lv_session.specs.lv_session_state.declared.query.Query.TheVariants.{Absent, Diagnosis, Recovery, Test}
-use Rattle.lv_session.specs.lv_session_state.State.{SessionState}
-use Rattle.lv_session.specs.Certificates.{Certifies, IsTextOf}
-use Rattle.lv_session.specs.Transcript.{IsTranscriptFrom, ends, goes_on, AddsTranscript}
-use Rattle.lv_session.specs.lv_reply.declared.reply.Reply.{Reply}
+use Rattle.lv_plant.specs.lv_session.lv_session_state.declared.query.Query.{Query}
+use Rattle.lv_plant.specs.lv_session.lv_session_state.declared.query.Query.TheVariants.{Absent, Diagnosis, Recovery, Test}
+use Rattle.lv_plant.specs.lv_session.lv_session_state.State.{SessionState}
+use Rattle.lv_plant.specs.lv_session.Certificates.{Certifies, IsTextOf}
+use Rattle.lv_plant.specs.lv_session.Transcript.{IsTranscriptFrom, ends, goes_on, AddsTranscript}
+use Rattle.lv_plant.specs.lv_session.lv_reply.declared.reply.Reply.{Reply}
 use Rattle.lv_run.specs.Printed.{PrintedCertificateIsValid, IsCertifiedFrom, all_told, told, AddsCertified}
 use Rattle.lv_run.proofs.NameLemmas.{accepted_name}
 

@@ -6,7 +6,7 @@ use Rattle.lv_serve.specs.Ends.{ended}
 use Rattle.lv_serve.specs.Served.{within_limit}
 use Rattle.lv_serve.specs.declared.fault.ServeFault.{ServeFault}
 use Rattle.lv_serve.specs.declared.fault.ServeFault.TheVariants.{Read, Write, TooLong, Memory}
-use Rattle.lv_session.proofs.Answering.{adds_transcript, adds_front}
+use Rattle.lv_plant.proofs.lv_session.Answering.{adds_transcript, adds_front}
 use Rattle.lv_run_words.specs.declared.commands.Service.{Service}
 use Rattle.lv_run_words.specs.declared.commands.Service.TheVariants.{Single, Lanes, Simulation}
 use Rattle.lv_run.specs.Services.{Serves, fits, AddsReplies}

@@ -12,9 +12,9 @@ use Rattle.lv_serve.specs.declared.fault.ServeFault.TheVariants.{Memory}
 use Rattle.lv_serve.proofs.ToldLemmas.{not_begun}
 use Rattle.lv_serve.proofs.ConversationLemmas.{none_of_front, front_of_lines}
 use Rattle.lv_serve.proofs.PieceLemmas.{front_of_all as front_of_all_replies, front_of_longer as front_of_longer_text}
-use Rattle.lv_session.specs.Transcript.{ends as ends_transcript}
-use Rattle.lv_session.specs.Answering.{begun, next_at, SaysAt, has_quit, begun_again, is_open}
-use Rattle.lv_session.proofs.Answering.{transcript_of, no_transcript, transcript_front, transcript_of_longer, transcript_of_more}
+use Rattle.lv_plant.specs.lv_session.Transcript.{ends as ends_transcript}
+use Rattle.lv_plant.specs.lv_session.Answering.{begun, next_at, SaysAt, has_quit, begun_again, is_open}
+use Rattle.lv_plant.proofs.lv_session.Answering.{transcript_of, no_transcript, transcript_front, transcript_of_longer, transcript_of_more}
 use Rattle.lv_run_words.specs.declared.commands.Service.{Service}
 use Rattle.lv_run_words.specs.declared.commands.Service.TheVariants.{Single, Lanes, Simulation}
 use Rattle.lv_lanes.specs.Bytes.{own_part}

@@ -11,24 +11,24 @@ use Rattle.lv_lanes.specs.Bytes.{ends_whole, is_whole}
 use Rattle.lv_lanes.proofs.ByteLemmas.{whole_behind}
 use Rattle.lv_certcheck.specs.lv_cert.declared.line.Line.{Line}
 use Rattle.lv_certcheck.specs.lv_cert.Texts.{words_of, joined as joined_words, text_of}
-use Rattle.lv_session.specs.lv_reply.declared.labels.Label.{Label}
-use Rattle.lv_session.specs.lv_reply.declared.reply.Reply.{Reply}
-use Rattle.lv_session.specs.lv_reply.declared.reply.Reply.TheVariants.{Nothing, Accepted, Refused, Settled, Unsettled, Conflicts, Committed, States, Recovered, NoRecovery, Undecided, CommandConflicts, Labels, Contradiction, Certificate, Probed, Tested, NoTest}
-use Rattle.lv_session.specs.lv_reply.Pieces.{joined}
-use Rattle.lv_session.specs.lv_reply.Variables.{equation}
-use Rattle.lv_session.specs.lv_reply.Diagnosis.{moves_text, listed_lines, settled_text, unsettled_text}
-use Rattle.lv_session.specs.lv_reply.Conflicts.{pair_text, command_text, conflict_lines, conflicts_by, conflicts_text, command_conflicts_text}
-use Rattle.lv_session.specs.lv_reply.Recovery.{shown_settings, recovery_text, test_text, undecided_text}
-use Rattle.lv_session.specs.lv_reply.declared.probes.Probed.{Probed as ProbedNumbers}
-use Rattle.lv_session.specs.lv_reply.Probes.{probed_line, best_text, probe_text}
-use Rattle.lv_session.specs.lv_reply.Labels.{moment_word, label_line, labels_text}
-use Rattle.lv_session.specs.lv_reply.States.{part_texts, state_lines, committed_text, states_text}
-use Rattle.lv_session.specs.lv_reply.Texts.{code_of, reply_text}
-use Rattle.lv_session.specs.lv_session_state.declared.query.Query.{Query}
-use Rattle.lv_session.specs.lv_session_state.declared.query.Query.TheVariants.{Absent, Diagnosis, Recovery, Test}
-use Rattle.lv_session.specs.lv_session_state.State.{SessionState}
-use Rattle.lv_session.specs.Session.{stepped}
-use Rattle.lv_session.specs.Certificates.{Certifies, IsTextOf}
+use Rattle.lv_plant.specs.lv_session.lv_reply.declared.labels.Label.{Label}
+use Rattle.lv_plant.specs.lv_session.lv_reply.declared.reply.Reply.{Reply}
+use Rattle.lv_plant.specs.lv_session.lv_reply.declared.reply.Reply.TheVariants.{Nothing, Accepted, Refused, Settled, Unsettled, Conflicts, Committed, States, Recovered, NoRecovery, Undecided, CommandConflicts, Labels, Contradiction, Certificate, Probed, Tested, NoTest}
+use Rattle.lv_plant.specs.lv_session.lv_reply.Pieces.{joined}
+use Rattle.lv_plant.specs.lv_session.lv_reply.Variables.{equation}
+use Rattle.lv_plant.specs.lv_session.lv_reply.Diagnosis.{moves_text, listed_lines, settled_text, unsettled_text}
+use Rattle.lv_plant.specs.lv_session.lv_reply.Conflicts.{pair_text, command_text, conflict_lines, conflicts_by, conflicts_text, command_conflicts_text}
+use Rattle.lv_plant.specs.lv_session.lv_reply.Recovery.{shown_settings, recovery_text, test_text, undecided_text}
+use Rattle.lv_plant.specs.lv_session.lv_reply.declared.probes.Probed.{Probed as ProbedNumbers}
+use Rattle.lv_plant.specs.lv_session.lv_reply.Probes.{probed_line, best_text, probe_text}
+use Rattle.lv_plant.specs.lv_session.lv_reply.Labels.{moment_word, label_line, labels_text}
+use Rattle.lv_plant.specs.lv_session.lv_reply.States.{part_texts, state_lines, committed_text, states_text}
+use Rattle.lv_plant.specs.lv_session.lv_reply.Texts.{code_of, reply_text}
+use Rattle.lv_plant.specs.lv_session.lv_session_state.declared.query.Query.{Query}
+use Rattle.lv_plant.specs.lv_session.lv_session_state.declared.query.Query.TheVariants.{Absent, Diagnosis, Recovery, Test}
+use Rattle.lv_plant.specs.lv_session.lv_session_state.State.{SessionState}
+use Rattle.lv_plant.specs.lv_session.Session.{stepped}
+use Rattle.lv_plant.specs.lv_session.Certificates.{Certifies, IsTextOf}
 use Rattle.lv_run.specs.OfLanes.{RepliesAreWhole}
 
 -- ---- texts that end with a line feed, whatever stands before them

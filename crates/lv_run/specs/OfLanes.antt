@@ -8,10 +8,10 @@ use Rattle.lv_model.specs.declared.plant.Plant.{Plant}
 use Rattle.lv_lanes.specs.declared.reply.LaneReply.{LaneReply}
 use Rattle.lv_lanes.specs.Bytes.{own_part, is_whole}
 use Rattle.lv_lanes.specs.Laws.{MayReplyInOrder, own_lines, own_text, all_text}
-use Rattle.lv_session.specs.Session.{RunningSession}
-use Rattle.lv_session.specs.lv_session_state.State.{start}
-use Rattle.lv_session.specs.Transcript.{IsTranscriptFrom}
-use Rattle.lv_session.specs.Answering.{next_at, SaysAt, begun_again, is_open}
+use Rattle.lv_plant.specs.lv_session.Session.{RunningSession}
+use Rattle.lv_plant.specs.lv_session.lv_session_state.State.{start}
+use Rattle.lv_plant.specs.lv_session.Transcript.{IsTranscriptFrom}
+use Rattle.lv_plant.specs.lv_session.Answering.{next_at, SaysAt, begun_again, is_open}
 use Rattle.lv_run.specs.Services.{lanes_begun}
 
 -- a lane's own lines: those that are handed to it, and `more` for each turn at which its query was unsettled

@@ -6,11 +6,11 @@ use Rattle.lv_model.specs.declared.plant.Plant.{Plant}
 use Rattle.lv_checker.specs.Verdicts.{IsVerdict, accepted}
 use Rattle.lv_certcheck.specs.Verdicts.{IsVerdictOn}
 use Rattle.lv_certcheck.specs.declared.check.Verdict.TheVariants.{Valid}
-use Rattle.lv_session.specs.lv_reply.declared.reply.Reply.TheVariants.{Certificate}
-use Rattle.lv_session.specs.lv_session_state.State.{SessionState, start}
-use Rattle.lv_session.specs.Session.{stepped}
-use Rattle.lv_session.specs.Certificates.{IsTextOf}
-use Rattle.lv_session.specs.Transcript.{SessionStep}
+use Rattle.lv_plant.specs.lv_session.lv_reply.declared.reply.Reply.TheVariants.{Certificate}
+use Rattle.lv_plant.specs.lv_session.lv_session_state.State.{SessionState, start}
+use Rattle.lv_plant.specs.lv_session.Session.{stepped}
+use Rattle.lv_plant.specs.lv_session.Certificates.{IsTextOf}
+use Rattle.lv_plant.specs.lv_session.Transcript.{SessionStep}
 
 -- whatever a session over the plant of an accepted text may print as a certificate is valid for that plant
 abbrev pub PrintedCertificateIsValid : Type 0

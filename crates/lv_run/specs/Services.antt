@@ -9,9 +9,9 @@ use Rattle.lv_plant.specs.Standing.{Standing as PlantStanding, at_start as plant
 use Rattle.lv_plant.specs.Answering.{next_at as plant_next, SaysAt as PlantSays}
 use Rattle.lv_lanes.specs.Replies.{MayWrite}
 use Rattle.lv_lanes.specs.Laws.{at_start}
-use Rattle.lv_session.specs.Session.{RunningSession}
-use Rattle.lv_session.specs.Transcript.{AddsTranscript, AddsFrontOfTranscript}
-use Rattle.lv_session.specs.Answering.{begun, next_at, SaysAt, has_quit, begun_again, is_open, quits as session_quits, fits as session_fits}
+use Rattle.lv_plant.specs.lv_session.Session.{RunningSession}
+use Rattle.lv_plant.specs.lv_session.Transcript.{AddsTranscript, AddsFrontOfTranscript}
+use Rattle.lv_plant.specs.lv_session.Answering.{begun, next_at, SaysAt, has_quit, begun_again, is_open, quits as session_quits, fits as session_fits}
 use Rattle.lv_run_words.specs.declared.commands.Service.{Service}
 use Rattle.lv_run_words.specs.declared.commands.Service.TheVariants.{Single, Lanes, Simulation}
 

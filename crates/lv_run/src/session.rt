@@ -15,10 +15,9 @@ use crate::status::{Ended, Status};
 use lv_io::{IoFault, Role, Shelf, Sink, Slot};
 use lv_lanes::Lanes;
 use lv_model::Model;
-use lv_plant::Plant;
+use lv_plant::{CompiledModel, Plant, Session};
 use lv_run_words::Service;
 use lv_serve::{ServeFault, serve};
-use lv_session::{CompiledModel, Session};
 use std::alloc::Global;
 
 /// Opens the session's file and serves it over a model.

@@ -12,7 +12,7 @@ use Rattle.lv_run.proofs.TopLemmas.{reported_meets, status_due, expected_run, ex
 use Rattle.lv_certcheck.proofs.ProvingLemmas.{exists}
 use Rattle.lv_run.proofs.EndLemmas.{expectation, never_refused}
 use Rattle.lv_run.proofs.OpenLemmas.{all_opened}
-use Rattle.lv_session.proofs.TrueAnswers.{adds_true}
+use Rattle.lv_plant.proofs.lv_session.TrueAnswers.{adds_true}
 use Rattle.lv_run.proofs.PrintedLemmas.{adds_certified}
 use Rattle.lv_run.proofs.top.livingstone.Goals as goal
 
