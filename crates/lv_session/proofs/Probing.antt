@@ -1,11 +1,9 @@
 -- What a probe of the current diagnosis needs, and what its numbers are.
-use Rattle.std.proofs.Common.{◌≡◌, ℕ, ◌<◌, Bool, true, false, ◌&&◌, cond, List, [], ◌∷◌, ◌++◌, length, map, refl, sym, subst, ap, ◌∙◌, All}
-use Rattle.std.specs.List.{list_all}
+use Rattle.std.proofs.Common.{◌≡◌, ℕ, ◌<◌, Bool, true, false, cond, List, [], ◌∷◌, ◌++◌, length, map, sym, subst, ap, ◌∙◌, All}
 use Rattle.std.proofs.lemmas.Bool.{and_parts}
 use Rattle.std.proofs.lemmas.List.{map-append}
 use Rattle.std.proofs.lemmas.List.Elements.{All-cons, All-nil, All-head, All-tail}
 use Rattle.lv_base.specs.declared.rank.Rank.{Rank}
-use Rattle.lv_base.specs.declared.search.Candidate.{Candidate}
 use Rattle.lv_model.specs.declared.plant.Plant.{Plant}
 use Rattle.lv_search_walk.specs.declared.outcome.Outcome.TheVariants.{Settled}
 use Rattle.lv_search_walk.specs.Walk.{Walked, candidate_of, suit_all}
@@ -23,7 +21,7 @@ use Rattle.lv_session_state.specs.lv_session_request.Held.{observation_of}
 use Rattle.lv_session_state.specs.lv_session_request.declared.request.Sighting.{Sighting}
 use Rattle.lv_session_state.specs.declared.running.Diagnosed.{Diagnosed}
 use Rattle.lv_session_state.specs.State.{SessionState, unchanged, cleared, facts_of, walked, is_held, has_no_room, observe}
-use Rattle.lv_session_state.specs.Current.{come_to, IsDiagnosisAt}
+use Rattle.lv_session_state.specs.Current.{IsDiagnosisAt}
 use Rattle.lv_session.specs.Laws.{is_refused}
 use Rattle.lv_session_state.proofs.Listed.{listed_all}
 

@@ -1,10 +1,8 @@
 -- A session as what answers lines, one after another.
-use Rattle.std.specs.Prelude.{ℕ, Bool, false, true, not, ◌&&◌, List}
+use Rattle.std.specs.Prelude.{ℕ, Bool, false, not, ◌&&◌, List}
 use Rattle.lv_model.specs.declared.plant.Plant.{Plant}
 use Rattle.lv_serve.specs.Served.{quits as quits_at, fits as fits_at}
-use Rattle.lv_session_state.specs.declared.query.Query.{Query}
-use Rattle.lv_session_state.specs.declared.query.Query.TheVariants.{Absent, Diagnosis, Recovery, Test}
-use Rattle.lv_session_state.specs.State.{SessionState, start, is_unsettled}
+use Rattle.lv_session_state.specs.State.{start, is_unsettled}
 use Rattle.lv_session.specs.Session.{RunningSession, stepped}
 use Rattle.lv_session.specs.Certificates.{IsTextOf}
 

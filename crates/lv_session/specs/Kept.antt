@@ -4,7 +4,6 @@ use Rattle.lv_model.specs.declared.plant.Plant.{Plant}
 use Rattle.lv_session_state.specs.lv_session_request.declared.request.Request.{Request}
 use Rattle.lv_session_state.specs.lv_session_request.declared.request.Request.TheVariants.{Diagnose, Recover, More, Test as ToTest}
 use Rattle.lv_session_state.specs.declared.running.Running.{Running}
-use Rattle.lv_session_state.specs.declared.running.Running.TheVariants as kept
 use Rattle.lv_session.specs.declared.workings.Workings.{Workings}
 use Rattle.lv_session_state.specs.State.{SessionState}
 use Rattle.lv_session_state.specs.States.{IsStateOf}

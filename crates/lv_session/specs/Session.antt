@@ -1,5 +1,5 @@
 -- What a line does to the state of a session, and the reply to it.
-use Rattle.std.specs.Prelude.{ℕ, ◌+◌, ◌-◌, Bool, false, true, nat_eq, List, ◌++◌, length, slice_get, if◌then◌else◌, Option, None, Some, Result, Ok, Err}
+use Rattle.std.specs.Prelude.{ℕ, ◌-◌, Bool, false, true, nat_eq, List, ◌++◌, length, slice_get, if◌then◌else◌, Option, None, Some, Result, Ok, Err}
 use Rattle.std.specs.Option.{option_map_or}
 use Rattle.lv_base.specs.declared.rank.Rank.{Rank}
 use Rattle.lv_model.specs.declared.plant.Plant.{Plant}
@@ -7,7 +7,6 @@ use Rattle.lv_model.specs.declared.state.State.{State}
 use Rattle.lv_model.specs.declared.state.TrackedState.{TrackedState}
 use Rattle.lv_search_walk.specs.declared.outcome.Outcome.{Outcome}
 use Rattle.lv_search_walk.specs.declared.outcome.Outcome.TheVariants.{Settled, Unsettled}
-use Rattle.lv_session_state.specs.lv_meaning.Candidates.{candidates}
 use Rattle.lv_labels.specs.declared.labelling.Labelling.{Labelling}
 use Rattle.lv_labels.specs.declared.labelling.Labelling.TheVariants as labelling
 use Rattle.lv_labels.specs.Literals.{fact_literals, state_literals}

@@ -1,9 +1,8 @@
 -- what is kept of a settled query has come to its end
-use Rattle.std.proofs.Common.{◌≡◌, true, sym, ap, subst, ◌∙◌}
+use Rattle.std.proofs.Common.{◌≡◌, true, sym, subst, ◌∙◌}
 use Rattle.lv_session_state.specs.declared.query.Query.{Query}
 use Rattle.lv_session_state.specs.declared.running.Diagnosed.{Diagnosed}
 use Rattle.lv_session_state.specs.declared.running.Recovering.{Recovering}
-use Rattle.lv_session_state.specs.State.{SessionState}
 use Rattle.lv_session.specs.Session.{is_certifiable}
 use Rattle.lv_session_state.specs.Current.{IsDiagnosisAt, IsRecoveryAt}
 use Rattle.lv_session_state.proofs.Asking.{kept_is}

@@ -7,7 +7,7 @@ use Rattle.lv_session_state.specs.lv_tracker.Tracked.{IsWithinCost}
 use Rattle.lv_session_state.specs.lv_meaning.declared.aim.Aim.{Aim}
 use Rattle.lv_cert_diagnosis.specs.lv_cert_meaning.Certifying.{IsAsked, AreTexts}
 use Rattle.lv_session_state.specs.lv_session_request.declared.goals.Goal.{Goal}
-use Rattle.lv_session_state.specs.State.{SessionState, text_of_goal, formula_of}
+use Rattle.lv_session_state.specs.State.{text_of_goal, formula_of}
 use Rattle.lv_session.proofs.Certifying.{are_states, is_asked, are_texts}
 use Rattle.lv_session.proofs.certificates.recovery_certificate.Goals as goal
 

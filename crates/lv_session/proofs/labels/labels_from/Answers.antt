@@ -3,7 +3,6 @@ use Rattle.std.proofs.Common.{◌≡◌, ◌-◌, Some, List, slice_get, sym, ap
 use Rattle.std.specs.Option.{option_copied}
 use Rattle.std.proofs.lemmas.Result.{IfOk-weaker}
 use Rattle.lv_model.specs.declared.state.TrackedState.{TrackedState}
-use Rattle.lv_session_state.specs.State.{SessionState}
 use Rattle.lv_session.proofs.Labelling.{numbered_modes, numbered, no_such_number}
 use Rattle.lv_session.proofs.labels.labels_from.Goals as goal
 

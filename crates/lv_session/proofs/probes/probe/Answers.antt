@@ -1,10 +1,9 @@
 -- what is kept of the diagnosis lists candidates that have a move for each part
-use Rattle.std.proofs.Common.{List, All, map, sym, ap, subst, ◌∙◌}
+use Rattle.std.proofs.Common.{List, All, map, sym, subst, ◌∙◌}
 use Rattle.lv_base.specs.declared.rank.Rank.{Rank}
 use Rattle.lv_search_walk.specs.Walk.{candidate_of}
 use Rattle.lv_probe.specs.Probing.{IsFull}
 use Rattle.lv_session_state.specs.declared.running.Diagnosed.{Diagnosed}
-use Rattle.lv_session_state.specs.State.{SessionState}
 use Rattle.lv_session_state.specs.Current.{IsDiagnosisAt}
 use Rattle.lv_session_state.proofs.Asking.{kept_is}
 use Rattle.lv_session.proofs.Probing.{full_at}
