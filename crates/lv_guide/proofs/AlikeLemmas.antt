@@ -1,5 +1,5 @@
 -- What is left in a queue when the first zone is split by the target of the member that it is kept by.
-use Rattle.std.proofs.Common.{◌≡◌, ℕ, suc, ◌+◌, ◌≤◌, Bool, true, false, not, ◌&&◌, ◌||◌, List, ◌∷◌, length, drop, filter, inl, inr, refl, sym, ◌∙◌, ap, subst, cond, nat_eq, nat_lt, arith}
+use Rattle.std.proofs.Common.{◌≡◌, ℕ, suc, ◌+◌, ◌≤◌, Bool, true, false, not, ◌&&◌, ◌||◌, List, ◌∷◌, length, filter, inr, refl, sym, ◌∙◌, ap, subst, cond, nat_eq, nat_lt, arith}
 use Rattle.std.specs.Prelude.{All}
 use Rattle.std.specs.Map.{keys_of}
 use Rattle.std.specs.declared.cmp.Ordering.TheVariants.{Less}
@@ -25,7 +25,7 @@ use Rattle.lv_search.proofs.NextLemmas.{first_and_rest}
 use Rattle.lv_search.proofs.GroupLemmas.{has_own_groups}
 use Rattle.lv_search.proofs.TimesLemmas.{times_one}
 use Rattle.lv_search.proofs.LeftLemmas.{rises_filtered, filter_among, some_with}
-use Rattle.lv_guide.specs.Guide.{is_free_rank, zones_in, left_in, IsKeyMember, IsQueue, IsReady, HasRoomBy, HasMoreBy, HasSameFree, DropsFirst, DropsAlike}
+use Rattle.lv_guide.specs.Guide.{is_free_rank, zones_in, left_in, IsQueue, IsReady, HasRoomBy, HasMoreBy, HasSameFree, DropsAlike}
 use Rattle.lv_guide.proofs.GuideLemmas.{each_slot, rest_of_queue, among_left, left_rises, first_is_key, keys_above, NoKeyBefore, same_left}
 
 abbrev Entry : Type 0

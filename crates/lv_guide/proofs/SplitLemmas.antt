@@ -1,8 +1,8 @@
 -- What is left in a queue when its first zone is split by a known conflict, and when it is begun anew with zones that have the same
 -- members without a known conflict.
-use Rattle.std.proofs.Common.{◌≡◌, ℕ, ◌+◌, ◌<◌, ◌≤◌, Bool, true, false, not, ◌&&◌, List, [], ◌∷◌, ◌++◌, length, refl, sym, ◌∙◌, ap, subst, cond, nat_eq, nat_lt, arith}
+use Rattle.std.proofs.Common.{◌≡◌, ℕ, ◌+◌, ◌≤◌, Bool, true, false, not, ◌&&◌, List, [], ◌∷◌, ◌++◌, length, refl, sym, ◌∙◌, ap, subst, cond, nat_eq, nat_lt, arith}
 use Rattle.std.specs.Prelude.{slice_index, find, Option, Some, None}
-use Rattle.std.specs.List.{AllByRecursion, list_all, list_any}
+use Rattle.std.specs.List.{AllByRecursion, list_all}
 use Rattle.std.proofs.lemmas.Bool.{and_from, and_parts, both_ways, false_from_ne_true}
 use Rattle.lv_base.specs.declared.ids.Cost.{Cost}
 use Rattle.lv_base.specs.declared.rank.Rank.{Rank}
@@ -15,7 +15,7 @@ use Rattle.lv_boxes.proofs.MemberLemmas.{length-are_left}
 use Rattle.lv_search_walk.specs.Walk.{candidate_of, is_ruled_out}
 use Rattle.lv_search_guide.proofs.BoxLemmas.{some_pass, found_itself, none_pass}
 use Rattle.lv_search.proofs.LeftLemmas.{parts_times, sources_apart}
-use Rattle.lv_guide.specs.Guide.{is_free_rank, zones_in, IsKeyFirst, IsKeyMember, IsQueue, AreKeptBy, front_is_free, IsReady, HasRoomBy, HasMoreBy, HasSameFree, IsWhole, WholeTells, IsGuide}
+use Rattle.lv_guide.specs.Guide.{is_free_rank, zones_in, IsKeyFirst, AreKeptBy, front_is_free, HasRoomBy, HasMoreBy, HasSameFree, IsWhole, WholeTells, IsGuide}
 use Rattle.lv_guide.proofs.GuideLemmas.{rest_of_queue, free_before, ready_at_start}
 
 abbrev Entry : Type 0

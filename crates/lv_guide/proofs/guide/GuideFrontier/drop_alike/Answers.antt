@@ -1,5 +1,5 @@
 -- the parts by the first one's target have the others
-use Rattle.std.proofs.Common.{List, ap, sym, subst, ◌∙◌}
+use Rattle.std.proofs.Common.{List, ap, sym, subst}
 use Rattle.lv_base.specs.declared.rank.Rank.{Rank}
 use Rattle.lv_search.specs.Frontier.{LeavesOut}
 use Rattle.lv_guide.specs.Guide.{left_in, IsReady}
