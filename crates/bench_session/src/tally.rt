@@ -18,7 +18,6 @@ pub struct Tally {
     conflicts: u64,
     /// The choices of all conflicts.
     choices: u64,
-    zones: u64,
     /// How often the solver was asked, and how many clauses it learned.
     questions: u64,
     learned: u64,
@@ -31,7 +30,6 @@ impl Tally {
             trials: 0,
             conflicts: 0,
             choices: 0,
-            zones: 0,
             questions: 0,
             learned: 0,
         }
@@ -44,7 +42,6 @@ impl Tally {
             trials: self.trials.wrapping_add(effort.trials),
             conflicts: self.conflicts.wrapping_add(conflicts.len() as u64),
             choices: self.choices.wrapping_add(count_choices(conflicts)),
-            zones: self.zones.wrapping_add(effort.zones),
             questions: self.questions.wrapping_add(effort.solver.calls),
             learned: self.learned.wrapping_add(effort.solver.conflicts),
         }
@@ -89,12 +86,11 @@ impl fmt::Display for Tally {
     fn fmt<W: Write>(&self, f: &mut Formatter<W>) -> fmt::Result {
         write!(
             f,
-            "{} diagnoses, {} trials, {} conflicts of {} choices, {} zones, {} questions, {} clauses learned",
+            "{} diagnoses, {} trials, {} conflicts of {} choices, {} questions, {} clauses learned",
             self.diagnoses,
             self.trials,
             self.conflicts,
             self.choices,
-            self.zones,
             self.questions,
             self.learned
         )

@@ -14,21 +14,20 @@ ghost use Rattle.lv_search_zones.specs.Moves.{is_full_choice};
 
 use crate::trial::IdentTrial;
 use lv_base::{Conflict, Rank, Seq};
+use lv_guide::Guide;
 use lv_meaning::Facts;
 use lv_model::{Model, TrackedState};
 use lv_sat::Effort;
-use lv_search::{Outcome, Search, Zones};
+use lv_search::{Outcome, Search};
 use lv_search_zones::{move_grid, move_targets, zones_of};
 use lv_system::StepSystem;
 use std::alloc::{AllocError, Global};
 use std::marker;
 
-/// What a query did, in counts that no clause speaks of: for measuring. The zones are those that it began with and those
-/// that candidates listed gave, the ones without members too.
+/// What a query did, in counts that no clause speaks of: for measuring.
 #[derive(Clone, Copy, Debug, PartialEq, Eq)]
 pub struct QueryEffort {
     pub trials: u64,
-    pub zones: u64,
     pub solver: Effort,
 }
 
@@ -41,7 +40,7 @@ pub struct Query<'a> {
     facts: Facts,
     distinct: bool,
     trial: IdentTrial<'a>,
-    search: Search<Zones>,
+    search: Search<Guide>,
 }
 
 impl<'a> marker::Model for Query<'a> {
@@ -76,7 +75,7 @@ fn search_of(
     tracked: &[TrackedState],
     k: u32,
     distinct: bool,
-) -> Result<Search<Zones>, AllocError>
+) -> Result<Search<Guide>, AllocError>
     requires few { length tracked.now ≤ TRACKED }
     requires states { All (IsTracked (length model.now.parts)) tracked.now }
     ensures { IfOk result (λ search. search.standing ≡ record { k = k; groups = groups_for distinct model.now; listed = []; kept = []; left = candidates model.now tracked.now }) }
@@ -85,10 +84,10 @@ fn search_of(
     let zones = zones_of(alloc, model, tracked)?;
     if distinct {
         let targets = move_targets(alloc, model)?;
-        let left = Zones::new(alloc, grid, zones)?;
+        let left = Guide::new(alloc, grid, zones)?;
         Search::new_distinct(alloc, left, k, targets)
     } else {
-        let left = Zones::new(alloc, grid, zones)?;
+        let left = Guide::new(alloc, grid, zones)?;
         Search::new(alloc, left, k)
     }
 }
@@ -100,7 +99,7 @@ fn started<'a>(
     system: &StepSystem,
     facts: Facts,
     distinct: bool,
-    search: Search<Zones>,
+    search: Search<Guide>,
 ) -> Result<Query<'a>, AllocError>
     requires system { IsSystemOf model.now system.now }
     requires fit { FactsFit model.now facts }
@@ -210,7 +209,6 @@ impl<'a> Query<'a> {
     pub fn effort(&self) -> QueryEffort {
         QueryEffort {
             trials: self.search.trials(),
-            zones: self.search.zones(),
             solver: self.trial.effort(),
         }
     }

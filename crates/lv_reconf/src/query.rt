@@ -15,7 +15,8 @@ use super::trial::ReconfTrial;
 use lv_base::{Conflict, Rank};
 use lv_meaning::Aim;
 use lv_model::Model;
-use lv_search::{Outcome, Search, Zones};
+use lv_guide::Guide;
+use lv_search::{Outcome, Search};
 use lv_search_zones::{command_grid, command_zone};
 use lv_system::StepSystem;
 use std::alloc::{AllocError, Global};
@@ -26,7 +27,7 @@ use std::marker;
 pub struct Query<'a> {
     alloc: Global,
     setting: Setting<'a>,
-    search: Search<Zones>,
+    search: Search<Guide>,
 }
 
 impl<'a> marker::Model for Query<'a> {
@@ -42,14 +43,14 @@ impl<'a> marker::Model for Query<'a> {
 }
 
 /// A search for the first of the command sets of a model, which has tried none.
-pub(crate) fn search_of(alloc: Global, model: &Model) -> Result<Search<Zones>, AllocError>
+pub(crate) fn search_of(alloc: Global, model: &Model) -> Result<Search<Guide>, AllocError>
     ensures { IfOk result (λ s. s.standing ≡ record { k = 1; groups = None; listed = []; kept = []; left = command_sets model.now }) }
 {
     let _plant = model.plant();
     let grid = command_grid(alloc, model)?;
     let mut zones = Vec::new(alloc);
     zones.push(command_zone(alloc, model)?)?;
-    let left = Zones::new(alloc, grid, zones)?;
+    let left = Guide::new(alloc, grid, zones)?;
     Search::new(alloc, left, 1)
 }
 

@@ -17,7 +17,8 @@ use super::testing::TestTrial;
 use lv_base::{Conflict, Rank, VarId};
 use lv_meaning::Aim;
 use lv_model::Model;
-use lv_search::{Outcome, Search, Zones};
+use lv_guide::Guide;
+use lv_search::{Outcome, Search};
 use lv_system::StepSystem;
 use std::alloc::{AllocError, Global};
 use std::marker;
@@ -28,7 +29,7 @@ use std::marker;
 pub struct TestQuery<'a> {
     alloc: Global,
     setting: Setting<'a>,
-    search: Search<Zones>,
+    search: Search<Guide>,
     var: VarId,
     size: u32,
 }

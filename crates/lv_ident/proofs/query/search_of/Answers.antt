@@ -2,7 +2,6 @@
 use Rattle.std.proofs.Common.{◌∙◌, ap}
 use Rattle.std.proofs.lemmas.Result.{IfOk-weaker}
 use Rattle.lv_search.specs.lv_boxes.RankedMembers.{sources_differ}
-use Rattle.lv_search.specs.Zones.{ZonesValue}
 use Rattle.lv_search_zones.proofs.ZoneLemmas.{zones_differ}
 use Rattle.lv_ident.proofs.QueryLemmas.{search_is, distinct_start, plain_start}
 use Rattle.lv_ident.proofs.query.search_of.Goals as goal
@@ -17,8 +16,8 @@ pub returns-in_ok-left : goal.returns-in_ok-left
 returns-in_ok-left c =
     IfOk-weaker c.new_distinct.result _ _
     (λ s told.
-    distinct_start c.args.model.now c.args.tracked.now c.args.distinct c.args.k c.in_ok-left.left.left
-    (search_is c.args.model.now c.args.tracked.now c.in_ok-grid.grid c.in_ok-grid.ensures c.in_ok-zones.zones.items c.in_ok-zones.ensures c.in_ok-left.left.left (ap (λ (z : ZonesValue). z.left) c.in_ok-left.ensures))
+    distinct_start c.args.model.now c.args.tracked.now c.args.distinct c.args.k c.in_ok-left.left
+    (search_is c.args.model.now c.args.tracked.now c.in_ok-grid.grid c.in_ok-grid.ensures c.in_ok-zones.zones.items c.in_ok-zones.ensures c.in_ok-left.left c.in_ok-left.ensures)
     s.standing c.if-distinct.true c.in_ok-targets.targets c.in_ok-targets.ensures (ap (λ v. v.standing) told))
     c.new_distinct.ensures
 
@@ -26,7 +25,7 @@ pub returns-in_ok-left-2 : goal.returns-in_ok-left-2
 returns-in_ok-left-2 c =
     IfOk-weaker c.new-else-distinct-2.result _ _
     (λ s told.
-    plain_start c.args.model.now c.args.tracked.now c.args.distinct c.args.k c.in_ok-left-2.left.left
-    (search_is c.args.model.now c.args.tracked.now c.in_ok-grid.grid c.in_ok-grid.ensures c.in_ok-zones.zones.items c.in_ok-zones.ensures c.in_ok-left-2.left.left (ap (λ (z : ZonesValue). z.left) c.in_ok-left-2.ensures))
+    plain_start c.args.model.now c.args.tracked.now c.args.distinct c.args.k c.in_ok-left-2.left
+    (search_is c.args.model.now c.args.tracked.now c.in_ok-grid.grid c.in_ok-grid.ensures c.in_ok-zones.zones.items c.in_ok-zones.ensures c.in_ok-left-2.left c.in_ok-left-2.ensures)
     s.standing c.if-distinct.false (ap (λ v. v.standing) told))
     c.new-else-distinct-2.ensures

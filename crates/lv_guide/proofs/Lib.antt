@@ -1,0 +1,4 @@
+pub mod GuideLemmas
+pub mod AlikeLemmas
+pub mod SplitLemmas
+pub use Rattle.lv_search.proofs as lv_search

@@ -1,0 +1,160 @@
+-- What is left in a queue when its first zone is split by a known conflict, and when it is begun anew with zones that have the same
+-- members without a known conflict.
+use Rattle.std.proofs.Common.{◌≡◌, ℕ, ◌+◌, ◌≤◌, Bool, true, false, not, ◌&&◌, List, [], ◌∷◌, ◌++◌, length, refl, sym, ◌∙◌, ap, subst, cond, nat_eq, nat_lt, arith}
+use Rattle.std.specs.Prelude.{slice_index, find, Option, Some, None}
+use Rattle.std.specs.List.{AllByRecursion, list_all}
+use Rattle.std.proofs.lemmas.Bool.{and_from, and_parts, both_ways, false_from_ne_true}
+use Rattle.lv_base.specs.declared.ids.Cost.{Cost}
+use Rattle.lv_base.specs.declared.rank.Rank.{Rank}
+use Rattle.lv_base.specs.declared.search.Pair.{Pair}
+use Rattle.lv_base.specs.Choices.{picks, contains_all}
+use Rattle.lv_boxes.specs.Members.{ZoneValue, are_left, is_member, choices_cost}
+use Rattle.lv_boxes.specs.Parts.{parts_of}
+use Rattle.lv_boxes.specs.RankedMembers.{ranks_in, times_in, AreApart, sources_differ}
+use Rattle.lv_boxes.proofs.MemberLemmas.{length-are_left}
+use Rattle.lv_search_walk.specs.Walk.{candidate_of, is_ruled_out}
+use Rattle.lv_search_guide.proofs.BoxLemmas.{some_pass, found_itself, none_pass}
+use Rattle.lv_search.proofs.LeftLemmas.{parts_times, sources_apart}
+use Rattle.lv_guide.specs.Guide.{is_free_rank, zones_in, IsKeyFirst, AreKeptBy, front_is_free, HasRoomBy, HasMoreBy, HasSameFree, IsWhole, WholeTells, IsGuide}
+use Rattle.lv_guide.proofs.GuideLemmas.{rest_of_queue, free_before, ready_at_start}
+
+abbrev Entry : Type 0
+Entry = Rank × ZoneValue
+
+slots_within : (choices : List ℕ) (n : ℕ) (pairs : List Pair) → length choices ≡ n → contains_all choices pairs ≡ true → list_all (λ (p : Pair). nat_lt p.slot n) pairs ≡ true
+slots_within choices n [] len h = refl
+slots_within choices n (p ∷ ps) len h =
+    let parts = and_parts (picks choices p) (contains_all choices ps) h in
+    and_from (nat_lt p.slot n) (list_all (λ (q : Pair). nat_lt q.slot n) ps)
+    (sym (ap (λ m. nat_lt p.slot m) len) ∙ (and_parts (nat_lt p.slot (length choices)) (nat_eq (slice_index choices p.slot) p.choice) parts.0).0)
+    (slots_within choices n ps len parts.1)
+
+not_true_of : (b : Bool) → not b ≡ true → b ≡ false
+not_true_of true h = absurd (cc h)
+not_true_of false h = refl
+
+abbrev once : Bool → ℕ
+once b = cond b 1 0
+
+-- the first zone is split by a known conflict that its key contains
+module _ (slots : List (List Cost)) (known : List (List Pair)) (entries : List Entry) (k : Rank) (zone : ZoneValue) (es : List Entry) (is : entries ≡ (k, zone) ∷ es) (kept : AreKeptBy slots known entries) where
+  kept_so : AreKeptBy slots known ((k, zone) ∷ es)
+  kept_so = subst (λ (ds : List Entry). AreKeptBy slots known ds) is kept
+
+  key_left : are_left slots zone.masks k.choices ≡ true
+  key_left =
+      let inside = (and_parts (is_member slots zone (candidate_of k)) (nat_eq k.cost.0 (zone.base.0 + choices_cost slots k.choices)) kept_so.queue.members.0).0 in
+      (and_parts (nat_eq k.source zone.source) (are_left slots zone.masks k.choices) inside).1
+
+  module _ (conflict : List Pair) (found : find (contains_all k.choices) known ≡ Some conflict) where
+    within : list_all (λ (p : Pair). nat_lt p.slot (length zone.masks)) conflict ≡ true
+    within = slots_within k.choices (length zone.masks) conflict (length-are_left slots zone.masks k.choices key_left) (found_itself (contains_all k.choices) known conflict found)
+
+    times : (r : Rank) → times_in slots r (parts_of zone conflict) ≡ cond (ranks_in slots r zone && not (contains_all r.choices conflict)) 1 0
+    times r = parts_times slots r (length zone.masks) zone conflict refl within
+
+    pub room_for_split : HasRoomBy slots (parts_of zone conflict) es
+    room_for_split =
+        record {
+          queue = rest_of_queue slots (k, zone) es kept_so.queue;
+          apart = λ r.
+              let now = times r in
+              let few : times_in slots r (zones_in ((k, zone) ∷ es)) ≤ 1 = kept_so.queue.apart r in
+              let less = at_most (ranks_in slots r zone) (not (contains_all r.choices conflict)) in
+              omega (arith, now, few, less);
+        }
+      where
+        at_most : (a b : Bool) → cond (a && b) 1 0 ≤ cond a 1 0
+        at_most true true = omega arith
+        at_most true false = omega arith
+        at_most false b = omega arith
+
+    lacks : (r : Rank) → is_free_rank known r ≡ true → contains_all r.choices conflict ≡ false
+    lacks r free =
+        false_from_ne_true (contains_all r.choices conflict) (λ has.
+        both_ways (is_ruled_out known r.choices) (not_true_of (is_ruled_out known r.choices) free) (some_pass (contains_all k.choices) (contains_all r.choices) known conflict found has))
+
+    pub split_same : (new : List Entry) → HasMoreBy slots (parts_of zone conflict) es new → HasSameFree slots known entries new
+    split_same new has =
+        record {
+          kept = record { queue = has.queue; first = has.first known kept_so.first.1 };
+          same = λ r free.
+              let more = has.times r in
+              let now : times_in slots r (parts_of zone conflict) ≡ once (ranks_in slots r zone) = times r ∙ ap (λ b. once (ranks_in slots r zone && not b)) (lacks r free) ∙ stay (ranks_in slots r zone) in
+              let old : times_in slots r (zones_in entries) ≡ times_in slots r (zones_in ((k, zone) ∷ es)) = ap (λ (ds : List Entry). times_in slots r (zones_in ds)) is in
+              omega (arith, more, now, old);
+        }
+      where
+        stay : (b : Bool) → once (b && true) ≡ once b
+        stay true = refl
+        stay false = refl
+
+  -- where no known conflict is found, the key contains none
+  pub none_found : find (contains_all k.choices) known ≡ None → front_is_free known entries ≡ false → ⊥
+  none_found none stale =
+      both_ways (is_free_rank known k) (sym (ap (front_is_free known) is) ∙ stale) (ap not (none_pass (contains_all k.choices) known none))
+
+-- the queue is begun anew
+module _ (slots : List (List Cost)) where
+  pub room_anew : (zones : List ZoneValue) (start : List Entry) → start ≡ [] → AreApart slots zones → HasRoomBy slots zones start
+  room_anew zones start is apart =
+      subst (λ (es : List Entry). HasRoomBy slots zones es) (sym is)
+      (record {
+        queue = record { members = tt; apart = λ r. omega arith };
+        apart = λ r. let few = apart r in omega (arith, few);
+      })
+
+  pub anew_same : (known : List (List Pair)) (entries : List Entry) (zones : List ZoneValue) (start new : List Entry) → start ≡ [] → IsWhole slots known entries zones → HasMoreBy slots zones start new
+      → HasSameFree slots known entries new
+  anew_same known entries zones start new is whole has =
+      record {
+        kept = (ready_at_start_of known).kept;
+        same = λ r free.
+            let more : times_in slots r (zones_in new) ≡ 0 + times_in slots r zones = has.times r ∙ ap (λ (es : List Entry). times_in slots r (zones_in es) + times_in slots r zones) is in
+            let now = whole.same r free in
+            omega (arith, more, now);
+      }
+    where
+      record_of : (ks : List (List Pair)) → AreKeptBy slots ks new
+      record_of ks = record { queue = has.queue; first = has.first ks (subst (λ (es : List Entry). AllByRecursion (IsKeyFirst slots ks) es) (sym is) tt) }
+
+      ready_at_start_of : (ks : List (List Pair)) → HasSameFree slots ks new new
+      ready_at_start_of ks = record { kept = record_of ks; same = λ r free. refl }
+
+  pub whole_at_start : (zones : List ZoneValue) (start new : List Entry) → start ≡ [] → HasMoreBy slots zones start new → sources_differ zones ≡ true → IsWhole slots [] new zones
+  whole_at_start zones start new is has differ =
+      record {
+        apart = λ r. sources_apart slots r zones differ;
+        same = λ r free. has.times r ∙ ap (λ (es : List Entry). times_in slots r (zones_in es) + times_in slots r zones) is ∙ (let same : 0 + times_in slots r zones ≡ times_in slots r zones = omega arith in same);
+      }
+
+  -- what is held stays the same where the members without known conflict do, and where one more conflict is known
+  pub whole_on : (known : List (List Pair)) (old new : List Entry) (whole : Option (List ZoneValue)) → HasSameFree slots known old new → WholeTells slots known old whole → WholeTells slots known new whole
+  whole_on known old new None same tells = tt
+  whole_on known old new (Some zones) same tells = record { apart = tells.apart; same = λ r free. same.same r free ∙ tells.same r free }
+
+  pub whole_more : (known : List (List Pair)) (conflict : List Pair) (entries : List Entry) (whole : Option (List ZoneValue)) → WholeTells slots known entries whole
+      → WholeTells slots (known ++ conflict ∷ []) entries whole
+  whole_more known conflict entries None tells = tt
+  whole_more known conflict entries (Some zones) tells = record { apart = tells.apart; same = λ r free. tells.same r (free_before known conflict r free) }
+
+  pub guide_on : (known : List (List Pair)) (old new : List Entry) (whole : Option (List ZoneValue)) → HasSameFree slots known old new → front_is_free known new ≡ true → WholeTells slots known new whole
+      → IsGuide slots known new whole
+  guide_on known old new whole same front tells = record { ready = record { kept = same.kept; front = front }; whole_is = tells }
+
+  pub guide_if_empty : (known : List (List Pair)) (es : List Entry) (whole : Option (List ZoneValue)) → es ≡ [] → whole ≡ None → IsGuide slots known es whole
+  guide_if_empty known es whole is none =
+      subst (λ (ds : List Entry). IsGuide slots known ds whole) (sym is)
+      (subst (λ (w : Option (List ZoneValue)). IsGuide slots known [] w) (sym none)
+      (record { ready = record { kept = record { queue = record { members = tt; apart = λ r. omega arith }; first = tt }; front = refl }; whole_is = tt }))
+
+  pub guide_at_start : (zones : List ZoneValue) (start new : List Entry) → start ≡ [] → HasMoreBy slots zones start new → sources_differ zones ≡ true → IsGuide slots [] new (Some zones)
+  guide_at_start zones start new is has differ = record { ready = ready_at_start slots zones start new is has; whole_is = whole_at_start zones start new is has differ }
+
+  -- a call's zones are those that were held, and its conflicts those that are known and one more
+  pub split_whole : (known asked : List (List Pair)) (conflict : List Pair) (held old : List Entry) (whole now : Option (List ZoneValue)) → old ≡ held → asked ≡ known ++ conflict ∷ [] → now ≡ whole
+      → WholeTells slots known held whole → WholeTells slots asked old now
+  split_whole known asked conflict held old whole now taken is same tells =
+      subst (λ (ks : List (List Pair)). WholeTells slots ks old now) (sym is)
+      (subst (λ (es : List Entry). WholeTells slots (known ++ conflict ∷ []) es now) (sym taken)
+      (subst (λ (w : Option (List ZoneValue)). WholeTells slots (known ++ conflict ∷ []) held w) (sym same) (whole_more known conflict held whole tells)))

@@ -1,0 +1,9 @@
+-- the zones have the same members that contain no known conflict
+use Rattle.lv_guide.specs.Guide.{HasSameFree, stale_in}
+use Rattle.lv_guide.proofs.guide.look_ahead.Given as goal
+
+abbrev pub invariant-loop-alloc : goal.invariant-loop-alloc
+invariant-loop-alloc l = HasSameFree l.grid l.known l.fn.queue.entries l.queue.entries
+
+abbrev pub decreases-loop-alloc : goal.decreases-loop-alloc
+decreases-loop-alloc l = stale_in l.known l.queue.entries

@@ -1,0 +1,6 @@
+-- the members without conflict are those of the box at the start
+use Rattle.lv_search_guide.specs.Narrow.{ChangedTells}
+use Rattle.lv_search_guide.proofs.narrow.narrow_once.Given as goal
+
+abbrev pub invariant-loop-conflict : goal.invariant-loop-conflict
+invariant-loop-conflict l = ChangedTells l.conflicts l.fn.masks l.masks l.changed

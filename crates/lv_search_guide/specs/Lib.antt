@@ -1,0 +1,9 @@
+pub mod Free
+pub mod Boxes
+pub mod Cheapest
+pub mod Lowest
+pub mod Narrow
+pub mod Prices
+pub mod Dear
+pub mod Slots
+pub use Rattle.lv_boxes.specs as lv_boxes

@@ -1,0 +1,71 @@
+//! Choices that are too dear: where the bound of what members cost and the price of a choice come to as much as members
+//! may cost, no member that is cheap enough has the choice.
+#![tactic(auto)]
+
+ghost use Rattle.std.specs.Prelude.{◌≡◌, ◌<◌, ◌≤◌, ◌+◌, ℕ, true, [], List, length, slice_index_or, IfOk, if◌then◌else◌};
+ghost use Rattle.lv_base.specs.declared.ids.Cost.{Cost};
+ghost use Rattle.lv_base.specs.declared.search.Pair.{Pair};
+ghost use Rattle.lv_boxes.specs.Parts.{masks_without};
+ghost use Rattle.lv_search_guide.specs.Dear.{KeepsUnder};
+ghost use Rattle.lv_search_guide.specs.Prices.{IsBound};
+
+use super::masks::Masks;
+use super::prices::{Row, priced_in};
+use lv_base::{Conflict, Cost, Pair};
+use lv_boxes::Grid;
+use std::alloc::{AllocError, Global};
+
+/// Takes out of a box choices that no member has that contains no conflict and costs less than `under`.
+pub(crate) fn drop_dear(
+    alloc: Global,
+    grid: &Grid,
+    conflicts: &[Conflict],
+    masks: &mut Masks,
+    under: u64,
+) -> Result<(), AllocError>
+    ensures { IfOk result (λ _. KeepsUnder grid.now conflicts.now under masks.old masks.new) }
+{
+    let priced = priced_in(alloc, grid, conflicts, masks.as_slice())?;
+    drop_priced(priced.rows.as_slice(), priced.low, under, masks);
+    Ok(())
+}
+
+/// Takes out of a box the choices of all slots whose price and the bound come to this.
+fn drop_priced(rows: &[Row], low: u64, under: u64, masks: &mut Masks)
+    ensures { (slots : List (List Cost)) (conflicts : List (List Pair)) → IsBound slots conflicts masks.old low rows.now → KeepsUnder slots conflicts under masks.old masks.new }
+{
+    for slot in 0..rows.len().min(4096) {
+        drop_at(rows[slot].as_slice(), slot, low, under, masks);
+    }
+}
+
+/// Takes out of a box the choices of a slot whose price and the bound come to this.
+fn drop_at(prices: &[Cost], slot: usize, low: u64, under: u64, masks: &mut Masks)
+    requires { slot < 4096 }
+    ensures { (slots : List (List Cost)) (conflicts : List (List Pair)) (whole : List ℕ) (rows : List (List Cost)) → slot < length rows → slice_index_or rows slot [] ≡ prices.now → IsBound slots conflicts whole low rows → KeepsUnder slots conflicts under whole masks.old → KeepsUnder slots conflicts under whole masks.new }
+{
+    for choice in 0..prices.len().min(64) {
+        let dear = is_dear(low, prices[choice].0, under);
+        let pair = Pair {
+            slot: slot as u32,
+            choice: choice as u32,
+        };
+        exclude_if(dear, pair, masks);
+    }
+}
+
+/// Whether a bound and a price come to this.
+fn is_dear(low: u64, price: u64, under: u64) -> bool
+    ensures { result ≡ true → under ≤ low + price }
+{
+    low.saturating_add(price) >= under
+}
+
+/// Takes the pair's choice out of a box, where that is so.
+fn exclude_if(dear: bool, pair: Pair, masks: &mut Masks)
+    ensures { masks.new ≡ (if dear then masks_without masks.old pair else masks.old) }
+{
+    if dear {
+        masks.exclude(pair);
+    }
+}

@@ -1,0 +1,79 @@
+//! The member of a zone that ranks first among those that contain no conflict.
+#![tactic(auto)]
+
+ghost use Rattle.std.specs.Prelude.{◌≡◌, ◌+◌, ◌*◌, ◌≤◌, IfOk, IfSome};
+ghost use Rattle.lv_search_guide.specs.Free.{LeastFreeTells};
+ghost use Rattle.lv_search_guide.specs.Lowest.{LowestTells};
+
+use super::cheapest::cheapest;
+use super::look::{ABOVE_ALL, Member};
+use super::lowest::lowest;
+use super::masks::Masks;
+use super::narrow::narrow;
+use super::prices::low_of;
+use lv_base::{Conflict, Cost, Rank};
+use lv_boxes::{Grid, Zone};
+use std::alloc::{AllocError, Global};
+
+/// The rank of the zone's member that ranks first among those that contain none of these conflicts; `None` exactly where
+/// each member contains one, or there is no member.
+pub fn least_free(
+    alloc: Global,
+    grid: &Grid,
+    zone: &Zone,
+    conflicts: &[Conflict],
+) -> Result<Option<Rank>, AllocError>
+    ensures { IfOk result (λ least. LeastFreeTells grid.now zone.now conflicts.now least) }
+{
+    let masks = Masks::from_slice(alloc, zone.masks())?;
+    match first_in(alloc, grid, conflicts, masks)? {
+        Some(member) => Ok(Some(rank_of(zone, member))),
+        None => Ok(None),
+    }
+}
+
+/// Of the members of a box that contain no conflict the first among the cheapest.
+fn first_in(
+    alloc: Global,
+    grid: &Grid,
+    conflicts: &[Conflict],
+    mut masks: Masks,
+) -> Result<Option<Member>, AllocError>
+    ensures first { IfOk result (λ first. LowestTells grid.now conflicts.now masks first) }
+    ensures bound { IfOk result (λ first. IfSome first (λ member. member.cost ≤ 4096 * 1000000)) }
+{
+    if !narrow(conflicts, &mut masks) {
+        return Ok(None);
+    }
+    first_left(alloc, grid, conflicts, &masks)
+}
+
+/// As `first_in`, of a box from which nothing more can be taken out.
+fn first_left(
+    alloc: Global,
+    grid: &Grid,
+    conflicts: &[Conflict],
+    masks: &Masks,
+) -> Result<Option<Member>, AllocError>
+    ensures first { IfOk result (λ first. LowestTells grid.now conflicts.now masks.now first) }
+    ensures bound { IfOk result (λ first. IfSome first (λ member. member.cost ≤ 4096 * 1000000)) }
+{
+    let _slots = grid.slots();
+    let low = low_of(alloc, grid, conflicts, masks)?;
+    match cheapest(alloc, grid, conflicts, masks, low, ABOVE_ALL)? {
+        Some(member) => Ok(Some(lowest(alloc, grid, conflicts, masks, member)?)),
+        None => Ok(None),
+    }
+}
+
+/// What a member of a zone ranks as.
+fn rank_of(zone: &Zone, member: Member) -> Rank
+    requires { member.cost ≤ 4096 * 1000000 }
+    ensures { result ≡ record { cost = record { 0 = zone.now.base.0 + member.cost }; source = zone.now.source; choices = member.choices } }
+{
+    Rank {
+        cost: Cost(zone.base().0 + member.cost),
+        source: zone.source(),
+        choices: member.choices,
+    }
+}

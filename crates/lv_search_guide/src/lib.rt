@@ -1,0 +1,32 @@
+//! The member of a zone that ranks first among those that contain none of the conflicts kept, found without splitting
+//! the zone by each conflict. A search for the first candidates that fit asks for it again and again, with more
+//! conflicts each time.
+//!
+//! It goes in two steps, since ranks compare costs first. A cheapest member is looked for in boxes, smaller and smaller
+//! ones, of which each is given up as soon as nothing in it can be cheaper than what was found. Then, slot by slot, it
+//! is asked whether some member as cheap has a lower choice there.
+//!
+//! | file | what it holds |
+//! |---|---|
+//! | `least_free` | the member that ranks first |
+//! | `cheapest` | a cheapest member, by a stack of boxes |
+//! | `look` | what is to be done with one box |
+//! | `lowest` | of the cheapest members the first in the order of slots |
+//! | `masks` | a box: of each slot the choices left |
+//! | `narrow` | what conflicts leave of a box |
+//! | `prices` | what a member of a box costs at least |
+//! | `dear` | choices that are too dear |
+//! | `laws` | that there is one answer |
+#![tactic(auto)]
+
+mod cheapest;
+mod dear;
+pub mod laws;
+pub mod least_free;
+mod look;
+mod lowest;
+mod masks;
+mod narrow;
+mod prices;
+
+pub use laws::least_free_is_one;

@@ -1,0 +1,143 @@
+//! What is to be done with one box: nothing in it is cheap enough, or its cheapest member contains no conflict, or it
+//! falls into two smaller boxes.
+#![tactic(auto)]
+
+ghost use Rattle.std.specs.Prelude.{◌≡◌, ◌<◌, ℕ, true, List, length, IfOk, IfSome, None};
+ghost use Rattle.std.specs.List.{find};
+ghost use Rattle.std.specs.Option.{option_copied};
+ghost use Rattle.lv_base.specs.declared.ids.Cost.{Cost};
+ghost use Rattle.lv_base.specs.Choices.{contains_all};
+ghost use Rattle.lv_search_guide.specs.Boxes.{is_open, CostsAtLeast};
+ghost use Rattle.lv_search_guide.specs.Cheapest.{CheapestLeftTells, IsCheapestLeft, HasNoneLeft, LookTells, splits_of};
+
+use super::masks::Masks;
+use super::prices::low_of;
+use lv_base::{Conflict, Pair, Seq, contains};
+use lv_boxes::least::write_least;
+use lv_boxes::{Grid, mask};
+use std::alloc::{AllocError, Global};
+
+/// More than any member costs: a choice costs at most 1,000,000, and there are at most 4,096 slots.
+pub(crate) const ABOVE_ALL: u64 = 4_096_000_001;
+
+/// A member of a box, and what its choices cost together.
+#[derive(Debug, Drop)]
+pub(crate) struct Member {
+    pub(crate) cost: u64,
+    pub(crate) choices: Seq<u32>,
+}
+
+/// What a look at a box tells.
+#[derive(Debug, Drop)]
+pub(crate) enum Looked {
+    /// No member without conflict costs less than was asked for.
+    Nothing,
+    /// This is a cheapest member without conflict.
+    Found(Member),
+    /// The box falls into the members that have this pair's choice and those that haven't.
+    Splits(Pair),
+}
+
+/// Looks at a box for a cheapest member that contains no conflict and costs less than `under`. Prices mostly tell that
+/// there is none before its cheapest member is looked at.
+pub(crate) fn look(
+    alloc: Global,
+    grid: &Grid,
+    conflicts: &[Conflict],
+    masks: &Masks,
+    under: u64,
+) -> Result<Looked, AllocError>
+    ensures { IfOk result (λ looked. LookTells grid.now conflicts.now masks.now under looked) }
+{
+    if is_too_dear(alloc, grid, conflicts, masks, under)? {
+        return Ok(Looked::Nothing);
+    }
+    match cheapest_left(alloc, grid, masks)? {
+        Some(member) if member.cost < under => Ok(look_at(conflicts, masks, member)),
+        _ => Ok(Looked::Nothing),
+    }
+}
+
+/// Whether prices tell that no member costs less than `under`. They aren't asked where any member costs less.
+fn is_too_dear(
+    alloc: Global,
+    grid: &Grid,
+    conflicts: &[Conflict],
+    masks: &Masks,
+    under: u64,
+) -> Result<bool, AllocError>
+    ensures { IfOk result (λ dear. dear ≡ true → CostsAtLeast grid.now conflicts.now masks.now under) }
+{
+    if under >= ABOVE_ALL {
+        return Ok(false);
+    }
+    Ok(low_of(alloc, grid, conflicts, masks)? >= under)
+}
+
+/// A cheapest member of a box, whatever the conflicts.
+fn cheapest_left(alloc: Global, grid: &Grid, masks: &Masks) -> Result<Option<Member>, AllocError>
+    ensures { IfOk result (λ member. CheapestLeftTells grid.now masks.now member) }
+{
+    let mut choices = vec![in alloc; 0; grid.len()]?;
+    match write_cheapest(grid, masks, &mut choices) {
+        Some(cost) => Ok(Some(Member {
+            cost,
+            choices: Seq::from_vec(choices),
+        })),
+        None => Ok(None),
+    }
+}
+
+/// Writes a cheapest member of a box, and answers what it costs.
+fn write_cheapest(grid: &Grid, masks: &Masks, out: &mut [u32]) -> Option<u64>
+    requires { length out.old ≡ length grid.now }
+    ensures some { IfSome result (λ cost. IsCheapestLeft grid.now masks.now (record { cost = cost; choices = out.new })) }
+    ensures none { result ≡ None → HasNoneLeft grid.now masks.now }
+{
+    write_least(grid.slots(), masks.as_slice(), out)
+}
+
+/// Looks at a box whose cheapest member this is: it is found, or contains a conflict.
+fn look_at(conflicts: &[Conflict], masks: &Masks, member: Member) -> Looked
+    ensures { (slots : List (List Cost)) (under : ℕ) → IsCheapestLeft slots masks.now member → member.cost < under → LookTells slots conflicts.now masks.now under result }
+{
+    match first_contained(conflicts, member.choices.as_slice()) {
+        Some(conflict) => split_by(conflict, masks),
+        None => Looked::Found(member),
+    }
+}
+
+/// Looks at a box whose cheapest member contains this conflict: it falls apart by a pair whose choice is not all that
+/// its slot has left. Without such a pair each member contains the conflict.
+fn split_by(conflict: &Conflict, masks: &Masks) -> Looked
+    ensures { result ≡ splits_of (find (is_open masks.now) conflict.now) }
+{
+    match first_open(masks.as_slice(), conflict.pairs()) {
+        Some(pair) => Looked::Splits(*pair),
+        None => Looked::Nothing,
+    }
+}
+
+/// The first conflict that the choices contain.
+fn first_contained<'a>(conflicts: &'a [Conflict], choices: &[u32]) -> Option<&'a Conflict>
+    ensures { option_copied result ≡ find (contains_all choices.now) conflicts.now }
+{
+    conflicts
+        .iter()
+        .find(|conflict| contains(choices, conflict.pairs()))
+}
+
+/// The first pair whose choice is not all that its slot has left.
+fn first_open<'a>(masks: &[u64], pairs: &'a [Pair]) -> Option<&'a Pair>
+    ensures { option_copied result ≡ find (is_open masks.now) pairs.now }
+{
+    pairs.iter().find(|pair| leaves_open(masks, **pair))
+}
+
+/// Whether the pair's choice is not all that its slot has left.
+fn leaves_open(masks: &[u64], pair: Pair) -> bool
+    ensures { result ≡ is_open masks.now pair }
+{
+    let slot = pair.slot as usize;
+    slot < masks.len() && mask::only(masks[slot], pair.choice) != masks[slot]
+}

@@ -1,0 +1,88 @@
+//! A box: of each slot the choices left, as a mask in which bit `c` is 1 where choice `c` is left.
+#![tactic(auto)]
+
+ghost use Rattle.std.specs.Prelude.{◌≡◌, IfOk};
+ghost use Rattle.lv_boxes.specs.Parts.{masks_with, masks_without};
+ghost use Rattle.lv_search_guide.specs.Boxes.{has_left};
+
+use lv_base::Pair;
+use lv_boxes::mask;
+use std::alloc::{AllocError, Global};
+use std::marker::Model;
+
+/// The masks of a box. Contracts see the list of them.
+#[derive(Debug, Drop)]
+pub(crate) struct Masks {
+    words: Vec<u64>,
+}
+
+impl Model for Masks {
+    ghost use Rattle.std.specs.Prelude.{List, ℕ};
+
+    ghost Value = { List ℕ };
+
+    ghost view = { λ m. m.words.items };
+}
+
+impl Masks {
+    /// The box with these masks, in memory of its own.
+    pub(crate) fn from_slice(alloc: Global, words: &[u64]) -> Result<Masks, AllocError>
+        ensures { IfOk result (λ masks. masks ≡ words.now) }
+    {
+        Ok(Masks {
+            words: Vec::from_slice(alloc, words)?,
+        })
+    }
+
+    pub(crate) fn as_slice(&self) -> &[u64]
+        ensures { result.now ≡ self.now }
+    {
+        self.words.as_slice()
+    }
+
+    /// Whether the box has the pair's choice at its slot.
+    pub(crate) fn has(&self, pair: Pair) -> bool
+        ensures { result ≡ has_left self.now pair }
+    {
+        let slot = pair.slot as usize;
+        slot < self.words.len() && mask::has(self.words[slot], pair.choice as usize)
+    }
+
+    /// The box of the members that have the pair's choice at its slot. A slot that the box hasn't is passed over.
+    pub(crate) fn with(&self, alloc: Global, pair: Pair) -> Result<Masks, AllocError>
+        ensures { IfOk result (λ masks. masks ≡ masks_with self.now pair) }
+    {
+        let mut masks = Masks::from_slice(alloc, self.as_slice())?;
+        masks.fix(pair);
+        Ok(masks)
+    }
+
+    /// The box of the members that haven't the pair's choice at its slot. A slot that the box hasn't is passed over.
+    pub(crate) fn without(&self, alloc: Global, pair: Pair) -> Result<Masks, AllocError>
+        ensures { IfOk result (λ masks. masks ≡ masks_without self.now pair) }
+    {
+        let mut masks = Masks::from_slice(alloc, self.as_slice())?;
+        masks.exclude(pair);
+        Ok(masks)
+    }
+
+    /// Leaves the members that have the pair's choice at its slot. A slot that the box hasn't is passed over.
+    pub(crate) fn fix(&mut self, pair: Pair)
+        ensures { self.new ≡ masks_with self.old pair }
+    {
+        let slot = pair.slot as usize;
+        if slot < self.words.len() {
+            self.words[slot] = mask::only(self.words[slot], pair.choice);
+        }
+    }
+
+    /// Leaves the members that haven't the pair's choice at its slot. A slot that the box hasn't is passed over.
+    pub(crate) fn exclude(&mut self, pair: Pair)
+        ensures { self.new ≡ masks_without self.old pair }
+    {
+        let slot = pair.slot as usize;
+        if slot < self.words.len() {
+            self.words[slot] = mask::without(self.words[slot], pair.choice);
+        }
+    }
+}
