@@ -4,8 +4,8 @@
 # of two rows; and a propulsion branch of which one valve of each pair is commanded, so that one fault explains that
 # there is no thrust, and both, so that two do; of each 1, 4 and 64 candidates, and 64 no two of which lead to one state
 # (64d). The time of an empty session over the same plant is taken off, and stands beside; then the number of candidates
-# listed, and of trials, conflicts, zones, and questions to the solver for each trial; and what these are beyond one a
-# trial for each choice of the conflicts, which a reason costs. The last line is of a whole session of 20 rounds over a
+# listed, and of trials, conflicts, and questions to the solver for each trial; and what these are beyond one a trial
+# for each choice of the conflicts, which a reason costs. The last line is of a whole session of 20 rounds over a
 # row of 32 valves. Builds the program and crates/bench_session first, which counts. Sizes may be given.
 set -eu
 . "$(dirname "$0")/common.sh"
@@ -16,9 +16,9 @@ counter=$program
 program=$cli
 : >"$work/none.ses"
 
-# the counts of a session's diagnoses: trials, conflicts, choices in them, zones, questions
+# the counts of a session's diagnoses: trials, conflicts, choices in them, questions
 counts_of() {
-  "$counter" "$1 $2" | sed 's/.* \([0-9]*\) trials, \([0-9]*\) conflicts of \([0-9]*\) choices, \([0-9]*\) zones, \([0-9]*\) questions.*/\1 \2 \3 \4 \5/'
+  "$counter" "$1 $2" | sed 's/.* \([0-9]*\) trials, \([0-9]*\) conflicts of \([0-9]*\) choices, \([0-9]*\) questions.*/\1 \2 \3 \4/'
 }
 
 # a quotient with two digits behind the point
@@ -28,17 +28,17 @@ quotient() {
 
 # report NAME VALVES K MODEL SESSION EMPTY-SESSION
 report() {
-  local plant whole listed trials conflicts choices zones questions
+  local plant whole listed trials conflicts choices questions
   plant=$(taken_by run "$4" "$6")
   whole=$(taken_by run "$4" "$5")
   listed=$("$program" run "$4" "$5" | awk '/^(un)?settled/ { listed += $2 } END { print listed + 0 }')
-  read -r trials conflicts choices zones questions <<<"$(counts_of "$4" "$5")"
-  printf '%-10s %6d %4s %10d %10d %7d %7d %9d %8d %8s %8s\n' "$1" "$2" "$3" "$plant" $((whole - plant)) "$listed" \
-    "$trials" "$conflicts" "$zones" "$(quotient "$questions" "$trials")" "$(quotient $((questions - trials)) "$choices")"
+  read -r trials conflicts choices questions <<<"$(counts_of "$4" "$5")"
+  printf '%-10s %6d %4s %10d %10d %7d %7d %9d %8s %8s\n' "$1" "$2" "$3" "$plant" $((whole - plant)) "$listed" \
+    "$trials" "$conflicts" "$(quotient "$questions" "$trials")" "$(quotient $((questions - trials)) "$choices")"
 }
 
-printf '%-10s %6s %4s %10s %10s %7s %7s %9s %8s %8s %8s\n' plant valves k 'plant ms' 'query ms' listed trials conflicts \
-  zones a-trial a-choice
+printf '%-10s %6s %4s %10s %10s %7s %7s %9s %8s %8s\n' plant valves k 'plant ms' 'query ms' listed trials conflicts \
+  a-trial a-choice
 for kind in row opened fan twofaults ladder branch branches; do
   for n in $sizes; do
     "$here/make_plants.py" "$kind" "$n" "$work"
