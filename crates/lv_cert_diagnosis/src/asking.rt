@@ -99,11 +99,7 @@ impl<'a> Asking<'a> {
     }
 
     /// Values before and after a step by the candidate's moves that meets the facts; its choices are possible.
-    pub fn step_of(
-        &self,
-        refuter: &mut Refuter<'_>,
-        rank: &Rank,
-    ) -> Result<StepPair, AllocError>
+    pub fn step_of(&self, refuter: &mut Refuter<'_>, rank: &Rank) -> Result<StepPair, AllocError>
         requires refuter { refuter.old ≡ self.now.system }
         requires full { are_below (move_counts self.now.plant) rank.now.choices ≡ true }
         requires possible { is_possible_rank self.now.plant self.now.facts rank.now ≡ true }

@@ -190,13 +190,7 @@ impl<'a> Asking<'a> {
     {
         let mut own = self.nominal(state, pairs)?;
         self.push_reached(&mut own)?;
-        ask(
-            self.alloc,
-            self.model,
-            self.system,
-            refuter,
-            own.as_slice(),
-        )
+        ask(self.alloc, self.model, self.system, refuter, own.as_slice())
     }
 
     /// Such a step that ends with the goal false, or lines by which none does.
@@ -216,13 +210,7 @@ impl<'a> Asking<'a> {
     {
         let mut own = self.nominal(state, pairs)?;
         push_all(&mut own, self.goal(goal, false)?)?;
-        ask(
-            self.alloc,
-            self.model,
-            self.system,
-            refuter,
-            own.as_slice(),
-        )
+        ask(self.alloc, self.model, self.system, refuter, own.as_slice())
     }
 }
 

@@ -19,8 +19,8 @@ use crate::asking::{Asking, Told};
 use crate::showing::push_step;
 use lv_base::{Conflict, Pair, Seq};
 use lv_cert::{Head, Line};
-use lv_cert_writing::asking::push_clauses;
 use lv_cert_writing::Refuter;
+use lv_cert_writing::asking::push_clauses;
 use lv_cert_writing::stating::push_pairs;
 use lv_model::State;
 use lv_system::StepPair;
@@ -49,7 +49,12 @@ fn counter_line(alloc: Global, place: usize, pairs: &[Pair]) -> Result<Line, All
 }
 
 /// Excludes these values by the first state from which they don't reach the goals, if there is one.
-fn push_conflict(asking: &Asking, refuter: &mut Refuter<'_>, pairs: &[Pair], lines: &mut Vec<Line>) -> Result<bool, AllocError>
+fn push_conflict(
+    asking: &Asking,
+    refuter: &mut Refuter<'_>,
+    pairs: &[Pair],
+    lines: &mut Vec<Line>,
+) -> Result<bool, AllocError>
     requires refuter { refuter.old ≡ asking.now.system }
     requires have { All (HasChoice (control_sizes asking.now.plant)) pairs.now }
     requires rising { slots_rise pairs.now ≡ true }
@@ -94,7 +99,12 @@ fn missing_step(
 }
 
 /// Excludes these values of all controls by the first state from which they can miss a goal, if there is one.
-fn push_counter(asking: &Asking, refuter: &mut Refuter<'_>, pairs: &[Pair], lines: &mut Vec<Line>) -> Result<bool, AllocError>
+fn push_counter(
+    asking: &Asking,
+    refuter: &mut Refuter<'_>,
+    pairs: &[Pair],
+    lines: &mut Vec<Line>,
+) -> Result<bool, AllocError>
     requires refuter { refuter.old ≡ asking.now.system }
     requires given { AreValues asking.now.plant pairs.now }
     ensures told { IfOk result (AddsCounter asking.now.plant asking.now.aim pairs.now lines.old.items lines.new.items) }
@@ -117,7 +127,12 @@ fn push_counter(asking: &Asking, refuter: &mut Refuter<'_>, pairs: &[Pair], line
 }
 
 /// Excludes the reason of a command set that doesn't recover.
-fn push_block(asking: &Asking, refuter: &mut Refuter<'_>, conflict: &Conflict, lines: &mut Vec<Line>) -> Result<(), AllocError>
+fn push_block(
+    asking: &Asking,
+    refuter: &mut Refuter<'_>,
+    conflict: &Conflict,
+    lines: &mut Vec<Line>,
+) -> Result<(), AllocError>
     requires refuter { refuter.old ≡ asking.now.system }
     requires given { IsReason asking.now.plant asking.now.aim conflict.now }
     ensures told { IfOk result (λ _. Excludes asking.now.plant asking.now.aim conflict.now lines.old.items lines.new.items) }

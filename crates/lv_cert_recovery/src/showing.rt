@@ -12,8 +12,8 @@ ghost use Rattle.lv_cert_recovery.specs.Showing as Showing;
 use crate::asking::{Asking, lines_told, step_told};
 use lv_base::{Pair, Seq, ValId};
 use lv_cert::{Head, Line};
-use lv_cert_writing::asking::push_clauses;
 use lv_cert_writing::Refuter;
+use lv_cert_writing::asking::push_clauses;
 use lv_cert_writing::stating::values_line;
 use lv_formula::Condition;
 use lv_model::TrackedState;
@@ -137,7 +137,12 @@ fn push_proofs(
 }
 
 /// Shows that from each state the recovery leads to the goals.
-fn push_states(asking: &Asking, refuter: &mut Refuter<'_>, pairs: &[Pair], lines: &mut Vec<Line>) -> Result<(), AllocError>
+fn push_states(
+    asking: &Asking,
+    refuter: &mut Refuter<'_>,
+    pairs: &[Pair],
+    lines: &mut Vec<Line>,
+) -> Result<(), AllocError>
     requires refuter { refuter.old ≡ asking.now.system }
     requires given { IsGiven asking.now.plant asking.now.aim pairs.now }
     ensures told { IfOk result (λ _. LeadsOn asking.now.plant asking.now.aim (standing (good 0) (answer_of asking.now.plant pairs.now) []) (standing (good (length asking.now.aim.tracked)) (answer_of asking.now.plant pairs.now) []) lines.old.items lines.new.items) }

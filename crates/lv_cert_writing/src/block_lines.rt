@@ -123,7 +123,7 @@ pub fn lines_of(
             placed.push(0)?;
         }
     }
-    let line = last_line(alloc, numbers, units, placed.as_slice(), log.step(last))?;
-    lines.push(line)?;
+    let end = last_line(alloc, numbers, units, placed.as_slice(), log.step(last))?;
+    lines.push(end)?;
     Ok(lines)
 }

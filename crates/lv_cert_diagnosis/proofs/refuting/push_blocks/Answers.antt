@@ -16,9 +16,9 @@ loop-conflict-preserved c =
     let i = c.loop-conflict.conflict-index in
     record {
       refuted =
-    subst (λ (cs : List (List Pair)). AddsBlocks c.args.asking.now.plant c.args.asking.now.facts cs c.args.lines.now.items c.push_block.new.lines.items)
-    (sym (take_more kept i c.conflict-item.result c.loop-conflict-test.true ∙ ap (λ (ps : List Pair). take i kept ++ ps ∷ []) (sym c.conflict-item.is)))
-    (blocks_more c.args.asking.now.plant c.args.asking.now.facts (take i kept) (c.conflict-item.result ∷ []) c.args.lines.now.items c.loop-conflict.lines.items c.push_block.new.lines.items c.loop-conflict.invariant.refuted
-    c.in_ok-push_block.ensures.added);
+          subst (λ (cs : List (List Pair)). AddsBlocks c.args.asking.now.plant c.args.asking.now.facts cs c.args.lines.now.items c.push_block.new.lines.items)
+          (sym (take_more kept i c.conflict-item.result c.loop-conflict-test.true ∙ ap (λ (ps : List Pair). take i kept ++ ps ∷ []) (sym c.conflict-item.is)))
+          (blocks_more c.args.asking.now.plant c.args.asking.now.facts (take i kept) (c.conflict-item.result ∷ []) c.args.lines.now.items c.loop-conflict.lines.items c.push_block.new.lines.items c.loop-conflict.invariant.refuted
+          c.in_ok-push_block.ensures.added);
       kept = c.push_block.ensures.kept ∙ c.loop-conflict.invariant.kept;
     }

@@ -10,7 +10,7 @@ loop-at-preserved c =
     let p = c.args.asking.now.plant in
     record {
       on =
-    leads_both p c.args.asking.now.aim (standing (proved c.args.place 0) (answer_of p c.args.pairs.now) []) (standing (proved c.args.place c.loop-at.at) (answer_of p c.args.pairs.now) [])
-    (standing (proved c.args.place (c.loop-at.at + 1)) (answer_of p c.args.pairs.now) []) c.args.lines.now.items c.loop-at.lines.items c.push_proof.new.lines.items c.loop-at.invariant.on c.in_ok-push_proof.ensures.told;
+          leads_both p c.args.asking.now.aim (standing (proved c.args.place 0) (answer_of p c.args.pairs.now) []) (standing (proved c.args.place c.loop-at.at) (answer_of p c.args.pairs.now) [])
+          (standing (proved c.args.place (c.loop-at.at + 1)) (answer_of p c.args.pairs.now) []) c.args.lines.now.items c.loop-at.lines.items c.push_proof.new.lines.items c.loop-at.invariant.on c.in_ok-push_proof.ensures.told;
       kept = c.push_proof.ensures.kept ∙ c.loop-at.invariant.kept;
     }

@@ -7,6 +7,6 @@ abbrev pub invariant-loop-place : goal.invariant-loop-place
 invariant-loop-place l =
     record {
       on :
-    LeadsOn l.asking.plant l.asking.aim (standing (good 0) (answer_of l.asking.plant l.pairs) []) (standing (good l.place) (answer_of l.asking.plant l.pairs) []) l.initial.lines.items l.lines.items;
+          LeadsOn l.asking.plant l.asking.aim (standing (good 0) (answer_of l.asking.plant l.pairs) []) (standing (good l.place) (answer_of l.asking.plant l.pairs) []) l.initial.lines.items l.lines.items;
       kept : l.refuter ≡ l.fn.refuter;
     }
