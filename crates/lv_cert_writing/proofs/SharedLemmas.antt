@@ -1,16 +1,14 @@
 -- A set that has the clauses of a system and others beside them.
-use Rattle.std.proofs.Common.{◌≡◌, ◌≢◌, ℕ, Bool, true, false, ◌||◌, nat_eq, List, [], ◌∷◌, ◌++◌, length, map, Option, Some, None, refl, sym, ap, ap₂, subst, ◌∙◌, arith, inl, inr, slice_index}
-use Rattle.std.specs.List.{list_any, list_all}
+use Rattle.std.proofs.Common.{◌≡◌, ◌≢◌, ℕ, Bool, true, false, ◌||◌, nat_eq, List, [], ◌∷◌, ◌++◌, map, Option, Some, None, refl, sym, ap, ap₂, subst, ◌∙◌, arith, inl, inr, slice_index}
+use Rattle.std.specs.List.{list_any}
 use Rattle.std.proofs.lemmas.Bool.{cases_eq}
 use Rattle.std.proofs.lemmas.Bool.Decides.{nat_tests}
 use Rattle.std.proofs.lemmas.List.Folds.{list_any-append}
 use Rattle.lv_base.specs.declared.ids.Lit.{Lit}
 use Rattle.lv_base.specs.declared.ids.ClauseId.{ClauseId}
-use Rattle.lv_reflog.specs.lv_clauses.Literals.{clause_holds}
-use Rattle.lv_reflog.specs.lv_clauses.ClauseMap.{ClauseMap, clause_at, Puts, satisfies}
+use Rattle.lv_reflog.specs.lv_clauses.ClauseMap.{ClauseMap, clause_at, Puts}
 use Rattle.lv_reflog.proofs.lv_clauses.LiteralLemmas.{present_holds}
 use Rattle.lv_model.specs.declared.plant.Plant.{Plant}
-use Rattle.lv_sat.specs.Answers.{IsModel}
 use Rattle.lv_system.specs.Numbering.{has_number}
 use Rattle.lv_system.specs.System.{SystemValue, IsSystemOf}
 use Rattle.lv_system.proofs.NumberingLemmas.{all_present_hold}

@@ -1,30 +1,21 @@
 -- What a block states, assumed or added to a set one after the other, and what is then told of the set.
-use Rattle.std.proofs.Common.{◌≡◌, ◌≢◌, ◌<◌, ◌+◌, ℕ, Bool, true, false, not, ◌&&◌, ◌||◌, nat_eq, nat_lt, List, [], ◌∷◌, ◌++◌, length, get_or, map, replicate, Option, Some, None, Contains, refl, sym, ap, ap₂, subst, ◌∙◌, arith, inl, inr, slice_index, slice_set}
-use Rattle.std.specs.List.{list_all, list_any}
-use Rattle.std.proofs.lemmas.Bool.{and_from, and_parts, cases_eq}
+use Rattle.std.proofs.Common.{◌≡◌, ◌≢◌, ◌<◌, ◌+◌, ℕ, Bool, true, false, not, ◌&&◌, ◌||◌, List, [], ◌∷◌, ◌++◌, length, get_or, replicate, Some, Contains, refl, sym, ap, subst, ◌∙◌, arith, inl, inr, slice_index, slice_set}
+use Rattle.std.specs.List.{list_all}
+use Rattle.std.proofs.lemmas.Bool.{and_from, and_parts}
 use Rattle.std.proofs.lemmas.Bool.Decides.{nat_tests}
 use Rattle.std.proofs.lemmas.List.{append_assoc, append-nil, length-append, length-map, length-replicate, length-set, get_or-set_same, get_or-set_other}
 use Rattle.std.proofs.lemmas.List.Elements.{Contains-push_cases}
-use Rattle.std.proofs.lemmas.List.Folds.{list_all-append, list_any-append}
+use Rattle.std.proofs.lemmas.List.Folds.{list_all-append}
 use Rattle.lv_base.specs.declared.ids.Lit.{Lit}
-use Rattle.lv_base.specs.declared.ids.ClauseId.{ClauseId}
 use Rattle.lv_reflog.specs.lv_clauses.Literals.{same_var, in_range, distinct, is_clause, lit_holds, clause_holds}
-use Rattle.lv_reflog.specs.lv_clauses.ClauseMap.{ClauseMap, clause_at, Puts, satisfies}
+use Rattle.lv_reflog.specs.lv_clauses.ClauseMap.{ClauseMap, clause_at, satisfies}
 use Rattle.lv_reflog.proofs.lv_clauses.LiteralLemmas.{present_holds, Contains-nil, Contains-head, Contains-tail}
-use Rattle.lv_model.specs.declared.plant.Plant.{Plant}
-use Rattle.lv_sat.specs.Answers.{IsModel}
-use Rattle.lv_system.specs.Numbering.{has_number}
-use Rattle.lv_system.specs.System.{SystemValue, IsSystemOf}
+use Rattle.lv_system.specs.System.{SystemValue}
 use Rattle.lv_system.proofs.NumberingLemmas.{all_present_hold}
 use Rattle.lv_cert_numbers.specs.lv_cert_blocks.Blocks.{clauses_of}
 use Rattle.lv_cert_numbers.specs.lv_cert_blocks.Following.{numbered}
-use Rattle.lv_cert_numbers.specs.lv_cert_blocks.Deriving.{refutes}
-use Rattle.lv_cert_writing.specs.declared.refuter.Refuted.{Refuted}
-use Rattle.lv_cert_writing.specs.declared.refuter.Refuted.TheVariants.{Values, Lines}
-use Rattle.lv_cert_writing.specs.BlockLines.{derived_of}
-use Rattle.lv_cert_writing.specs.BlockNumbers.{HaveNumbers, HaveUnits, AreSystemNumbers, KeepsOthers, Keeps}
+use Rattle.lv_cert_writing.specs.BlockNumbers.{HaveNumbers}
 use Rattle.lv_cert_writing.specs.StatedClauses.{AddsOne, AreStated}
-use Rattle.lv_cert_writing.specs.Refuting.{Tells, Answers}
 use Rattle.lv_cert_writing.proofs.BlockNumberLemmas.{numbers_more}
 use Rattle.lv_cert_writing.proofs.PlaceLemmas.{numbered-more, numbered-last}
 

@@ -1,6 +1,6 @@
 -- What a block states beside the clauses of a system, put to a solver that serves all blocks: some of it is assumed, and
 -- the rest added.
-use Rattle.std.specs.Prelude.{◌≡◌, ◌≢◌, ℕ, ◌+◌, Bool, true, false, List, ◌++◌, length, Some, None, Contains, slice_index}
+use Rattle.std.specs.Prelude.{◌≡◌, ◌≢◌, ℕ, Bool, true, false, List, ◌++◌, length, Some, None, Contains, slice_index}
 use Rattle.std.specs.List.{list_all, list_any}
 use Rattle.lv_base.specs.declared.ids.Lit.{Lit}
 use Rattle.lv_base.specs.declared.ids.ClauseId.{ClauseId}

@@ -1,5 +1,5 @@
 -- the clauses so far are stated
-use Rattle.std.proofs.Common.{◌≡◌, length, take}
+use Rattle.std.proofs.Common.{take}
 use Rattle.lv_system.specs.System.{SystemValue}
 use Rattle.lv_cert_writing.specs.StatedClauses.{IsShared, AreStated}
 use Rattle.lv_cert_writing.proofs.block_solver.BlockSolver.state_all.Given as goal
