@@ -183,7 +183,7 @@ module _ (plant : Plant) (h : is_well_formed plant ≡ true) (system : SystemVal
       }
 
 -- the same of what is kept to ask
-module _ (v : Asked) (refuter : SystemValue) (stated : List Lit) (k : IsAsking v.plant v.facts v.system refuter stated) where
+module _ (v : Asked) (stated : List Lit) (k : IsAsking v.plant v.facts v.system stated) where
   choices_are : choices_of v.system ≡ plant_choices v.plant
   choices_are = λ i. record { first = k.of_plant.first_choice i; counts = k.of_plant.counts i }
 
@@ -194,9 +194,9 @@ module _ (v : Asked) (refuter : SystemValue) (stated : List Lit) (k : IsAsking v
   pub moves_there : (choices : Choices) → choices ≡ choices_of v.system → (pairs : List Pair) → All (HasMove (move_counts v.plant)) pairs → All (HasMove choices.counts) pairs
   moves_there choices is pairs have = subst (λ (c : Choices). All (HasMove c.counts) pairs) (sym (is ∙ choices_are)) have
 
-  pub stated_over : (own : List (List Lit)) (pairs : List Pair) → own ≡ own_clauses v.plant v.facts pairs → All (HasMove (move_counts v.plant)) pairs → All (IsOver refuter.set.bools) own
-  stated_over own pairs is have =
-      let bools : refuter.set.bools ≡ bool_count v.plant = ap (λ (s : SystemValue). s.set.bools) k.refuter_is ∙ k.of_plant.bools in
+  pub stated_over : (refuter : SystemValue) → refuter ≡ v.system → (own : List (List Lit)) (pairs : List Pair) → own ≡ own_clauses v.plant v.facts pairs → All (HasMove (move_counts v.plant)) pairs → All (IsOver refuter.set.bools) own
+  stated_over refuter same own pairs is have =
+      let bools : refuter.set.bools ≡ bool_count v.plant = ap (λ (s : SystemValue). s.set.bools) same ∙ k.of_plant.bools in
       subst (λ n. All (IsOver n) own) (sym bools) (subst (All (IsOver (bool_count v.plant))) (sym is) (own_over v.plant v.facts k.fit pairs have))
 
   pub tells_of : (pairs : List Pair) → All (HasMove (move_counts v.plant)) pairs → (told : Refuted) → Tells v.system (own_clauses v.plant v.facts pairs) told → TellsOf v pairs told

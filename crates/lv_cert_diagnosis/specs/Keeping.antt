@@ -8,10 +8,9 @@ use Rattle.lv_system.specs.System.{SystemValue, IsSystemOf}
 use Rattle.lv_ident.specs.Literals.{fact_literals}
 use Rattle.lv_meaning.specs.Facts.{FactsInRange}
 
--- the system is the plant's, the refuter is over it, and the literals say what the facts say
-pub record IsAsking (plant : Plant) (facts : Facts) (system refuter : SystemValue) (stated : List Lit) : Type 0 where
+-- the system is the plant's, and the literals say what the facts say
+pub record IsAsking (plant : Plant) (facts : Facts) (system : SystemValue) (stated : List Lit) : Type 0 where
   pub well_formed : is_well_formed plant ≡ true
   pub of_plant : IsSystemOf plant system
-  pub refuter_is : refuter ≡ system
   pub fit : FactsInRange plant facts
   pub stated_are : stated ≡ fact_literals plant facts

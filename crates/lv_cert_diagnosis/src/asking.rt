@@ -1,4 +1,4 @@
-//! What is asked of a refuter about the choices of a candidate or a conflict under the facts.
+//! What a refuter is asked about the choices of a candidate or a conflict under the facts.
 #![tactic(auto)]
 
 ghost use Rattle.std.specs.Prelude.{◌≡◌, ◌<◌, ◌^◌, ◌++◌, true, false, All, IfOk, length, map};
@@ -26,14 +26,13 @@ use lv_system::{StepPair, StepSystem};
 use std::alloc::{AllocError, Global};
 use std::marker;
 
-/// A refuter over a model's system, with what the facts say.
+/// A model with its system, and with what the facts say.
 #[derive(Drop)]
 pub struct Asking<'a> {
     alloc: Global,
     model: &'a Model,
     system: &'a StepSystem,
     facts: &'a Facts,
-    refuter: Refuter<'a>,
     stated: Vec<Lit>,
 }
 
@@ -49,7 +48,7 @@ impl<'a> marker::Model for Asking<'a> {
 
     ghost view = { λ a. record { plant = a.model.now; facts = a.facts.now; system = a.system.now } };
 
-    ghost invariant = { λ a. IsAsking a.model.now a.facts.now a.system.now a.refuter a.stated.items };
+    ghost invariant = { λ a. IsAsking a.model.now a.facts.now a.system.now a.stated.items };
 }
 
 impl<'a> Asking<'a> {
@@ -71,7 +70,6 @@ impl<'a> Asking<'a> {
             model,
             system,
             facts,
-            refuter: Refuter::new(alloc, system)?,
             stated: fact_literals(alloc, model, system, facts)?,
         })
     }
@@ -88,34 +86,44 @@ impl<'a> Asking<'a> {
         Ok(own)
     }
 
-    /// What the refuter tells of these choices under the facts.
-    fn ask(&self, pairs: &[Pair]) -> Result<Refuted, AllocError>
-        requires { All (HasMove (move_counts self.now.plant)) pairs.now }
+    /// What the refuter, which is over the system, tells of these choices under the facts.
+    fn ask(&self, refuter: &mut Refuter<'_>, pairs: &[Pair]) -> Result<Refuted, AllocError>
+        requires refuter { refuter.old ≡ self.now.system }
+        requires moves { All (HasMove (move_counts self.now.plant)) pairs.now }
         ensures told { IfOk result (TellsOf self.now pairs.now) }
         ensures few { IfOk result (λ _. length (own_clauses self.now.plant self.now.facts pairs.now) < 2 ^ 64) }
+        ensures kept { refuter.new ≡ refuter.old }
     {
         let own = self.own(pairs)?;
-        self.refuter.refute(own.as_slice())
+        refuter.refute(own.as_slice())
     }
 
     /// Values before and after a step by the candidate's moves that meets the facts; its choices are possible.
-    pub fn step_of(&self, rank: &Rank) -> Result<StepPair, AllocError>
+    pub fn step_of(&self, refuter: &mut Refuter<'_>, rank: &Rank) -> Result<StepPair, AllocError>
+        requires refuter { refuter.old ≡ self.now.system }
         requires full { are_below (move_counts self.now.plant) rank.now.choices ≡ true }
         requires possible { is_possible_rank self.now.plant self.now.facts rank.now ≡ true }
-        ensures { IfOk result (λ pair. ShowsStep self.now.plant self.now.facts rank.now pair.now pair.next) }
+        ensures shown { IfOk result (λ pair. ShowsStep self.now.plant self.now.facts rank.now pair.now pair.next) }
+        ensures kept { refuter.new ≡ refuter.old }
     {
         let pairs = pairs_of(self.alloc, rank.choices.as_slice())?;
-        let values = values_told(self.ask(pairs.as_slice())?);
+        let values = values_told(self.ask(refuter, pairs.as_slice())?);
         self.system.decode(self.alloc, values.as_slice())
     }
 
     /// Lines that refute that the choices stand together under the facts; they aren't possible.
-    pub fn refutation_of(&self, pairs: &[Pair]) -> Result<Seq<Derivation>, AllocError>
+    pub fn refutation_of(
+        &self,
+        refuter: &mut Refuter<'_>,
+        pairs: &[Pair],
+    ) -> Result<Seq<Derivation>, AllocError>
+        requires refuter { refuter.old ≡ self.now.system }
         requires moves { All (HasMove (move_counts self.now.plant)) pairs.now }
         requires impossible { is_possible self.now.plant self.now.facts pairs.now ≡ false }
         ensures refute { IfOk result (λ lines. refutes (bool_count self.now.plant) (model_clauses self.now.plant ++ own_clauses self.now.plant self.now.facts pairs.now) (map derived_of lines) ≡ true) }
         ensures few { IfOk result (λ _. length (own_clauses self.now.plant self.now.facts pairs.now) < 2 ^ 64) }
+        ensures kept { refuter.new ≡ refuter.old }
     {
-        Ok(lines_told(self.ask(pairs)?))
+        Ok(lines_told(self.ask(refuter, pairs)?))
     }
 }

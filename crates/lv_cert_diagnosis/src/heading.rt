@@ -3,14 +3,13 @@
 #![tactic(auto)]
 
 ghost use Rattle.std.specs.Prelude.{◌≡◌, ◌++◌, ◌∷◌, [], IfOk};
-ghost use Rattle.lv_cert.specs.declared.line.Line.TheVariants.{Model as OfModel};
 ghost use Rattle.lv_cert_diagnosis.specs.Showing as Showing;
 ghost use Rattle.lv_cert_diagnosis.specs.Showing.{head_lines};
 
 use crate::limit::Limit;
 use lv_base::Seq;
 use lv_cert::{Head, Line, Moment, Question};
-use lv_cert_writing::stating::{push_facts, push_states, values_line};
+use lv_cert_writing::stating::{model_line, push_facts, push_states, values_line};
 use lv_meaning::Facts;
 use lv_model::{Model, TrackedState};
 use std::alloc::{AllocError, Global};
@@ -25,14 +24,6 @@ fn limit_line(alloc: Global, limit: Limit) -> Result<Line, AllocError>
     let mut numbers = Seq::new(alloc);
     numbers.push(u128::from(limit.most))?;
     Ok(Line::Numbers(Head::Limit, numbers))
-}
-
-/// The model's name.
-fn model_line(alloc: Global, model: &Model) -> Result<Line, AllocError>
-    ensures { IfOk result (λ line. line ≡ OfModel model.now.name) }
-{
-    let plant = model.plant();
-    Ok(Line::Model(Seq::from_slice(alloc, plant.name.as_slice())?))
 }
 
 /// The lines that state the question.

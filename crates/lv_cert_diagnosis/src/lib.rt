@@ -20,4 +20,5 @@ mod refuting;
 pub mod whole;
 
 pub use limit::Limit;
-pub use whole::{Settled, certify_diagnosis};
+pub use lv_cert_writing::Settled;
+pub use whole::certify_diagnosis;

@@ -10,6 +10,7 @@ ghost use Rattle.lv_cert_diagnosis.specs.Showing.{CanBeShown, AddsShown};
 use crate::asking::Asking;
 use lv_base::{Rank, Seq};
 use lv_cert::{Head, Line};
+use lv_cert_writing::Refuter;
 use lv_cert_writing::stating::{push_places, values_line};
 use std::alloc::{AllocError, Global};
 
@@ -28,12 +29,15 @@ fn push_candidate(
     alloc: Global,
     lines: &mut Vec<Line>,
     asking: &Asking<'_>,
+    refuter: &mut Refuter<'_>,
     rank: &Rank,
 ) -> Result<(), AllocError>
-    requires { CanBeShown asking.now.plant asking.now.facts rank.now }
-    ensures { IfOk result (λ _. AddsShown asking.now.plant asking.now.facts (rank.now ∷ []) lines.old.items lines.new.items) }
+    requires refuter { refuter.old ≡ asking.now.system }
+    requires can { CanBeShown asking.now.plant asking.now.facts rank.now }
+    ensures added { IfOk result (λ _. AddsShown asking.now.plant asking.now.facts (rank.now ∷ []) lines.old.items lines.new.items) }
+    ensures kept { refuter.new ≡ refuter.old }
 {
-    let step = asking.step_of(rank)?;
+    let step = asking.step_of(refuter, rank)?;
     lines.push(listed_line(alloc, rank)?)?;
     lines.push(values_line(alloc, Head::Now, step.now.as_slice())?)?;
     lines.push(values_line(alloc, Head::Next, step.next.as_slice())?)?;
@@ -45,13 +49,16 @@ pub fn push_listed(
     alloc: Global,
     lines: &mut Vec<Line>,
     asking: &Asking<'_>,
+    refuter: &mut Refuter<'_>,
     listed: &[Rank],
 ) -> Result<(), AllocError>
-    requires { All (CanBeShown asking.now.plant asking.now.facts) listed.now }
-    ensures { IfOk result (λ _. AddsShown asking.now.plant asking.now.facts listed.now lines.old.items lines.new.items) }
+    requires refuter { refuter.old ≡ asking.now.system }
+    requires can { All (CanBeShown asking.now.plant asking.now.facts) listed.now }
+    ensures added { IfOk result (λ _. AddsShown asking.now.plant asking.now.facts listed.now lines.old.items lines.new.items) }
+    ensures kept { refuter.new ≡ refuter.old }
 {
     for rank in listed {
-        push_candidate(alloc, lines, asking, rank)?;
+        push_candidate(alloc, lines, asking, refuter, rank)?;
     }
     Ok(())
 }

@@ -10,6 +10,7 @@ ghost use Rattle.lv_cert_diagnosis.specs.Showing.{CanBeRefuted, AddsBlocks};
 use crate::asking::Asking;
 use lv_base::{Conflict, Pair, Seq};
 use lv_cert::{Head, Line};
+use lv_cert_writing::Refuter;
 use lv_cert_writing::asking::push_clauses;
 use lv_cert_writing::stating::push_pairs;
 use std::alloc::{AllocError, Global};
@@ -28,13 +29,16 @@ fn push_block(
     alloc: Global,
     lines: &mut Vec<Line>,
     asking: &Asking<'_>,
+    refuter: &mut Refuter<'_>,
     conflict: &Conflict,
 ) -> Result<(), AllocError>
-    requires { CanBeRefuted asking.now.plant asking.now.facts conflict.now }
-    ensures { IfOk result (λ _. AddsBlocks asking.now.plant asking.now.facts (conflict.now ∷ []) lines.old.items lines.new.items) }
+    requires refuter { refuter.old ≡ asking.now.system }
+    requires can { CanBeRefuted asking.now.plant asking.now.facts conflict.now }
+    ensures added { IfOk result (λ _. AddsBlocks asking.now.plant asking.now.facts (conflict.now ∷ []) lines.old.items lines.new.items) }
+    ensures kept { refuter.new ≡ refuter.old }
 {
     let pairs = conflict.pairs();
-    let told = asking.refutation_of(pairs)?;
+    let told = asking.refutation_of(refuter, pairs)?;
     lines.push(conflict_line(alloc, pairs)?)?;
     push_clauses(lines, told)?;
     Ok(())
@@ -45,13 +49,16 @@ pub fn push_blocks(
     alloc: Global,
     lines: &mut Vec<Line>,
     asking: &Asking<'_>,
+    refuter: &mut Refuter<'_>,
     kept: &[Conflict],
 ) -> Result<(), AllocError>
-    requires { All (CanBeRefuted asking.now.plant asking.now.facts) kept.now }
-    ensures { IfOk result (λ _. AddsBlocks asking.now.plant asking.now.facts kept.now lines.old.items lines.new.items) }
+    requires refuter { refuter.old ≡ asking.now.system }
+    requires can { All (CanBeRefuted asking.now.plant asking.now.facts) kept.now }
+    ensures added { IfOk result (λ _. AddsBlocks asking.now.plant asking.now.facts kept.now lines.old.items lines.new.items) }
+    ensures kept { refuter.new ≡ refuter.old }
 {
     for conflict in kept {
-        push_block(alloc, lines, asking, conflict)?;
+        push_block(alloc, lines, asking, refuter, conflict)?;
     }
     Ok(())
 }

@@ -15,22 +15,16 @@ use crate::heading::head_of;
 use crate::limit::Limit;
 use crate::listing::push_listed;
 use crate::refuting::push_blocks;
-use lv_base::{Conflict, Rank, Seq};
+use lv_base::Seq;
 use lv_boxes::Groups;
 use lv_cert::{Cert, Line, Question};
 use lv_cert_writing::stating::push_splits;
-use lv_cert_writing::{Split, close, last_if_full};
+use lv_cert_writing::{Refuter, Settled, Split, close, last_if_full};
 use lv_meaning::Facts;
 use lv_model::{Model, TrackedState};
 use lv_search_zones::{move_grid, move_targets, zones_of};
 use lv_system::StepSystem;
 use std::alloc::{AllocError, Global};
-
-/// What a settled search came to: what it lists, and the conflicts that it kept.
-pub struct Settled<'a> {
-    pub listed: &'a [Rank],
-    pub kept: &'a [Conflict],
-}
 
 /// Adds what shows the answer: the lines of the listed candidates, and the blocks of the kept conflicts.
 fn push_answer(
@@ -49,8 +43,9 @@ fn push_answer(
     ensures { IfOk result (λ _. HoldsAnswer model.now facts.now answer.now.listed.now answer.now.kept.now lines.old.items lines.new.items) }
 {
     let asking = Asking::new(alloc, model, system, facts)?;
-    push_listed(alloc, lines, &asking, answer.listed)?;
-    push_blocks(alloc, lines, &asking, answer.kept)?;
+    let mut refuter = Refuter::new(alloc, system)?;
+    push_listed(alloc, lines, &asking, &mut refuter, answer.listed)?;
+    push_blocks(alloc, lines, &asking, &mut refuter, answer.kept)?;
     Ok(())
 }
 

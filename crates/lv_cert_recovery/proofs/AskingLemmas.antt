@@ -107,7 +107,7 @@ plant_few : (plant : Plant) → is_well_formed plant ≡ true → length (model_
 plant_few plant h = let few = few_clauses plant h in let count = count_within plant h in omega (arith, few, count)
 
 -- what a step or lines tell of the steps that are asked for
-module _ (v : Asked) (refuter : SystemValue) (vars : List VarId) (k : IsAsking v refuter vars) (s : State) (fit : modes_fit (plant_ranges v.plant) v.plant.parts s.modes ≡ true) (pairs : List Pair)
+module _ (v : Asked) (vars : List VarId) (k : IsAsking v vars) (s : State) (fit : modes_fit (plant_ranges v.plant) v.plant.parts s.modes ≡ true) (pairs : List Pair)
     (have : All (HasChoice (control_sizes v.plant)) pairs) where
   refuted_there : (more : Clauses) (ds : List Derived) → length (own_clauses v.plant v.aim s pairs more) ≤ 2 ^ 64
       → refutes v.system.set.bools (clauses_of v.system ++ own_clauses v.plant v.aim s pairs more) ds ≡ true → AreRefuted v.plant (own_clauses v.plant v.aim s pairs more) ds

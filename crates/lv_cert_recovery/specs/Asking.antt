@@ -14,10 +14,9 @@ pub record Asked : Type 0 where
   pub aim : Aim
   pub system : SystemValue
 
--- the system is the plant's, the refuter is over it, the aim is one that the plant can be asked for, and the controls are the plant's
-pub record IsAsking (a : Asked) (refuter : SystemValue) (vars : List VarId) : Type 0 where
+-- the system is the plant's, the aim is one that the plant can be asked for, and the controls are the plant's
+pub record IsAsking (a : Asked) (vars : List VarId) : Type 0 where
   pub well_formed : is_well_formed a.plant ≡ true
   pub of_plant : IsSystemOf a.plant a.system
-  pub refuter_is : refuter ≡ a.system
   pub asked : IsAsked a.plant a.aim
   pub vars_are : vars ≡ controls a.plant

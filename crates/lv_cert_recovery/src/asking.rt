@@ -1,4 +1,4 @@
-//! What is asked of a refuter about the nominal steps from a state with values of controls.
+//! What a refuter is asked about the nominal steps from a state with values of controls.
 #![tactic(auto)]
 
 ghost use Rattle.std.specs.Prelude.{◌≡◌, ◌++◌, true, All, IfOk, IsTrue};
@@ -26,14 +26,13 @@ use lv_system::{StepPair, StepSystem};
 use std::alloc::{AllocError, Global};
 use std::marker;
 
-/// A refuter over a model's system, with an aim of the model.
+/// A model with its system, and with an aim of the model.
 #[derive(Drop)]
 pub struct Asking<'a> {
     alloc: Global,
     model: &'a Model,
     system: &'a StepSystem,
     aim: &'a Aim,
-    refuter: Refuter<'a>,
     vars: Vec<VarId>,
 }
 
@@ -48,7 +47,7 @@ impl<'a> marker::Model for Asking<'a> {
 
     ghost view = { λ a. record { plant = a.model.now; aim = a.aim.now; system = a.system.now } };
 
-    ghost invariant = { λ a. IsAsking (record { plant = a.model.now; aim = a.aim.now; system = a.system.now }) a.refuter a.vars.items };
+    ghost invariant = { λ a. IsAsking (record { plant = a.model.now; aim = a.aim.now; system = a.system.now }) a.vars.items };
 }
 
 /// What is told of the nominal steps that some clauses ask for.
@@ -75,13 +74,14 @@ fn ask(
     alloc: Global,
     model: &Model,
     system: &StepSystem,
-    refuter: &Refuter,
+    refuter: &mut Refuter<'_>,
     own: &[Seq<Lit>],
 ) -> Result<Told, AllocError>
     requires system { IsSystemOf model.now system.now }
-    requires refuter { refuter.now ≡ system.now }
+    requires refuter { refuter.old ≡ system.now }
     requires over { All (IsOver system.now.set.bools) own.now }
-    ensures { IfOk result (IsTold system.now own.now) }
+    ensures told { IfOk result (IsTold system.now own.now) }
+    ensures kept { refuter.new ≡ refuter.old }
 {
     let _plant = model.plant();
     match refuter.refute(own)? {
@@ -107,7 +107,6 @@ impl<'a> Asking<'a> {
             model,
             system,
             aim,
-            refuter: Refuter::new(alloc, system)?,
             vars: model.controls(alloc)?,
         })
     }
@@ -122,6 +121,13 @@ impl<'a> Asking<'a> {
 
     pub fn alloc(&self) -> Global {
         self.alloc
+    }
+
+    /// A refuter over the system.
+    pub fn refuter(&self) -> Result<Refuter<'a>, AllocError>
+        ensures { IfOk result (λ r. r ≡ self.now.system) }
+    {
+        Refuter::new(self.alloc, self.system)
     }
 
     /// The clauses of a nominal step from the state with these values of controls.
@@ -170,38 +176,41 @@ impl<'a> Asking<'a> {
     }
 
     /// A nominal step from the state, with these values of controls, that reaches all goals, or lines by which none does.
-    pub fn reach(&self, state: &State, pairs: &[Pair]) -> Result<Told, AllocError>
+    pub fn reach(
+        &self,
+        refuter: &mut Refuter<'_>,
+        state: &State,
+        pairs: &[Pair],
+    ) -> Result<Told, AllocError>
+        requires refuter { refuter.old ≡ self.now.system }
         requires fit { modes_fit (plant_ranges self.now.plant) self.now.plant.parts state.now.modes ≡ true }
         requires have { All (HasChoice (control_sizes self.now.plant)) pairs.now }
-        ensures { IfOk result (TellsReached self.now.plant self.now.aim state.now pairs.now) }
+        ensures told { IfOk result (TellsReached self.now.plant self.now.aim state.now pairs.now) }
+        ensures kept { refuter.new ≡ refuter.old }
     {
         let mut own = self.nominal(state, pairs)?;
         self.push_reached(&mut own)?;
-        ask(
-            self.alloc,
-            self.model,
-            self.system,
-            &self.refuter,
-            own.as_slice(),
-        )
+        ask(self.alloc, self.model, self.system, refuter, own.as_slice())
     }
 
     /// Such a step that ends with the goal false, or lines by which none does.
-    pub fn miss(&self, state: &State, pairs: &[Pair], goal: &Condition) -> Result<Told, AllocError>
+    pub fn miss(
+        &self,
+        refuter: &mut Refuter<'_>,
+        state: &State,
+        pairs: &[Pair],
+        goal: &Condition,
+    ) -> Result<Told, AllocError>
+        requires refuter { refuter.old ≡ self.now.system }
         requires fit { modes_fit (plant_ranges self.now.plant) self.now.plant.parts state.now.modes ≡ true }
         requires have { All (HasChoice (control_sizes self.now.plant)) pairs.now }
         requires goal { GoalFits self.now.plant goal.now }
-        ensures { IfOk result (TellsMissed self.now.plant self.now.aim state.now pairs.now goal.now) }
+        ensures told { IfOk result (TellsMissed self.now.plant self.now.aim state.now pairs.now goal.now) }
+        ensures kept { refuter.new ≡ refuter.old }
     {
         let mut own = self.nominal(state, pairs)?;
         push_all(&mut own, self.goal(goal, false)?)?;
-        ask(
-            self.alloc,
-            self.model,
-            self.system,
-            &self.refuter,
-            own.as_slice(),
-        )
+        ask(self.alloc, self.model, self.system, refuter, own.as_slice())
     }
 }
 

@@ -19,6 +19,7 @@ use crate::asking::{Asking, Told};
 use crate::showing::push_step;
 use lv_base::{Conflict, Pair, Seq};
 use lv_cert::{Head, Line};
+use lv_cert_writing::Refuter;
 use lv_cert_writing::asking::push_clauses;
 use lv_cert_writing::stating::push_pairs;
 use lv_model::State;
@@ -48,14 +49,21 @@ fn counter_line(alloc: Global, place: usize, pairs: &[Pair]) -> Result<Line, All
 }
 
 /// Excludes these values by the first state from which they don't reach the goals, if there is one.
-fn push_conflict(asking: &Asking, pairs: &[Pair], lines: &mut Vec<Line>) -> Result<bool, AllocError>
+fn push_conflict(
+    asking: &Asking,
+    refuter: &mut Refuter<'_>,
+    pairs: &[Pair],
+    lines: &mut Vec<Line>,
+) -> Result<bool, AllocError>
+    requires refuter { refuter.old ≡ asking.now.system }
     requires have { All (HasChoice (control_sizes asking.now.plant)) pairs.now }
     requires rising { slots_rise pairs.now ≡ true }
-    ensures { IfOk result (AddsConflict asking.now.plant asking.now.aim pairs.now lines.old.items lines.new.items) }
+    ensures told { IfOk result (AddsConflict asking.now.plant asking.now.aim pairs.now lines.old.items lines.new.items) }
+    ensures kept { refuter.new ≡ refuter.old }
 {
     let aim = asking.aim();
     for (place, s) in aim.tracked.as_slice().iter().enumerate() {
-        match asking.reach(&s.state, pairs)? {
+        match asking.reach(refuter, &s.state, pairs)? {
             Told::Step(_) => {}
             Told::Lines(told) => {
                 lines.push(conflict_line(asking.alloc(), place, pairs)?)?;
@@ -70,16 +78,19 @@ fn push_conflict(asking: &Asking, pairs: &[Pair], lines: &mut Vec<Line>) -> Resu
 /// A nominal step from the state, with these values, that misses a goal, if there is one.
 fn missing_step(
     asking: &Asking,
+    refuter: &mut Refuter<'_>,
     state: &State,
     pairs: &[Pair],
 ) -> Result<Option<StepPair>, AllocError>
+    requires refuter { refuter.old ≡ asking.now.system }
     requires fit { modes_fit (plant_ranges asking.now.plant) asking.now.plant.parts state.now.modes ≡ true }
     requires have { All (HasChoice (control_sizes asking.now.plant)) pairs.now }
-    ensures { IfOk result (TellsMissing asking.now.plant asking.now.aim state.now pairs.now) }
+    ensures told { IfOk result (TellsMissing asking.now.plant asking.now.aim state.now pairs.now) }
+    ensures kept { refuter.new ≡ refuter.old }
 {
     let aim = asking.aim();
     for goal in aim.goals.as_slice() {
-        match asking.miss(state, pairs, goal)? {
+        match asking.miss(refuter, state, pairs, goal)? {
             Told::Step(step) => return Ok(Some(step)),
             Told::Lines(_) => {}
         }
@@ -88,13 +99,20 @@ fn missing_step(
 }
 
 /// Excludes these values of all controls by the first state from which they can miss a goal, if there is one.
-fn push_counter(asking: &Asking, pairs: &[Pair], lines: &mut Vec<Line>) -> Result<bool, AllocError>
-    requires { AreValues asking.now.plant pairs.now }
-    ensures { IfOk result (AddsCounter asking.now.plant asking.now.aim pairs.now lines.old.items lines.new.items) }
+fn push_counter(
+    asking: &Asking,
+    refuter: &mut Refuter<'_>,
+    pairs: &[Pair],
+    lines: &mut Vec<Line>,
+) -> Result<bool, AllocError>
+    requires refuter { refuter.old ≡ asking.now.system }
+    requires given { AreValues asking.now.plant pairs.now }
+    ensures told { IfOk result (AddsCounter asking.now.plant asking.now.aim pairs.now lines.old.items lines.new.items) }
+    ensures kept { refuter.new ≡ refuter.old }
 {
     let aim = asking.aim();
     for (place, s) in aim.tracked.as_slice().iter().enumerate() {
-        if let Some(step) = missing_step(asking, &s.state, pairs)? {
+        if let Some(step) = missing_step(asking, refuter, &s.state, pairs)? {
             lines.push(counter_line(asking.alloc(), place, pairs)?)?;
             push_step(
                 asking.alloc(),
@@ -109,29 +127,39 @@ fn push_counter(asking: &Asking, pairs: &[Pair], lines: &mut Vec<Line>) -> Resul
 }
 
 /// Excludes the reason of a command set that doesn't recover.
-fn push_block(asking: &Asking, conflict: &Conflict, lines: &mut Vec<Line>) -> Result<(), AllocError>
-    requires { IsReason asking.now.plant asking.now.aim conflict.now }
-    ensures { IfOk result (λ _. Excludes asking.now.plant asking.now.aim conflict.now lines.old.items lines.new.items) }
+fn push_block(
+    asking: &Asking,
+    refuter: &mut Refuter<'_>,
+    conflict: &Conflict,
+    lines: &mut Vec<Line>,
+) -> Result<(), AllocError>
+    requires refuter { refuter.old ≡ asking.now.system }
+    requires given { IsReason asking.now.plant asking.now.aim conflict.now }
+    ensures told { IfOk result (λ _. Excludes asking.now.plant asking.now.aim conflict.now lines.old.items lines.new.items) }
+    ensures kept { refuter.new ≡ refuter.old }
 {
     let _aim = asking.aim();
-    if push_conflict(asking, conflict.pairs(), lines)? {
+    if push_conflict(asking, refuter, conflict.pairs(), lines)? {
         return Ok(());
     }
-    push_counter(asking, conflict.pairs(), lines)?;
+    push_counter(asking, refuter, conflict.pairs(), lines)?;
     Ok(())
 }
 
 /// Excludes each of these.
 pub fn push_blocks(
     asking: &Asking,
+    refuter: &mut Refuter<'_>,
     kept: &[Conflict],
     lines: &mut Vec<Line>,
 ) -> Result<(), AllocError>
-    requires { All (IsReason asking.now.plant asking.now.aim) kept.now }
-    ensures { IfOk result (λ _. ExcludesAll asking.now.plant asking.now.aim kept.now lines.old.items lines.new.items) }
+    requires refuter { refuter.old ≡ asking.now.system }
+    requires given { All (IsReason asking.now.plant asking.now.aim) kept.now }
+    ensures told { IfOk result (λ _. ExcludesAll asking.now.plant asking.now.aim kept.now lines.old.items lines.new.items) }
+    ensures kept { refuter.new ≡ refuter.old }
 {
     for conflict in kept {
-        push_block(asking, conflict, lines)?;
+        push_block(asking, refuter, conflict, lines)?;
     }
     Ok(())
 }

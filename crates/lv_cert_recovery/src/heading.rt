@@ -2,23 +2,14 @@
 #![tactic(auto)]
 
 ghost use Rattle.std.specs.Prelude.{◌≡◌, ◌++◌, IfOk};
-ghost use Rattle.lv_cert.specs.declared.line.Line.TheVariants.{Model as OfModel};
 ghost use Rattle.lv_cert_recovery.specs.Showing.{goal_lines, head_lines};
 
 use lv_base::Seq;
 use lv_cert::{Line, Moment, Question};
-use lv_cert_writing::stating::{push_facts, push_states};
+use lv_cert_writing::stating::{model_line, push_facts, push_states};
 use lv_meaning::Aim;
 use lv_model::Model;
 use std::alloc::{AllocError, Global};
-
-/// The model's name.
-fn model_line(alloc: Global, model: &Model) -> Result<Line, AllocError>
-    ensures { IfOk result (λ line. line ≡ OfModel model.now.name) }
-{
-    let plant = model.plant();
-    Ok(Line::Model(Seq::from_slice(alloc, plant.name.as_slice())?))
-}
 
 /// Adds a line for each goal, with its text.
 fn push_goals(alloc: Global, lines: &mut Vec<Line>, texts: &[Seq<u8>]) -> Result<(), AllocError>

@@ -20,4 +20,5 @@ mod showing;
 mod units;
 mod whole;
 
-pub use whole::{Settled, certify_recovery};
+pub use lv_cert_writing::Settled;
+pub use whole::certify_recovery;

@@ -12,6 +12,7 @@ ghost use Rattle.lv_cert_recovery.specs.Showing as Showing;
 use crate::asking::{Asking, lines_told, step_told};
 use lv_base::{Pair, Seq, ValId};
 use lv_cert::{Head, Line};
+use lv_cert_writing::Refuter;
 use lv_cert_writing::asking::push_clauses;
 use lv_cert_writing::stating::values_line;
 use lv_formula::Condition;
@@ -65,17 +66,20 @@ fn recovery_line(alloc: Global, pairs: &[Pair]) -> Result<Line, AllocError>
 /// Shows that from the state of this place there is a step under the recovery.
 fn push_good(
     asking: &Asking,
+    refuter: &mut Refuter<'_>,
     pairs: &[Pair],
     lines: &mut Vec<Line>,
     place: usize,
     state: &TrackedState,
 ) -> Result<(), AllocError>
+    requires refuter { refuter.old ≡ asking.now.system }
     requires given { IsGiven asking.now.plant asking.now.aim pairs.now }
     requires at { slice_get asking.now.aim.tracked place ≡ Some state.now }
-    ensures { IfOk result (λ _. LeadsOn asking.now.plant asking.now.aim (standing (good place) (answer_of asking.now.plant pairs.now) []) (standing (proved place 0) (answer_of asking.now.plant pairs.now) []) lines.old.items lines.new.items) }
+    ensures told { IfOk result (λ _. LeadsOn asking.now.plant asking.now.aim (standing (good place) (answer_of asking.now.plant pairs.now) []) (standing (proved place 0) (answer_of asking.now.plant pairs.now) []) lines.old.items lines.new.items) }
+    ensures kept { refuter.new ≡ refuter.old }
 {
     let _aim = asking.aim();
-    let step = step_told(asking.reach(&state.state, pairs)?);
+    let step = step_told(asking.reach(refuter, &state.state, pairs)?);
     lines.push(good_line(asking.alloc(), place)?)?;
     push_step(
         asking.alloc(),
@@ -88,6 +92,7 @@ fn push_good(
 /// Shows that from the state of this place no step under the recovery misses the goal of that place.
 fn push_proof(
     asking: &Asking,
+    refuter: &mut Refuter<'_>,
     pairs: &[Pair],
     lines: &mut Vec<Line>,
     place: usize,
@@ -95,13 +100,15 @@ fn push_proof(
     at: usize,
     goal: &Condition,
 ) -> Result<(), AllocError>
+    requires refuter { refuter.old ≡ asking.now.system }
     requires given { IsGiven asking.now.plant asking.now.aim pairs.now }
     requires state { slice_get asking.now.aim.tracked place ≡ Some state.now }
     requires goal { slice_get asking.now.aim.goals at ≡ Some goal.now }
-    ensures { IfOk result (λ _. LeadsOn asking.now.plant asking.now.aim (standing (proved place at) (answer_of asking.now.plant pairs.now) []) (standing (proved place (at + 1)) (answer_of asking.now.plant pairs.now) []) lines.old.items lines.new.items) }
+    ensures told { IfOk result (λ _. LeadsOn asking.now.plant asking.now.aim (standing (proved place at) (answer_of asking.now.plant pairs.now) []) (standing (proved place (at + 1)) (answer_of asking.now.plant pairs.now) []) lines.old.items lines.new.items) }
+    ensures kept { refuter.new ≡ refuter.old }
 {
     let _aim = asking.aim();
-    let told = lines_told(asking.miss(&state.state, pairs, goal)?);
+    let told = lines_told(asking.miss(refuter, &state.state, pairs, goal)?);
     lines.push(proof_line(asking.alloc(), place, at)?)?;
     push_clauses(lines, told)?;
     Ok(())
@@ -110,31 +117,41 @@ fn push_proof(
 /// Shows that from the state of this place no step under the recovery misses a goal.
 fn push_proofs(
     asking: &Asking,
+    refuter: &mut Refuter<'_>,
     pairs: &[Pair],
     lines: &mut Vec<Line>,
     place: usize,
     state: &TrackedState,
 ) -> Result<(), AllocError>
+    requires refuter { refuter.old ≡ asking.now.system }
     requires given { IsGiven asking.now.plant asking.now.aim pairs.now }
     requires state { slice_get asking.now.aim.tracked place ≡ Some state.now }
-    ensures { IfOk result (λ _. LeadsOn asking.now.plant asking.now.aim (standing (proved place 0) (answer_of asking.now.plant pairs.now) []) (standing (proved place (length asking.now.aim.goals)) (answer_of asking.now.plant pairs.now) []) lines.old.items lines.new.items) }
+    ensures told { IfOk result (λ _. LeadsOn asking.now.plant asking.now.aim (standing (proved place 0) (answer_of asking.now.plant pairs.now) []) (standing (proved place (length asking.now.aim.goals)) (answer_of asking.now.plant pairs.now) []) lines.old.items lines.new.items) }
+    ensures kept { refuter.new ≡ refuter.old }
 {
     let aim = asking.aim();
     for (at, goal) in aim.goals.as_slice().iter().enumerate() {
-        push_proof(asking, pairs, lines, place, state, at, goal)?;
+        push_proof(asking, refuter, pairs, lines, place, state, at, goal)?;
     }
     Ok(())
 }
 
 /// Shows that from each state the recovery leads to the goals.
-fn push_states(asking: &Asking, pairs: &[Pair], lines: &mut Vec<Line>) -> Result<(), AllocError>
-    requires { IsGiven asking.now.plant asking.now.aim pairs.now }
-    ensures { IfOk result (λ _. LeadsOn asking.now.plant asking.now.aim (standing (good 0) (answer_of asking.now.plant pairs.now) []) (standing (good (length asking.now.aim.tracked)) (answer_of asking.now.plant pairs.now) []) lines.old.items lines.new.items) }
+fn push_states(
+    asking: &Asking,
+    refuter: &mut Refuter<'_>,
+    pairs: &[Pair],
+    lines: &mut Vec<Line>,
+) -> Result<(), AllocError>
+    requires refuter { refuter.old ≡ asking.now.system }
+    requires given { IsGiven asking.now.plant asking.now.aim pairs.now }
+    ensures told { IfOk result (λ _. LeadsOn asking.now.plant asking.now.aim (standing (good 0) (answer_of asking.now.plant pairs.now) []) (standing (good (length asking.now.aim.tracked)) (answer_of asking.now.plant pairs.now) []) lines.old.items lines.new.items) }
+    ensures kept { refuter.new ≡ refuter.old }
 {
     let aim = asking.aim();
     for (place, state) in aim.tracked.as_slice().iter().enumerate() {
-        push_good(asking, pairs, lines, place, state)?;
-        push_proofs(asking, pairs, lines, place, state)?;
+        push_good(asking, refuter, pairs, lines, place, state)?;
+        push_proofs(asking, refuter, pairs, lines, place, state)?;
     }
     Ok(())
 }
@@ -142,13 +159,16 @@ fn push_states(asking: &Asking, pairs: &[Pair], lines: &mut Vec<Line>) -> Result
 /// Gives the recovery, whose values these are, and shows that it recovers.
 pub fn push_recovery(
     asking: &Asking,
+    refuter: &mut Refuter<'_>,
     pairs: &[Pair],
     lines: &mut Vec<Line>,
 ) -> Result<(), AllocError>
-    requires { IsGiven asking.now.plant asking.now.aim pairs.now }
-    ensures { IfOk result (λ _. LeadsOn asking.now.plant asking.now.aim (standing asked [] []) (standing excluding (answer_of asking.now.plant pairs.now) []) lines.old.items lines.new.items) }
+    requires refuter { refuter.old ≡ asking.now.system }
+    requires given { IsGiven asking.now.plant asking.now.aim pairs.now }
+    ensures told { IfOk result (λ _. LeadsOn asking.now.plant asking.now.aim (standing asked [] []) (standing excluding (answer_of asking.now.plant pairs.now) []) lines.old.items lines.new.items) }
+    ensures kept { refuter.new ≡ refuter.old }
 {
     let _aim = asking.aim();
     lines.push(recovery_line(asking.alloc(), pairs)?)?;
-    push_states(asking, pairs, lines)
+    push_states(asking, refuter, pairs, lines)
 }

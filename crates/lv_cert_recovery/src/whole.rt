@@ -12,36 +12,33 @@ use crate::asking::Asking;
 use crate::excluding::push_blocks;
 use crate::heading::head_of;
 use crate::showing::push_recovery;
-use lv_base::{Conflict, Rank, Seq, pairs_of};
+use lv_base::{Seq, pairs_of};
 use lv_cert::{Cert, Line, Question};
 use lv_cert_writing::stating::push_splits;
-use lv_cert_writing::{Split, close, last_if_full};
+use lv_cert_writing::{Refuter, Settled, Split, close, last_if_full};
 use lv_meaning::Aim;
 use lv_model::Model;
 use lv_search_zones::{command_grid, command_zone};
 use lv_system::StepSystem;
 use std::alloc::{AllocError, Global};
 
-/// What a settled search came to: what it lists, and the conflicts that it kept.
-pub struct Settled<'a> {
-    pub listed: &'a [Rank],
-    pub kept: &'a [Conflict],
-}
-
 /// Adds the lines of the recovery, if one is listed.
 fn push_listed(
     asking: &Asking,
+    refuter: &mut Refuter<'_>,
     lines: &mut Vec<Line>,
     answer: &Settled<'_>,
 ) -> Result<(), AllocError>
-    requires { IsSettledRecovery asking.now.plant asking.now.aim answer.now.listed.now answer.now.kept.now }
-    ensures { IfOk result (λ _. LeadsOn asking.now.plant asking.now.aim (standing asked [] []) (standing excluding answer.now.listed.now []) lines.old.items lines.new.items) }
+    requires refuter { refuter.old ≡ asking.now.system }
+    requires given { IsSettledRecovery asking.now.plant asking.now.aim answer.now.listed.now answer.now.kept.now }
+    ensures told { IfOk result (λ _. LeadsOn asking.now.plant asking.now.aim (standing asked [] []) (standing excluding answer.now.listed.now []) lines.old.items lines.new.items) }
+    ensures kept { refuter.new ≡ refuter.old }
 {
     let _aim = asking.aim();
     match answer.listed.first() {
         Some(rank) => {
             let pairs = pairs_of(asking.alloc(), rank.choices.as_slice())?;
-            push_recovery(asking, pairs.as_slice(), lines)
+            push_recovery(asking, refuter, pairs.as_slice(), lines)
         }
         None => Ok(()),
     }
@@ -56,8 +53,9 @@ fn push_answer(
     requires { IsSettledRecovery asking.now.plant asking.now.aim answer.now.listed.now answer.now.kept.now }
     ensures { IfOk result (λ _. LeadsOn asking.now.plant asking.now.aim (standing asked [] []) (standing excluding answer.now.listed.now answer.now.kept.now) lines.old.items lines.new.items) }
 {
-    push_listed(asking, lines, answer)?;
-    push_blocks(asking, answer.kept, lines)
+    let mut refuter = asking.refuter()?;
+    push_listed(asking, &mut refuter, lines, answer)?;
+    push_blocks(asking, &mut refuter, answer.kept, lines)
 }
 
 /// The splits that leave no command set open.

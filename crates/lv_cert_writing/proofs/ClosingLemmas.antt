@@ -1,5 +1,5 @@
 -- Zones closed one after the other: those behind are passed, those ahead have none but explained members and weigh less at each turn.
-use Rattle.std.proofs.Common.{◌≡◌, ℕ, ◌+◌, ◌-◌, ◌<◌, ◌≤◌, Bool, true, false, ◌&&◌, List, [], ◌∷◌, ◌++◌, ⊎_elim, length, map, take, drop, set, get_or, Option, Some, None, option_map, refl, sym, ◌∙◌, ap, subst, cond, nat_lt, arith}
+use Rattle.std.proofs.Common.{◌≡◌, ℕ, ◌+◌, ◌-◌, ◌<◌, ◌≤◌, Bool, true, false, ◌&&◌, List, [], ◌∷◌, ◌++◌, ⊎_elim, length, map, take, drop, set, get_or, Option, Some, None, option_map, refl, sym, ◌∙◌, ap, subst, cond, arith}
 use Rattle.std.specs.Option.{option_and_then, option_map_or}
 use Rattle.std.specs.List.{list_all, list_any}
 use Rattle.std.proofs.Math.ListN.{length-set}

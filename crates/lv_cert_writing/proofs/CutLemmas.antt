@@ -2,7 +2,6 @@
 use Rattle.std.proofs.Common.{◌≡◌, ℕ, zero, suc, ◌+◌, ◌-◌, ◌<◌, ◌≤◌, Bool, true, false, not, ◌&&◌, ◌||◌, ◌⊎◌, inl, inr, List, [], ◌∷◌, ◌++◌, length, map, drop, get_or, position, slice_get, Option, Some, None, option_map, refl, sym, ◌∙◌, ap, subst, cond, nat_eq, nat_lt, arith, add-one, drop-cons, length-drop}
 use Rattle.std.specs.Option.{option_or, option_and_then, option_map_or}
 use Rattle.std.specs.List.{list_any, position_or_len}
-use Rattle.std.specs.Cmp.Lexicographic.{pointwise}
 use Rattle.std.proofs.lemmas.Bool.{and_parts, and_from, or_cases, lt-ltb, ltb-false, leb-true, eq-eqb}
 use Rattle.std.proofs.lemmas.Option.{slice_get-get_or}
 use Rattle.std.proofs.lemmas.List.Quantifiers.{position-Some}
@@ -17,7 +16,7 @@ use Rattle.lv_boxes.specs.GroupParts.{parts_by_groups}
 use Rattle.lv_boxes.specs.RankedMembers.{ranks_in}
 use Rattle.lv_boxes.specs.lv_search_walk.Ranked.{is_rank, is_among}
 use Rattle.lv_boxes.specs.lv_search_walk.Walk.{candidate_of, is_ruled_out}
-use Rattle.lv_boxes.specs.lv_search_walk.Groups.{groups_of, have_same_groups}
+use Rattle.lv_boxes.specs.lv_search_walk.Groups.{have_same_groups}
 use Rattle.lv_boxes.proofs.lv_search_walk.RankedLemmas.{same_rank, not_before_itself, not_both_before}
 use Rattle.lv_model.specs.declared.plant.Plant.{Plant}
 use Rattle.lv_meaning.specs.Targets.{targets_of_moves}

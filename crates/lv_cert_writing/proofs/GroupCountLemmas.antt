@@ -1,5 +1,5 @@
 -- What the parts of a zone that is split by groups weigh: less than the zone, as they have all members but those of the same groups.
-use Rattle.std.proofs.Common.{◌≡◌, ℕ, zero, suc, ◌+◌, ◌*◌, ◌-◌, ◌<◌, ◌≤◌, Bool, true, false, not, ◌&&◌, List, [], ◌∷◌, ◌++◌, ⊎_elim, length, map, drop, get_or, Option, Some, refl, sym, ◌∙◌, ap, ap₂, subst, cond, nat_eq, nat_lt, arith, add-one, drop-cons, length-drop}
+use Rattle.std.proofs.Common.{◌≡◌, ℕ, zero, suc, ◌+◌, ◌*◌, ◌-◌, ◌<◌, ◌≤◌, Bool, true, false, not, ◌&&◌, List, [], ◌∷◌, ◌++◌, ⊎_elim, length, map, drop, get_or, Option, Some, refl, sym, ◌∙◌, ap, cond, nat_eq, nat_lt, arith, add-one, drop-cons, length-drop}
 use Rattle.std.specs.Prelude.{slice_index, slice_set}
 use Rattle.std.specs.List.{list_any}
 use Rattle.std.specs.Cmp.Lexicographic.{pointwise}

@@ -12,6 +12,8 @@ pub mod BlockLineLemmas
 pub mod WalkLemmas
 pub mod BlockNumberLemmas
 pub mod StatedClauseLemmas
+pub mod SharedLemmas
+pub mod AnsweredLemmas
 pub mod SplitWalkLemmas
 pub mod CountLemmas
 pub mod GroupCountLemmas

@@ -1,13 +1,13 @@
 -- One step of a log after the other becomes a line, or is left out.
-use Rattle.std.proofs.Common.{◌≡◌, ◌<◌, ◌+◌, ◌-◌, ℕ, Bool, true, false, nat_eq, nat_lt, List, [], ◌∷◌, ◌++◌, length, map, take, drop, Option, Some, None, option_map, slice_get, slice_index, refl, sym, ap, ap₂, subst, ◌∙◌, arith, inl, inr, if◌then◌else◌}
+use Rattle.std.proofs.Common.{◌≡◌, ◌<◌, ◌+◌, ℕ, Bool, true, false, nat_eq, nat_lt, List, [], ◌∷◌, ◌++◌, length, map, take, drop, Option, Some, None, option_map, slice_get, slice_index, Contains, refl, sym, ap, ap₂, subst, ◌∙◌, arith, inl, inr, if◌then◌else◌}
 use Rattle.std.specs.List.{list_all}
 use Rattle.std.proofs.lemmas.Bool.{and_parts, and_from, cases_eq}
 use Rattle.std.proofs.lemmas.Bool.Decides.{nat_tests}
 use Rattle.std.proofs.lemmas.List.{append_assoc, append-nil, map-append, get_or_append_left, length-append, length-map}
 use Rattle.std.proofs.Math.Seq.{get_or-append_seam}
-use Rattle.std.proofs.lemmas.Option.{slice_get_within}
 use Rattle.lv_base.specs.declared.ids.Lit.{Lit}
 use Rattle.lv_reflog.specs.lv_clauses.ClauseMap.{ClauseMap}
+use Rattle.lv_reflog.specs.lv_clauses.Literals.{neg}
 use Rattle.lv_reflog.specs.declared.log.Hint.{Hint}
 use Rattle.lv_reflog.specs.declared.log.Hint.TheVariants.{Given, Earlier}
 use Rattle.lv_reflog.specs.declared.log.Step.{Step}
@@ -18,9 +18,9 @@ use Rattle.lv_cert_numbers.specs.lv_cert_blocks.Following.{literal_of, numbered,
 use Rattle.lv_cert_numbers.specs.lv_cert_blocks.Deriving.{Derived, clause_of_line, derives, ends_empty, refutes}
 use Rattle.lv_cert_writing.specs.declared.derivation.Derivation.{Derivation}
 use Rattle.lv_cert_writing.specs.Needed.{is_marked, has_named}
-use Rattle.lv_cert_writing.specs.BlockLines.{literal_with, line_of, derived_of, IsRefuting}
+use Rattle.lv_cert_writing.specs.BlockLines.{line_of, unit_number, last_line, derived_of, IsDenied, IsRefuting}
 use Rattle.lv_cert_writing.proofs.PlaceLemmas.{slice_get-take, below_front, numbered-more, numbered-last}
-use Rattle.lv_cert_writing.proofs.BlockLineLemmas.{literals_back, HasNumber, follows_too}
+use Rattle.lv_cert_writing.proofs.BlockLineLemmas.{literals_back, HasNumber, follows_too, denied_follows}
 
 -- one line more
 pub derives-more : (bools : ℕ) (clauses : List (List Lit)) (ds : List Derived) (d : Derived) → derives bools clauses ds ≡ true
@@ -44,9 +44,8 @@ pub record IsSoFar (set : ClauseMap) (clauses : List (List Lit)) (log : List Ste
   pub derived : derives set.bools clauses (map derived_of lines) ≡ true
   pub named : (k : ℕ) (s : Step) → k < place → slice_get log k ≡ Some s → is_marked needed k ≡ true
       → numbered (clauses ++ map clause_of_line (map derived_of lines)) (slice_index placed k) ≡ Some s.clause
-  pub ends : (s : Step) → 0 < place → slice_get log (place - 1) ≡ Some s → is_marked needed (place - 1) ≡ true → s.clause ≡ [] → ends_empty (map derived_of lines) ≡ true
 
-module _ (set : ClauseMap) (clauses : List (List Lit)) (numbers : List ℕ) (log : List Step) (needed : List Bool) (is : IsRefuting set clauses numbers log needed) where
+module _ (set : ClauseMap) (clauses : List (List Lit)) (numbers units : List ℕ) (log : List Step) (needed : List Bool) (is : IsRefuting set clauses numbers units log needed) where
   pub none_so_far : (lines : List Derivation) (placed : List ℕ) → lines ≡ [] → placed ≡ [] → IsSoFar set clauses log needed 0 lines placed
   none_so_far lines placed e f =
       record {
@@ -54,7 +53,6 @@ module _ (set : ClauseMap) (clauses : List (List Lit)) (numbers : List ℕ) (log
         rest = is.valid;
         derived = ap (λ (ls : List Derivation). derives set.bools clauses (map derived_of ls)) e;
         named = λ k s below got marked. absurd (omega (arith, below));
-        ends = λ s some got marked none. absurd (omega (arith, some));
       }
 
   module _ (place : ℕ) (lines : List Derivation) (placed : List ℕ) (far : IsSoFar set clauses log needed place lines placed) (s : Step) (at : slice_get log place ≡ Some s) where
@@ -92,12 +90,8 @@ module _ (set : ClauseMap) (clauses : List (List Lit)) (numbers : List ℕ) (log
           rest = good.1;
           derived = far.derived;
           named = named;
-          ends = λ t some got marked none. absurd (cc (sym (marked_here marked) ∙ unmarked));
         }
       where
-        marked_here : is_marked needed (place + 1 - 1) ≡ true → is_marked needed place ≡ true
-        marked_here marked = let same : place + 1 - 1 ≡ place = omega arith in rw same at marked
-
         named : (k : ℕ) (t : Step) → k < place + 1 → slice_get log k ≡ Some t → is_marked needed k ≡ true → numbered now (slice_index more k) ≡ Some t.clause
         named k t below got marked = elim (cases_eq k place) [
           | inl same ↦ absurd (cc (sym marked ∙ ap (is_marked needed) same ∙ unmarked))
@@ -116,7 +110,6 @@ module _ (set : ClauseMap) (clauses : List (List Lit)) (numbers : List ℕ) (log
           rest = good.1;
           derived = subst (λ (es : List Derived). derives set.bools clauses es ≡ true) (sym more) (derives-more set.bools clauses (map derived_of lines) (derived_of line) far.derived follow);
           named = named;
-          ends = ends;
         }
       where
         more : map derived_of lines_more ≡ map derived_of lines ++ derived_of line ∷ []
@@ -161,24 +154,21 @@ module _ (set : ClauseMap) (clauses : List (List Lit)) (numbers : List ℕ) (log
               ∙ numbered-more now (s.clause ∷ []) (slice_index placed k) t.clause (far.named k t before got marked)
         ]
 
-        ends : (t : Step) → 0 < place + 1 → slice_get log (place + 1 - 1) ≡ Some t → is_marked needed (place + 1 - 1) ≡ true → t.clause ≡ [] → ends_empty (map derived_of lines_more) ≡ true
-        ends t some got marked none =
-            let same : place + 1 - 1 ≡ place = omega arith in
-            let one : Some s ≡ Some t = sym at ∙ sym (ap (slice_get log) same) ∙ got in
-            let step : s ≡ t = cc one in
-            let empty : line.literals ≡ [] = ap (λ (l : Derivation). l.literals) made ∙ ap (λ (u : Step). map literal_with u.clause) step ∙ ap (map literal_with) none in
-            ap ends_empty more ∙ ends_empty-more (map derived_of lines) (derived_of line) ∙ ap (λ (ls : List Literal). nat_eq (length ls) 0) empty
+    -- the last one becomes the line of the empty clause
+    pub last_taken : list_all (has_named needed place) s.hints ≡ true → IsDenied clauses units s.clause → (line : Derivation) → line ≡ last_line numbers units placed s → (lines_more : List Derivation) → lines_more ≡ lines ++ line ∷ []
+        → refutes set.bools clauses (map derived_of lines_more) ≡ true
+    last_taken has denied_all line made lines_more added =
+        and_from (derives set.bools clauses (map derived_of lines_more)) (ends_empty (map derived_of lines_more))
+        (ap (derives set.bools clauses) more ∙ derives-more set.bools clauses (map derived_of lines) (derived_of line) far.derived follow)
+        (ap ends_empty more ∙ ends_empty-more (map derived_of lines) (derived_of line) ∙ ap (λ (ls : List Literal). nat_eq (length ls) 0) (ap (λ (l : Derivation). l.literals) made))
+      where
+        more : map derived_of lines_more ≡ map derived_of lines ++ derived_of line ∷ []
+        more = ap (map derived_of) added ∙ map-append derived_of lines (line ∷ [])
 
-  -- all steps
-  pub all_so_far : (place : ℕ) (lines : List Derivation) (placed : List ℕ) → length log ≡ place → IsSoFar set clauses log needed place lines placed
-      → refutes set.bools clauses (map derived_of lines) ≡ true
-  all_so_far place lines placed whole far =
-      and_from (derives set.bools clauses (map derived_of lines)) (ends_empty (map derived_of lines)) far.derived (by (slice_get log (length log - 1)) refl)
-    where
-      by : (o : Option Step) → slice_get log (length log - 1) ≡ o → ends_empty (map derived_of lines) ≡ true
-      by None none = absurd (cc (sym (ap (option_map (λ (t : Step). t.clause)) none) ∙ is.ends))
-      by (Some t) got =
-          let empty : Some t.clause ≡ Some [] = sym (ap (option_map (λ (u : Step). u.clause)) got) ∙ is.ends in
-          let same : length log - 1 ≡ place - 1 = ap (λ (n : ℕ). n - 1) whole in
-          let within = slice_get_within log (length log - 1) t got in
-          far.ends t (omega (arith, within, whole)) (sym (ap (slice_get log) same) ∙ got) (sym (ap (is_marked needed) same) ∙ is.marks.last) (cc empty)
+        there : (m : Lit) → Contains s.clause m → numbered now (unit_number units m) ≡ Some (neg m ∷ [])
+        there m h = numbered-more clauses (map clause_of_line (map derived_of lines)) (unit_number units m) (neg m ∷ []) (denied_all.each m h)
+
+        follow : follows set.bools now (derived_of line).literals (derived_of line).hints ≡ true
+        follow =
+            subst (λ (l : Derivation). follows set.bools now l.literals l.hints ≡ true) (sym made)
+            (denied_follows set.slots (take place log) now numbers placed needed place has_number units set.bools s has there good.0)

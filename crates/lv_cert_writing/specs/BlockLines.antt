@@ -1,13 +1,14 @@
 -- The steps of a log as lines of a block.
-use Rattle.std.specs.Prelude.{◌≡◌, ◌+◌, ℕ, Bool, not, List, [], map, Some, None, slice_index}
+use Rattle.std.specs.Prelude.{◌≡◌, ◌+◌, ◌-◌, ◌++◌, ◌∷◌, ℕ, Bool, not, List, [], length, map, Some, None, Contains, slice_get, slice_index}
 use Rattle.lv_base.specs.declared.ids.Lit.{Lit}
 use Rattle.lv_reflog.specs.lv_clauses.ClauseMap.{ClauseMap}
+use Rattle.lv_reflog.specs.lv_clauses.Literals.{neg}
 use Rattle.lv_reflog.specs.declared.log.Hint.{Hint}
 use Rattle.lv_reflog.specs.declared.log.Hint.TheVariants.{Given, Earlier}
 use Rattle.lv_reflog.specs.declared.log.Step.{Step}
 use Rattle.lv_reflog.specs.Following.{first_bad_step}
-use Rattle.lv_sat.specs.Answers.{last_clause}
 use Rattle.lv_cert.specs.declared.line.Literal.{Literal}
+use Rattle.lv_cert_numbers.specs.lv_cert_blocks.Following.{numbered}
 use Rattle.lv_cert_numbers.specs.lv_cert_blocks.Deriving.{Derived}
 use Rattle.lv_cert_writing.specs.declared.derivation.Derivation.{Derivation}
 use Rattle.lv_cert_writing.specs.BlockNumbers.{HaveNumbers}
@@ -25,13 +26,26 @@ hint_number numbers placed (Earlier place) = slice_index placed place
 abbrev pub line_of : List ℕ → List ℕ → Step → Derivation
 line_of numbers placed s = record { literals = map literal_with s.clause; hints = map (hint_number numbers placed) s.hints }
 
+-- the number kept for the clause that states an assumption of the literal's boolean
+abbrev pub unit_number : List ℕ → Lit → ℕ
+unit_number units l = slice_index units l.var.0
+
+-- the step as the line of the empty clause, which first takes as true what denies its literals
+abbrev pub last_line : List ℕ → List ℕ → List ℕ → Step → Derivation
+last_line numbers units placed s = record { literals = []; hints = map (unit_number units) s.clause ++ map (hint_number numbers placed) s.hints }
+
 -- what the line says
 abbrev pub derived_of : Derivation → Derived
 derived_of line = record { literals = line.literals; hints = line.hints }
 
--- a valid log over the set that ends in the empty clause, the numbers of the set's clauses among these, and marks of the steps that are needed
-pub record IsRefuting (set : ClauseMap) (clauses : List (List Lit)) (numbers : List ℕ) (log : List Step) (needed : List Bool) : Type 0 where
+-- each literal of the clause is denied by the clause of its negation alone, under the number kept for that
+pub record IsDenied (clauses : List (List Lit)) (units : List ℕ) (c : List Lit) : Type 0 where
+  pub each : (m : Lit) → Contains c m → numbered clauses (unit_number units m) ≡ Some (neg m ∷ [])
+
+-- a valid log over the set that ends in a clause that is denied, the numbers of the set's clauses among these, and marks of the steps that
+-- are needed
+pub record IsRefuting (set : ClauseMap) (clauses : List (List Lit)) (numbers units : List ℕ) (log : List Step) (needed : List Bool) : Type 0 where
   pub given : HaveNumbers set.slots clauses numbers
   pub valid : first_bad_step set log ≡ None
-  pub ends : last_clause log ≡ Some []
+  pub ends : (s : Step) → slice_get log (length log - 1) ≡ Some s → IsDenied clauses units s.clause
   pub marks : AreNeeded log needed 0

@@ -1,9 +1,10 @@
 -- What is told of a block: values that make what it states true, or lines that refute it.
-use Rattle.std.specs.Prelude.{◌≡◌, Bool, true, List, [], ◌++◌, length, map}
+use Rattle.std.specs.Prelude.{◌≡◌, Bool, true, List, ◌++◌, length, map}
 use Rattle.std.specs.List.{list_all}
 use Rattle.lv_base.specs.declared.ids.Lit.{Lit}
 use Rattle.lv_reflog.specs.lv_clauses.Literals.{clause_holds}
 use Rattle.lv_reflog.specs.lv_clauses.ClauseMap.{ClauseMap, satisfies}
+use Rattle.lv_sat.specs.Answers.{IsModel}
 use Rattle.lv_system.specs.System.{SystemValue}
 use Rattle.lv_cert_numbers.specs.lv_cert_blocks.Blocks.{clauses_of}
 use Rattle.lv_cert_numbers.specs.lv_cert_blocks.Deriving.{refutes}
@@ -22,7 +23,7 @@ abbrev pub Tells : SystemValue → List (List Lit) → Refuted → Type 0
 Tells s own (Values values) = MakeTrue s.set own values
 Tells s own (Lines lines) = refutes s.set.bools (clauses_of s ++ own) (map derived_of lines) ≡ true
 
--- the same of a set that has the stated ones too, whose clauses are numbered so
-abbrev pub Answers : ClauseMap → List (List Lit) → Refuted → Type 0
-Answers set clauses (Values values) = MakeTrue set [] values
-Answers set clauses (Lines lines) = refutes set.bools clauses (map derived_of lines) ≡ true
+-- values that satisfy a set and make the literals assumed true, or lines that refute these clauses
+abbrev pub Answers : ClauseMap → List (List Lit) → List Lit → Refuted → Type 0
+Answers set clauses assumed (Values values) = IsModel set assumed values
+Answers set clauses assumed (Lines lines) = refutes set.bools clauses (map derived_of lines) ≡ true

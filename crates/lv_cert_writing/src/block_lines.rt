@@ -71,23 +71,50 @@ fn line_of(
     })
 }
 
-/// The steps that are needed as lines behind so many clauses, among which those of the set have these numbers. The lines
-/// are numbered without the steps that are left out.
+/// The step that ends a refutation under assumptions, as the line of the empty clause: each literal of it is denied by the
+/// clause that states its assumption, whose number stands at the place of its boolean.
+fn last_line(
+    alloc: Global,
+    numbers: &[u128],
+    units: &[u128],
+    placed: &[u128],
+    step: &Step,
+) -> Result<Derivation, AllocError>
+    ensures { IfOk result (λ line. line ≡ Lines.last_line numbers.now units.now placed.now step.now) }
+{
+    let mut hints = Vec::new(alloc);
+    for lit in step.clause.as_slice() {
+        hints.push(number_at(units, lit.var.0 as usize))?;
+    }
+    for hint in step.hints.as_slice() {
+        hints.push(hint_of(numbers, placed, *hint))?;
+    }
+    Ok(Derivation {
+        literals: Seq::new(alloc),
+        hints: Seq::from_vec(hints),
+    })
+}
+
+/// The steps that are needed as lines behind so many clauses, among which those of the set have these numbers, and those
+/// that state assumptions these, by their booleans. The lines are numbered without the steps that are left out.
 pub fn lines_of(
     alloc: Global,
     numbers: &[u128],
+    units: &[u128],
     before: u128,
     log: &Log,
     needed: &[bool],
 ) -> Result<Seq<Derivation>, AllocError>
     requires few { before < 2 ^ 127 }
+    requires some { 0 < length log.now }
     requires marks { length needed.now ≡ length log.now }
-    ensures { (set : ClauseMap) (clauses : List (List Lit)) → length clauses ≡ before → IsRefuting set clauses numbers.now log.now needed.now →
+    ensures { (set : ClauseMap) (clauses : List (List Lit)) → length clauses ≡ before → IsRefuting set clauses numbers.now units.now log.now needed.now →
         IfOk result (λ lines. refutes set.bools clauses (map derived_of lines) ≡ true) }
 {
+    let last = log.len() - 1;
     let mut lines = Seq::new(alloc);
-    let mut placed = Vec::with_capacity(alloc, log.len())?;
-    for place in 0..log.len() {
+    let mut placed = Vec::with_capacity(alloc, last)?;
+    for place in 0..last {
         if needed[place] {
             let line = line_of(alloc, numbers, placed.as_slice(), log.step(place))?;
             lines.push(line)?;
@@ -96,5 +123,7 @@ pub fn lines_of(
             placed.push(0)?;
         }
     }
+    let end = last_line(alloc, numbers, units, placed.as_slice(), log.step(last))?;
+    lines.push(end)?;
     Ok(lines)
 }

@@ -2,7 +2,7 @@
 #![tactic(auto)]
 
 ghost use Rattle.std.specs.Prelude.{◌≡◌, IfOk, OnOk, slice_index};
-ghost use Rattle.lv_cert_writing.specs.BlockNumbers.{AreSystemNumbers, Keeps};
+ghost use Rattle.lv_cert_writing.specs.BlockNumbers.{AreSystemNumbers, Keeps, KeepsOthers};
 
 use lv_base::ClauseId;
 use lv_system::StepSystem;
@@ -21,7 +21,8 @@ pub fn number_at(numbers: &[u128], place: usize) -> u128
 
 /// Keeps a number at a place.
 pub fn keep(numbers: &mut Vec<u128>, place: usize, number: u128) -> Result<(), AllocError>
-    ensures { OnOk result (Keeps numbers.old.items numbers.new.items place number) }
+    ensures kept { OnOk result (Keeps numbers.old.items numbers.new.items place number) }
+    ensures others { KeepsOthers numbers.old.items numbers.new.items place }
 {
     while numbers.len() <= place {
         numbers.push(0)?;

@@ -5,12 +5,13 @@
 //! |---|---|
 //! | tracked states, observations and values as lines | `stating` |
 //! | what a block states, and what a refuter tells of it | `asking` |
-//! | a solver for the blocks | `Refuter` |
+//! | a solver for all blocks | `Refuter`, `block_solver` |
 //! | what it answers: values, or lines up to the empty clause | `Refuted`, `Derivation` |
-//! | what a block states, put to a solver | `stated_clauses` |
+//! | what a block states by a literal alone | `assumed` |
 //! | the numbers of clauses in a block | `block_numbers` |
 //! | which steps of a log are needed | `needed` |
 //! | steps of a log as lines | `block_lines` |
+//! | a settled answer | `Settled` |
 //! | splits that close zones | `close`, `Split` |
 //! | the last that counts | `last_if_full` |
 //! | what a settled walk explains, and that splits end well | `split_laws` |
@@ -29,17 +30,20 @@
 #![tactic(auto)]
 
 pub mod asking;
+mod assumed;
 mod block_lines;
 mod block_numbers;
+mod block_solver;
 pub mod closing;
 pub mod derivation;
 mod needed;
 pub mod refuter;
+pub mod settled;
 pub mod split_laws;
-mod stated_clauses;
 pub mod stating;
 
 pub use closing::{Split, close, last_if_full};
 pub use derivation::Derivation;
 pub use refuter::{Refuted, Refuter};
+pub use settled::Settled;
 pub use split_laws::{settled_walk_explains, splits_end_well};

@@ -1,19 +1,21 @@
-//! The question whether what a block states can be true, asked of a solver of its own each time.
+//! The question whether what a block states can be true, asked of one solver for all blocks.
 #![tactic(auto)]
 
-ghost use Rattle.std.specs.Prelude.{◌≡◌, ◌<◌, ◌^◌, ℕ, List, All, IfOk, length};
+ghost use Rattle.std.specs.Prelude.{◌≡◌, ◌<◌, ◌^◌, ℕ, List, All, IfOk, IsTrue, length};
 ghost use Rattle.lv_base.specs.declared.ids.Lit.{Lit};
 ghost use Rattle.lv_model.specs.declared.plant.Plant.{Plant};
+ghost use Rattle.lv_reflog.specs.lv_clauses.Literals.{is_clause};
 ghost use Rattle.lv_system.specs.Numbering.{IsOver};
-ghost use Rattle.lv_system.specs.System.{IsSystemOf};
-ghost use Rattle.lv_cert_writing.specs.BlockNumbers.{HaveNumbers, AreSystemNumbers};
+ghost use Rattle.lv_system.specs.System.{IsSystemOf, SystemValue};
+ghost use Rattle.lv_cert_writing.specs.BlockNumbers.{HaveNumbers, HaveUnits};
+ghost use Rattle.lv_cert_writing.specs.StatedClauses.{IsShared};
 ghost use Rattle.lv_cert_writing.specs.Refuting.{Answers, Tells};
 
+use crate::assumed::Assumed;
 use crate::block_lines::lines_of;
-use crate::block_numbers::numbers_of;
+use crate::block_solver::BlockSolver;
 use crate::derivation::Derivation;
 use crate::needed::needed_steps;
-use crate::stated_clauses::state_all;
 use lv_base::{Lit, Seq};
 use lv_sat::{Answer, Solver};
 use lv_system::StepSystem;
@@ -29,84 +31,96 @@ pub enum Refuted {
     Lines(Seq<Derivation>),
 }
 
-/// What the solver answers, in the numbers of a block that has so many clauses before its lines, few enough for the lines
-/// to have numbers too.
+/// What the solver answers under assumptions, in the numbers of a block that has so many clauses before its lines, few
+/// enough for the lines to have numbers too.
 fn answer(
     alloc: Global,
     solver: &mut Solver,
     numbers: &[u128],
+    assumed: &Assumed,
     before: u128,
 ) -> Result<Refuted, AllocError>
-    requires { before < 2 ^ 127 }
-    ensures { (clauses : List (List Lit)) → length clauses ≡ before → HaveNumbers solver.old.slots clauses numbers.now →
-        IfOk result (Answers solver.old clauses) }
+    requires few { before < 2 ^ 127 }
+    requires clause { IsTrue (is_clause solver.old.bools assumed.now.lits.items) }
+    ensures told { (clauses : List (List Lit)) → length clauses ≡ before → HaveNumbers solver.old.slots clauses numbers.now → HaveUnits clauses assumed.now.lits.items assumed.now.numbers.items →
+        IfOk result (Answers solver.old clauses assumed.now.lits.items) }
+    ensures kept { solver.new ≡ solver.old }
 {
-    match solver.solve(&[])? {
+    match solver.solve(assumed.lits.as_slice())? {
         Answer::Sat(values) => Ok(Refuted::Values(values)),
         Answer::Unsat { core: _, log } => {
             let needed = needed_steps(alloc, &log)?;
-            let lines = lines_of(alloc, numbers, before, &log, needed.as_slice())?;
+            let units = assumed.numbers.as_slice();
+            let lines = lines_of(alloc, numbers, units, before, &log, needed.as_slice())?;
             Ok(Refuted::Lines(lines))
         }
     }
 }
 
-/// The answer for a block that states these clauses. The numbers are those of the system's clauses.
+/// The answer for a block that states these clauses.
 fn ask(
     alloc: Global,
     system: &StepSystem,
-    numbers: &[u128],
+    block: &mut BlockSolver,
     own: &[Seq<Lit>],
 ) -> Result<Refuted, AllocError>
     requires own { All (IsOver system.now.set.bools) own.now }
-    requires numbers { AreSystemNumbers system.now system.now.ids numbers.now }
-    ensures { (plant : Plant) → IsSystemOf plant system.now → IfOk result (Tells system.now own.now) }
+    requires shared { IsShared system.now block.old.solver block.old.added.items block.old.numbers.items }
+    ensures told { (plant : Plant) → IsSystemOf plant system.now → IfOk result (Tells system.now own.now) }
+    ensures shared { IsShared system.now block.new.solver block.new.added.items block.new.numbers.items }
 {
     let models = system.clause_total();
-    let mut numbers = Vec::from_slice(alloc, numbers)?;
-    let mut solver = Solver::new(alloc, system.clauses())?;
-    state_all(&mut solver, &mut numbers, models, own)?;
+    block.clear();
+    let assumed = block.state_all(alloc, models, own)?;
     let before = u128::from(models) + own.len() as u128;
-    answer(alloc, &mut solver, numbers.as_slice(), before)
+    answer(
+        alloc,
+        &mut block.solver,
+        block.numbers.as_slice(),
+        &assumed,
+        before,
+    )
 }
 
-/// A model's system with the numbers that its clauses have in every block, seen by contracts as the system.
+/// A model's system with a solver for all blocks, seen by contracts as the system.
 #[derive(Drop)]
 pub struct Refuter<'a> {
     alloc: Global,
     system: &'a StepSystem,
-    numbers: Vec<u128>,
+    block: BlockSolver,
 }
 
 impl<'a> Model for Refuter<'a> {
     ghost use Rattle.lv_system.specs.System.{SystemValue};
-    ghost use Rattle.lv_cert_writing.specs.BlockNumbers.{AreSystemNumbers};
+    ghost use Rattle.lv_cert_writing.specs.StatedClauses.{IsShared};
 
     ghost Value = { SystemValue };
 
     ghost view = { λ r. r.system.now };
 
-    ghost invariant = { λ r. AreSystemNumbers r.system.now r.system.now.ids r.numbers.items };
+    ghost invariant = { λ r. IsShared r.system.now r.block.solver r.block.added.items r.block.numbers.items };
 }
 
 impl<'a> Refuter<'a> {
-    /// Keeps the numbers of the system's clauses, so that a block needs only a copy of them.
+    /// Copies the system's clauses into the solver, and keeps their numbers.
     pub fn new(alloc: Global, system: &'a StepSystem) -> Result<Refuter<'a>, AllocError>
         ensures { IfOk result (λ r. r ≡ system.now) }
     {
         Ok(Refuter {
             alloc,
             system,
-            numbers: numbers_of(alloc, system)?,
+            block: BlockSolver::new(alloc, system)?,
         })
     }
 
     /// Whether the clauses that a block states, over the system's booleans, can be true together with those of the system of
-    /// a plant: values, or else the lines of the block. It asks a solver of its own, which copies the system's clauses.
-    pub fn refute(&self, own: &[Seq<Lit>]) -> Result<Refuted, AllocError>
-        requires { All (IsOver self.now.set.bools) own.now }
-        ensures { (plant : Plant) → IsSystemOf plant self.now → IfOk result (Tells self.now own.now) }
+    /// a plant: values, or else the lines of the block. Those of one literal are assumed; what the solver found out of the
+    /// first of them it need not find out anew where the next block states the same first.
+    pub fn refute(&mut self, own: &[Seq<Lit>]) -> Result<Refuted, AllocError>
+        requires { All (IsOver self.old.set.bools) own.now }
+        ensures told { (plant : Plant) → IsSystemOf plant self.old → IfOk result (Tells self.old own.now) }
+        ensures kept { self.new ≡ self.old }
     {
-        ask(self.alloc, self.system, self.numbers.as_slice(), own)
+        ask(self.alloc, self.system, &mut self.block, own)
     }
 }

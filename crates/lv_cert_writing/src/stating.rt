@@ -2,6 +2,7 @@
 #![tactic(auto)]
 
 ghost use Rattle.std.specs.Prelude.{◌≡◌, ◌++◌, ◌∷◌, IfOk};
+ghost use Rattle.lv_cert.specs.declared.line.Line.TheVariants.{Model as OfModel};
 ghost use Rattle.lv_cert_writing.specs.Lines as Lines;
 ghost use Rattle.lv_cert_writing.specs.Lines.{value_numbers, numbers_of, pair_numbers};
 
@@ -9,8 +10,16 @@ use crate::Split;
 use lv_base::{Pair, Seq, ValId};
 use lv_cert::{Head, Line, Moment};
 use lv_meaning::Observation;
-use lv_model::TrackedState;
+use lv_model::{Model, TrackedState};
 use std::alloc::{AllocError, Global};
+
+/// The model's name.
+pub fn model_line(alloc: Global, model: &Model) -> Result<Line, AllocError>
+    ensures { IfOk result (λ line. line ≡ OfModel model.now.name) }
+{
+    let plant = model.plant();
+    Ok(Line::Model(Seq::from_slice(alloc, plant.name.as_slice())?))
+}
 
 /// Adds the numbers of values.
 pub fn push_values(out: &mut Seq<u128>, values: &[ValId]) -> Result<(), AllocError>

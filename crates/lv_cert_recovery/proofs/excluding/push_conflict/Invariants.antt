@@ -6,6 +6,7 @@ use Rattle.lv_cert_recovery.proofs.excluding.push_conflict.Given as goal
 
 abbrev pub invariant-loop-place : goal.invariant-loop-place
 invariant-loop-place l = record {
+  kept : l.refuter ≡ l.fn.refuter;
   same : l.lines.items ≡ l.initial.lines.items;
   all : list_all (λ (s : TrackedState). reaches l.asking.plant l.asking.aim s.state l.pairs) (drop l.place l.s-items) ≡ list_all (λ (s : TrackedState). reaches l.asking.plant l.asking.aim s.state l.pairs) l.s-items;
 }

@@ -13,15 +13,15 @@ reach-requires-clause-have c = values_have c.args.asking.now.plant c.args.asking
 pub step_told-step-requires : goal.step_told-step-requires
 step_told-step-requires c =
     reached_step c.args.asking.now.plant c.args.asking.now.aim c.aim-aim.ensures.well_formed c.aim-aim.ensures.asked c.args.pairs.now c.requires.given c.args.place c.args.state.now c.requires.at
-    c.in_ok-reach.field-0 c.in_ok-reach.ensures
+    c.in_ok-reach.field-0 c.in_ok-reach.ensures.told
 
-pub returns : goal.returns
-returns c =
+pub returns-clause-told : goal.returns-clause-told
+returns-clause-told c =
     IfOk-weaker c.push_step.result _ _
     (λ x is.
     good_on c.args.asking.now.plant c.args.asking.now.aim c.aim-aim.ensures.well_formed c.aim-aim.ensures.asked c.args.pairs.now c.requires.given c.args.place c.args.state.now c.requires.at
     c.step_told-step.result
-    (subst (TellsReached c.args.asking.now.plant c.args.asking.now.aim c.args.state.now.state c.args.pairs.now) c.step_told-step.ensures c.in_ok-reach.ensures) c.args.lines.now.items c.push_step.new.lines.items
+    (subst (TellsReached c.args.asking.now.plant c.args.asking.now.aim c.args.state.now.state c.args.pairs.now) c.step_told-step.ensures c.in_ok-reach.ensures.told) c.args.lines.now.items c.push_step.new.lines.items
     (joined c.args.lines.now.items c.push.new.self.items c.push_step.new.lines.items (step_lines c.step_told-step.result.now c.step_told-step.result.next) c.in_ok-good_line.field-0 _ c.in_ok-push.ensures.items
     c.in_ok-good_line.ensures (is ∙ (λ i. c.push.new.self.items ++ step_lines (c.as_slice.ensures i) (c.as_slice-2.ensures i)))))
     c.push_step.ensures

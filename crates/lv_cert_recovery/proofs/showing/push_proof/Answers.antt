@@ -17,13 +17,13 @@ miss-requires-clause-goal c =
 pub lines_told-told-requires : goal.lines_told-told-requires
 lines_told-told-requires c =
     unmissed_lines c.args.asking.now.plant c.args.asking.now.aim c.aim-aim.ensures.well_formed c.aim-aim.ensures.asked c.args.pairs.now c.requires.given c.args.place c.args.state.now c.requires.state
-    c.args.at c.args.goal.now c.requires.goal c.in_ok-miss.field-0 c.in_ok-miss.ensures
+    c.args.at c.args.goal.now c.requires.goal c.in_ok-miss.field-0 c.in_ok-miss.ensures.told
 
-pub returns : goal.returns
-returns c =
+pub returns-clause-told : goal.returns-clause-told
+returns-clause-told c =
     proof_on c.args.asking.now.plant c.args.asking.now.aim c.aim-aim.ensures.well_formed c.aim-aim.ensures.asked c.args.pairs.now c.requires.given c.args.place c.args.at c.args.state.now c.requires.state
     c.args.goal.now c.requires.goal c.lines_told-told.result
-    (subst (TellsMissed c.args.asking.now.plant c.args.asking.now.aim c.args.state.now.state c.args.pairs.now c.args.goal.now) c.lines_told-told.ensures c.in_ok-miss.ensures)
+    (subst (TellsMissed c.args.asking.now.plant c.args.asking.now.aim c.args.state.now.state c.args.pairs.now c.args.goal.now) c.lines_told-told.ensures c.in_ok-miss.ensures.told)
     c.args.lines.now.items c.push_clauses.new.lines.items
     (joined c.args.lines.now.items c.push.new.self.items c.push_clauses.new.lines.items (clause_lines (map derived_of c.lines_told-told.result)) c.in_ok-proof_line.field-0 _ c.in_ok-push.ensures.items
     c.in_ok-proof_line.ensures c.in_ok-push_clauses.ensures.lines)

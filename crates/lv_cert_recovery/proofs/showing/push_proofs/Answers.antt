@@ -1,5 +1,5 @@
 -- one goal more
-use Rattle.std.proofs.Common.{◌+◌, []}
+use Rattle.std.proofs.Common.{◌+◌, ◌∙◌, []}
 use Rattle.lv_cert_recovery.specs.Keeping.{answer_of}
 use Rattle.lv_cert_recovery.specs.Leading.{proved, standing}
 use Rattle.lv_cert_recovery.proofs.LeadingLemmas.{leads_both}
@@ -8,5 +8,9 @@ use Rattle.lv_cert_recovery.proofs.showing.push_proofs.Goals as goal
 pub loop-at-preserved : goal.loop-at-preserved
 loop-at-preserved c =
     let p = c.args.asking.now.plant in
-    leads_both p c.args.asking.now.aim (standing (proved c.args.place 0) (answer_of p c.args.pairs.now) []) (standing (proved c.args.place c.loop-at.at) (answer_of p c.args.pairs.now) [])
-    (standing (proved c.args.place (c.loop-at.at + 1)) (answer_of p c.args.pairs.now) []) c.args.lines.now.items c.loop-at.lines.items c.push_proof.new.lines.items c.loop-at.invariant c.in_ok-push_proof.ensures
+    record {
+      on =
+          leads_both p c.args.asking.now.aim (standing (proved c.args.place 0) (answer_of p c.args.pairs.now) []) (standing (proved c.args.place c.loop-at.at) (answer_of p c.args.pairs.now) [])
+          (standing (proved c.args.place (c.loop-at.at + 1)) (answer_of p c.args.pairs.now) []) c.args.lines.now.items c.loop-at.lines.items c.push_proof.new.lines.items c.loop-at.invariant.on c.in_ok-push_proof.ensures.told;
+      kept = c.push_proof.ensures.kept ∙ c.loop-at.invariant.kept;
+    }

@@ -8,5 +8,5 @@ use Rattle.lv_cert_writing.proofs.block_lines.lines_of.Given as goal
 
 abbrev pub invariant-loop-place : goal.invariant-loop-place
 invariant-loop-place l =
-    (set : ClauseMap) (clauses : List (List Lit)) → length clauses ≡ l.before → IsRefuting set clauses l.numbers l.log l.needed
+    (set : ClauseMap) (clauses : List (List Lit)) → length clauses ≡ l.before → IsRefuting set clauses l.numbers l.units l.log l.needed
     → IsSoFar set clauses l.log l.needed l.place l.lines l.placed.items

@@ -9,4 +9,4 @@ loop-n-preserved c =
     let same : c.loop-n.n + 1 - 1 ≡ c.loop-n.n = omega arith in
     let at : slice_get ids c.loop-n.n ≡ Some c.clause_id-id.result = sym (ap (slice_get ids) same) ∙ c.clause_id-id.ensures.is in
     number_next c.args.system.now c.loop-n.n c.loop-n.numbers.items c.keep.new.numbers.items c.clause_id-id.result (c.from.result + 1) at (let here = c.from.ensures in omega (arith, here))
-    c.in_ok-keep.ensures c.loop-n.invariant
+    c.in_ok-keep.ensures.kept c.loop-n.invariant

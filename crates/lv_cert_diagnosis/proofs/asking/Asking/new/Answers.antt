@@ -6,7 +6,6 @@ invariant_of-result c =
     record {
       well_formed = rw c.plant-plant.ensures.plant at c.plant-plant.ensures.well_formed;
       of_plant = c.requires.system;
-      refuter_is = c.in_ok-new.ensures;
       fit = c.requires.in_range;
       stated_are = c.in_ok-fact_literals.ensures;
     }

@@ -14,15 +14,15 @@ use Rattle.lv_cert_recovery.proofs.asking.Asking.miss.Goals as goal
 pub ask-requires-clause-refuter : goal.ask-requires-clause-refuter
 ask-requires-clause-refuter c =
     let v : Asked = c.args.self.now in
-    let k : IsAsking v c.self.inside.refuter c.self.inside.vars.items = subst (λ (a : Asked). IsAsking a c.self.inside.refuter c.self.inside.vars.items) c.self.view_is c.self.invariant in
+    let k : IsAsking v c.self.inside.vars.items = subst (λ (a : Asked). IsAsking a c.self.inside.vars.items) c.self.view_is c.self.invariant in
     let first : List (List Lit) = nominal_units v.plant c.args.state.now.modes (stated_by v.plant v.aim).literals c.args.pairs.now in
     let of_system : c.self.inside.system.now ≡ v.system = ap (λ (a : Asked). a.system) c.self.view_is in
-    k.refuter_is ∙ sym of_system
+    c.requires.refuter ∙ sym of_system
 
 pub ask-requires-clause-over : goal.ask-requires-clause-over
 ask-requires-clause-over c =
     let v : Asked = c.args.self.now in
-    let k : IsAsking v c.self.inside.refuter c.self.inside.vars.items = subst (λ (a : Asked). IsAsking a c.self.inside.refuter c.self.inside.vars.items) c.self.view_is c.self.invariant in
+    let k : IsAsking v c.self.inside.vars.items = subst (λ (a : Asked). IsAsking a c.self.inside.vars.items) c.self.view_is c.self.invariant in
     let first : List (List Lit) = nominal_units v.plant c.args.state.now.modes (stated_by v.plant v.aim).literals c.args.pairs.now in
     let of_system : c.self.inside.system.now ≡ v.system = ap (λ (a : Asked). a.system) c.self.view_is in
     let made : c.as_slice.result.now ≡ own_clauses v.plant v.aim c.args.state.now c.args.pairs.now (goal_clauses v.plant false c.args.goal.now) =
@@ -31,17 +31,17 @@ ask-requires-clause-over c =
     (subst (λ (cs : List (List Lit)). All (IsOver v.system.set.bools) cs) (sym made)
     (miss_over v.plant v.system k.of_plant v.aim k.asked.fits c.args.state.now c.requires.fit c.args.pairs.now c.requires.have c.args.goal.now c.requires.goal))
 
-pub returns : goal.returns
-returns c =
+pub returns-clause-told : goal.returns-clause-told
+returns-clause-told c =
     let v : Asked = c.args.self.now in
-    let k : IsAsking v c.self.inside.refuter c.self.inside.vars.items = subst (λ (a : Asked). IsAsking a c.self.inside.refuter c.self.inside.vars.items) c.self.view_is c.self.invariant in
+    let k : IsAsking v c.self.inside.vars.items = subst (λ (a : Asked). IsAsking a c.self.inside.vars.items) c.self.view_is c.self.invariant in
     let first : List (List Lit) = nominal_units v.plant c.args.state.now.modes (stated_by v.plant v.aim).literals c.args.pairs.now in
     let of_system : c.self.inside.system.now ≡ v.system = ap (λ (a : Asked). a.system) c.self.view_is in
     let made : c.as_slice.result.now ≡ own_clauses v.plant v.aim c.args.state.now c.args.pairs.now (goal_clauses v.plant false c.args.goal.now) =
     c.as_slice.ensures.value ∙ c.in_ok-push_all.ensures ∙ ap (λ (cs : List (List Lit)). cs ++ c.in_ok-goal.field-0.items) c.in_ok-own.ensures ∙ ap (λ (cs : List (List Lit)). first ++ cs) c.in_ok-goal.ensures in
     IfOk-weaker c.ask.result _ _
     (λ told tells.
-    miss_tells v c.self.inside.refuter c.self.inside.vars.items k c.args.state.now c.requires.fit c.args.pairs.now c.requires.have c.args.goal.now c.requires.goal told
+    miss_tells v c.self.inside.vars.items k c.args.state.now c.requires.fit c.args.pairs.now c.requires.have c.args.goal.now c.requires.goal told
     (let same = ap length made in let len = c.as_slice.ensures.len in let small = c.push_all.new.out.small in omega (arith, same, len, small))
     (subst (λ (cs : List (List Lit)). IsTold v.system cs told) made (subst (λ (s : SystemValue). IsTold s c.as_slice.result.now told) of_system tells)))
-    c.ask.ensures
+    c.ask.ensures.told

@@ -6,7 +6,6 @@ invariant_of-result c =
     record {
       well_formed = rw c.plant-plant.ensures.plant at c.plant-plant.ensures.well_formed;
       of_plant = c.requires.system;
-      refuter_is = c.in_ok-new.ensures;
       asked = c.requires.asked;
       vars_are = c.in_ok-controls.ensures.controls;
     }
