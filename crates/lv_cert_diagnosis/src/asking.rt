@@ -94,6 +94,7 @@ impl<'a> Asking<'a> {
         ensures few { IfOk result (λ _. length (own_clauses self.now.plant self.now.facts pairs.now) < 2 ^ 64) }
         ensures kept { refuter.new ≡ refuter.old }
     {
+        let _system = self.system;
         let own = self.own(pairs)?;
         refuter.refute(own.as_slice())
     }

@@ -12,7 +12,7 @@ loop-goal-preserved c =
           left_more c.args.asking.now.plant c.args.asking.now.aim c.args.state.now c.args.pairs.now c.aim-aim.ensures.well_formed c.aim-aim.ensures.asked c.as_slice-goal-items.result.now
           (c.as_slice-goal-items.ensures ∙ ap (λ (a : Aim). a.goals) c.aim-aim.ensures.aim) c.loop-goal.goal-index c.goal-item.result c.loop-goal-test.true c.goal-item.is c.in-Lines.field-0
           (subst (TellsMissed c.args.asking.now.plant c.args.asking.now.aim c.args.state.now c.args.pairs.now c.goal-item.result) c.in-Lines.is c.in_ok-step.ensures.told) c.loop-goal.invariant.left;
-      kept = c.step.ensures.kept ∙ c.loop-goal.invariant.kept;
+      kept = c.in_ok-step.ensures.kept ∙ c.loop-goal.invariant.kept;
     }
 
 pub returns-clause-told : goal.returns-clause-told

@@ -15,7 +15,7 @@ use Rattle.lv_cert_recovery.proofs.excluding.push_conflict.Goals as goal
 pub loop-place-preserved : goal.loop-place-preserved
 loop-place-preserved c =
     record {
-      kept = c.told.ensures.kept ∙ c.loop-place.invariant.kept;
+      kept = c.in_ok-told.ensures.kept ∙ c.loop-place.invariant.kept;
       same = c.loop-place.invariant.same;
       all =
           test_more (λ (s : TrackedState). reaches c.args.asking.now.plant c.args.asking.now.aim s.state c.args.pairs.now) c.as_slice-s-items.result.now c.loop-place.place c.s-item.result c.loop-place-test.true
