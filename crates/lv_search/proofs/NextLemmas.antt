@@ -72,7 +72,7 @@ module _ (s : Standing) (rank : Rank) (first : slice_get s.left 0 ≡ Some rank)
     pub is_repeated : (number : ℕ) → position (alike_by s.groups rank) s.listed ≡ Some number → IsRepeated s
     is_repeated number found =
         let at = position-Some (alike_by s.groups rank) s.listed number rank found in
-        record { fewer = fewer; rank = rank; first = first; alike = list_any_at (alike_by s.groups rank) s.listed number rank at.0 at.1 }
+        record { fewer = fewer; rank = rank; first = first; not_ruled_out = allowed; alike = list_any_at (alike_by s.groups rank) s.listed number rank at.0 at.1 }
 
     fresh : position (alike_by s.groups rank) s.listed ≡ None → list_any (alike_by s.groups rank) s.listed ≡ false
     fresh none = position-None (alike_by s.groups rank) s.listed none
