@@ -69,23 +69,27 @@ module _ (truth : ℕ → Bool) where
       pub further : EncodeOn plant truth first choice on
       pub choices : EncodeMoves truth choice (counts_of plant n) (all_moves on)
 
-    steps_on : (first choice n : ℕ) (a : List ValId) → Encode truth (booleans_from plant first) a → is_feasible plant a ≡ true → are_true truth (copies_clauses plant (first + sum (sizes plant)) n) ≡ true
-        → are_true truth (steps_clauses plant first choice n) ≡ true → On first choice n a
-    steps_on first choice zero a now feasible copies steps =
+    -- one step from an assignment, and what is left of the clauses
+    record One (first choice n : ℕ) (a : List ValId) : Type 0 where
+      pub further : Further
+      pub is : IsFurther plant a further
+      pub next : Encode truth (booleans_from plant (first + sum (sizes plant))) further.after
+      pub code : EncodeMoves truth choice (move_counts plant) further.moves
+      pub feasible : is_feasible plant further.after ≡ true
+      pub copies : are_true truth (copies_clauses plant (first + sum (sizes plant) + sum (sizes plant)) n) ≡ true
+      pub steps : are_true truth (steps_clauses plant (first + sum (sizes plant)) (choice + sum (move_counts plant)) n) ≡ true
+
+    one_on : (first choice n : ℕ) (a : List ValId) → Encode truth (booleans_from plant first) a → is_feasible plant a ≡ true
+        → are_true truth (copies_clauses plant (first + sum (sizes plant)) (suc n)) ≡ true → are_true truth (steps_clauses plant first choice (suc n)) ≡ true → One first choice n a
+    one_on first choice n a now feasible copies steps =
         record {
-          on = [];
-          many = refl;
-          lead = tt;
-          further = tt;
-          choices = record { each = refl; in_range = λ k inside. absurd (omega (arith, inside)); values = λ k j inside below. absurd (omega (arith, inside)) };
-        }
-    steps_on first choice (suc n) a now feasible copies steps =
-        record {
-          on = f ∷ rest.on;
-          many = let e = rest.many in omega (arith, e);
-          lead = (record { whole = row.long; step = step }, rest.lead);
-          further = (next, moves.code, rest.further);
-          choices = encode_joined choice (move_counts plant) (counts_of plant n) moves.moves (all_moves rest.on) moves.code rest.choices;
+          further = record { moves = moves.moves; after = row.values };
+          is = record { whole = row.long; step = step };
+          next = next;
+          code = moves.code;
+          feasible = feasible_next;
+          copies = two.1;
+          steps = own.1;
         }
       where
         behind : ℕ
@@ -109,9 +113,6 @@ module _ (truth : ℕ → Bool) where
         moves : Moves truth plant.types choice plant.parts
         moves = moves_of truth (booleans_from plant first) (booleans_from plant behind) plant.types choice plant.parts (typed truth plant h) own.0
 
-        f : Further
-        f = record { moves = moves.moves; after = row.values }
-
         feasible_next : is_feasible plant row.values ≡ true
         feasible_next = sym (copy_exact plant h (booleans_from plant behind) refl truth row.values next) ∙ two.0
 
@@ -121,8 +122,31 @@ module _ (truth : ℕ → Bool) where
             (and_from (is_feasible plant row.values) (parts_step plant.types a row.values plant.parts moves.moves) feasible_next
             (sym (moves_exact plant h truth a row.values first behind now next choice moves.moves moves.code) ∙ own.0))
 
-        rest : On behind (choice + sum (move_counts plant)) n row.values
-        rest = steps_on behind (choice + sum (move_counts plant)) n row.values next feasible_next two.1 own.1
+    -- it and the steps from where it leads
+    joined_on : (first choice n : ℕ) (a : List ValId) (one : One first choice n a) → On (first + sum (sizes plant)) (choice + sum (move_counts plant)) n one.further.after → On first choice (suc n) a
+    joined_on first choice n a one rest =
+        record {
+          on = one.further ∷ rest.on;
+          many = let e = rest.many in omega (arith, e);
+          lead = (one.is, rest.lead);
+          further = (one.next, one.code, rest.further);
+          choices = encode_joined choice (move_counts plant) (counts_of plant n) one.further.moves (all_moves rest.on) one.code rest.choices;
+        }
+
+    steps_on : (first choice n : ℕ) (a : List ValId) → Encode truth (booleans_from plant first) a → is_feasible plant a ≡ true → are_true truth (copies_clauses plant (first + sum (sizes plant)) n) ≡ true
+        → are_true truth (steps_clauses plant first choice n) ≡ true → On first choice n a
+    steps_on first choice zero a now feasible copies steps =
+        record {
+          on = [];
+          many = refl;
+          lead = tt;
+          further = tt;
+          choices = record { each = refl; in_range = λ k inside. absurd (omega (arith, inside)); values = λ k j inside below. absurd (omega (arith, inside)) };
+        }
+    steps_on first choice (suc n) a now feasible copies steps =
+        let one : One first choice n a = one_on first choice n a now feasible copies steps in
+        joined_on first choice n a one
+        (steps_on (first + sum (sizes plant)) (choice + sum (move_counts plant)) n one.further.after one.next one.feasible one.copies one.steps)
 
     pub window_decoded : (steps : ℕ) → are_true truth (window_clauses plant steps) ≡ true → IsEncodedWindow plant steps truth
     window_decoded steps all =
