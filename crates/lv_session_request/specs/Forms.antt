@@ -55,6 +55,10 @@ has_number_form line = nat_eq (length line) 2 && has_kind is_number line 1
 abbrev pub has_distinct_form : List Lexeme → Bool
 has_distinct_form line = nat_eq (length line) 3 && (has_kind is_number line 1 && says (codes "distinct") line 2)
 
+-- of `retract NAME at S`
+abbrev pub has_at_form : List Lexeme → Bool
+has_at_form line = nat_eq (length line) 4 && (says (codes "at") line 2 && has_kind is_number line 3)
+
 -- of `command P.C = V`
 abbrev pub has_command_signs : List Lexeme → Bool
 has_command_signs line = nat_eq (length line) 6 && (has_kind is_dot line 2 && has_kind is_equals line 4)
