@@ -16,13 +16,14 @@ use Rattle.lv_model_names.specs.declared.lists.Lists.{Lists}
 use Rattle.lv_model_names.specs.Lists.{lists_of}
 use Rattle.lv_model_names.specs.Names.{classes, is_observable}
 use Rattle.lv_session_request.specs.declared.words.Word.{Word}
-use Rattle.lv_session_request.specs.declared.words.Word.TheVariants.{Track, Budget, Command as CommandWord, Release, Observe, Retract, Goal as GoalWord, Drop as DropWord, Diagnose, Recover, More, Commit, Conflicts, Certificate, Labels, States, Reset, Quit, Probe, Test}
+use Rattle.lv_session_request.specs.declared.words.Word.TheVariants.{Track, Budget, Command as CommandWord, Release, Observe, Retract, Goal as GoalWord, Drop as DropWord, Diagnose, Recover, More, Commit, Conflicts, Certificate, Labels, States, Reset, Quit, Probe, Test, Window as WindowWord}
 use Rattle.lv_session_request.specs.declared.names.Controlled.{Controlled}
 use Rattle.lv_session_request.specs.declared.request.Command.{Command}
 use Rattle.lv_session_request.specs.declared.request.Sighting.{Sighting}
 use Rattle.lv_session_request.specs.declared.request.Retraction.{Retraction}
+use Rattle.lv_session_request.specs.declared.request.TheConstants.{WINDOW}
 use Rattle.lv_session_request.specs.declared.request.Request.{Request}
-use Rattle.lv_session_request.specs.declared.request.Request.TheVariants.{Nothing, Track as ToTrack, TrackDistinct as ToTrackDistinct, SetBudget, SetControl, Release as ToRelease, Observe as ToObserve, Retract as ToRetract, RetractAt, SetGoal, DropGoal, Diagnose as ToDiagnose, Recover as ToRecover, More as ToGoOn, Commit as ToCommit, Conflicts as ToShowConflicts, Certificate as ToCertify, Labels as ToLabel, LabelsFrom, States as ToShowStates, Reset as ToReset, Quit as ToQuit, Probe as ToProbe, Test as ToTest}
+use Rattle.lv_session_request.specs.declared.request.Request.TheVariants.{Nothing, Track as ToTrack, TrackDistinct as ToTrackDistinct, SetBudget, SetControl, Release as ToRelease, Observe as ToObserve, Retract as ToRetract, RetractAt, SetGoal, DropGoal, Diagnose as ToDiagnose, Recover as ToRecover, More as ToGoOn, Commit as ToCommit, Conflicts as ToShowConflicts, Certificate as ToCertify, Labels as ToLabel, LabelsFrom, States as ToShowStates, Reset as ToReset, Quit as ToQuit, Probe as ToProbe, Test as ToTest, Window as ToWindow}
 use Rattle.lv_session_request.specs.declared.unread.Unread.{Unread}
 use Rattle.lv_session_request.specs.declared.unread.Unread.TheVariants.{Refused, Memory}
 use Rattle.lv_session_request.specs.Chain.{and_then}
@@ -129,6 +130,7 @@ request_by plant lists Reset line = alone ToReset line
 request_by plant lists Quit line = alone ToQuit line
 request_by plant lists Probe line = alone ToProbe line
 request_by plant lists Test line = and_then (tested_of plant lists line) (λ x. Ok (ToTest x))
+request_by plant lists WindowWord line = and_then (number_to WINDOW line) (λ n. Ok (ToWindow n))
 
 abbrev pub asked_by_first : Plant → Lists → List Lexeme → Option Word → Result Request Refusal
 asked_by_first plant lists line None = Err UnknownWord
@@ -174,4 +176,5 @@ IsRequestOf plant (SetControl c) = IsCommandIn plant c
 IsRequestOf plant (ToObserve s) = IsSightingIn plant s
 IsRequestOf plant (SetGoal g) = IsGoalIn plant g
 IsRequestOf plant (ToTest x) = IsObservableOf plant x
+IsRequestOf plant (ToWindow n) = IsUpTo WINDOW n
 IsRequestOf plant request = Unit {0}

@@ -11,6 +11,8 @@ ghost use Rattle.lv_model_names.specs.declared.lists.Lists.{Lists as ListsOf};
 ghost use Rattle.lv_model_names.specs.Lists.{lists_of};
 ghost use Rattle.lv_formula_text.specs.Nesting.{is_too_deep};
 ghost use Rattle.lv_session_request.specs.Goals.{AreRead};
+ghost use Rattle.lv_session_request.specs.declared.request.TheConstants.{WINDOW};
+ghost use Rattle.lv_session_request.specs.Forms.{number_to, IsUpTo};
 ghost use Rattle.lv_session_request.specs.Requests.{alone, track_of, budget_of, more_of, command_to, command_of, release_of, seen_as, tested_of, sighting_of, retracted_of, retraction_of, retract_of, labels_of, request_by, asked, asked_by, request_of, Explains, IsSightingIn, IsCommandIn, IsObservableOf, IsRequestOf};
 
 use crate::forms::{
@@ -30,6 +32,9 @@ use lv_reply::Refusal;
 use lv_text::lexer::Token;
 use lv_text::{TextFault, TokenLine};
 use std::alloc::Global;
+
+/// How many steps a window has at most.
+pub const WINDOW: u32 = 4;
 
 /// A control, by its place among the controls in written order, and the value that it is commanded to.
 #[derive(Clone, Copy, Debug, PartialEq, Eq)]
@@ -94,6 +99,8 @@ pub enum Request {
     Probe,
     /// A command set after which this observable tells the tracked states apart.
     Test(VarId),
+    /// The trajectories of the last so many steps.
+    Window(u32),
 }
 
 /// The request of a word that stands alone.
@@ -285,6 +292,14 @@ fn retract_of(alloc: Global, line: &TokenLine<'_>) -> Result<Request, Unread>
     Ok(Request::Retract(retracted_of(alloc, line)?))
 }
 
+/// `window W`.
+fn window_of(line: &TokenLine<'_>) -> Result<u32, Refusal>
+    ensures steps { result ≡ number_to WINDOW line.now }
+    ensures within { IfOk result (IsUpTo WINDOW) }
+{
+    Ok(number_to(WINDOW as u64, line)? as u32)
+}
+
 /// `labels`, or `labels I`.
 fn labels_of(line: &TokenLine<'_>) -> Result<Request, Refusal>
     ensures request { result ≡ labels_of line.now }
@@ -333,6 +348,7 @@ fn request_by(
         Word::Quit => Ok(alone(Request::Quit, line)?),
         Word::Probe => Ok(alone(Request::Probe, line)?),
         Word::Test => Ok(Request::Test(tested_of(plant, lists, line)?)),
+        Word::Window => Ok(Request::Window(window_of(line)?)),
     }
 }
 

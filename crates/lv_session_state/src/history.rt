@@ -8,7 +8,8 @@
 //! | `as_slice`, `len` | what is kept, the oldest first |
 #![tactic(auto)]
 
-ghost use Rattle.std.specs.Prelude.{◌≡◌, ◌<◌, ◌++◌, [], ◌∷◌, length, IfOk};
+ghost use Rattle.std.specs.Prelude.{◌≡◌, ◌≤◌, ◌++◌, [], ◌∷◌, length, IfOk};
+ghost use Rattle.lv_session_state.specs.declared.history.TheConstants.{HISTORY};
 ghost use Rattle.lv_session_state.specs.History.{with_room, is_held_in, without_in};
 
 use lv_base::{Seq, ValId};
@@ -75,8 +76,10 @@ impl History {
         self.past.as_slice()
     }
 
+    /// How many commits are kept.
     pub fn len(&self) -> usize
-        ensures { result ≡ length self.now }
+        ensures len { result ≡ length self.now }
+        ensures few { result ≤ HISTORY }
     {
         self.past.len()
     }

@@ -9,7 +9,7 @@
 //! | `recoveries` | recoveries asked for and gone on with |
 //! | `tests` | tests asked for and gone on with |
 //! | `history` | what is kept of the last commits |
-//! | `times` | the times that are kept, and what is observed of each |
+//! | `times` | the times that are kept, what is observed of each, and what is known of the last steps |
 //! | `applying` | the values that the current recovery gives the controls |
 //! | `queries` | the current query gone on with, shown and taken over, and whether it is settled |
 //! | `query` | the current query |
