@@ -1,0 +1,4 @@
+pub mod OnceLemmas
+pub mod OrderLemmas
+pub mod SolutionLemmas
+pub mod RefuteLemmas
