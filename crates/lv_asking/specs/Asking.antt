@@ -1,5 +1,5 @@
 -- What is asked of a solver: which choices can be made together, by its clauses and literals that are assumed each time.
-use Rattle.std.specs.Prelude.{◌≡◌, ◌+◌, ◌≤◌, ℕ, Bool, true, false, List, [], ◌++◌, drop, All, Contains}
+use Rattle.std.specs.Prelude.{◌≡◌, ◌+◌, ◌≤◌, ℕ, Bool, true, false, List, [], ◌++◌, drop, All, Contains, Option, Some, None}
 use Rattle.std.specs.List.{sum}
 use Rattle.lv_base.specs.declared.ids.Lit.{Lit}
 use Rattle.lv_base.specs.declared.search.Pair.{Pair}
@@ -41,3 +41,8 @@ pub record IsAsking (set : ClauseMap) (choices : Choices) (assumed : List Lit) (
 pub record IsReducing (possible : List Pair → Bool) (choices : Choices) (pairs : List Pair) (at : ℕ) (kept : List Pair) (core : Marks) : Type 0 where
   pub rest : reduced possible kept (drop at pairs) ≡ reduced possible [] pairs
   pub refuted : possible (marked_pairs choices core (kept ++ drop at pairs)) ≡ false
+
+-- without a reason the pairs are possible together; else they aren't, and it is what is left of them when each that isn't needed is left out
+abbrev pub IsReason : (List Pair → Bool) → List Pair → Option (List Pair) → Type 0
+IsReason possible pairs None = possible pairs ≡ true
+IsReason possible pairs (Some reason) = (possible pairs ≡ false) × (reason ≡ reduced possible [] pairs)

@@ -9,11 +9,11 @@ ghost use Rattle.lv_clauses.specs.Literals.{is_clause};
 ghost use Rattle.lv_clauses.specs.Marks.{is_marked};
 ghost use Rattle.lv_search_walk.specs.Reason.{reduced};
 ghost use Rattle.lv_asking.specs.Literals.{HasMove, marked_pairs, pair_literal};
-ghost use Rattle.lv_asking.specs.Asking.{IsPartial, Decides, IsReducing};
+ghost use Rattle.lv_asking.specs.Asking.{IsPartial, Decides, IsReducing, IsReason};
 
 use crate::literals::push_pairs;
 use crate::refutation::{Solutions, refute};
-use lv_base::{Lit, MoveId, Pair, PartId};
+use lv_base::{Conflict, Lit, MoveId, Pair, PartId};
 use lv_clauses::{ClauseSet, Marks, is_marked};
 use lv_sat::{Effort, Solver};
 use lv_system::ChoiceBools;
@@ -181,6 +181,7 @@ impl Asking {
     pub fn reduced(&mut self, pairs: &[Pair], core: Marks) -> Result<Vec<Pair>, AllocError>
         requires partial { IsPartial self.old.choices.counts pairs.now }
         ensures reduced { (possible : List Pair → Bool) → Decides self.old possible → possible (marked_pairs self.old.choices core pairs.now) ≡ false → IfOk result (λ out. out.items ≡ reduced possible [] pairs.now) }
+        ensures partial { IfOk result (λ out. IsPartial self.old.choices.counts out.items) }
         ensures same { self.new ≡ self.old }
     {
         let mut deletion = Deletion {
@@ -191,5 +192,21 @@ impl Asking {
             self.look_at(pairs, at, &mut deletion)?;
         }
         Ok(deletion.kept)
+    }
+
+    /// Nothing where the pairs are possible together, else their reason: what is left of them when each that isn't needed is
+    /// left out, from the first on.
+    pub fn reason(&mut self, pairs: &[Pair]) -> Result<Option<Conflict>, AllocError>
+        requires { IsPartial self.old.choices.counts pairs.now }
+        ensures reason { (possible : List Pair → Bool) → Decides self.old possible → IfOk result (IsReason possible pairs.now) }
+        ensures same { self.new ≡ self.old }
+    {
+        match self.refuted(pairs)? {
+            None => Ok(None),
+            Some(core) => {
+                let left = self.reduced(pairs, core)?;
+                Ok(Some(Conflict::from_pairs(self.alloc, left.as_slice())?))
+            }
+        }
     }
 }

@@ -91,7 +91,7 @@ module _ (plant : Plant) (place : ℕ) where
       (leads_far steps (target_of_rank plant q) own (choices ++ cs) rest r (omega (arith, many)) join.1 (are ∙ sym (append_assoc choices cs (all_choices rest))) (omega (arith, total)) source)
 
 -- a rank comes from one of these states, the first of which has this place
-record FarFrom (plant : Plant) (steps place : ℕ) (ss : List TrackedState) (r : Rank) : Type 0 where
+pub record FarFrom (plant : Plant) (steps place : ℕ) (ss : List TrackedState) (r : Rank) : Type 0 where
   pub index : ℕ
   pub state : TrackedState
   pub at : slice_get ss index ≡ Some state

@@ -3,7 +3,6 @@ pub mod Possible
 pub mod Walk
 pub mod Joints
 pub mod Laws
-pub mod Query
 pub mod Worked
 pub use Rattle.lv_search.specs as lv_search
 pub use Rattle.lv_search_zones.specs as lv_search_zones
