@@ -93,7 +93,7 @@ wider n m (l ∷ ls) few h =
 module _ (set : ClauseMap) (choices : Choices) (assumed : List Lit) (solutions : List (List Bool)) (h : IsAsking set choices assumed solutions) where
   choice_in_range : (p : Pair) → HasMove choices.counts p → in_range set.bools (pair_literal choices p) ≡ true
   choice_in_range p has =
-      let below : p.choice < get_or choices.counts p.slot 0 = has.below in
+      let below = has.below in
       let among = among_all choices.counts p.slot (is_there choices.counts p.slot p.choice below) in
       let fit = h.fit in
       lt-ltb (choices.first + sum (take p.slot choices.counts) + p.choice) set.bools (omega (arith, among, below, fit))

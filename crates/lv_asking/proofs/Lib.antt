@@ -7,3 +7,4 @@ pub mod AnswerLemmas
 pub mod ReducingLemmas
 pub mod HoldLemmas
 pub mod NumberLemmas
+pub mod FullLemmas

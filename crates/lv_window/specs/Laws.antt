@@ -1,5 +1,5 @@
 -- What trajectories, possible choices over steps and walks of windows are, in the subject's own words.
-use Rattle.std.specs.Prelude.{◌≡◌, ◌<◌, ℕ, ◌+◌, suc, Bool, true, false, List, [], ◌∷◌, ◌++◌, length, Contains, slice_get, Some}
+use Rattle.std.specs.Prelude.{◌≡◌, ◌<◌, ℕ, ◌+◌, suc, Bool, true, false, not, List, [], ◌∷◌, ◌++◌, length, Contains, slice_get, Some}
 use Rattle.std.specs.List.{list_all}
 use Rattle.lv_base.specs.declared.ids.ValId.{ValId}
 use Rattle.lv_base.specs.declared.rank.Rank.{Rank}
@@ -10,7 +10,7 @@ use Rattle.lv_model.specs.WellFormed.{is_well_formed}
 use Rattle.lv_search_walk.specs.declared.outcome.Outcome.TheVariants.{Settled}
 use Rattle.lv_search_walk.specs.Ranked.{rises}
 use Rattle.lv_search_walk.specs.Walk.{suit_all}
-use Rattle.lv_search_walk.specs.Laws.{each_is_needed}
+use Rattle.lv_search_walk.specs.Laws.{each_is_needed, none_in_another}
 use Rattle.lv_boxes.specs.RankedMembers.{ranked_members, sources_differ}
 use Rattle.lv_search.specs.Free.{free_of}
 use Rattle.lv_meaning.specs.declared.facts.Facts.{Facts}
@@ -81,7 +81,11 @@ SettledWindowIsExact =
     → (window_walk plant steps k budget (trajectories plant (length steps) tracked)).outcome ≡ Settled
     → (window_walk plant steps k budget (trajectories plant (length steps) tracked)).listed ≡ first_trajectories k plant steps tracked
 
--- its kept conflicts aren't possible, and of each no choice can be left out
+-- the conflicts that it keeps aren't possible; of each no choice can be left out, without which the others are possible; none has all
+-- choices of another
 pub record KeptOfWindowAreMinimal : Type 0 where
+  pub impossible : (plant : Plant) (steps : List Facts) (k budget : ℕ) (ranks : List Rank)
+      → list_all (λ conflict. not (is_possible_over plant steps conflict)) (window_walk plant steps k budget ranks).kept ≡ true
   pub needed : (plant : Plant) (steps : List Facts) (k budget : ℕ) (ranks : List Rank)
       → list_all (each_is_needed (is_possible_over plant steps) []) (window_walk plant steps k budget ranks).kept ≡ true
+  pub apart : (plant : Plant) (steps : List Facts) (k budget : ℕ) (ranks : List Rank) → none_in_another (window_walk plant steps k budget ranks).kept ≡ true

@@ -37,3 +37,14 @@ returns-in-Some-clause-so_far c =
     refuted_again c.args.pairs.now c.args.at c.args.deletion.now.kept.items (record { slot = 0; choice = 0 }) c.requires.at c.args.self.now possible decides c.args.deletion.now.core h
     c.in-Some.core c.as_slice-2.result.now
     (c.as_slice-2.ensures.value ∙ c.in_ok-others.ensures ∙ ap (λ (ks : List Pair). ks ++ drop (c.args.at + 1) c.args.pairs.now) c.as_slice.ensures.value) refuted
+
+pub leap-requires : goal.leap-requires
+leap-requires c =
+    let inside : c.args.at < length c.args.pairs.now = c.requires.at in
+    record {
+      at = omega (arith, inside);
+      partial =
+          subst (λ (v : AskingValue). IsPartial v.choices.counts (c.push.new.self.items ++ drop (c.args.at + 1) c.args.pairs.now)) (sym c.in_ok-core.ensures.same)
+          (kept_is_partial c.args.pairs.now c.args.at c.args.deletion.now.kept.items (record { slot = 0; choice = 0 }) c.requires.at c.args.self.now.choices.counts c.requires.partial c.push.new.self.items
+          c.in_ok-push-in-None.ensures.items);
+    }
