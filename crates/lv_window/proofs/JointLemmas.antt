@@ -32,7 +32,7 @@ module _ (choices : List ℕ) where
   -- two neighbouring slots of a part
   module _ (slot behind c d : ℕ) (here : IsAt slot c) (there : IsAt behind d) where
     -- whether the move behind, where these are the moves from the k-th on, doesn't go from where this one led
-    misses : Move → ℕ → List Move → Bool
+    abbrev misses : Move → ℕ → List Move → Bool
     misses m k [] = false
     misses m k (l ∷ ls) = cond (nat_eq d k) (not (nat_eq l.source.0 m.target.0)) (misses m (k + 1) ls)
 
@@ -67,7 +67,7 @@ module _ (choices : List ℕ) where
         both false false false r a none is = is
 
     -- whether the chosen move, where these are the moves from the n-th on, leads elsewhere than where the one behind begins
-    strays : ℕ → List Move → List Move → Bool
+    abbrev strays : ℕ → List Move → List Move → Bool
     strays n [] all = false
     strays n (m ∷ ms) all = cond (nat_eq c n) (misses m 0 all) (strays (n + 1) ms all)
 

@@ -107,7 +107,7 @@ module _ (plant : Plant) (facts : Facts) (partial : List Pair) where
       let numbers = length-map moves move_number in
       take_all (length plant.parts) (map move_number moves) (omega (arith, long, parts, numbers))
 
-  steps_to : List MoveId → List ValId → List ValId → Bool
+  abbrev steps_to : List MoveId → List ValId → List ValId → Bool
   steps_to moves a b = (is_step plant a b (take (length plant.parts) moves) && meets_facts plant facts a b) && true
 
   to_one : is_possible_over plant (facts ∷ []) partial ≡ true → is_possible plant facts partial ≡ true

@@ -22,6 +22,7 @@ use Rattle.lv_model.specs.declared.plant.Part.{Part}
 use Rattle.lv_model.specs.declared.plant.Move.{Move}
 use Rattle.lv_model.specs.declared.state.TrackedState.{TrackedState}
 use Rattle.lv_model.specs.Lists.{part_moves, move_counts}
+use Rattle.lv_model.specs.WellFormed.{is_well_formed}
 use Rattle.lv_compile.specs.WindowLaws.{counts_of}
 use Rattle.lv_search_walk.specs.Ranked.{is_rank, is_among}
 use Rattle.lv_search_walk.specs.Walk.{is_ruled_out, suit_all}

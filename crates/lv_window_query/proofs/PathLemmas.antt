@@ -19,7 +19,7 @@ use Rattle.lv_asking.proofs.NumberLemmas.{items_back, all_below, length_below, b
 use Rattle.lv_window.specs.Possible.{leads}
 
 -- each two neighbouring assignments meet what is known of the step between them
-pub meet_on : Plant → List Facts → List ValId → List Further → Bool
+abbrev pub meet_on : Plant → List Facts → List ValId → List Further → Bool
 meet_on plant [] a on = true
 meet_on plant (f ∷ fs) a [] = true
 meet_on plant (f ∷ fs) a (x ∷ xs) = meets_facts plant f a x.after && meet_on plant fs x.after xs
