@@ -2,7 +2,7 @@
 //! choices that its last refutation needed.
 #![tactic(auto)]
 
-ghost use Rattle.std.specs.Prelude.{◌≡◌, ◌+◌, ◌<◌, ◌≤◌, ◌++◌, [], Bool, false, List, All, drop, length, IfOk, IfSome, is_none};
+ghost use Rattle.std.specs.Prelude.{◌≡◌, ◌+◌, ◌<◌, ◌≤◌, ◌++◌, [], Bool, true, false, List, All, drop, length, IfOk, IfSome, is_none};
 ghost use Rattle.std.specs.List.{sum};
 ghost use Rattle.lv_base.specs.declared.search.Pair.{Pair};
 ghost use Rattle.lv_clauses.specs.Literals.{is_clause};

@@ -483,15 +483,15 @@ steps_below : (plant : Plant) (moves : List (List ℕ)) → AllBelow plant moves
 steps_below plant [] all = refl
 steps_below plant (cs ∷ rest) all = below_joined (move_counts plant) (counts_of plant (length rest)) cs (all_choices rest) all.0 (steps_below plant rest all.1)
 
-pub trajectories_are_full : (plant : Plant) (later : ℕ) (tracked : List TrackedState) → suit_all (is_full_window plant (suc later)) (trajectories plant (suc later) tracked) ≡ true
-trajectories_are_full plant later tracked = each (trajectories plant (suc later) tracked) (λ r is. full r (trajectory_is plant (suc later) tracked r (contained (trajectories plant (suc later) tracked) r is)))
+pub trajectories_are_full : (plant : Plant) (steps : ℕ) (tracked : List TrackedState) → suit_all (is_full_window plant steps) (trajectories plant steps tracked) ≡ true
+trajectories_are_full plant steps tracked = each (trajectories plant steps tracked) (λ r is. full r (trajectory_is plant steps tracked r (contained (trajectories plant steps tracked) r is)))
   where
-    full : (r : Rank) → IsTrajectory plant (suc later) tracked r → are_below (counts_of plant (suc later)) r.choices ≡ true
+    full : (r : Rank) → IsTrajectory plant steps tracked r → are_below (counts_of plant steps) r.choices ≡ true
     full r t =
         (λ i. are_below (counts_of plant (sym t.many i)) (t.choices i)) ∙ steps_below plant t.moves (join_below plant t.state.state.modes t.moves t.join)
 
-    each : (rs : List Rank) → ((r : Rank) → Among r rs → are_below (counts_of plant (suc later)) r.choices ≡ true) → list_all (λ (r : Rank). are_below (counts_of plant (suc later)) r.choices) rs ≡ true
+    each : (rs : List Rank) → ((r : Rank) → Among r rs → are_below (counts_of plant steps) r.choices ≡ true) → list_all (λ (r : Rank). are_below (counts_of plant steps) r.choices) rs ≡ true
     each [] all = refl
     each (r ∷ rs) all =
-        and_from (are_below (counts_of plant (suc later)) r.choices) (list_all (λ (q : Rank). are_below (counts_of plant (suc later)) q.choices) rs) (all r (inl refl))
+        and_from (are_below (counts_of plant steps) r.choices) (list_all (λ (q : Rank). are_below (counts_of plant steps) q.choices) rs) (all r (inl refl))
         (each rs (λ q is. all q (inr is)))

@@ -60,7 +60,7 @@ pub record ZonesHoldTheTrajectories : Type 0 where
   pub same : (plant : Plant) → is_well_formed plant ≡ true → (later : ℕ) (tracked : List TrackedState)
       → free_of (joints plant later) (ranked_members (window_slots plant (suc later)) (window_zones plant later 0 tracked)) ≡ trajectories plant (suc later) tracked
   pub differ : (plant : Plant) (later : ℕ) (tracked : List TrackedState) → sources_differ (window_zones plant later 0 tracked) ≡ true
-  pub full : (plant : Plant) (later : ℕ) (tracked : List TrackedState) → suit_all (is_full_window plant (suc later)) (trajectories plant (suc later) tracked) ≡ true
+  pub full : (plant : Plant) (steps : ℕ) (tracked : List TrackedState) → suit_all (is_full_window plant steps) (trajectories plant steps tracked) ≡ true
 
 -- over one step possible, trajectory and walk are what they are of a diagnosis without the flag
 pub record OneStepIsADiagnosis : Type 0 where

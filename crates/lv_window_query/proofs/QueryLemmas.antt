@@ -1,5 +1,5 @@
 -- A query is on the walk of the window, whatever its trial holds.
-use Rattle.std.proofs.Common.{◌≡◌, ℕ, suc, ◌+◌, ◌-◌, ◌≤◌, Bool, true, List, [], ◌∷◌, length, refl, sym, subst, ap, ◌∙◌, arith, Result, Ok, Err}
+use Rattle.std.proofs.Common.{◌≡◌, ℕ, suc, ◌+◌, ◌-◌, ◌≤◌, Bool, true, List, [], length, refl, sym, subst, ap, ◌∙◌, arith, Result, Ok, Err}
 use Rattle.std.specs.Prelude.{None}
 use Rattle.std.specs.Result.{IfOk}
 use Rattle.lv_base.specs.declared.rank.Rank.{Rank}
@@ -12,7 +12,6 @@ use Rattle.lv_model.specs.declared.plant.Plant.{Plant}
 use Rattle.lv_model.specs.declared.state.TrackedState.{TrackedState}
 use Rattle.lv_model.specs.WellFormed.{is_well_formed}
 use Rattle.lv_meaning.specs.declared.facts.Facts.{Facts}
-use Rattle.lv_search_walk.specs.Walk.{suit_all}
 use Rattle.lv_search.specs.Standing.{Standing, IsUnderWay, AreSame}
 use Rattle.lv_search.specs.Free.{free_of}
 use Rattle.lv_window.specs.Trajectories.{trajectories}
@@ -62,19 +61,15 @@ started : (suits fits : Candidate → Bool) (reason : Candidate → List Pair) (
 started suits fits reason k entries = record { walk = λ budget few. refl; trials = omega arith; k = refl; groups = refl; suit = λ suit. suit }
 
 -- a query that has tried nothing
-pub start_is_query : (plant : Plant) (steps : List Facts) (tracked : List TrackedState) (k : ℕ) → 1 ≤ length steps → (q : WindowQueryValue)
+pub start_is_query : (plant : Plant) (steps : List Facts) (tracked : List TrackedState) (k : ℕ) (q : WindowQueryValue)
     → q ≡ record { plant = plant; steps = steps; standing = start k (trajectories plant (length steps) tracked) } → IsWindowQueryOf tracked q
-start_is_query plant steps tracked k some q is =
+start_is_query plant steps tracked k q is =
     subst (λ (v : WindowQueryValue). IsWindowQueryOf tracked v) (sym is)
     (record {
       under_way = started (is_full_window plant (length steps)) (is_possible_trajectory plant steps) (window_reason plant steps) k (trajectories plant (length steps) tracked);
-      suit = full steps some;
+      suit = trajectories_are_full plant (length steps) tracked;
       groups = refl;
     })
-  where
-    full : (fs : List Facts) → 1 ≤ length fs → suit_all (is_full_window plant (length fs)) (trajectories plant (length fs) tracked) ≡ true
-    full [] none = absurd (omega (arith, none))
-    full (f ∷ fs) few = trajectories_are_full plant (length fs) tracked
 
 -- what three facts about a result's value say together
 pub of_three : {X Y : Type 0} (r : Result X Y) (P Q R S : X → Type 0) → ((x : X) → P x → Q x → R x → S x) → IfOk r P → IfOk r Q → IfOk r R → IfOk r S

@@ -2,7 +2,7 @@
 //! go from the mode that the first leads to.
 #![tactic(auto)]
 
-ghost use Rattle.std.specs.Prelude.{◌≡◌, ◌+◌, ◌<◌, ◌≤◌, ◌^◌, ◌++◌, [], ◌∷◌, All, IfOk, length};
+ghost use Rattle.std.specs.Prelude.{◌≡◌, ◌+◌, ◌*◌, ◌<◌, ◌≤◌, ◌^◌, ◌++◌, [], ◌∷◌, All, IfOk, length};
 ghost use Rattle.lv_base.specs.declared.limits.TheConstants.{PARTS};
 ghost use Rattle.lv_compile.specs.declared.windows.TheConstants.{WINDOW};
 ghost use Rattle.lv_window.specs.Joints.{breaks, breaks_of, joints_of, part_joints, joints};

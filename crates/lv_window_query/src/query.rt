@@ -1,7 +1,7 @@
 //! A window's query: the search for the first trajectories that are possible, which can be gone on with.
 #![tactic(auto)]
 
-ghost use Rattle.std.specs.Prelude.{◌≡◌, ◌+◌, ◌<◌, ◌≤◌, ◌^◌, ◌-◌, [], None, true, List, All, IfOk, length};
+ghost use Rattle.std.specs.Prelude.{◌≡◌, ◌+◌, ◌<◌, ◌≤◌, ◌^◌, [], None, true, List, All, IfOk, length};
 ghost use Rattle.lv_base.specs.declared.limits.TheConstants.{TRACKED};
 ghost use Rattle.lv_compile.specs.declared.windows.TheConstants.{WINDOW};
 ghost use Rattle.lv_model.specs.declared.state.TrackedState.{TrackedState};

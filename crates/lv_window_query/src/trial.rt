@@ -2,7 +2,7 @@
 //! step by step, part by part.
 #![tactic(auto)]
 
-ghost use Rattle.std.specs.Prelude.{◌≡◌, ◌≤◌, All, IfOk, IsTrue, length};
+ghost use Rattle.std.specs.Prelude.{◌≡◌, ◌≤◌, [], All, IfOk, IsTrue, length};
 ghost use Rattle.lv_base.specs.Choices.{pairs_of};
 ghost use Rattle.lv_compile.specs.declared.windows.TheConstants.{WINDOW};
 ghost use Rattle.lv_compile.specs.WindowLaws.{counts_of};

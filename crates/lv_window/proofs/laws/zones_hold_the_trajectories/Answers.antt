@@ -6,5 +6,5 @@ returns c =
     record {
       same = λ plant h later tracked. zones_have_trajectories plant h later tracked;
       differ = λ plant later tracked. window_zones_differ plant later 0 tracked;
-      full = λ plant later tracked. trajectories_are_full plant later tracked;
+      full = λ plant steps tracked. trajectories_are_full plant steps tracked;
     }

@@ -1,5 +1,5 @@
 -- what was added and the conflicts between the steps left are those between all
-use Rattle.std.proofs.Common.{◌≡◌, ◌+◌, ◌≤◌, ◌++◌, length}
+use Rattle.std.proofs.Common.{◌≡◌, ◌+◌, ◌*◌, ◌≤◌, ◌++◌, length}
 use Rattle.lv_base.specs.declared.limits.TheConstants.{PARTS}
 use Rattle.lv_compile.specs.declared.windows.TheConstants.{WINDOW}
 use Rattle.lv_window.specs.Joints.{joints_from, joints}

@@ -1,5 +1,5 @@
 -- the slots so far and those of the steps left are all
-use Rattle.std.proofs.Common.{◌≡◌, ◌+◌, ◌≤◌, ◌++◌, length}
+use Rattle.std.proofs.Common.{◌≡◌, ◌+◌, ◌*◌, ◌≤◌, ◌++◌, length}
 use Rattle.lv_window.specs.Joints.{window_slots}
 use Rattle.lv_window_query.proofs.zones.window_grid.Given as goal
 
