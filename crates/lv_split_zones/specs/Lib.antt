@@ -1,0 +1,5 @@
+pub mod Splits
+pub mod Searches
+pub mod Made
+pub mod Zones
+pub use Rattle.lv_boxes.specs as lv_boxes

@@ -1,0 +1,34 @@
+//! A split, and what it is by.
+#![tactic(auto)]
+
+use lv_base::Seq;
+use lv_boxes::Groups;
+
+/// By what a zone is split: the conflict of this place, or the target of this place.
+#[derive(Clone, Copy, Debug, PartialEq, Eq)]
+pub enum By {
+    Conflict(usize),
+    Target(usize),
+}
+
+/// A split: the place of the zone that is split, the place of the first of its parts, and by what.
+#[derive(Clone, Copy, Debug, PartialEq, Eq)]
+pub struct Split {
+    pub zone: usize,
+    pub first: usize,
+    pub by: By,
+}
+
+/// One part of what is split: by what, and which of the parts.
+#[derive(Clone, Copy, Debug, PartialEq, Eq)]
+pub struct Step {
+    pub by: By,
+    pub part: usize,
+}
+
+/// What has the target of a member: the groups of its choices.
+#[derive(Debug, Drop)]
+pub struct Target {
+    pub groups: Groups,
+    pub member: Seq<u32>,
+}
