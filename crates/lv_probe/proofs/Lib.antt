@@ -1,4 +1,3 @@
 pub mod LawLemmas
 pub mod BestLemmas
 pub mod ObservableLemmas
-mod CountLemmas
