@@ -87,12 +87,7 @@ impl fmt::Display for Tally {
         write!(
             f,
             "{} diagnoses, {} trials, {} conflicts of {} choices, {} questions, {} clauses learned",
-            self.diagnoses,
-            self.trials,
-            self.conflicts,
-            self.choices,
-            self.questions,
-            self.learned
+            self.diagnoses, self.trials, self.conflicts, self.choices, self.questions, self.learned
         )
     }
 }
