@@ -1,5 +1,5 @@
 -- What is best looked at.
-use Rattle.std.proofs.Common.{◌≡◌, ℕ, ◌<◌, ◌≤◌, Bool, true, false, ◌&&◌, nat_lt, nat_le, cond, List, [], ◌∷◌, ◌++◌, Contains, Option, Some, None, option_map, ◌⊎◌, inl, inr, lt-ltb, refl, sym, subst, ap, ◌∙◌, arith}
+use Rattle.std.proofs.Common.{◌≡◌, ℕ, ◌<◌, ◌≤◌, Bool, true, false, nat_lt, nat_le, cond, List, [], ◌∷◌, ◌++◌, Contains, Option, Some, None, option_map, ◌⊎◌, inl, inr, lt-ltb, refl, sym, subst, ap, ◌∙◌, arith}
 use Rattle.std.specs.List.{list_all, find}
 use Rattle.std.proofs.lemmas.Bool.{and_parts, and_from, ltb-true, leb-true, le-leb, cases_lt}
 use Rattle.lv_base.specs.declared.ids.VarId.{VarId}

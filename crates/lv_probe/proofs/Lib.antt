@@ -1,3 +1,4 @@
 pub mod LawLemmas
 pub mod BestLemmas
 pub mod ObservableLemmas
+mod CountLemmas

@@ -1,9 +1,8 @@
 -- The observables among the first variables are such.
-use Rattle.std.proofs.Common.{◌≡◌, ℕ, ◌<◌, Option, List, map, length, filter, All, sym, subst, ◌∙◌, arith}
+use Rattle.std.proofs.Common.{ℕ, ◌<◌, Option, List, map, All, sym, subst, arith}
 use Rattle.std.specs.List.{range_with_len}
 use Rattle.std.proofs.lemmas.List.Elements.{All-filter}
 use Rattle.std.proofs.lemmas.List.FromFn.{length-map-range_with_len, get_or-map-range_with_len}
-use Rattle.lv_base.specs.declared.ids.VarId.{VarId}
 use Rattle.lv_base.specs.declared.names.Class.{Class}
 use Rattle.lv_model.specs.Lists.{IsVariable}
 use Rattle.lv_probe.specs.Probing.{is_seen, variable, observables_among}

@@ -1,13 +1,13 @@
 -- What one observation more, made after the step, would leave of the candidates that a diagnosis lists, and which observable is best
 -- looked at.
-use Rattle.std.specs.Prelude.{ℕ, Bool, ◌&&◌, nat_lt, nat_le, List, [], ◌∷◌, length, map, filter, IsTrue, slice_index_or, if◌then◌else◌, Option, option_map}
+use Rattle.std.specs.Prelude.{◌≡◌, ℕ, Bool, ◌&&◌, nat_lt, nat_le, List, [], ◌∷◌, length, replicate, map, filter, IsTrue, slice_index_or, if◌then◌else◌, Option, option_map}
 use Rattle.std.specs.List.{list_all, count_by, find, range_with_len}
 use Rattle.lv_base.specs.declared.ids.VarId.{VarId}
 use Rattle.lv_base.specs.declared.names.Class.{Class}
 use Rattle.lv_base.specs.declared.rank.Rank.{Rank}
 use Rattle.lv_base.specs.declared.search.Candidate.{Candidate}
 use Rattle.lv_model.specs.declared.plant.Plant.{Plant}
-use Rattle.lv_model.specs.Lists.{sizes}
+use Rattle.lv_model.specs.Lists.{sizes, IsFew}
 use Rattle.lv_model_names.specs.Names.{classes, is_observable}
 use Rattle.lv_meaning.specs.declared.facts.Observation.{Observation}
 use Rattle.lv_meaning.specs.declared.facts.Facts.{Facts}
@@ -31,6 +31,15 @@ numbers_with plant facts candidates x n = map (λ (v : ℕ). number_with plant f
 -- the variable with the numbers of all its values
 abbrev pub probed : Plant → Facts → List Candidate → VarId → Probed
 probed plant facts candidates x = record { var = x; numbers = numbers_with plant facts candidates x (slice_index_or (sizes plant) x.0 0) }
+
+-- what is told of its variable is what an observation of it would leave of the candidates; its values are few
+pub record IsProbed (plant : Plant) (facts : Facts) (candidates : List Candidate) (p : Probed) : Type 0 where
+  pub probed : p ≡ probed plant facts candidates p.var
+  pub few : IsFew (length p.numbers)
+
+-- of no candidate nothing is left, whatever is seen of the variable, where the variables have so many values
+abbrev pub none_left : List ℕ → VarId → Probed
+none_left values x = record { var = x; numbers = replicate (slice_index_or values x.0 0) 0 }
 
 abbrev pub variable : ℕ → VarId
 variable n = record { 0 = n }

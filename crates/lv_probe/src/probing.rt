@@ -1,13 +1,15 @@
 //! The numbers of all observables, asked of one trial of the candidates.
 #![tactic(auto)]
 
-ghost use Rattle.std.specs.Prelude.{◌≡◌, ◌<◌, ◌≤◌, ◌^◌, ◌++◌, [], ◌∷◌, IfOk, All, length, map, slice_index_or, if◌then◌else◌};
+ghost use Rattle.std.specs.Prelude.{◌≡◌, ◌+◌, ◌<◌, ◌^◌, ◌++◌, [], ◌∷◌, IfOk, All, length, map, take, if◌then◌else◌};
 ghost use Rattle.lv_model.specs.Lists.{sizes, IsFew, IsVariable};
 ghost use Rattle.lv_model_names.specs.Names.{classes};
 ghost use Rattle.lv_meaning.specs.Facts.{FactsFit, FactsInRange, HasValue};
 ghost use Rattle.lv_meaning.specs.lv_search_walk.Walk.{candidate_of};
 ghost use Rattle.lv_system.specs.System.{IsSystemOf};
-ghost use Rattle.lv_probe.specs.Probing.{IsFull, number_with, numbers_with, probed, all_probed, is_seen, observables_among};
+ghost use Rattle.lv_ident.specs.Probing.{is_allowed};
+ghost use Rattle.lv_reply.specs.declared.probes.Probed.{Probed as ProbedOf};
+ghost use Rattle.lv_probe.specs.Probing.{IsFull, IsProbed, none_left, probed, all_probed, is_seen, observables_among};
 
 use lv_base::{Candidate, Class, Rank, Seq, ValId, VarId};
 use lv_ident::IdentTrial;
@@ -29,43 +31,98 @@ fn candidates_of(alloc: Global, ranks: &[Rank]) -> Result<Vec<Candidate>, AllocE
     Ok(out)
 }
 
-/// How many of the candidates go with this value.
-fn number_with(
+/// The number, and one more where the candidate goes with this value.
+fn one_more(
     trial: &mut IdentTrial<'_>,
-    candidates: &[Candidate],
+    candidate: &Candidate,
     var: VarId,
     val: ValId,
+    number: u64,
 ) -> Result<u64, AllocError>
-    requires full { All (IsFull trial.old.plant) candidates.now }
+    requires full { IsFull trial.old.plant candidate.now }
     requires value { HasValue (sizes trial.old.plant) (record { var = var; val = val }) }
-    ensures number { IfOk result (λ n. n ≡ number_with trial.old.plant trial.old.facts candidates.now (record { var = var; val = val })) }
+    requires few { number + 1 < 2 ^ 64 }
+    ensures number { IfOk result (λ n. n ≡ number + (if is_allowed trial.old.plant trial.old.facts (record { var = var; val = val }) candidate.now then 1 else 0)) }
     ensures same { trial.new ≡ trial.old }
 {
-    let mut number = 0;
-    for candidate in candidates {
-        if trial.allows(candidate, var, val)? {
-            number += 1;
-        }
+    if trial.allows(candidate, var, val)? {
+        Ok(number + 1)
+    } else {
+        Ok(number)
     }
-    Ok(number)
 }
 
-/// The numbers of the first values of a variable, so many.
-fn numbers_with(
+/// What an observation would leave of the candidates up to this one too, where it is known what it would leave of those before.
+/// All values are asked of one candidate after the other, so that an assignment that the solver found for a candidate and one
+/// value answers at once for the values that it has elsewhere.
+fn with_next_candidate(
     alloc: Global,
     trial: &mut IdentTrial<'_>,
     candidates: &[Candidate],
-    var: VarId,
-    size: u32,
-) -> Result<Vec<u64>, AllocError>
+    at: usize,
+    so_far: &Probed,
+) -> Result<Probed, AllocError>
     requires full { All (IsFull trial.old.plant) candidates.now }
-    requires size { size ≤ slice_index_or (sizes trial.old.plant) var.0 0 }
-    ensures numbers { IfOk result (λ out. out.items ≡ numbers_with trial.old.plant trial.old.facts candidates.now var size) }
+    requires at { at < length candidates.now }
+    requires small { length candidates.now < 2 ^ 64 }
+    requires few { IsFew (length so_far.now.numbers) }
+    requires so_far { so_far.now ≡ probed trial.old.plant trial.old.facts (take at candidates.now) so_far.now.var }
+    ensures probed { IfOk result (λ out. out ≡ probed trial.old.plant trial.old.facts (take (at + 1) candidates.now) so_far.now.var) }
+    ensures same { trial.new ≡ trial.old }
+{
+    let var = so_far.var;
+    let before = so_far.numbers.as_slice();
+    let mut numbers = Vec::new(alloc);
+    for v in 0..before.len() as u32 {
+        let number = one_more(trial, &candidates[at], var, ValId(v), before[v as usize])?;
+        numbers.push(number)?;
+    }
+    Ok(Probed {
+        var,
+        numbers: Seq::from_vec(numbers),
+    })
+}
+
+/// The same of each of these observations.
+fn all_with_next_candidate(
+    alloc: Global,
+    trial: &mut IdentTrial<'_>,
+    candidates: &[Candidate],
+    at: usize,
+    so_far: &[Probed],
+) -> Result<Vec<Probed>, AllocError>
+    requires full { All (IsFull trial.old.plant) candidates.now }
+    requires at { at < length candidates.now }
+    requires small { length candidates.now < 2 ^ 64 }
+    requires so_far { All (IsProbed trial.old.plant trial.old.facts (take at candidates.now)) so_far.now }
+    ensures probed { IfOk result (λ out. out.items ≡ map (λ (p : ProbedOf). probed trial.old.plant trial.old.facts (take (at + 1) candidates.now) p.var) so_far.now) }
     ensures same { trial.new ≡ trial.old }
 {
     let mut out = Vec::new(alloc);
-    for v in 0..size {
-        out.push(number_with(trial, candidates, var, ValId(v))?)?;
+    for one in so_far {
+        out.push(with_next_candidate(alloc, trial, candidates, at, one)?)?;
+    }
+    Ok(out)
+}
+
+/// What each of these observations leaves of no candidate: none, whatever is seen.
+fn nothing_left(
+    alloc: Global,
+    values: &[usize],
+    variables: &[VarId],
+) -> Result<Vec<Probed>, AllocError>
+    requires few { All IsFew values.now }
+    requires there { All (IsVariable (length values.now)) variables.now }
+    ensures { IfOk result (λ out. out.items ≡ map (none_left values.now) variables.now) }
+{
+    let mut out = Vec::new(alloc);
+    for var in variables {
+        let mut numbers = Vec::new(alloc);
+        numbers.resize(values[var.0 as usize], 0)?;
+        out.push(Probed {
+            var: *var,
+            numbers: Seq::from_vec(numbers),
+        })?;
     }
     Ok(out)
 }
@@ -85,11 +142,9 @@ fn all_probed(
     ensures probed { IfOk result (λ out. out.items ≡ map (probed trial.old.plant trial.old.facts candidates.now) variables.now) }
     ensures same { trial.new ≡ trial.old }
 {
-    let mut out = Vec::new(alloc);
-    for var in variables {
-        let size = values[var.0 as usize] as u32;
-        let numbers = Seq::from_vec(numbers_with(alloc, trial, candidates, *var, size)?);
-        out.push(Probed { var: *var, numbers })?;
+    let mut out = nothing_left(alloc, values, variables)?;
+    for at in 0..candidates.len() {
+        out = all_with_next_candidate(alloc, trial, candidates, at, out.as_slice())?;
     }
     Ok(out)
 }

@@ -1,10 +1,10 @@
--- what was added, with what the variables that are left would leave, is all
-use Rattle.std.proofs.Common.{◌≡◌, ◌++◌, drop, map}
+-- what the observations would leave of the candidates looked at
+use Rattle.std.proofs.Common.{◌≡◌, map, take}
 use Rattle.lv_probe.specs.Probing.{probed}
 use Rattle.lv_probe.proofs.probing.all_probed.Given as goal
 
-abbrev pub invariant-loop-var : goal.invariant-loop-var
-invariant-loop-var l = record {
-  probed : l.out.items ++ map (probed l.fn.trial.plant l.fn.trial.facts l.candidates) (drop l.var-index l.variables) ≡ map (probed l.fn.trial.plant l.fn.trial.facts l.candidates) l.variables;
+abbrev pub invariant-loop-at : goal.invariant-loop-at
+invariant-loop-at l = record {
+  probed : l.out.items ≡ map (probed l.fn.trial.plant l.fn.trial.facts (take l.at l.candidates)) l.variables;
   same : l.trial ≡ l.fn.trial;
 }

@@ -1,8 +1,6 @@
 -- the trial is of the plant and the facts, the candidates are those listed, the variables the observables
 use Rattle.std.proofs.Common.{◌≡◌, ℕ, List, length, map, ap, ◌∙◌}
 use Rattle.std.proofs.lemmas.Result.{IfOk-weaker}
-use Rattle.lv_base.specs.declared.ids.VarId.{VarId}
-use Rattle.lv_base.specs.declared.search.Candidate.{Candidate}
 use Rattle.lv_model.specs.Lists.{sizes}
 use Rattle.lv_meaning.specs.lv_search_walk.Walk.{candidate_of}
 use Rattle.lv_probe.specs.Probing.{probed, all_probed, observables, observables_among}
