@@ -23,7 +23,7 @@ use Rattle.lv_compile.proofs.CleaningLemmas.{cleaned_true}
 use Rattle.lv_compile.proofs.StepLemmas.{step_exact}
 
 module _ (truth : ℕ → Bool) where
-  both_parts : (ps qs : List (List _)) → are_true truth (ps ++ qs) ≡ true → (are_true truth ps ≡ true) × (are_true truth qs ≡ true)
+  pub both_parts : (ps qs : List (List _)) → are_true truth (ps ++ qs) ≡ true → (are_true truth ps ≡ true) × (are_true truth qs ≡ true)
   both_parts ps qs h = and_parts (are_true truth ps) (are_true truth qs) (sym (joined_true truth ps qs) ∙ h)
 
   -- of booleans in a row exactly one
@@ -107,7 +107,7 @@ module _ (truth : ℕ → Bool) where
 
   -- of each variable one value
 
-  record Row (first : ℕ) (ns : List ℕ) : Type 0 where
+  pub record Row (first : ℕ) (ns : List ℕ) : Type 0 where
     pub values : List ValId
     pub long : length values ≡ length ns
     pub in_range : (x : ℕ) → x < length ns → number_of values x < slice_index_or ns x 0
@@ -135,11 +135,11 @@ module _ (truth : ℕ → Bool) where
 
   -- of each part one move
 
-  record HasType (types : List ComponentType) (p : Part) : Type 0 where
+  pub record HasType (types : List ComponentType) (p : Part) : Type 0 where
     pub t : ComponentType
     pub kind : slice_get types p.kind ≡ Some t
 
-  record Moves (types : List ComponentType) (first : ℕ) (ps : List Part) : Type 0 where
+  pub record Moves (types : List ComponentType) (first : ℕ) (ps : List Part) : Type 0 where
     pub moves : List MoveId
     pub code : EncodeMoves truth first (map (part_moves types) ps) moves
 
@@ -168,7 +168,7 @@ module _ (truth : ℕ → Bool) where
           let e : choice + sum (part_moves types p ∷ take k (map (part_moves types) ps)) + n ≡ choice + part_moves types p + sum (take k (map (part_moves types) ps)) + n = omega (arith, more) in
           ap truth e ∙ rest.code.values k n (omega (arith, inside)) below
 
-  moves_of : (a b : Booleans) (types : List ComponentType) (choice : ℕ) (ps : List Part) → ((k : ℕ) (p : Part) → slice_get ps k ≡ Some p → HasType types p)
+  pub moves_of : (a b : Booleans) (types : List ComponentType) (choice : ℕ) (ps : List Part) → ((k : ℕ) (p : Part) → slice_get ps k ≡ Some p → HasType types p)
       → are_true truth (choices_clauses a b types choice ps) ≡ true → Moves types choice ps
   moves_of a b types choice [] each h =
       record { moves = []; code = record { each = refl; in_range = λ k inside. absurd (omega (arith, inside)); values = λ k n inside below. absurd (omega (arith, inside)) } }
@@ -178,7 +178,7 @@ module _ (truth : ℕ → Bool) where
       (moves_of a b types (choice + part_moves types p) ps (λ k q here. each (suc k) q here) two.1)
 
   -- a part of a well-formed plant has a type
-  typed : (plant : Plant) → is_well_formed plant ≡ true → (k : ℕ) (p : Part) → slice_get plant.parts k ≡ Some p → HasType plant.types p
+  pub typed : (plant : Plant) → is_well_formed plant ≡ true → (k : ℕ) (p : Part) → slice_get plant.parts k ≡ Some p → HasType plant.types p
   typed plant h k p here = by (slice_get plant.types p.kind) refl
     where
       fit : part_fits plant.types p ≡ true
@@ -190,7 +190,7 @@ module _ (truth : ℕ → Bool) where
           absurd (cc)
       by (Some t) kind = record { t = t; kind = kind }
 
-  copy_values : (b : Booleans) (plant : Plant) → are_true truth (copy_clauses b plant) ≡ true → Row b.first b.sizes
+  pub copy_values : (b : Booleans) (plant : Plant) → are_true truth (copy_clauses b plant) ≡ true → Row b.first b.sizes
   copy_values b plant h =
       let front = (both_parts (values_clauses b.first b.sizes ++ flat_map (part_clauses b plant.types) plant.parts) (flat_map (formula_clauses b 0 true) plant.laws) h).0 in
       row_of b.first b.sizes (both_parts (values_clauses b.first b.sizes) (flat_map (part_clauses b plant.types) plant.parts) front).0

@@ -35,7 +35,7 @@ module _ (bools : ℕ) where
 
   -- lists that are joined
 
-  joined_in : (ps qs : Clauses) → all_in ps ≡ true → all_in qs ≡ true → all_in (ps ++ qs) ≡ true
+  pub joined_in : (ps qs : Clauses) → all_in ps ≡ true → all_in qs ≡ true → all_in (ps ++ qs) ≡ true
   joined_in ps qs h k = list_all-append lits_in ps qs ∙ and_from (all_in ps) (all_in qs) h k
 
   longer_in : (p : List Lit) (qs : Clauses) → lits_in p ≡ true → all_in qs ≡ true → all_in (each_after qs p) ≡ true

@@ -17,3 +17,5 @@ pub mod PlantBoundLemmas
 pub mod DecodeLemmas
 pub mod InRangeLemmas
 pub mod ApartLemmas
+pub mod WindowLemmas
+pub mod WindowDecoding

@@ -21,6 +21,10 @@ value_bool b x v = b.first + sum (take x b.sizes) + v
 abbrev pub value_literal : Booleans → ℕ → ℕ → Bool → Lit
 value_literal b x v sign = literal (value_bool b x v) sign
 
+-- of a copy of the plant's variables, from this one on
+abbrev pub booleans_from : Plant → ℕ → Booleans
+booleans_from plant first = record { sizes = sizes plant; first = first }
+
 -- of the variables before the step
 abbrev pub booleans_now : Plant → Booleans
 booleans_now plant = record { sizes = sizes plant; first = 0 }

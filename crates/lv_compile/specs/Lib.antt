@@ -3,6 +3,8 @@ pub mod FormulaClauses
 pub mod Cleaning
 pub mod Speaking
 pub mod ModelClauses
+pub mod Windows
 pub mod Laws
+pub mod WindowLaws
 pub mod Valve
 pub mod Examples

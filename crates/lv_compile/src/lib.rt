@@ -15,3 +15,4 @@ pub mod moves;
 pub mod one_of;
 pub mod plant_clauses;
 pub mod value_bools;
+pub mod windows;

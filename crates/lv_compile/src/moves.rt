@@ -197,7 +197,7 @@ fn push_part_choice(
 }
 
 /// How many moves the part has to choose from.
-fn moves_of_part(types: &[ComponentType], part: &Part) -> usize
+pub fn moves_of_part(types: &[ComponentType], part: &Part) -> usize
     ensures { result ≡ part_moves types.now part.now }
 {
     match type_of(types, part) {

@@ -1,4 +1,4 @@
-//! The clauses of a plant, as the table of its lists gives them.
+//! The clauses of a plant, and the booleans of its variables and choices.
 #![tactic(auto)]
 
 ghost use Rattle.std.specs.Prelude.{◌≡◌, ◌+◌, ◌<◌, ◌^◌, IfOk, IsTrue};
@@ -6,12 +6,11 @@ ghost use Rattle.std.specs.List.{sum};
 ghost use Rattle.lv_model.specs.WellFormed.{is_well_formed};
 ghost use Rattle.lv_model.specs.Lists.{sizes};
 ghost use Rattle.lv_compile.specs.Booleans.{booleans_now, booleans_next, first_choice};
-ghost use Rattle.lv_compile.specs.ModelClauses.{raw_clauses, model_clauses};
+ghost use Rattle.lv_compile.specs.ModelClauses.{model_clauses};
 
-use crate::cleaning::cleaned;
-use crate::copies::push_copy;
-use crate::moves::{Copies, push_choices};
+use crate::moves::Copies;
 use crate::value_bools::ValueBools;
+use crate::windows::window_clauses;
 use lv_base::{Lit, Seq};
 use lv_model::variables::all_sizes;
 use lv_model::{Model, Plant};
@@ -48,30 +47,9 @@ pub fn copies_of(alloc: Global, plant: &Plant) -> Result<Copies, AllocError>
     })
 }
 
-/// The clauses in their order, with literals that stand twice and clauses that are true of everything.
-pub fn raw_clauses(alloc: Global, plant: &Plant) -> Result<Vec<Seq<Lit>>, AllocError>
-    requires { IsTrue (is_well_formed plant.now) }
-    ensures { IfOk result (λ out. out.items ≡ raw_clauses plant.now) }
-{
-    let copies = copies_of(alloc, plant)?;
-    let mut out = Vec::new(alloc);
-    push_copy(&mut out, alloc, &copies.before, plant)?;
-    push_copy(&mut out, alloc, &copies.after, plant)?;
-    push_choices(
-        &mut out,
-        alloc,
-        &copies,
-        plant.types.as_slice(),
-        copies.first_choice,
-        plant.parts.as_slice(),
-    )?;
-    Ok(out)
-}
-
-/// The clauses of the model, in their order.
+/// The clauses of the model, in their order: those of a window of one step.
 pub fn model_clauses(alloc: Global, model: &Model) -> Result<Vec<Seq<Lit>>, AllocError>
     ensures { IfOk result (λ out. out.items ≡ model_clauses model.now) }
 {
-    let raw = raw_clauses(alloc, model.plant())?;
-    cleaned(alloc, raw.as_slice())
+    window_clauses(alloc, model, 1)
 }

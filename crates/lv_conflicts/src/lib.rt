@@ -5,9 +5,11 @@
 //! | call | answer |
 //! |---|---|
 //! | `Store::new` | a store that keeps nothing |
+//! | `Store::from_vec` | a store that keeps some |
 //! | `add` | keeps one more conflict, behind the others |
 //! | `contained_in` | which kept conflict a candidate contains first |
 //! | `get`, `as_slice`, `len` | the kept conflicts |
+//! | `first_contained` | which of some conflicts choices contain first |
 #![tactic(auto)]
 
 ghost use Rattle.std.specs.Prelude.{◌≡◌, ◌<◌, [], ◌∷◌, ◌++◌, length, position, slice_get, IfOk, OnOk, OnErr};
@@ -41,6 +43,15 @@ impl Store {
         Ok(Store {
             conflicts: Seq::new(alloc),
         })
+    }
+
+    /// A store that keeps these conflicts. Takes no memory.
+    pub fn from_vec(conflicts: Vec<Conflict>) -> Store
+        ensures { result ≡ conflicts.items }
+    {
+        Store {
+            conflicts: Seq::from_vec(conflicts),
+        }
     }
 
     /// Keeps one more conflict, whose number is the number of those kept before. After want of memory the store is as
@@ -84,7 +95,7 @@ impl Store {
 }
 
 /// The place of the first conflict that the choices contain.
-fn first_contained(conflicts: &[Conflict], choices: &[u32]) -> Option<usize>
+pub fn first_contained(conflicts: &[Conflict], choices: &[u32]) -> Option<usize>
     ensures { result ≡ position (contains_all choices.now) conflicts.now }
 {
     conflicts

@@ -16,7 +16,7 @@ use Rattle.lv_search_walk.proofs.TurnLemmas.{walk_full, walk_repeated, walk_thin
 use Rattle.lv_search.specs.Frontier.{Thins, ThinsAlike, IsLikeFirst, LeftAfter}
 use Rattle.lv_search.specs.Standing.{Standing, trials_of, walk_on, conflict_at, all_suit, Follows, AreSame}
 use Rattle.lv_search.specs.Turn.{PassesOver, IsRepeated, IsTrial, IsListed, GoesOnTo, EndsAt}
-use Rattle.lv_search.proofs.NextLemmas.{first_and_rest}
+use Rattle.lv_search.proofs.NextLemmas.{first_and_rest, shorter_without}
 use Rattle.lv_search.proofs.GroupLemmas.{has_own_groups, groups_join, alike_listed, alike_last}
 
 all_filtered : (p keeps : Rank → Bool) (rs : List Rank) → list_all p rs ≡ true → list_all p (filter keeps rs) ≡ true
@@ -48,7 +48,7 @@ module _ (suits fits : Candidate → Bool) (reason : Candidate → List Pair) wh
     pub thinned_goes_on : (number : ℕ) (left : List Rank) (new : Standing) → PassesOver number old → Thins (conflict_at old.kept number) old.left left
         → new ≡ record old { left = left } → GoesOnTo suits fits reason budget old new
     thinned_goes_on number left new passes thins is =
-        let shorter = thins.fewer in
+        let shorter = shorter_without thins.keeps old.left left thins.same thins.first in
         subst (λ (s : Standing). GoesOnTo suits fits reason budget old s) (sym is)
         record {
           follows = record {
@@ -85,7 +85,7 @@ module _ (suits fits : Candidate → Bool) (reason : Candidate → List Pair) wh
       thinned : (groups_are : List (List ℕ)) → groups ≡ Some groups_are → ((r : Rank) → have_same_groups groups_are r.choices rank.choices ≡ true → list_any (alike_by groups r) listed ≡ true)
           → ThinsAlike groups_are old.left left → IsBehind
       thinned gs is covered thins =
-          let shorter = thins.fewer in
+          let shorter = shorter_without thins.keeps old.left left thins.same thins.first in
           let first_covered : list_any (alike_by groups rank) listed ≡ true = covered rank (has_own_groups gs rank.choices) in
           record {
             walk =

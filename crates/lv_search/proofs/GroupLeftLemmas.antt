@@ -4,7 +4,6 @@ use Rattle.std.specs.Prelude.{All}
 use Rattle.std.specs.Map.{keys_of}
 use Rattle.std.specs.declared.cmp.Ordering.TheVariants.{Less}
 use Rattle.std.proofs.lemmas.Bool.{or_parts, not-false}
-use Rattle.std.proofs.lemmas.List.Sums.{length-filter, count_by-le-length}
 use Rattle.lv_base.specs.declared.ids.Cost.{Cost}
 use Rattle.lv_base.specs.declared.rank.Rank.{Rank}
 use Rattle.lv_base.specs.Rank.{rank_cmp}
@@ -19,7 +18,7 @@ use Rattle.lv_search_walk.specs.Ranked.{is_among}
 use Rattle.lv_search_walk.specs.Groups.{have_same_groups}
 use Rattle.lv_search_walk.proofs.RankedLemmas.{one_list}
 use Rattle.lv_search.specs.declared.zones.Open.{Open}
-use Rattle.lv_search.specs.Frontier.{IsLikeFirst, ThinsAlike, LeavesOut}
+use Rattle.lv_search.specs.Frontier.{LeavesFirst, IsLikeFirst, ThinsAlike, LeavesOut}
 use Rattle.lv_search.specs.Zones.{zones_of, AreKept, HasMore, HasRoomFor}
 use Rattle.lv_search.proofs.NextLemmas.{first_and_rest}
 use Rattle.lv_search.proofs.GroupLemmas.{has_own_groups}
@@ -108,18 +107,13 @@ module _ (slots : List (List Cost)) (groups : List (List ℕ)) (shape : have_sha
           record {
             keeps = keeps;
             same = filtered;
+            first =
+                let inside : out e.0 ≡ true = ap (have_same_groups groups e.0.choices) own ∙ has_own_groups groups e.0.choices in
+                let gone : keeps e.0 ≡ false = λ i. only_first i || not (inside i) in
+                subst (λ (rs : List Rank). LeavesFirst keeps rs) (sym left_is) gone;
             only = λ r k.
                 subst (λ (rs : List Rank). IsLikeFirst groups r rs) (sym left_is)
                 (sym (ap (have_same_groups groups r.choices) own) ∙ not-false (out r) (or_parts (others r) (not (out r)) k).1);
-            fewer =
-                let inside : out e.0 ≡ true = ap (have_same_groups groups e.0.choices) own ∙ has_own_groups groups e.0.choices in
-                let gone : keeps e.0 ≡ false = λ i. only_first i || not (inside i) in
-                let first_out : filter keeps (e.0 ∷ rest) ≡ filter keeps rest = ap (λ b. cond b (e.0 ∷ filter keeps rest) (filter keeps rest)) gone in
-                let short : length (left_of slots new) ≡ length (filter keeps rest) = ap length filtered ∙ ap (λ rs. length (filter keeps rs)) left_is ∙ ap length first_out in
-                let counted = length-filter keeps rest in
-                let few = count_by-le-length keeps rest in
-                let long : length (left_of slots (e ∷ es)) ≡ suc (length rest) = ap length left_is in
-                omega (arith, short, counted, few, long);
           }
 
   -- the first entry, taken out

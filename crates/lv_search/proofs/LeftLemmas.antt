@@ -8,7 +8,6 @@ use Rattle.std.specs.declared.cmp.Ordering.TheVariants.{Less}
 use Rattle.std.proofs.Math.ListN.{length-set}
 use Rattle.std.proofs.lemmas.Bool.{and_from, and_parts, or_left, or_right, or_parts, ltb-true, lt-ltb, eq-eqb, both_ways, false_from_ne_true, not-true, not-false}
 use Rattle.std.proofs.lemmas.List.Elements.{All-head, All-tail}
-use Rattle.std.proofs.lemmas.List.Sums.{length-filter, count_by-le-length}
 use Rattle.lv_base.specs.declared.ids.Cost.{Cost}
 use Rattle.lv_base.specs.declared.rank.Rank.{Rank}
 use Rattle.lv_base.specs.declared.search.Pair.{Pair}
@@ -25,7 +24,7 @@ use Rattle.lv_search_walk.specs.Ranked.{rises, is_rank, is_among}
 use Rattle.lv_search_walk.specs.Walk.{candidate_of}
 use Rattle.lv_search_walk.proofs.RankedLemmas.{neither_is_same, not_before_itself, not_both_before, same_rank, is_itself, before_each, not_among_later, one_list}
 use Rattle.lv_search.specs.declared.zones.Open.{Open}
-use Rattle.lv_search.specs.Frontier.{FirstContains, Thins}
+use Rattle.lv_search.specs.Frontier.{FirstContains, LeavesFirst, Thins}
 use Rattle.lv_boxes.specs.RankedMembers.{ranked_members, ranks_in, times_in, sources_differ}
 use Rattle.lv_search.specs.Zones.{zones_of, IsKeptByLeast, AreKept, HasMore, HasRoomFor}
 use Rattle.lv_search.proofs.NextLemmas.{first_and_rest}
@@ -300,15 +299,8 @@ module _ (slots : List (List Cost)) where
             record {
               keeps = keeps;
               same = filtered;
+              first = let out : keeps e.0 ≡ false = λ i. only_first i || not (inside i) in subst (λ (rs : List Rank). LeavesFirst keeps rs) (sym left_is) out;
               only = λ r k. not-false (contains_all r.choices pairs) (or_parts (others r) (not (contains_all r.choices pairs)) k).1;
-              fewer =
-                  let out : keeps e.0 ≡ false = λ i. only_first i || not (inside i) in
-                  let first_out : filter keeps (e.0 ∷ rest) ≡ filter keeps rest = ap (λ b. cond b (e.0 ∷ filter keeps rest) (filter keeps rest)) out in
-                  let short : length (left_of new) ≡ length (filter keeps rest) = ap length filtered ∙ ap (λ rs. length (filter keeps rs)) left_is ∙ ap length first_out in
-                  let counted = length-filter keeps rest in
-                  let few = count_by-le-length keeps rest in
-                  let long : length (left_of (e ∷ es)) ≡ suc (length rest) = ap length left_is in
-                  omega (arith, short, counted, few, long);
             }
 
         module _ (own : pairs ≡ pairs_of e.0.choices) where

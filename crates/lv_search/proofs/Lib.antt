@@ -4,5 +4,6 @@ pub mod FollowLemmas
 pub mod TimesLemmas
 pub mod LeftLemmas
 pub mod GroupLeftLemmas
+pub mod FreeLemmas
 pub mod RunLemmas
 pub use Rattle.lv_boxes.proofs as lv_boxes

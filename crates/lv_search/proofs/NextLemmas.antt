@@ -1,10 +1,11 @@
 -- What comes next, by the first of what is left.
-use Rattle.std.proofs.Common.{◌≡◌, ◌≢◌, ℕ, ◌+◌, Bool, true, false, List, [], ◌∷◌, length, refl, sym, ◌∙◌, ap, subst, arith, nat_lt, ◌≤◌, suc, not, ◌||◌, cond}
+use Rattle.std.proofs.Common.{◌≡◌, ◌≢◌, ℕ, ◌+◌, ◌<◌, Bool, true, false, List, [], ◌∷◌, length, filter, refl, sym, ◌∙◌, ap, subst, arith, nat_lt, ◌≤◌, suc, not, ◌||◌, cond}
 use Rattle.std.specs.Prelude.{slice_get, position, Option, Some, None}
 use Rattle.std.specs.List.{list_any, position_or_len}
 use Rattle.std.proofs.lemmas.Bool.{ltb-false}
 use Rattle.std.proofs.lemmas.List.Quantifiers.{position-Some}
 use Rattle.std.proofs.lemmas.List.Folds.{list_any_at}
+use Rattle.std.proofs.lemmas.List.Sums.{length-filter, count_by-le-length}
 use Rattle.lv_base.specs.declared.rank.Rank.{Rank}
 use Rattle.lv_base.specs.declared.search.Pair.{Pair}
 use Rattle.lv_base.specs.declared.search.Candidate.{Candidate}
@@ -13,7 +14,7 @@ use Rattle.lv_search_walk.specs.declared.outcome.Outcome.TheVariants.{Settled, U
 use Rattle.lv_search_walk.specs.Walk.{candidate_of, is_ruled_out}
 use Rattle.lv_search_walk.specs.Groups.{alike_by}
 use Rattle.lv_search_walk.proofs.TurnLemmas.{walk_full, walk_used_up}
-use Rattle.lv_search.specs.Frontier.{FirstContains}
+use Rattle.lv_search.specs.Frontier.{FirstContains, LeavesFirst}
 use Rattle.lv_search.specs.Standing.{Standing, trials_of, walk_on, conflict_at}
 use Rattle.lv_search.specs.Turn.{EndsHere, PassesOver, IsRepeated, IsTrial}
 
@@ -30,7 +31,7 @@ none_before p (x ∷ xs) past = by (p x) past (none_before p xs)
     by true past rest = absurd (omega arith)
     by false past rest = rest (omega arith)
 
-position-None : {X : Type 0} (p : X → Bool) (xs : List X) → position p xs ≡ None → list_any p xs ≡ false
+pub position-None : {X : Type 0} (p : X → Bool) (xs : List X) → position p xs ≡ None → list_any p xs ≡ false
 position-None p xs none = none_before p xs (ltb-false (position_or_len p xs) (length xs) (by (nat_lt (position_or_len p xs) (length xs)) none))
   where
     by : (b : Bool) → cond b (Some (position_or_len p xs)) None ≡ None → b ≡ false
@@ -45,6 +46,16 @@ first_and_rest (y ∷ ys) x e = (ys, (let same : y ≡ x = cc e in ap (λ z. z �
 pub no_first : {X : Type 0} (xs : List X) → slice_get xs 0 ≡ None → xs ≡ []
 no_first [] e = refl
 no_first (y ∷ ys) e = absurd (cc e)
+
+-- what is left without the first is shorter
+pub shorter_without : (keeps : Rank → Bool) (old new : List Rank) → new ≡ filter keeps old → LeavesFirst keeps old → length new < length old
+shorter_without keeps [] new same out = absurd out
+shorter_without keeps (r ∷ rs) new same out =
+    let gone : filter keeps (r ∷ rs) ≡ filter keeps rs = ap (λ b. cond b (r ∷ filter keeps rs) (filter keeps rs)) out in
+    let short : length new ≡ length (filter keeps rs) = ap length same ∙ ap length gone in
+    let counted = length-filter keeps rs in
+    let few = count_by-le-length keeps rs in
+    omega (arith, short, counted, few)
 
 pub first_contains : (left : List Rank) (rank : Rank) (conflict : List Pair) → slice_get left 0 ≡ Some rank → contains_all rank.choices conflict ≡ true → FirstContains conflict left
 first_contains left rank conflict first inside =
@@ -61,7 +72,7 @@ module _ (s : Standing) (rank : Rank) (first : slice_get s.left 0 ≡ Some rank)
     pub is_repeated : (number : ℕ) → position (alike_by s.groups rank) s.listed ≡ Some number → IsRepeated s
     is_repeated number found =
         let at = position-Some (alike_by s.groups rank) s.listed number rank found in
-        record { fewer = fewer; rank = rank; first = first; alike = list_any_at (alike_by s.groups rank) s.listed number rank at.0 at.1 }
+        record { fewer = fewer; rank = rank; first = first; not_ruled_out = allowed; alike = list_any_at (alike_by s.groups rank) s.listed number rank at.0 at.1 }
 
     fresh : position (alike_by s.groups rank) s.listed ≡ None → list_any (alike_by s.groups rank) s.listed ≡ false
     fresh none = position-None (alike_by s.groups rank) s.listed none

@@ -29,11 +29,12 @@ pub record PassesOver (number : ℕ) (s : Standing) : Type 0 where
   pub within : number < length s.kept
   pub inside : FirstContains (conflict_at s.kept number) s.left
 
--- the first has the target of a listed one
+-- the first has the target of a listed one, and no kept conflict rules it out
 pub record IsRepeated (s : Standing) : Type 0 where
   pub fewer : length s.listed ≢ s.k
   pub rank : Rank
   pub first : slice_get s.left 0 ≡ Some rank
+  pub not_ruled_out : is_ruled_out s.kept rank.choices ≡ false
   pub alike : list_any (alike_by s.groups rank) s.listed ≡ true
 
 -- the first is to be tried

@@ -5,4 +5,5 @@ pub mod SystemLemmas
 pub mod RangeLemmas
 pub mod DecodingLemmas
 pub mod GoalLemmas
+pub mod WindowLemmas
 pub use Rattle.lv_compile.proofs as lv_compile

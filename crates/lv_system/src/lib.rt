@@ -6,6 +6,7 @@
 //! | part | items |
 //! |---|---|
 //! | the system | `compile`, `StepSystem`, `Moment` |
+//! | the system of several steps, one behind the other | `compile_window`, `WindowSystem` |
 //! | a step read off truth values | `StepPair` |
 //! | the numbering of choices | `ChoiceBools` |
 //! | its laws | `laws` |
@@ -18,8 +19,10 @@ pub mod moment;
 mod numbered;
 pub mod step_pair;
 pub mod system;
+pub mod window;
 
 pub use choices::ChoiceBools;
 pub use moment::Moment;
 pub use step_pair::StepPair;
 pub use system::{StepSystem, compile};
+pub use window::{WindowSystem, compile_window};
