@@ -99,6 +99,7 @@ module _ (plant : Plant) (state : SessionState) where
   request_stays (request.Release place) handed is = changed state.k state.distinct (slice_set state.controls place rest) state.goals (λ h. h)
   request_stays (request.Observe s) handed is = absurd (cc handed)
   request_stays (request.Retract name) handed is = absurd (cc handed)
+  request_stays (request.RetractAt r) handed is = absurd (cc handed)
   request_stays (request.SetGoal g) handed is = goal_stays g
   request_stays (request.DropGoal name) handed is = drop_stays name
   request_stays request.Diagnose handed is = absurd (cc handed)

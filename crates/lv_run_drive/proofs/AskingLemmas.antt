@@ -12,11 +12,11 @@ use Rattle.lv_reply.specs.declared.reply.Reply.TheVariants.{Nothing as Silence}
 use Rattle.lv_session.specs.lv_session_request.declared.words.Word.{Word}
 use Rattle.lv_session.specs.lv_session_request.declared.words.Word.TheVariants as word
 use Rattle.lv_session.specs.lv_session_request.declared.request.Request.{Request}
-use Rattle.lv_session.specs.lv_session_request.declared.request.Request.TheVariants.{Nothing, Track, TrackDistinct, SetBudget, SetControl, Release, Observe, Retract, SetGoal, DropGoal, Diagnose, Recover, More, Commit, Conflicts, Labels, LabelsFrom, States, Reset, Quit, Probe, Test}
+use Rattle.lv_session.specs.lv_session_request.declared.request.Request.TheVariants.{Nothing, Track, TrackDistinct, SetBudget, SetControl, Release, Observe, Retract, RetractAt, SetGoal, DropGoal, Diagnose, Recover, More, Commit, Conflicts, Labels, LabelsFrom, States, Reset, Quit, Probe, Test}
 use Rattle.lv_session.specs.lv_session_request.Chain.{and_then}
-use Rattle.lv_session.specs.lv_session_request.Forms.{first_word, has_distinct_form, limited, number_to}
+use Rattle.lv_session.specs.lv_session_request.Forms.{first_word, has_distinct_form, has_at_form, limited, number_to}
 use Rattle.lv_session.specs.lv_session_request.Goals.{goal_of}
-use Rattle.lv_session.specs.lv_session_request.Requests.{alone, command_of, release_of, tested_of, sighting_of, retracted_of, request_by, asked_by_first, asked, asked_by, request_of}
+use Rattle.lv_session.specs.lv_session_request.Requests.{alone, command_of, release_of, tested_of, sighting_of, retracted_of, retraction_of, request_by, asked_by_first, asked, asked_by, request_of}
 use Rattle.lv_session.specs.lv_session_state.State.{SessionState, unchanged}
 use Rattle.lv_session.specs.Session.{answered, stepped}
 use Rattle.lv_session.specs.Laws.{is_certificate}
@@ -53,7 +53,11 @@ by_word plant lists word.Budget line h = never (number_to BUDGET line) (λ n. Se
 by_word plant lists word.Command line h = never (command_of plant lists line) (λ c. SetControl c) (λ _. refl)
 by_word plant lists word.Release line h = never (release_of plant lists line) (λ n. Release n) (λ _. refl)
 by_word plant lists word.Observe line h = never (sighting_of plant lists line) (λ s. Observe s) (λ _. refl)
-by_word plant lists word.Retract line h = never (retracted_of line) (λ name. Retract name) (λ _. refl)
+by_word plant lists word.Retract line h = by (has_at_form line)
+  where
+    by : (b : Bool) → asks (cond b (and_then (retraction_of line) (λ r. Ok (RetractAt r))) (and_then (retracted_of line) (λ name. Ok (Retract name)))) ≡ false
+    by true = never (retraction_of line) (λ r. RetractAt r) (λ _. refl)
+    by false = never (retracted_of line) (λ name. Retract name) (λ _. refl)
 by_word plant lists word.Goal line h = never (goal_of plant lists line) (λ g. SetGoal g) (λ _. refl)
 by_word plant lists word.Drop line h = never (retracted_of line) (λ name. DropGoal name) (λ _. refl)
 by_word plant lists word.Diagnose line h = alone_never Diagnose line refl

@@ -84,6 +84,7 @@ module _ (plant : Plant) (state : SessionState) where
         present = is.present;
         next = is.next;
         held = is.held;
+        history = is.history;
         goals = is.goals;
         few_goals = is.few_goals;
       }

@@ -15,7 +15,9 @@ use Rattle.lv_reply.specs.declared.reply.Reply.TheVariants.{Refused, Committed, 
 use Rattle.lv_session_state.specs.lv_session_request.declared.goals.Goal.{Goal}
 use Rattle.lv_session_state.specs.lv_session_request.declared.request.Sighting.{Sighting}
 use Rattle.lv_session_state.specs.lv_session_request.declared.request.Request.{Request}
-use Rattle.lv_session_state.specs.lv_session_request.declared.request.Request.TheVariants.{Nothing, Track, TrackDistinct, SetBudget, SetControl, Release, Observe, Retract, SetGoal, DropGoal, Diagnose, Recover, More, Commit, Conflicts, Certificate, Labels, LabelsFrom, States, Reset, Quit, Probe, Test as ToTest}
+use Rattle.lv_session_state.specs.lv_session_request.declared.request.Retraction.{Retraction}
+use Rattle.lv_session_state.specs.Times.{is_kept, is_held_of, without_of, retract_at}
+use Rattle.lv_session_state.specs.lv_session_request.declared.request.Request.TheVariants.{Nothing, Track, TrackDistinct, SetBudget, SetControl, Release, Observe, Retract, RetractAt, SetGoal, DropGoal, Diagnose, Recover, More, Commit, Conflicts, Certificate, Labels, LabelsFrom, States, Reset, Quit, Probe, Test as ToTest}
 use Rattle.lv_session_state.specs.declared.query.Query.{Query}
 use Rattle.lv_session_state.specs.declared.query.Query.TheVariants.{Absent, Diagnosis, Recovery, Test}
 use Rattle.lv_session_state.specs.declared.running.Running.{Running}
@@ -74,6 +76,14 @@ module _ (plant : Plant) (state : SessionState) (running : Running) (is : IsCurr
           → IsCurrent plant (cond b (cleared (record state { present = filter (lacks_name name) state.present; next = filter (lacks_name name) state.next })) (unchanged state (Refused NameNotHeld))).state running
       by true = tt
       by false = is
+
+  retract_at_current : (r : Retraction) → IsCurrent plant (retract_at state r).state running
+  retract_at_current r = by (is_kept state r.time) (is_held_of state r.time r.name)
+    where
+      by : (a b : Bool) → IsCurrent plant (cond a (cond b (cleared (without_of state r.time r.name)) (unchanged state (Refused NameNotHeld))) (unchanged state (Refused OutOfLimits))).state running
+      by true true = tt
+      by true false = is
+      by false b = is
 
   set_goal_current : (g : Goal) → IsCurrent plant (set_goal state g).state running
   set_goal_current g = by (is_goal state g.name) (has_no_goal_room state g.name)
@@ -159,6 +169,7 @@ module _ (plant : Plant) (old : SessionState) (before after : Running) (is : IsC
   cared_for (Release place) care = tt
   cared_for (Observe s) care = left (observe old s).state (observe_current plant old before is s) care
   cared_for (Retract name) care = left (retract old name).state (retract_current plant old before is name) care
+  cared_for (RetractAt r) care = left (retract_at old r).state (retract_at_current plant old before is r) care
   cared_for (SetGoal g) care = left (set_goal old g).state (set_goal_current plant old before is g) care
   cared_for (DropGoal name) care = left (drop_goal old name).state (drop_goal_current plant old before is name) care
   cared_for Diagnose care = care

@@ -31,17 +31,22 @@ use Rattle.lv_model.specs.declared.state.TrackedState.{TrackedState}
 use Rattle.lv_session_state.specs.lv_meaning.Ranges.{StateFits}
 use Rattle.lv_session_state.specs.lv_session_request.declared.goals.Goal.{Goal}
 use Rattle.lv_session_state.specs.lv_session_request.declared.request.Sighting.{Sighting}
+use Rattle.lv_session_state.specs.lv_session_request.declared.request.Retraction.{Retraction}
 use Rattle.lv_session_state.specs.lv_session_request.declared.request.Request.{Request}
-use Rattle.lv_session_state.specs.lv_session_request.declared.request.Request.TheVariants.{Nothing, Track, TrackDistinct, SetBudget, SetControl, Release, Observe, Retract, SetGoal, DropGoal, Diagnose, Recover, More, Commit, Conflicts, Certificate, Labels, LabelsFrom, States, Reset, Quit, Probe, Test as ToTest}
+use Rattle.lv_session_state.specs.lv_session_request.declared.request.Request.TheVariants.{Nothing, Track, TrackDistinct, SetBudget, SetControl, Release, Observe, Retract, RetractAt, SetGoal, DropGoal, Diagnose, Recover, More, Commit, Conflicts, Certificate, Labels, LabelsFrom, States, Reset, Quit, Probe, Test as ToTest}
 use Rattle.lv_session_state.specs.lv_session_request.Forms.{IsUpTo}
 use Rattle.lv_session_state.specs.lv_session_request.Goals.{IsGoalIn}
 use Rattle.lv_session_state.specs.lv_session_request.Requests.{IsSightingIn, IsRequestOf}
 use Rattle.lv_session_state.specs.declared.query.Query.{Query}
 use Rattle.lv_session_state.specs.declared.query.Query.TheVariants.{Absent, Diagnosis, Recovery, Test}
 use Rattle.lv_session_state.specs.lv_session_request.Held.{lacks_name}
-use Rattle.lv_session_state.specs.State.{SessionState, Stepped, start, rest, unchanged, cleared, walked, recovery, is_held, observe, retract, is_goal, lacks_goal_name, set_goal, drop_goal, recovered, recover, more, more_by, more_recovery_by, commit, commit_by, testing, more_test_by, conflicts, taken_over, advanced_to}
+use Rattle.lv_session_state.specs.State.{SessionState, Stepped, start, rest, unchanged, cleared, walked, recovery, is_held, observe, retract, is_goal, lacks_goal_name, set_goal, drop_goal, recovered, recover, more, more_by, more_recovery_by, commit, commit_by, testing, more_test_by, conflicts, taken_over, past_of, advanced_to}
+use Rattle.lv_session_state.specs.declared.history.Past.{Past}
+use Rattle.lv_session_state.specs.History.{without_in}
+use Rattle.lv_session_state.specs.Times.{first_time, is_kept, is_held_of, without_of, retract_at}
+use Rattle.lv_session_state.proofs.HistoryLemmas.{history_without, history_on}
 use Rattle.lv_session.specs.Session.{is_certifiable, certificate, labelled, labelled_from, probed_reply, probe_by, probe, carried_out}
-use Rattle.lv_session_state.specs.States.{StateCosts, RankCosts, IsStateOf, IsListOf}
+use Rattle.lv_session_state.specs.States.{StateCosts, RankCosts, IsHistoryOf, IsStateOf, IsListOf}
 use Rattle.lv_session.proofs.Fitting.{start_fits, all_fit}
 use Rattle.lv_session_state.proofs.Listed.{list_of}
 
@@ -89,6 +94,7 @@ start_kept plant h = record {
   present = All-nil (IsSightingIn plant);
   next = All-nil (IsSightingIn plant);
   held = omega arith;
+  history = record { each = tt; many = refl };
   goals = All-nil (IsGoalIn plant);
   few_goals = omega arith;
 }
@@ -106,7 +112,7 @@ module _ (plant : Plant) (state : SessionState) (h : is_well_formed plant ≡ tr
   -- what no other field is about may change
   numbers_kept : (k : ℕ) (distinct : Bool) (budget : ℕ) (query : Query) (ended : Bool) → IsUpTo TRACKED k → IsStateOf plant (record state { k = k; distinct = distinct; budget = budget; query = query; is_ended = ended })
   numbers_kept k distinct budget query ended few =
-      record { controls_whole = is.controls_whole; values = is.values; modes = is.modes; fit = is.fit; costs = is.costs; time = is.time; k = few; present = is.present; next = is.next; held = is.held; goals = is.goals; few_goals = is.few_goals }
+      record { controls_whole = is.controls_whole; values = is.values; modes = is.modes; fit = is.fit; costs = is.costs; time = is.time; k = few; present = is.present; next = is.next; held = is.held; history = is.history; goals = is.goals; few_goals = is.few_goals }
 
   control_kept : (place : ℕ) (value : ValId) → ((x : VarId) → slice_get (controls plant) place ≡ Some x → value.0 < slice_index_or (sizes plant) x.0 0)
       → IsStateOf plant (record state { controls = slice_set state.controls place value; query = Absent })
@@ -121,6 +127,7 @@ module _ (plant : Plant) (state : SessionState) (h : is_well_formed plant ≡ tr
     present = is.present;
     next = is.next;
     held = is.held;
+    history = is.history;
     goals = is.goals;
     few_goals = is.few_goals;
   }
@@ -128,11 +135,11 @@ module _ (plant : Plant) (state : SessionState) (h : is_well_formed plant ≡ tr
   held_kept : (present next : List Sighting) → All (IsSightingIn plant) present → All (IsSightingIn plant) next → length present + length next ≤ OBSERVATIONS
       → IsStateOf plant (record state { present = present; next = next; query = Absent })
   held_kept present next in_present in_next few =
-      record { controls_whole = is.controls_whole; values = is.values; modes = is.modes; fit = is.fit; costs = is.costs; time = is.time; k = is.k; present = in_present; next = in_next; held = few; goals = is.goals; few_goals = is.few_goals }
+      record { controls_whole = is.controls_whole; values = is.values; modes = is.modes; fit = is.fit; costs = is.costs; time = is.time; k = is.k; present = in_present; next = in_next; held = few; history = is.history; goals = is.goals; few_goals = is.few_goals }
 
   goals_kept : (goals : List Goal) → All (IsGoalIn plant) goals → length goals ≤ GOALS → IsStateOf plant (record state { goals = goals; query = Absent })
   goals_kept goals within few =
-      record { controls_whole = is.controls_whole; values = is.values; modes = is.modes; fit = is.fit; costs = is.costs; time = is.time; k = is.k; present = is.present; next = is.next; held = is.held; goals = within; few_goals = few }
+      record { controls_whole = is.controls_whole; values = is.values; modes = is.modes; fit = is.fit; costs = is.costs; time = is.time; k = is.k; present = is.present; next = is.next; held = is.held; history = is.history; goals = within; few_goals = few }
 
   observe_kept : (s : Sighting) → IsSightingIn plant s → IsStateOf plant (observe state s).state
   observe_kept s within = by (is_held state s.name) (nat_le OBSERVATIONS (length state.present + length state.next)) (nat_lt NAME_BYTES (length s.name)) refl
@@ -164,6 +171,34 @@ module _ (plant : Plant) (state : SessionState) (h : is_well_formed plant ≡ tr
           (All-filter (lacks_name name) (IsSightingIn plant) state.next is.next)
           (omega (arith, present, next, held))
       by false = is
+
+  history_kept : (history : List Past) → IsHistoryOf plant state.time history → IsStateOf plant (record state { history = history; query = Absent })
+  history_kept history kept =
+      record { controls_whole = is.controls_whole; values = is.values; modes = is.modes; fit = is.fit; costs = is.costs; time = is.time; k = is.k; present = is.present; next = is.next; held = is.held; history = kept; goals = is.goals; few_goals = is.few_goals }
+
+  without_kept : (time : ℕ) (name : List ℕ) → IsStateOf plant (cleared (without_of state time name)).state
+  without_kept time name = by (nat_eq time (state.time + 1)) (nat_eq time state.time)
+    where
+      by : (a b : Bool)
+          → IsStateOf plant (cleared (cond a (record state { next = filter (lacks_name name) state.next }) (cond b (record state { present = filter (lacks_name name) state.present })
+          (record state { history = without_in state.history (time - first_time state) name })))).state
+      by true b =
+          let next = kept_few (lacks_name name) state.next in
+          let held = is.held in
+          held_kept state.present (filter (lacks_name name) state.next) is.present (All-filter (lacks_name name) (IsSightingIn plant) state.next is.next) (omega (arith, next, held))
+      by false true =
+          let present = kept_few (lacks_name name) state.present in
+          let held = is.held in
+          held_kept (filter (lacks_name name) state.present) state.next (All-filter (lacks_name name) (IsSightingIn plant) state.present is.present) is.next (omega (arith, present, held))
+      by false false = history_kept (without_in state.history (time - first_time state) name) (history_without plant state.time state.history (time - first_time state) name is.history)
+
+  retract_at_kept : (r : Retraction) → IsStateOf plant (retract_at state r).state
+  retract_at_kept r = by (is_kept state r.time) (is_held_of state r.time r.name)
+    where
+      by : (a b : Bool) → IsStateOf plant (cond a (cond b (cleared (without_of state r.time r.name)) (unchanged state (Refused NameNotHeld))) (unchanged state (Refused OutOfLimits))).state
+      by true true = without_kept r.time r.name
+      by true false = is
+      by false b = is
 
   set_goal_kept : (g : Goal) → IsGoalIn plant g → IsStateOf plant (set_goal state g).state
   set_goal_kept g within = by (is_goal state g.name) (nat_le GOALS (length state.goals)) (nat_lt NAME_BYTES (length g.name)) refl
@@ -248,6 +283,10 @@ module _ (plant : Plant) (state : SessionState) (h : is_well_formed plant ≡ tr
         present = is.next;
         next = All-nil (IsSightingIn plant);
         held = (let held = is.held in omega (arith, held));
+        history =
+            history_on plant state.time (past_of state)
+            (record { controls_whole = is.controls_whole; values = is.values; modes = is.modes; fit = is.fit; costs = is.costs; observed = is.present; few = let held = is.held in omega (arith, held) })
+            state.history is.history;
         goals = is.goals;
         few_goals = is.few_goals;
       }
@@ -295,6 +334,7 @@ module _ (plant : Plant) (state : SessionState) (h : is_well_formed plant ≡ tr
   request_kept (Release place) within = control_kept place rest (λ x here. rests plant h place x here)
   request_kept (Observe s) within = observe_kept s within
   request_kept (Retract name) within = retract_kept name
+  request_kept (RetractAt r) within = retract_at_kept r
   request_kept (SetGoal g) within = set_goal_kept g within
   request_kept (DropGoal name) within = drop_goal_kept name
   request_kept Diagnose within = numbers_kept state.k state.distinct state.budget (Diagnosis state.budget) state.is_ended is.k

@@ -23,7 +23,9 @@ use Rattle.lv_labels.specs.Finding.{labelling}
 use Rattle.lv_session_state.specs.lv_session_request.declared.goals.Goal.{Goal}
 use Rattle.lv_session_state.specs.lv_session_request.declared.request.Sighting.{Sighting}
 use Rattle.lv_session_state.specs.lv_session_request.declared.request.Request.{Request}
-use Rattle.lv_session_state.specs.lv_session_request.declared.request.Request.TheVariants.{Nothing, Track, TrackDistinct, SetBudget, SetControl, Release, Observe, Retract, SetGoal, DropGoal, Diagnose, Recover, More, Commit, Conflicts, Certificate, Labels, LabelsFrom, States, Reset, Quit, Probe, Test as ToTest}
+use Rattle.lv_session_state.specs.lv_session_request.declared.request.Retraction.{Retraction}
+use Rattle.lv_session_state.specs.Times.{is_kept, is_held_of, without_of, retract_at}
+use Rattle.lv_session_state.specs.lv_session_request.declared.request.Request.TheVariants.{Nothing, Track, TrackDistinct, SetBudget, SetControl, Release, Observe, Retract, RetractAt, SetGoal, DropGoal, Diagnose, Recover, More, Commit, Conflicts, Certificate, Labels, LabelsFrom, States, Reset, Quit, Probe, Test as ToTest}
 use Rattle.lv_session_state.specs.lv_session_request.Requests.{request_of}
 use Rattle.lv_session_state.specs.declared.query.Query.{Query}
 use Rattle.lv_session_state.specs.declared.query.Query.TheVariants.{Absent, Diagnosis, Recovery, Test}
@@ -74,6 +76,14 @@ module _ (plant : Plant) (state : SessionState) where
           → IsFair plant state true false (cond b (cleared (record state { present = filter (lacks_name name) state.present; next = filter (lacks_name name) state.next })) (unchanged state (Refused NameNotHeld)))
       by true = fair_clearing plant state (record state { present = filter (lacks_name name) state.present; next = filter (lacks_name name) state.next }) true
       by false = fair_refusal plant state true NameNotHeld
+
+  fair_retract_at : (r : Retraction) → IsFair plant state true false (retract_at state r)
+  fair_retract_at r = by (is_kept state r.time) (is_held_of state r.time r.name)
+    where
+      by : (a b : Bool) → IsFair plant state true false (cond a (cond b (cleared (without_of state r.time r.name)) (unchanged state (Refused NameNotHeld))) (unchanged state (Refused OutOfLimits)))
+      by true true = fair_clearing plant state (without_of state r.time r.name) true
+      by true false = fair_refusal plant state true NameNotHeld
+      by false b = fair_refusal plant state true OutOfLimits
 
   fair_goal : (g : Goal) → IsFair plant state true false (set_goal state g)
   fair_goal g = by (is_goal state g.name) (has_no_goal_room state g.name)
@@ -258,6 +268,7 @@ module _ (plant : Plant) (state : SessionState) where
   fair_request (Release place) = record { kept = λ e. absurd (cc e); carried = λ _ _. refl; due = tt; told = λ _. refl }
   fair_request (Observe s) = fair_observe s
   fair_request (Retract name) = fair_retract name
+  fair_request (RetractAt r) = fair_retract_at r
   fair_request (SetGoal g) = fair_goal g
   fair_request (DropGoal name) = fair_drop name
   fair_request Diagnose = fair_diagnosis state.budget

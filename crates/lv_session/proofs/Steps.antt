@@ -26,10 +26,10 @@ use Rattle.lv_session_state.specs.lv_session_request.declared.request.Request.Th
 use Rattle.lv_session_state.specs.lv_session_request.declared.words.Word.{Word}
 use Rattle.lv_session_state.specs.lv_session_request.declared.words.Word.TheVariants as said
 use Rattle.lv_session_state.specs.lv_session_request.Chain.{and_then}
-use Rattle.lv_session_state.specs.lv_session_request.Forms.{first_word, has_number_form, has_command_signs, has_release_signs, has_observe_signs, name_at, has_distinct_form, from_1_to, limited, number_to, IsUpTo}
+use Rattle.lv_session_state.specs.lv_session_request.Forms.{first_word, has_number_form, has_command_signs, has_release_signs, has_observe_signs, name_at, has_distinct_form, has_at_form, from_1_to, limited, number_to, IsUpTo}
 use Rattle.lv_session_state.specs.lv_session_request.Goals.{phrase_in, formula_of, simple, goal_of, AreRead, IsGoalIn}
 use Rattle.lv_session_state.specs.lv_session_request.Names.{control_of, observable_of, value_in}
-use Rattle.lv_session_state.specs.lv_session_request.Requests.{word, alone, track_of, command_of, release_of, tested_of, sighting_of, retracted_of, labels_of, request_by, asked_by_first, asked, asked_by, request_of, IsCommandIn, IsSightingIn, IsObservableOf, IsRequestOf}
+use Rattle.lv_session_state.specs.lv_session_request.Requests.{word, alone, track_of, command_of, release_of, tested_of, sighting_of, retracted_of, retraction_of, retract_of, labels_of, request_by, asked_by_first, asked, asked_by, request_of, IsCommandIn, IsSightingIn, IsObservableOf, IsRequestOf}
 use Rattle.lv_session_state.proofs.lv_session_request.GoalLaws.{reads_back, goal_is_in}
 use Rattle.lv_session_state.proofs.lv_session_request.RequestLaws.{command_fits, tested_fits, sighting_fits}
 use Rattle.lv_session_state.specs.State.{SessionState, unchanged}
@@ -191,13 +191,20 @@ module _ (plant : Plant) (ts : List Lexeme) (read : AreRead ts) (shallow : is_to
       by true e = made_in (limited TRACKED ts) request.TrackDistinct r (λ n same. limited_up_to TRACKED ts n same) e
       by false e = made_in (number_to TRACKED ts) request.Track r (λ n same. number_up_to TRACKED ts n same) e
 
+  retract_in : (r : Request) → retract_of ts ≡ Ok r → IsRequestOf plant r
+  retract_in r h = by (has_at_form ts) h
+    where
+      by : (b : Bool) → cond b (and_then (retraction_of ts) (λ x. Ok (request.RetractAt x))) (and_then (retracted_of ts) (λ name. Ok (request.Retract name))) ≡ Ok r → IsRequestOf plant r
+      by true e = made_in (retraction_of ts) request.RetractAt r (λ x same. tt) e
+      by false e = made_in (retracted_of ts) request.Retract r (λ name same. tt) e
+
   by_word : (w : Word) (r : Request) → first_word ts ≡ Some w → request_by plant (lists_of plant) w ts ≡ Ok r → IsRequestOf plant r
   by_word said.Track r first h = track_in r h
   by_word said.Budget r first h = made_in (number_to BUDGET ts) request.SetBudget r (λ n e. tt) h
   by_word said.Command r first h = made_in (command_of plant (lists_of plant) ts) request.SetControl r (λ c e. command_in plant ts c e) h
   by_word said.Release r first h = made_in (release_of plant (lists_of plant) ts) request.Release r (λ place e. tt) h
   by_word said.Observe r first h = made_in (sighting_of plant (lists_of plant) ts) request.Observe r (λ s e. sighting_in plant ts s e) h
-  by_word said.Retract r first h = made_in (retracted_of ts) request.Retract r (λ name e. tt) h
+  by_word said.Retract r first h = retract_in r h
   by_word said.Goal r first h = made_in (goal_of plant (lists_of plant) ts) request.SetGoal r (λ g e. goal_in said.Goal g first e) h
   by_word said.Drop r first h = made_in (retracted_of ts) request.DropGoal r (λ name e. tt) h
   by_word said.Diagnose r first h = alone_in request.Diagnose r tt h

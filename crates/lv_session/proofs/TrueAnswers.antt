@@ -20,7 +20,8 @@ use Rattle.lv_reply.specs.declared.reply.Refusal.{Refusal}
 use Rattle.lv_reply.specs.declared.reply.Refusal.TheVariants.{NameHeld, NameNotHeld, OutOfLimits, NoQuery, NothingListed, NoGoal, TooManyHeld, TooManyCommits}
 use Rattle.lv_reply.specs.declared.reply.Reply.TheVariants.{Nothing as Silence, Refused, Committed, Certificate as Certified}
 use Rattle.lv_session_state.specs.lv_session_request.declared.request.Request.{Request}
-use Rattle.lv_session_state.specs.lv_session_request.declared.request.Request.TheVariants.{Nothing, Track, TrackDistinct, SetBudget, SetControl, Release, Observe, Retract, SetGoal, DropGoal, Diagnose, Recover, More, Commit, Conflicts, Certificate, Labels, LabelsFrom, States, Reset, Quit, Probe, Test as ToTest}
+use Rattle.lv_session_state.specs.Times.{is_kept, is_held_of, without_of, retract_at}
+use Rattle.lv_session_state.specs.lv_session_request.declared.request.Request.TheVariants.{Nothing, Track, TrackDistinct, SetBudget, SetControl, Release, Observe, Retract, RetractAt, SetGoal, DropGoal, Diagnose, Recover, More, Commit, Conflicts, Certificate, Labels, LabelsFrom, States, Reset, Quit, Probe, Test as ToTest}
 use Rattle.lv_session_state.specs.lv_session_request.Requests.{request_of}
 use Rattle.lv_session_state.specs.lv_session_request.Held.{lacks_name}
 use Rattle.lv_session_state.specs.declared.query.Query.{Query}
@@ -150,6 +151,9 @@ module _ (plant : Plant) (state : SessionState) where
       (either (has_no_room state s.name) (unchanged state (Refused TooManyHeld)) (cleared (record state { next = state.next ++ (s ∷ []) })) tt tt)
   request_true (Retract name) =
       either (is_held state name) (cleared (record state { present = filter (lacks_name name) state.present; next = filter (lacks_name name) state.next })) (unchanged state (Refused NameNotHeld)) tt tt
+  request_true (RetractAt r) =
+      either (is_kept state r.time) (cond (is_held_of state r.time r.name) (cleared (without_of state r.time r.name)) (unchanged state (Refused NameNotHeld))) (unchanged state (Refused OutOfLimits))
+      (either (is_held_of state r.time r.name) (cleared (without_of state r.time r.name)) (unchanged state (Refused NameNotHeld)) tt tt) tt
   request_true (SetGoal g) =
       either (is_goal state g.name) (unchanged state (Refused NameHeld)) (cond (has_no_goal_room state g.name) (unchanged state (Refused TooManyHeld)) (cleared (record state { goals = state.goals ++ (g ∷ []) }))) tt
       (either (has_no_goal_room state g.name) (unchanged state (Refused TooManyHeld)) (cleared (record state { goals = state.goals ++ (g ∷ []) })) tt tt)

@@ -16,7 +16,7 @@ use Rattle.lv_reply.specs.Texts.{reply_text}
 use Rattle.lv_session_state.specs.lv_session_request.Held.{observation_of}
 use Rattle.lv_session_state.specs.lv_session_request.declared.request.Sighting.{Sighting}
 use Rattle.lv_session_state.specs.lv_session_request.declared.request.Request.{Request}
-use Rattle.lv_session_state.specs.lv_session_request.declared.request.Request.TheVariants.{Track, TrackDistinct, SetControl, Release, Observe, Retract, SetGoal, DropGoal, More, Commit, Reset}
+use Rattle.lv_session_state.specs.lv_session_request.declared.request.Request.TheVariants.{Track, TrackDistinct, SetControl, Release, Observe, Retract, RetractAt, SetGoal, DropGoal, More, Commit, Reset}
 use Rattle.lv_session_state.specs.declared.query.Query.TheVariants.{Absent, Diagnosis, Recovery, Test}
 use Rattle.lv_session_state.specs.State.{SessionState, start, facts_of, walked, recovery, observe, testing, diagnosis_reply, recovery_reply, test_reply}
 use Rattle.lv_session.specs.Session.{is_certifiable, carried_out, stepped}
@@ -74,6 +74,7 @@ clears (SetControl c) = true
 clears (Release place) = true
 clears (Observe s) = true
 clears (Retract name) = true
+clears (RetractAt r) = true
 clears (SetGoal g) = true
 clears (DropGoal name) = true
 clears Commit = true

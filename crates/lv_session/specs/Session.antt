@@ -17,10 +17,11 @@ use Rattle.lv_reply.specs.declared.reply.Refusal.TheVariants.{OutOfLimits, NoQue
 use Rattle.lv_reply.specs.declared.reply.Reply.{Reply}
 use Rattle.lv_reply.specs.declared.reply.Reply.TheVariants.{Nothing as Silence, Refused, States as StatesReply, Labels as LabelsReply, Contradiction, Certificate as CertificateReply, Probed as ProbedReply}
 use Rattle.lv_session_state.specs.lv_session_request.declared.request.Request.{Request}
-use Rattle.lv_session_state.specs.lv_session_request.declared.request.Request.TheVariants.{Nothing, Track, TrackDistinct, SetBudget, SetControl, Release, Observe, Retract, SetGoal, DropGoal, Diagnose, Recover, More, Commit, Conflicts, Certificate, Labels, LabelsFrom, States, Reset, Quit, Probe, Test as ToTest}
+use Rattle.lv_session_state.specs.lv_session_request.declared.request.Request.TheVariants.{Nothing, Track, TrackDistinct, SetBudget, SetControl, Release, Observe, Retract, RetractAt, SetGoal, DropGoal, Diagnose, Recover, More, Commit, Conflicts, Certificate, Labels, LabelsFrom, States, Reset, Quit, Probe, Test as ToTest}
 use Rattle.lv_session_state.specs.lv_session_request.Requests.{request_of}
 use Rattle.lv_session_state.specs.declared.query.Query.{Query}
 use Rattle.lv_session_state.specs.declared.query.Query.TheVariants.{Absent, Diagnosis, Recovery, Test}
+use Rattle.lv_session_state.specs.Times.{retract_at}
 use Rattle.lv_session_state.specs.State.{SessionState, facts_of, walked, recovery, Stepped, unchanged, track, set_budget, set_control, release, observe, retract, set_goal, drop_goal, diagnosed, tested, recover, more, conflicts, is_settled_by, commit, reset, quit}
 
 -- a query is current of which there are certificates: one that is settled, and no test
@@ -77,6 +78,7 @@ carried_out plant state (SetControl c) = set_control state c
 carried_out plant state (Release place) = release state place
 carried_out plant state (Observe s) = observe state s
 carried_out plant state (Retract name) = retract state name
+carried_out plant state (RetractAt r) = retract_at state r
 carried_out plant state (SetGoal g) = set_goal state g
 carried_out plant state (DropGoal name) = drop_goal state name
 carried_out plant state Diagnose = diagnosed plant state state.budget

@@ -50,6 +50,7 @@ pub(crate) fn carry_out<'a>(
         Request::Release(place) => Ok(state.release(place)),
         Request::Observe(sighting) => state.observe(sighting),
         Request::Retract(name) => Ok(state.retract(name.as_slice())),
+        Request::RetractAt(retraction) => Ok(state.retract_at(&retraction)),
         Request::SetGoal(goal) => state.set_goal(goal),
         Request::DropGoal(name) => Ok(state.drop_goal(name.as_slice())),
         Request::Diagnose => {

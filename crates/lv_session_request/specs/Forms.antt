@@ -8,7 +8,7 @@ use Rattle.lv_text.specs.Lexemes.{Lexeme, is_number, kind_at, word_at, number_at
 use Rattle.lv_reply.specs.declared.reply.Refusal.{Refusal}
 use Rattle.lv_reply.specs.declared.reply.Refusal.TheVariants.{Form, OutOfLimits}
 use Rattle.lv_session_request.specs.declared.words.Word.{Word}
-use Rattle.lv_session_request.specs.declared.words.Word.TheVariants.{Track, Budget, Command, Release, Observe, Retract, Goal, Drop, Diagnose, Recover, More, Commit, Conflicts, Certificate, Labels, States, Reset, Quit, Probe, Test}
+use Rattle.lv_session_request.specs.declared.words.Word.TheVariants.{Track, Budget, Command, Release, Observe, Retract, Goal, Drop, Diagnose, Recover, More, Commit, Conflicts, Certificate, Labels, States, Reset, Quit, Probe, Test, Window}
 
 -- the word that a line begins with
 abbrev pub first_word : List Lexeme → Option Word
@@ -33,7 +33,8 @@ first_word line =
     else (if says (codes "quit") line 0 then Some Quit
     else (if says (codes "probe") line 0 then Some Probe
     else (if says (codes "test") line 0 then Some Test
-    else None)))))))))))))))))))
+    else (if says (codes "window") line 0 then Some Window
+    else None))))))))))))))))))))
 
 abbrev pub is_dot : TokenKind → Bool
 is_dot Dot = true
@@ -54,6 +55,10 @@ has_number_form line = nat_eq (length line) 2 && has_kind is_number line 1
 -- of `WORD NUMBER distinct`
 abbrev pub has_distinct_form : List Lexeme → Bool
 has_distinct_form line = nat_eq (length line) 3 && (has_kind is_number line 1 && says (codes "distinct") line 2)
+
+-- of `retract NAME at S`
+abbrev pub has_at_form : List Lexeme → Bool
+has_at_form line = nat_eq (length line) 4 && (says (codes "at") line 2 && has_kind is_number line 3)
 
 -- of `command P.C = V`
 abbrev pub has_command_signs : List Lexeme → Bool

@@ -4,30 +4,32 @@ use Rattle.std.specs.Option.{ok_or}
 use Rattle.lv_base.specs.declared.ids.ValId.{ValId}
 use Rattle.lv_base.specs.declared.ids.VarId.{VarId}
 use Rattle.lv_base.specs.declared.limits.TheConstants.{TRACKED, BUDGET}
-use Rattle.lv_text.specs.Lexemes.{Lexeme, Reading, reads, has_bad_byte, is_too_long, line_reading, word_at}
+use Rattle.lv_text.specs.Lexemes.{Lexeme, Reading, reads, has_bad_byte, is_too_long, line_reading, word_at, number_at}
 use Rattle.lv_formula.specs.Fits.{has_value}
 use Rattle.lv_model.specs.declared.plant.Plant.{Plant}
 use Rattle.lv_model.specs.Lists.{controls}
 use Rattle.lv_model.specs.Ranges.{plant_ranges}
 use Rattle.lv_formula_text.specs.Nesting.{is_too_deep}
 use Rattle.lv_reply.specs.declared.reply.Refusal.{Refusal}
-use Rattle.lv_reply.specs.declared.reply.Refusal.TheVariants.{UnknownWord, Form, LineTooLong, ByteNotAllowed, TooComplex}
+use Rattle.lv_reply.specs.declared.reply.Refusal.TheVariants.{UnknownWord, Form, OutOfLimits, LineTooLong, ByteNotAllowed, TooComplex}
 use Rattle.lv_model_names.specs.declared.lists.Lists.{Lists}
 use Rattle.lv_model_names.specs.Lists.{lists_of}
 use Rattle.lv_model_names.specs.Names.{classes, is_observable}
 use Rattle.lv_session_request.specs.declared.words.Word.{Word}
-use Rattle.lv_session_request.specs.declared.words.Word.TheVariants.{Track, Budget, Command as CommandWord, Release, Observe, Retract, Goal as GoalWord, Drop as DropWord, Diagnose, Recover, More, Commit, Conflicts, Certificate, Labels, States, Reset, Quit, Probe, Test}
+use Rattle.lv_session_request.specs.declared.words.Word.TheVariants.{Track, Budget, Command as CommandWord, Release, Observe, Retract, Goal as GoalWord, Drop as DropWord, Diagnose, Recover, More, Commit, Conflicts, Certificate, Labels, States, Reset, Quit, Probe, Test, Window as WindowWord}
 use Rattle.lv_session_request.specs.declared.names.Controlled.{Controlled}
 use Rattle.lv_session_request.specs.declared.request.Command.{Command}
 use Rattle.lv_session_request.specs.declared.request.Sighting.{Sighting}
+use Rattle.lv_session_request.specs.declared.request.Retraction.{Retraction}
+use Rattle.lv_session_request.specs.declared.request.TheConstants.{WINDOW}
 use Rattle.lv_session_request.specs.declared.request.Request.{Request}
-use Rattle.lv_session_request.specs.declared.request.Request.TheVariants.{Nothing, Track as ToTrack, TrackDistinct as ToTrackDistinct, SetBudget, SetControl, Release as ToRelease, Observe as ToObserve, Retract as ToRetract, SetGoal, DropGoal, Diagnose as ToDiagnose, Recover as ToRecover, More as ToGoOn, Commit as ToCommit, Conflicts as ToShowConflicts, Certificate as ToCertify, Labels as ToLabel, LabelsFrom, States as ToShowStates, Reset as ToReset, Quit as ToQuit, Probe as ToProbe, Test as ToTest}
+use Rattle.lv_session_request.specs.declared.request.Request.TheVariants.{Nothing, Track as ToTrack, TrackDistinct as ToTrackDistinct, SetBudget, SetControl, Release as ToRelease, Observe as ToObserve, Retract as ToRetract, RetractAt, SetGoal, DropGoal, Diagnose as ToDiagnose, Recover as ToRecover, More as ToGoOn, Commit as ToCommit, Conflicts as ToShowConflicts, Certificate as ToCertify, Labels as ToLabel, LabelsFrom, States as ToShowStates, Reset as ToReset, Quit as ToQuit, Probe as ToProbe, Test as ToTest, Window as ToWindow}
 use Rattle.lv_session_request.specs.declared.unread.Unread.{Unread}
 use Rattle.lv_session_request.specs.declared.unread.Unread.TheVariants.{Refused, Memory}
 use Rattle.lv_session_request.specs.Chain.{and_then}
 use Rattle.lv_session_request.specs.Names.{control_of, observable_of, value_in}
 use Rattle.lv_session_request.specs.Goals.{goal_of, IsGoalIn}
-use Rattle.lv_session_request.specs.Forms.{first_word, has_command_signs, has_release_signs, has_observe_signs, has_distinct_form, name_at, IsUpTo, limited, number_to}
+use Rattle.lv_session_request.specs.Forms.{first_word, has_command_signs, has_release_signs, has_observe_signs, has_distinct_form, has_at_form, name_at, IsUpTo, limited, number_to}
 
 -- the word at a place, which has to be one
 abbrev pub word : List Lexeme → ℕ → Result (List ℕ) Refusal
@@ -94,6 +96,14 @@ sighting_of plant lists line =
 unfoldable pub retracted_of : List Lexeme → Result (List ℕ) Refusal
 retracted_of line = if nat_eq (length line) 2 then ok_or (name_at line 1) Form else Err Form
 
+-- `retract NAME at S`: a number that is too great for its value to be known is no time that is kept
+unfoldable pub retraction_of : List Lexeme → Result Retraction Refusal
+retraction_of line = and_then (ok_or (name_at line 1) Form) (λ name. and_then (ok_or (number_at line 3) OutOfLimits) (λ time. Ok (record { name = name; time = time })))
+
+-- `retract NAME`, or `retract NAME at S`
+abbrev pub retract_of : List Lexeme → Result Request Refusal
+retract_of line = if has_at_form line then and_then (retraction_of line) (λ r. Ok (RetractAt r)) else and_then (retracted_of line) (λ name. Ok (ToRetract name))
+
 -- `labels`, or `labels I`
 abbrev pub labels_of : List Lexeme → Result Request Refusal
 labels_of line = if nat_eq (length line) 1 then Ok ToLabel else and_then (number_to TRACKED line) (λ n. Ok (LabelsFrom n))
@@ -105,7 +115,7 @@ request_by plant lists Budget line = budget_of line
 request_by plant lists CommandWord line = and_then (command_of plant lists line) (λ c. Ok (SetControl c))
 request_by plant lists Release line = and_then (release_of plant lists line) (λ place. Ok (ToRelease place))
 request_by plant lists Observe line = and_then (sighting_of plant lists line) (λ s. Ok (ToObserve s))
-request_by plant lists Retract line = and_then (retracted_of line) (λ name. Ok (ToRetract name))
+request_by plant lists Retract line = retract_of line
 request_by plant lists GoalWord line = and_then (goal_of plant lists line) (λ g. Ok (SetGoal g))
 request_by plant lists DropWord line = and_then (retracted_of line) (λ name. Ok (DropGoal name))
 request_by plant lists Diagnose line = alone ToDiagnose line
@@ -120,6 +130,7 @@ request_by plant lists Reset line = alone ToReset line
 request_by plant lists Quit line = alone ToQuit line
 request_by plant lists Probe line = alone ToProbe line
 request_by plant lists Test line = and_then (tested_of plant lists line) (λ x. Ok (ToTest x))
+request_by plant lists WindowWord line = and_then (number_to WINDOW line) (λ n. Ok (ToWindow n))
 
 abbrev pub asked_by_first : Plant → Lists → List Lexeme → Option Word → Result Request Refusal
 asked_by_first plant lists line None = Err UnknownWord
@@ -165,4 +176,5 @@ IsRequestOf plant (SetControl c) = IsCommandIn plant c
 IsRequestOf plant (ToObserve s) = IsSightingIn plant s
 IsRequestOf plant (SetGoal g) = IsGoalIn plant g
 IsRequestOf plant (ToTest x) = IsObservableOf plant x
+IsRequestOf plant (ToWindow n) = IsUpTo WINDOW n
 IsRequestOf plant request = Unit {0}

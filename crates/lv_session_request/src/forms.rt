@@ -5,7 +5,7 @@ ghost use Rattle.std.specs.Prelude.{◌≡◌, IfOk, codes};
 ghost use Rattle.std.specs.Option.{option_copied};
 ghost use Rattle.lv_base.specs.Names.{is_named};
 ghost use Rattle.lv_text.specs.Lexemes.{is_number};
-ghost use Rattle.lv_session_request.specs.Forms.{is_dot, is_equals, has_kind, has_number_form, has_distinct_form, has_command_signs, has_release_signs, has_observe_signs, is_reserved, name_at, IsUpTo, from_1_to, limited, number_to};
+ghost use Rattle.lv_session_request.specs.Forms.{is_dot, is_equals, has_kind, has_number_form, has_distinct_form, has_at_form, has_command_signs, has_release_signs, has_observe_signs, is_reserved, name_at, IsUpTo, from_1_to, limited, number_to};
 
 use lv_reply::Refusal;
 use lv_text::{TokenKind, TokenLine};
@@ -96,6 +96,13 @@ pub fn has_distinct_form(line: &TokenLine<'_>) -> bool
     ensures { result ≡ has_distinct_form line.now }
 {
     line.len() == 3 && is_number_at(line, 1) && line.says(2, b"distinct")
+}
+
+/// Whether a line has the form of a word, a name, `at` and a number.
+pub fn has_at_form(line: &TokenLine<'_>) -> bool
+    ensures { result ≡ has_at_form line.now }
+{
+    line.len() == 4 && line.says(2, b"at") && is_number_at(line, 3)
 }
 
 /// The number behind the word of a line, which has to be from 1 up to a limit.

@@ -27,5 +27,5 @@ pub mod words;
 
 pub use goals::Goal;
 pub use held::{Held, facts};
-pub use request::{Command, Request, Sighting, request_of};
+pub use request::{Command, Request, Retraction, Sighting, WINDOW, request_of};
 pub use unread::Unread;

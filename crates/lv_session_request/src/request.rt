@@ -11,11 +11,13 @@ ghost use Rattle.lv_model_names.specs.declared.lists.Lists.{Lists as ListsOf};
 ghost use Rattle.lv_model_names.specs.Lists.{lists_of};
 ghost use Rattle.lv_formula_text.specs.Nesting.{is_too_deep};
 ghost use Rattle.lv_session_request.specs.Goals.{AreRead};
-ghost use Rattle.lv_session_request.specs.Requests.{alone, track_of, budget_of, more_of, command_to, command_of, release_of, seen_as, tested_of, sighting_of, retracted_of, labels_of, request_by, asked, asked_by, request_of, Explains, IsSightingIn, IsCommandIn, IsObservableOf, IsRequestOf};
+ghost use Rattle.lv_session_request.specs.declared.request.TheConstants.{WINDOW};
+ghost use Rattle.lv_session_request.specs.Forms.{number_to, IsUpTo};
+ghost use Rattle.lv_session_request.specs.Requests.{alone, track_of, budget_of, more_of, command_to, command_of, release_of, seen_as, tested_of, sighting_of, retracted_of, retraction_of, retract_of, labels_of, request_by, asked, asked_by, request_of, Explains, IsSightingIn, IsCommandIn, IsObservableOf, IsRequestOf};
 
 use crate::forms::{
-    has_command_signs, has_distinct_form, has_observe_signs, has_release_signs, limited, name_at,
-    number_to,
+    has_at_form, has_command_signs, has_distinct_form, has_observe_signs, has_release_signs,
+    limited, name_at, number_to,
 };
 use crate::goals::{Goal, goal_of};
 use crate::names::{control_of, observable_of, value_in};
@@ -31,6 +33,9 @@ use lv_text::lexer::Token;
 use lv_text::{TextFault, TokenLine};
 use std::alloc::Global;
 
+/// How many steps a window has at most.
+pub const WINDOW: u32 = 4;
+
 /// A control, by its place among the controls in written order, and the value that it is commanded to.
 #[derive(Clone, Copy, Debug, PartialEq, Eq)]
 pub struct Command {
@@ -44,6 +49,13 @@ pub struct Sighting {
     pub name: Name,
     pub var: VarId,
     pub val: ValId,
+}
+
+/// An observation by its name, and the time of which it is held.
+#[derive(Debug, Drop)]
+pub struct Retraction {
+    pub name: Name,
+    pub time: u128,
 }
 
 /// What a line asks for.
@@ -63,6 +75,8 @@ pub enum Request {
     Observe(Sighting),
     /// That the observation of this name is taken out.
     Retract(Name),
+    /// The same of the observation that is held of this time.
+    RetractAt(Retraction),
     SetGoal(Goal),
     /// That the goal of this name is taken out.
     DropGoal(Name),
@@ -85,6 +99,8 @@ pub enum Request {
     Probe,
     /// A command set after which this observable tells the tracked states apart.
     Test(VarId),
+    /// The trajectories of the last so many steps.
+    Window(u32),
 }
 
 /// The request of a word that stands alone.
@@ -250,6 +266,40 @@ fn retracted_of(alloc: Global, line: &TokenLine<'_>) -> Result<Name, Unread>
     Ok(Seq::from_slice(alloc, name)?)
 }
 
+/// `retract NAME at S`.
+#[tactic(auto, unfolding(crate::specs::Requests::retraction_of))]
+fn retraction_of(alloc: Global, line: &TokenLine<'_>) -> Result<Retraction, Unread>
+    ensures ok { IfOk result (λ r. retraction_of line.now ≡ Ok r) }
+    ensures fault { IfErr result (λ fault. Explains fault (retraction_of line.now)) }
+{
+    let name = name_at(line, 1).ok_or(Refusal::Form)?;
+    let time = line.number(3).ok_or(Refusal::OutOfLimits)?;
+    Ok(Retraction {
+        name: Seq::from_slice(alloc, name)?,
+        time,
+    })
+}
+
+/// `retract NAME`, or `retract NAME at S`.
+fn retract_of(alloc: Global, line: &TokenLine<'_>) -> Result<Request, Unread>
+    ensures ok { IfOk result (λ request. retract_of line.now ≡ Ok request) }
+    ensures fault { IfErr result (λ fault. Explains fault (retract_of line.now)) }
+    ensures within { (plant : Plant) → IfOk result (IsRequestOf plant) }
+{
+    if has_at_form(line) {
+        return Ok(Request::RetractAt(retraction_of(alloc, line)?));
+    }
+    Ok(Request::Retract(retracted_of(alloc, line)?))
+}
+
+/// `window W`.
+fn window_of(line: &TokenLine<'_>) -> Result<u32, Refusal>
+    ensures steps { result ≡ number_to WINDOW line.now }
+    ensures within { IfOk result (IsUpTo WINDOW) }
+{
+    Ok(number_to(WINDOW as u64, line)? as u32)
+}
+
 /// `labels`, or `labels I`.
 fn labels_of(line: &TokenLine<'_>) -> Result<Request, Refusal>
     ensures request { result ≡ labels_of line.now }
@@ -283,7 +333,7 @@ fn request_by(
         Word::Command => Ok(Request::SetControl(command_of(plant, lists, line)?)),
         Word::Release => Ok(Request::Release(release_of(plant, lists, line)?)),
         Word::Observe => Ok(Request::Observe(sighting_of(alloc, plant, lists, line)?)),
-        Word::Retract => Ok(Request::Retract(retracted_of(alloc, line)?)),
+        Word::Retract => retract_of(alloc, line),
         Word::Goal => Ok(Request::SetGoal(goal_of(alloc, plant, lists, line)?)),
         Word::Drop => Ok(Request::DropGoal(retracted_of(alloc, line)?)),
         Word::Diagnose => Ok(alone(Request::Diagnose, line)?),
@@ -298,6 +348,7 @@ fn request_by(
         Word::Quit => Ok(alone(Request::Quit, line)?),
         Word::Probe => Ok(alone(Request::Probe, line)?),
         Word::Test => Ok(Request::Test(tested_of(plant, lists, line)?)),
+        Word::Window => Ok(Request::Window(window_of(line)?)),
     }
 }
 

@@ -29,6 +29,7 @@ pub enum Word {
     Quit,
     Probe,
     Test,
+    Window,
 }
 
 /// The word that a line begins with, if it is one of a session.
@@ -75,6 +76,8 @@ pub fn first_word(line: &TokenLine<'_>) -> Option<Word>
         Some(Word::Probe)
     } else if line.says(0, b"test") {
         Some(Word::Test)
+    } else if line.says(0, b"window") {
+        Some(Word::Window)
     } else {
         None
     }

@@ -1,3 +1,4 @@
+pub mod HistoryLemmas
 pub mod Listed
 pub mod Asking
 pub mod RecoveriesAsked

@@ -1,4 +1,7 @@
+pub mod History
+pub mod Rooms
 pub mod State
+pub mod Times
 pub mod States
 pub mod Current
 pub mod Applying

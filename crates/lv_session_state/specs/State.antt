@@ -27,12 +27,14 @@ use Rattle.lv_session_request.specs.Held.{observation_of, has_name, lacks_name}
 use Rattle.lv_session_request.specs.declared.goals.Goal.{Goal}
 use Rattle.lv_session_request.specs.declared.request.Command.{Command}
 use Rattle.lv_session_request.specs.declared.request.Sighting.{Sighting}
+use Rattle.lv_session_state.specs.declared.history.Past.{Past}
 use Rattle.lv_session_state.specs.declared.query.Query.{Query}
 use Rattle.lv_session_state.specs.declared.query.Query.TheVariants.{Absent, Diagnosis, Recovery, Test}
+use Rattle.lv_session_state.specs.History.{with_room}
 
 -- the states that the plant may be in; how many commits were made; how many candidates a diagnosis lists, and whether no two of
 -- them may lead to one state; the trials of a new query; the value that each control is commanded to, in written order; the observations of the assignments before and after the
--- step; the goals; the current query; and whether the session has ended
+-- step; what is kept of the last commits, the oldest first; the goals; the current query; and whether the session has ended
 pub record SessionState : Type 0 where
   pub tracked : List TrackedState
   pub time : ℕ
@@ -42,6 +44,7 @@ pub record SessionState : Type 0 where
   pub controls : List ValId
   pub present : List Sighting
   pub next : List Sighting
+  pub history : List Past
   pub goals : List Goal
   pub query : Query
   pub is_ended : Bool
@@ -65,6 +68,7 @@ start plant = record {
   controls = resting plant;
   present = [];
   next = [];
+  history = [];
   goals = [];
   query = Absent;
   is_ended = false;
@@ -293,7 +297,12 @@ is_asked (Test x sum) = true
 abbrev pub is_unsettled : Plant → SessionState → Bool
 is_unsettled plant state = not state.is_ended && is_asked state.query && not (is_settled state.query plant state)
 
--- the listed candidates are taken over: what they lead to is tracked, the next observations become present, the controls rest
+-- the state before a commit, as it is kept
+abbrev pub past_of : SessionState → Past
+past_of state = record { tracked = state.tracked; controls = state.controls; observed = state.present }
+
+-- the listed candidates are taken over: what they lead to is tracked, the next observations become present, the controls rest, and what was
+-- is kept
 abbrev pub advanced_to : Plant → SessionState → List Rank → SessionState
 advanced_to plant state listed = record state {
   tracked = advanced plant listed;
@@ -301,6 +310,7 @@ advanced_to plant state listed = record state {
   controls = resting plant;
   present = state.next;
   next = [];
+  history = with_room state.history ++ (past_of state ∷ []);
   query = Absent;
 }
 

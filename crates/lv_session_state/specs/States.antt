@@ -1,5 +1,5 @@
 -- What holds of the state of a session over a plant, whatever lines came.
-use Rattle.std.specs.Prelude.{ℕ, ◌+◌, ◌≤◌, ◌*◌, ◌≡◌, List, length, All}
+use Rattle.std.specs.Prelude.{ℕ, ◌+◌, ◌-◌, ◌≤◌, ◌*◌, ◌≡◌, nat_lt, if◌then◌else◌, List, [], ◌∷◌, length, All}
 use Rattle.lv_base.specs.declared.limits.TheConstants.{TRACKED, COMMITS, PARTS, FAULT_COST, OBSERVATIONS, GOALS}
 use Rattle.lv_base.specs.declared.rank.Rank.{Rank}
 use Rattle.lv_model.specs.declared.plant.Plant.{Plant}
@@ -12,6 +12,8 @@ use Rattle.lv_meaning.specs.Ranges.{StateFits}
 use Rattle.lv_session_request.specs.Forms.{IsUpTo}
 use Rattle.lv_session_request.specs.Goals.{IsGoalIn}
 use Rattle.lv_session_request.specs.Requests.{IsSightingIn}
+use Rattle.lv_session_state.specs.declared.history.Past.{Past}
+use Rattle.lv_session_state.specs.declared.history.TheConstants.{HISTORY}
 use Rattle.lv_session_state.specs.State.{SessionState}
 
 -- what the faults of all parts cost at most in so many steps
@@ -26,9 +28,33 @@ pub record StateCosts (time : ℕ) (s : TrackedState) : Type 0 where
 pub record RankCosts (time : ℕ) (r : Rank) : Type 0 where
   pub most : r.cost.0 ≤ most_cost time
 
+-- what is kept of the commit at this time: the same as of the state before it
+pub record IsPastOf (plant : Plant) (time : ℕ) (p : Past) : Type 0 where
+  pub controls_whole : length p.controls ≡ length (controls plant)
+  pub values : All (HasValue (sizes plant)) (commanded (controls plant) p.controls)
+  pub modes : All (HasModes (length plant.parts)) p.tracked
+  pub fit : All (StateFits plant) p.tracked
+  pub costs : All (StateCosts time) p.tracked
+  pub observed : All (IsSightingIn plant) p.observed
+  pub few : length p.observed ≤ OBSERVATIONS
+
+-- of the commits from this time on
+abbrev pub ArePastOf : Plant → ℕ → List Past → Type 0
+ArePastOf plant time [] = Unit {0}
+ArePastOf plant time (p ∷ ps) = IsPastOf plant time p × ArePastOf plant (time + 1) ps
+
+-- of how many commits before this time something is kept
+abbrev pub kept_before : ℕ → ℕ
+kept_before time = if nat_lt time HISTORY then time else HISTORY
+
+-- what is kept of the last commits before this time
+pub record IsHistoryOf (plant : Plant) (time : ℕ) (history : List Past) : Type 0 where
+  pub each : ArePastOf plant (time - length history) history
+  pub many : length history ≡ kept_before time
+
 -- there is a value for each control, which the control has, and a mode for each part in each tracked state, which the part's type has;
 -- a tracked state costs no more than the steps so far can; what was observed are values that observables have; the goals are formulas
--- over the plant, with their texts; k, the number of commits, that of observations and that of goals are within their limits
+-- over the plant, with their texts; what is kept of the last commits is the same; k, the number of commits, that of observations and that of goals are within their limits
 pub record IsStateOf (plant : Plant) (state : SessionState) : Type 0 where
   pub controls_whole : length state.controls ≡ length (controls plant)
   pub values : All (HasValue (sizes plant)) (commanded (controls plant) state.controls)
@@ -40,6 +66,7 @@ pub record IsStateOf (plant : Plant) (state : SessionState) : Type 0 where
   pub present : All (IsSightingIn plant) state.present
   pub next : All (IsSightingIn plant) state.next
   pub held : length state.present + length state.next ≤ OBSERVATIONS
+  pub history : IsHistoryOf plant state.time state.history
   pub goals : All (IsGoalIn plant) state.goals
   pub few_goals : length state.goals ≤ GOALS
 

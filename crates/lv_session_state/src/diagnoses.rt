@@ -25,11 +25,10 @@ use lv_meaning::Facts;
 use lv_model::Model;
 use lv_reply::{Refusal, Reply};
 use lv_search_walk::Outcome;
-use lv_session_request::{Held, facts};
+use lv_session_request::facts;
 use lv_system::StepSystem;
 use lv_tracker::Tracked;
 use std::alloc::{AllocError, Global};
-use std::mem;
 
 /// Copies of ranks.
 fn copied_ranks(alloc: Global, ranks: &[Rank]) -> Result<Vec<Rank>, AllocError>
@@ -234,11 +233,7 @@ impl State {
         }
         let tracked = Tracked::advance(alloc, model, listed)?;
         let controls = resting_values(alloc, model)?;
-        self.tracked = tracked;
-        self.time += 1;
-        self.controls = controls;
-        self.present = mem::replace(&mut self.next, Held::new(alloc));
-        self.query = Query::Absent;
+        self.advance_to(alloc, tracked, controls);
         Ok(Reply::Committed(self.time, self.tracked.len() as u64))
     }
 }

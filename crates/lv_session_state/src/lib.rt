@@ -8,6 +8,8 @@
 //! | `diagnoses` | diagnoses asked for, gone on with and taken over |
 //! | `recoveries` | recoveries asked for and gone on with |
 //! | `tests` | tests asked for and gone on with |
+//! | `history` | what is kept of the last commits |
+//! | `times` | the times that are kept, what is observed of each, and what is known of the last steps |
 //! | `applying` | the values that the current recovery gives the controls |
 //! | `queries` | the current query gone on with, shown and taken over, and whether it is settled |
 //! | `query` | the current query |
@@ -20,6 +22,7 @@
 mod applying;
 mod diagnoses;
 mod goals;
+pub mod history;
 pub mod laws;
 mod observations;
 mod queries;
@@ -28,13 +31,17 @@ mod recoveries;
 pub mod running;
 pub mod state;
 mod tests;
+mod times;
 
 pub use applying::values_of;
 pub use goals::texts_of;
+pub use history::{History, Past};
 pub use lv_ident::QueryEffort;
 pub use lv_meaning::Facts;
 pub use lv_model_names::Lists;
-pub use lv_session_request::{Command, Goal, Held, Request, Sighting, Unread, request_of};
+pub use lv_session_request::{
+    Command, Goal, Held, Request, Retraction, Sighting, Unread, request_of,
+};
 pub use lv_system::{StepSystem, compile};
 pub use query::Query;
 pub use running::{Diagnosed, Recovering, Running, Testing};

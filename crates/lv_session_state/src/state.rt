@@ -1,10 +1,14 @@
 //! The state of a session, and what a request does to it.
 #![tactic(auto)]
 
-ghost use Rattle.std.specs.Prelude.{◌≡◌, IfOk, OnOk, OnErr};
-ghost use Rattle.lv_session_state.specs.State.{start, resting, cleared, track, set_budget, set_control, release, commanded, reset, quit};
+ghost use Rattle.std.specs.Prelude.{◌≡◌, ◌+◌, ◌<◌, ◌++◌, [], ◌∷◌, IfOk, OnOk, OnErr};
+ghost use Rattle.lv_base.specs.declared.limits.TheConstants.{COMMITS};
+ghost use Rattle.lv_session_state.specs.State.{start, resting, past_of, cleared, track, set_budget, set_control, release, commanded, reset, quit};
 ghost use Rattle.lv_reply.specs.declared.reply.Reply.TheVariants.{States};
+ghost use Rattle.lv_session_state.specs.History.{with_room};
+ghost use Rattle.lv_session_state.specs.declared.query.Query.TheVariants.{Absent};
 
+use crate::history::{History, Past};
 use crate::query::Query;
 use lv_base::limits::{LISTED, TRIALS};
 use lv_base::{Seq, ValId};
@@ -13,7 +17,7 @@ use lv_reply::Reply;
 use lv_session_request::{Command, Goal, Held};
 use lv_tracker::{Tracked, copies_of};
 use std::alloc::{AllocError, Global};
-use std::marker;
+use std::{marker, mem};
 
 /// The state of a session. What its fields are is said where clauses see them, at `SessionState`.
 #[derive(Drop)]
@@ -26,6 +30,7 @@ pub struct State {
     pub(crate) controls: Vec<ValId>,
     pub(crate) present: Held,
     pub(crate) next: Held,
+    pub(crate) history: History,
     pub(crate) goals: Vec<Goal>,
     pub(crate) query: Query,
     pub(crate) is_ended: bool,
@@ -40,7 +45,7 @@ impl marker::Model for State {
 
     ghost coded = { Prim.hlevel (codes, condition.the_row.coded) };
 
-    ghost view = { λ s. record { tracked = s.tracked; time = s.time; k = s.k; distinct = s.distinct; budget = s.budget; controls = s.controls.items; present = s.present; next = s.next; goals = s.goals.items; query = s.query; is_ended = s.is_ended } };
+    ghost view = { λ s. record { tracked = s.tracked; time = s.time; k = s.k; distinct = s.distinct; budget = s.budget; controls = s.controls.items; present = s.present; next = s.next; history = s.history; goals = s.goals.items; query = s.query; is_ended = s.is_ended } };
 }
 
 /// The value at which a control rests, for each control.
@@ -56,8 +61,9 @@ impl State {
     pub fn start(alloc: Global, model: &Model) -> Result<State, AllocError>
         ensures { IfOk result (λ state. state ≡ start model.now) }
     {
-        let tracked = Tracked::start(alloc, model)?;
         let controls = resting_values(alloc, model)?;
+        let history = History::new(alloc)?;
+        let tracked = Tracked::start(alloc, model)?;
         Ok(State {
             tracked,
             time: 0,
@@ -67,6 +73,7 @@ impl State {
             controls,
             present: Held::new(alloc),
             next: Held::new(alloc),
+            history,
             goals: Vec::new(alloc),
             query: Query::Absent,
             is_ended: false,
@@ -208,6 +215,22 @@ impl State {
     {
         self.is_ended = true;
         Reply::Accepted
+    }
+
+    /// Takes these over: they are tracked and commanded from now on, the next observations become present, and what was is
+    /// kept. Takes no memory.
+    pub(crate) fn advance_to(&mut self, alloc: Global, tracked: Tracked, controls: Vec<ValId>)
+        requires { self.old.time < COMMITS }
+        ensures { self.new ≡ record self.old { tracked = tracked; time = self.old.time + 1; controls = controls.items; present = self.old.next; next = []; history = with_room self.old.history ++ past_of self.old ∷ []; query = Absent } }
+    {
+        let next = mem::replace(&mut self.next, Held::new(alloc));
+        self.history.remember(Past {
+            tracked: mem::replace(&mut self.tracked, tracked),
+            controls: Seq::from_vec(mem::replace(&mut self.controls, controls)),
+            observed: mem::replace(&mut self.present, next),
+        });
+        self.time += 1;
+        self.query = Query::Absent;
     }
 
     /// The time, and a copy of the tracked states.

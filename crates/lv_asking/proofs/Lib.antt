@@ -1,0 +1,10 @@
+pub mod OnceLemmas
+pub mod OrderLemmas
+pub mod SolutionLemmas
+pub mod RefuteLemmas
+pub mod ClauseLemmas
+pub mod AnswerLemmas
+pub mod ReducingLemmas
+pub mod HoldLemmas
+pub mod NumberLemmas
+pub mod FullLemmas

@@ -1,0 +1,48 @@
+-- What is asked of a solver: which choices can be made together, by its clauses and literals that are assumed each time.
+use Rattle.std.specs.Prelude.{◌≡◌, ◌+◌, ◌≤◌, ℕ, Bool, true, false, List, [], ◌++◌, drop, All, Contains, Option, Some, None}
+use Rattle.std.specs.List.{sum}
+use Rattle.lv_base.specs.declared.ids.Lit.{Lit}
+use Rattle.lv_base.specs.declared.search.Pair.{Pair}
+use Rattle.lv_base.specs.Choices.{slots_rise}
+use Rattle.lv_clauses.specs.ClauseMap.{ClauseMap}
+use Rattle.lv_clauses.specs.Literals.{is_clause}
+use Rattle.lv_clauses.specs.Marks.{Marks}
+use Rattle.lv_sat.specs.Answers.{IsModel}
+use Rattle.lv_search_walk.specs.Reason.{reduced}
+use Rattle.lv_system.specs.Choices.{Choices}
+use Rattle.lv_asking.specs.Literals.{HasMove, pair_literals, marked_pairs}
+use Rattle.lv_asking.specs.Refutation.{HasModel}
+
+-- the clauses, the numbering of the choices, and the literals that are assumed
+pub record AskingValue : Type 0 where
+  pub set : ClauseMap
+  pub choices : Choices
+  pub assumed : List Lit
+
+-- pairs that can be asked for together: at most one for each slot, in the order of the slots, each a choice that the slot has
+pub record IsPartial (counts : List ℕ) (pairs : List Pair) : Type 0 where
+  pub rising : slots_rise pairs ≡ true
+  pub moves : All (HasMove counts) pairs
+
+-- pairs have a model exactly where they are possible, and with fewer pairs what is possible stays so
+pub record Decides (a : AskingValue) (possible : List Pair → Bool) : Type 0 where
+  pub possible_of : (pairs : List Pair) → All (HasMove a.choices.counts) pairs → HasModel a.set (pair_literals a.choices pairs ++ a.assumed) → possible pairs ≡ true
+  pub model_of : (pairs : List Pair) → All (HasMove a.choices.counts) pairs → possible pairs ≡ true → HasModel a.set (pair_literals a.choices pairs ++ a.assumed)
+  pub part : (part whole : List Pair) → ((p : Pair) → Contains part p → Contains whole p) → possible whole ≡ true → possible part ≡ true
+
+-- what is assumed is of distinct booleans before those of the choices, which are all there; the solutions are of the clauses and what is
+-- assumed
+pub record IsAsking (set : ClauseMap) (choices : Choices) (assumed : List Lit) (solutions : List (List Bool)) : Type 0 where
+  pub clause : is_clause choices.first assumed ≡ true
+  pub fit : choices.first + sum choices.counts ≤ set.bools
+  pub found : All (IsModel set assumed) solutions
+
+-- what is kept and the pairs from this place on come to the reason of all pairs; those of them that are marked aren't possible together
+pub record IsReducing (possible : List Pair → Bool) (choices : Choices) (pairs : List Pair) (at : ℕ) (kept : List Pair) (core : Marks) : Type 0 where
+  pub rest : reduced possible kept (drop at pairs) ≡ reduced possible [] pairs
+  pub refuted : possible (marked_pairs choices core (kept ++ drop at pairs)) ≡ false
+
+-- without a reason the pairs are possible together; else they aren't, and it is what is left of them when each that isn't needed is left out
+abbrev pub IsReason : (List Pair → Bool) → List Pair → Option (List Pair) → Type 0
+IsReason possible pairs None = possible pairs ≡ true
+IsReason possible pairs (Some reason) = (possible pairs ≡ false) × (reason ≡ reduced possible [] pairs)

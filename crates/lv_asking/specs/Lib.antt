@@ -1,0 +1,4 @@
+pub mod Literals
+pub mod Refutation
+pub mod Asking
+pub use Rattle.lv_system.specs as lv_system

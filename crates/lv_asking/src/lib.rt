@@ -1,0 +1,16 @@
+//! What a trial asks of the solver: whether choices can be made together, beside literals that are assumed each time, and
+//! of those that can't the reason. What the choices mean is the caller's: `Asking` tells the truth of any meaning that its
+//! clauses and what is assumed decide.
+//!
+//! | file | what it holds |
+//! |---|---|
+//! | `asking` | `Asking`: whether pairs are possible together, and what is left of them when each that isn't needed is left out |
+//! | `refutation` | the one question asked of the solver, and the solutions kept from earlier ones |
+//! | `literals` | observations and choices as literals |
+#![tactic(auto)]
+
+pub mod asking;
+pub mod literals;
+pub mod refutation;
+
+pub use asking::Asking;

@@ -1,0 +1,165 @@
+//! The one question that a trial asks of the solver: whether literals can be true together with others that are assumed
+//! each time, and if not, which of them already can't. Values that the solver found are kept for a while, since they may
+//! answer later questions too.
+#![tactic(auto)]
+
+ghost use Rattle.std.specs.Prelude.{◌≡◌, ◌++◌, [], ◌∷◌, true, All, IfOk, OnOk, OnErr, reverse};
+ghost use Rattle.std.specs.List.{list_all, list_any};
+ghost use Rattle.lv_clauses.specs.Literals.{is_clause, lit_holds};
+ghost use Rattle.lv_clauses.specs.Marks.{is_marked};
+ghost use Rattle.lv_sat.specs.Answers.{IsModel};
+ghost use Rattle.lv_asking.specs.Refutation.{Refutes, Tells, latest};
+
+use lv_base::{Lit, Seq};
+use lv_clauses::{Marks, lit_holds};
+use lv_sat::{Answer, Solver};
+use std::alloc::{AllocError, Global};
+use std::marker::Model;
+
+/// How many of the values found are kept.
+pub const KEPT: usize = 8;
+
+/// The last values that a solver found, at most `KEPT` of them, the oldest first.
+#[derive(Drop)]
+pub struct Solutions {
+    kept: Vec<Seq<bool>>,
+}
+
+impl Model for Solutions {
+    ghost use Rattle.std.specs.Prelude.{List, Bool, length, ◌≤◌};
+    ghost use Rattle.lv_asking.specs.declared.refutation.TheConstants.{KEPT};
+
+    ghost Value = { List (List Bool) };
+
+    ghost view = { λ s. s.kept.items };
+
+    ghost invariant = { λ s. length s.kept.items ≤ KEPT };
+}
+
+/// Whether the values make all the literals true.
+fn make_true(values: &[bool], lits: &[Lit]) -> bool
+    ensures { result ≡ list_all (lit_holds values.now) lits.now }
+{
+    lits.iter().all(|lit| lit_holds(values, *lit))
+}
+
+/// Whether some of the values do.
+fn some_make_true(solutions: &[Seq<bool>], lits: &[Lit]) -> bool
+    ensures { result ≡ list_any (λ values. list_all (lit_holds values) lits.now) solutions.now }
+{
+    solutions
+        .iter()
+        .any(|values| make_true(values.as_slice(), lits))
+}
+
+impl Solutions {
+    /// No values, which take no memory.
+    pub fn new(alloc: Global) -> Solutions
+        ensures { result ≡ [] }
+    {
+        Solutions {
+            kept: Vec::new(alloc),
+        }
+    }
+
+    /// Whether some of the values make all the literals true. Takes no memory.
+    pub fn has(&self, lits: &[Lit]) -> bool
+        ensures { result ≡ list_any (λ values. list_all (lit_holds values) lits.now) self.now }
+    {
+        some_make_true(self.kept.as_slice(), lits)
+    }
+
+    /// Keeps these values too, in the place of the oldest where there are too many. After want of memory all is as it was.
+    pub fn keep(&mut self, values: Seq<bool>) -> Result<(), AllocError>
+        ensures ok { OnOk result (self.new ≡ latest (self.old ++ values ∷ [])) }
+        ensures err { OnErr result (self.new ≡ self.old) }
+    {
+        self.kept.push(values)?;
+        if self.kept.len() > KEPT {
+            self.kept.remove(0);
+        }
+        Ok(())
+    }
+}
+
+/// Marks of these literals, which are of distinct booleans.
+fn marks_of(alloc: Global, bools: u32, lits: &[Lit]) -> Result<Marks, AllocError>
+    requires { is_clause bools lits.now ≡ true }
+    ensures { IfOk result (λ marks. list_all (is_marked marks) lits.now ≡ true) }
+{
+    let mut marks = Marks::new(alloc, bools)?;
+    for lit in lits {
+        marks.take(*lit)?;
+    }
+    Ok(marks)
+}
+
+/// What the solver says of a question: values, or marks of literals that can't be true together.
+#[derive(Drop)]
+enum Found {
+    Values(Seq<bool>),
+    Core(Marks),
+}
+
+/// The assumed literals, and behind them the chosen ones from the last to the first. A deletion takes the first ones out,
+/// so that its questions begin alike.
+fn assumptions(alloc: Global, chosen: &[Lit], assumed: &[Lit]) -> Result<Vec<Lit>, AllocError>
+    ensures { IfOk result (λ out. out.items ≡ assumed.now ++ reverse chosen.now) }
+{
+    let mut backwards = Vec::from_slice(alloc, chosen)?;
+    backwards.reverse();
+    let mut out = Vec::from_slice(alloc, assumed)?;
+    out.extend_from_slice(backwards.as_slice())?;
+    Ok(out)
+}
+
+/// Values that satisfy the solver's clauses and make the chosen and the assumed literals true; where there are none, marks
+/// of chosen literals of which, with the assumed ones, this holds already.
+fn ask(
+    alloc: Global,
+    solver: &mut Solver,
+    chosen: &[Lit],
+    assumed: &[Lit],
+) -> Result<Found, AllocError>
+    requires { is_clause solver.old.bools (chosen.now ++ assumed.now) ≡ true }
+    ensures answer { IfOk result (Tells solver.old chosen.now assumed.now) }
+    ensures kept { solver.new ≡ solver.old }
+{
+    let lits = assumptions(alloc, chosen, assumed)?;
+    match solver.solve(lits.as_slice())? {
+        Answer::Sat(values) => Ok(Found::Values(values)),
+        Answer::Unsat { core, log: _ } => {
+            let bools = solver.clauses().bools();
+            Ok(Found::Core(marks_of(alloc, bools, core.as_slice())?))
+        }
+    }
+}
+
+/// Whether some values satisfy the solver's clauses and make the chosen and the assumed literals true: nothing where they
+/// do, else marks of chosen literals of which, with the assumed ones, this holds of no values. All literals are of distinct
+/// booleans. The solutions satisfy the clauses and the assumed literals; the solver is asked only where none of them makes
+/// the chosen ones true.
+pub fn refute(
+    alloc: Global,
+    solver: &mut Solver,
+    solutions: &mut Solutions,
+    chosen: &[Lit],
+    assumed: &[Lit],
+) -> Result<Option<Marks>, AllocError>
+    requires clause { is_clause solver.old.bools (chosen.now ++ assumed.now) ≡ true }
+    requires solutions { All (IsModel solver.old assumed.now) solutions.old }
+    ensures answer { IfOk result (λ core. Refutes solver.old chosen.now assumed.now core) }
+    ensures solutions { All (IsModel solver.old assumed.now) solutions.new }
+    ensures kept { solver.new ≡ solver.old }
+{
+    if solutions.has(chosen) {
+        return Ok(None);
+    }
+    match ask(alloc, solver, chosen, assumed)? {
+        Found::Values(values) => {
+            solutions.keep(values)?;
+            Ok(None)
+        }
+        Found::Core(marks) => Ok(Some(marks)),
+    }
+}

@@ -1,0 +1,5 @@
+use Rattle.lv_window.proofs.PossibleLemmas.{part_over}
+use Rattle.lv_window.proofs.laws.parts_are_possible.Goals as goal
+
+pub returns : goal.returns
+returns c = λ plant steps part whole inside can. part_over plant steps part whole inside can

@@ -1,0 +1,8 @@
+pub mod Trajectories
+pub mod Possible
+pub mod Walk
+pub mod Joints
+pub mod Laws
+pub mod Worked
+pub use Rattle.lv_search.specs as lv_search
+pub use Rattle.lv_search_zones.specs as lv_search_zones

@@ -1,0 +1,48 @@
+-- What a trial of trajectories asks, and what it tells.
+use Rattle.std.proofs.Common.{◌≡◌, ℕ, ◌+◌, ◌≤◌, true, false, List, length, Option, Some, None, sym, subst, ap, ◌∙◌, arith, All}
+use Rattle.std.specs.List.{sum}
+use Rattle.lv_base.specs.declared.ids.Lit.{Lit}
+use Rattle.lv_base.specs.declared.search.Pair.{Pair}
+use Rattle.lv_clauses.specs.ClauseMap.{ClauseMap}
+use Rattle.lv_model.specs.declared.plant.Plant.{Plant}
+use Rattle.lv_model.specs.WellFormed.{is_well_formed}
+use Rattle.lv_compile.specs.Windows.{window_choice, window_bools}
+use Rattle.lv_compile.specs.WindowLaws.{counts_of}
+use Rattle.lv_system.specs.Choices.{Choices}
+use Rattle.lv_system.specs.Windows.{WindowValue, IsWindowOf}
+use Rattle.lv_system.proofs.WindowLemmas.{moves_sum}
+use Rattle.lv_meaning.specs.declared.facts.Facts.{Facts}
+use Rattle.lv_asking.specs.Literals.{IsOnce}
+use Rattle.lv_asking.specs.Asking.{AskingValue, Decides, IsReason}
+use Rattle.lv_window.specs.Possible.{is_possible_over}
+use Rattle.lv_window_query.specs.Known.{StepFits, window_literals}
+use Rattle.lv_window_query.specs.Trial.{TellsWindow}
+use Rattle.lv_window_query.proofs.MeaningLemmas.{window_decides}
+
+module _ (plant : Plant) (steps : List Facts) (s : WindowValue) (is : IsWindowOf plant (length steps) s) where
+  -- the choices stand behind the values
+  pub first_is : (choices : Choices) → choices ≡ s.choices → (n : ℕ) → n ≡ choices.first → n ≡ window_choice plant (length steps)
+  first_is choices same n at = at ∙ ap (λ (c : Choices). c.first) (same ∙ is.choices)
+
+  pub choices_fit : (choices : Choices) → choices ≡ s.choices → (set : ClauseMap) → set ≡ s.set → choices.first + sum choices.counts ≤ set.bools
+  choices_fit choices same set set_is =
+      let first : choices.first ≡ window_choice plant (length steps) = ap (λ (c : Choices). c.first) (same ∙ is.choices) in
+      let counts : sum choices.counts ≡ sum (counts_of plant (length steps)) = ap (λ (c : Choices). sum c.counts) (same ∙ is.choices) in
+      let all = moves_sum plant (window_choice plant (length steps)) (length steps) in
+      let bools : set.bools ≡ window_bools plant (length steps) = ap (λ (m : ClauseMap). m.bools) set_is ∙ is.bools in
+      omega (arith, first, counts, all, bools)
+
+  abbrev own_asking : List Lit → AskingValue
+  own_asking assumed = record { set = s.set; choices = s.choices; assumed = assumed }
+
+  -- what is asked tells what is possible over the steps
+  pub tells_window : is_well_formed plant ≡ true → 1 ≤ length steps → All (StepFits plant) steps → (choices : Choices) → choices ≡ s.choices → (set : ClauseMap) → set ≡ s.set → (n : ℕ) → (lits : List Lit)
+      → lits ≡ window_literals plant 0 steps → (assumed : List Lit) → IsOnce n lits assumed → (a : AskingValue) → a ≡ record { set = set; choices = choices; assumed = assumed } → TellsWindow plant steps a
+  tells_window h some fits choices same set set_is n lits lits_are assumed once a a_is =
+      let own : IsOnce n (window_literals plant 0 steps) assumed = subst (λ (ls : List Lit). IsOnce n ls assumed) lits_are once in
+      let decides : Decides (own_asking assumed) (is_possible_over plant steps) = window_decides plant h steps some fits s is n assumed own in
+      let made : own_asking assumed ≡ a = sym (a_is ∙ (λ i. record { set = set_is i; choices = same i; assumed = assumed })) in
+      record {
+        counts = ap (λ (v : AskingValue). v.choices.counts) a_is ∙ ap (λ (c : Choices). c.counts) (same ∙ is.choices);
+        decides = subst (λ (v : AskingValue). Decides v (is_possible_over plant steps)) made decides;
+      }

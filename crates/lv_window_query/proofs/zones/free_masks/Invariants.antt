@@ -1,0 +1,7 @@
+-- the masks so far and those of the steps left are all
+use Rattle.std.proofs.Common.{◌≡◌, ◌++◌}
+use Rattle.lv_window.specs.Joints.{free_masks}
+use Rattle.lv_window_query.proofs.zones.free_masks.Given as goal
+
+abbrev pub invariant-loop-steps : goal.invariant-loop-steps
+invariant-loop-steps l = l.masks.items ++ free_masks l.model l.left ≡ free_masks l.model l.steps

@@ -1,0 +1,10 @@
+-- the slots so far and those of the steps left are all
+use Rattle.std.proofs.Common.{◌≡◌, ◌+◌, ◌*◌, ◌≤◌, ◌++◌, length}
+use Rattle.lv_window.specs.Joints.{window_slots}
+use Rattle.lv_window_query.proofs.zones.window_grid.Given as goal
+
+abbrev pub invariant-loop-steps : goal.invariant-loop-steps
+invariant-loop-steps l = record {
+  rest : l.grid ++ window_slots l.model l.left ≡ window_slots l.model l.steps;
+  few : length l.grid + 256 * l.left ≤ 1024;
+}

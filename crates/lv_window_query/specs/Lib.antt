@@ -1,0 +1,4 @@
+pub mod Known
+pub mod Trial
+pub mod Longer
+pub mod Query

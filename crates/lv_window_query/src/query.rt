@@ -1,0 +1,176 @@
+//! A window's query: the search for the first trajectories that are possible, which can be gone on with.
+#![tactic(auto)]
+
+ghost use Rattle.std.specs.Prelude.{◌≡◌, ◌+◌, ◌<◌, ◌≤◌, ◌^◌, [], None, true, List, All, IfOk, length};
+ghost use Rattle.lv_base.specs.declared.limits.TheConstants.{TRACKED};
+ghost use Rattle.lv_compile.specs.declared.windows.TheConstants.{WINDOW};
+ghost use Rattle.lv_model.specs.declared.state.TrackedState.{TrackedState};
+ghost use Rattle.lv_search_walk.specs.declared.outcome.Outcome.TheVariants.{Settled};
+ghost use Rattle.lv_meaning.specs.Candidates.{IsTracked};
+ghost use Rattle.lv_search.specs.Standing.{trials_of, all_suit};
+ghost use Rattle.lv_window.specs.Trajectories.{trajectories};
+ghost use Rattle.lv_window.specs.Walk.{window_walk, first_trajectories};
+ghost use Rattle.lv_window.specs.Joints.{is_full_window};
+ghost use Rattle.lv_window_query.specs.Known.{StepFits};
+ghost use Rattle.lv_window_query.specs.Query.{IsWindowQueryOf};
+
+use crate::joints::joints;
+use crate::trial::WindowTrial;
+use crate::zones::{window_grid, window_zones};
+use lv_base::{Conflict, Rank, Seq};
+use lv_meaning::Facts;
+use lv_model::{Model, TrackedState};
+use lv_sat::Effort;
+use lv_search::{Free, Outcome, Search, Zones};
+use std::alloc::{AllocError, Global};
+use std::marker;
+
+/// A search for the first trajectories of tracked states that are possible. It keeps what is known beside its trial, of which
+/// a run leaves only the meaning as it was. Contracts see the plant, what is known of each step, and where the search stands.
+#[derive(Drop)]
+pub struct WindowQuery<'a> {
+    model: &'a Model,
+    steps: Seq<Facts>,
+    trial: WindowTrial<'a>,
+    search: Search<Free<Zones>>,
+}
+
+impl<'a> marker::Model for WindowQuery<'a> {
+    ghost use Rattle.std.specs.Coded.{codes};
+    ghost use Rattle.lv_model.specs.lv_formula.contracts.Condition as condition;
+    ghost use Rattle.lv_window_query.specs.Query.{WindowQueryValue, IsWindowTriedBy};
+
+    ghost Value = { WindowQueryValue };
+
+    ghost coded = { Prim.hlevel (codes, condition.the_row.coded) };
+
+    ghost view = { λ q. record { plant = q.model.now; steps = q.steps; standing = q.search.standing } };
+
+    ghost invariant = { λ q. IsWindowTriedBy q.model.now q.steps q.trial };
+}
+
+/// The same facts once more.
+fn copied(alloc: Global, facts: &Facts) -> Result<Facts, AllocError>
+    ensures { IfOk result (λ copy. copy ≡ facts.now) }
+{
+    Ok(Facts {
+        controls: Seq::from_slice(alloc, facts.controls.as_slice())?,
+        present: Seq::from_slice(alloc, facts.present.as_slice())?,
+        next: Seq::from_slice(alloc, facts.next.as_slice())?,
+    })
+}
+
+/// What is known of each step once more.
+fn all_copied(alloc: Global, steps: &[Facts]) -> Result<Vec<Facts>, AllocError>
+    ensures { IfOk result (λ copies. copies.items ≡ steps.now) }
+{
+    let mut copies = Vec::with_capacity(alloc, steps.len())?;
+    for facts in steps {
+        copies.push(copied(alloc, facts)?)?;
+    }
+    Ok(copies)
+}
+
+/// The search along the trajectories of the tracked states over so many steps, which has tried none.
+fn search_of(
+    alloc: Global,
+    model: &Model,
+    tracked: &[TrackedState],
+    steps: u32,
+    k: u32,
+) -> Result<Search<Free<Zones>>, AllocError>
+    requires some { 1 ≤ steps }
+    requires few_steps { steps ≤ WINDOW }
+    requires few { length tracked.now ≤ TRACKED }
+    requires states { All (IsTracked (length model.now.parts)) tracked.now }
+    ensures { IfOk result (λ search. search.standing ≡ record { k = k; groups = None; listed = []; kept = []; left = trajectories model.now steps tracked.now }) }
+{
+    let _plant = model.plant();
+    let grid = window_grid(alloc, model, steps)?;
+    let zones = window_zones(alloc, model, tracked, steps - 1)?;
+    let known = joints(alloc, model, steps - 1)?;
+    Search::new_with(alloc, grid, zones, k, known)
+}
+
+/// A query that has tried nothing, for the first `k` trajectories of the tracked states that are possible by what is known of
+/// each of one to four steps, the oldest first: what was seen between two steps stands with the one before as next, with the
+/// one behind as present. What is known may contradict itself.
+pub fn window<'a>(
+    alloc: Global,
+    model: &'a Model,
+    tracked: &[TrackedState],
+    steps: &[Facts],
+    k: u32,
+) -> Result<WindowQuery<'a>, AllocError>
+    requires some { 1 ≤ length steps.now }
+    requires few_steps { length steps.now ≤ WINDOW }
+    requires few { length tracked.now ≤ TRACKED }
+    requires states { All (IsTracked (length model.now.parts)) tracked.now }
+    requires fits { All (StepFits model.now) steps.now }
+    ensures start { IfOk result (λ query. query ≡ record { plant = model.now; steps = steps.now; standing = record { k = k; groups = None; listed = []; kept = []; left = trajectories model.now (length steps.now) tracked.now } }) }
+    ensures query { IfOk result (λ query. IsWindowQueryOf tracked.now query) }
+{
+    let asked = all_copied(alloc, steps)?;
+    let held = all_copied(alloc, steps)?;
+    let search = search_of(alloc, model, tracked, steps.len() as u32, k)?;
+    match WindowTrial::new(alloc, model, asked) {
+        Ok(trial) => Ok(WindowQuery {
+            model,
+            steps: Seq::from_vec(held),
+            trial,
+            search,
+        }),
+        Err(error) => {
+            drop(search);
+            Err(error)
+        }
+    }
+}
+
+impl<'a> WindowQuery<'a> {
+    /// Goes on with `more` trials at most. A query of some tracked states is then at the end of their walk for the sum of all
+    /// trials given so far, and can go on; where that is settled it lists the first trajectories that are possible. After want
+    /// of memory it is only dropped.
+    pub fn run(&mut self, more: u64) -> Result<Outcome, AllocError>
+        requires number { trials_of self.old.standing + more < 2 ^ 64 }
+        requires suit { all_suit (is_full_window self.old.plant (length self.old.steps)) self.old.standing ≡ true }
+        ensures walk { (tracked : List TrackedState) → IsWindowQueryOf tracked self.old →
+            IfOk result (λ outcome. window_walk self.old.plant self.old.steps self.old.standing.k (trials_of self.old.standing + more) (trajectories self.old.plant (length self.old.steps) tracked) ≡ record { outcome = outcome; listed = self.new.standing.listed; kept = self.new.standing.kept }) }
+        ensures first { (tracked : List TrackedState) → IsWindowQueryOf tracked self.old →
+            IfOk result (λ outcome. outcome ≡ Settled → self.new.standing.listed ≡ first_trajectories self.old.standing.k self.old.plant self.old.steps tracked) }
+        ensures query { (tracked : List TrackedState) → IsWindowQueryOf tracked self.old → IfOk result (λ _. IsWindowQueryOf tracked self.new) }
+        ensures suit { IfOk result (λ _. all_suit (is_full_window self.new.plant (length self.new.steps)) self.new.standing ≡ true) }
+        ensures few { IfOk result (λ _. trials_of self.new.standing ≤ trials_of self.old.standing + more) }
+        ensures plant { self.new.plant ≡ self.old.plant }
+        ensures steps { self.new.steps ≡ self.old.steps }
+        ensures k { IfOk result (λ _. self.new.standing.k ≡ self.old.standing.k) }
+    {
+        self.search.run(&mut self.trial, more)
+    }
+
+    /// The trajectories listed, in the order of their ranks. Takes no memory.
+    pub fn listed(&self) -> &[Rank]
+        ensures { result.now ≡ self.now.standing.listed }
+    {
+        self.search.listed()
+    }
+
+    /// The conflicts kept, in the order in which they were found. Takes no memory.
+    pub fn conflicts(&self) -> &[Conflict]
+        ensures { result.now ≡ self.now.standing.kept }
+    {
+        self.search.conflicts()
+    }
+
+    /// How many trajectories were tried. Takes no memory.
+    pub fn trials(&self) -> u64
+        ensures { result ≡ trials_of self.now.standing }
+    {
+        self.search.trials()
+    }
+
+    /// What its solver did so far. Takes no memory.
+    pub fn effort(&self) -> Effort {
+        self.trial.effort()
+    }
+}
