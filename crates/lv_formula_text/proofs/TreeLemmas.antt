@@ -1,6 +1,6 @@
 -- The tree of each kind of formula.
 use Rattle.std.proofs.Common.{◌≡◌, map, rules, Box, Vec, Global}
-use Rattle.lv_formula.specs.declared.path.Path.{Path}
+use Rattle.lv_formula_text.specs.declared.phrase.Equation.{Equation}
 use Rattle.lv_formula_text.specs.declared.phrase.PhraseNode.{PhraseNode, True, False, Equals, Not, And, Or, Implies, Iff, the_lemmas}
 use Rattle.lv_formula_text.specs.PhraseTree.{tree_of, trees_of, always, never, equals, negation, all, any, implies, iff}
 
@@ -10,8 +10,8 @@ tree_of-True = search (rules, the_lemmas)
 pub tree_of-False : tree_of False ≡ never
 tree_of-False = search (rules, the_lemmas)
 
-pub tree_of-Equals : (l r : Path) → tree_of (Equals l r) ≡ equals l r
-tree_of-Equals l r = search (rules, the_lemmas)
+pub tree_of-Equals : (sides : Box Equation Global) → tree_of (Equals sides) ≡ equals sides.value.left sides.value.right
+tree_of-Equals sides = search (rules, the_lemmas)
 
 pub tree_of-Not : (f : Box PhraseNode Global) → tree_of (Not f) ≡ negation (tree_of f.value)
 tree_of-Not f = search (rules, the_lemmas)

@@ -7,7 +7,7 @@ ghost use Rattle.lv_formula_text.specs.Grammar.{IsPath, IsEquation, IsAtom};
 ghost use Rattle.lv_formula_text.specs.Reading.{Finds};
 
 use crate::cursor::Cursor;
-use crate::phrase::PhraseNode;
+use crate::phrase::{Equation, PhraseNode};
 use lv_base::Seq;
 use lv_formula::Path;
 use lv_text::TokenKind;
@@ -41,7 +41,8 @@ fn equation(alloc: Global, cursor: &mut Cursor<'_>) -> Result<Option<PhraseNode>
     let Some(right) = path(alloc, cursor)? else {
         return Ok(None);
     };
-    Ok(Some(PhraseNode::Equals(left, right)))
+    let equation = Box::new(alloc, Equation { left, right })?;
+    Ok(Some(PhraseNode::Equals(equation)))
 }
 
 /// Reads a word, or two with a dot between them.

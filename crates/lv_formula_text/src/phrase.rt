@@ -10,12 +10,19 @@ ghost use Rattle.lv_formula_text.specs.PhraseTree.{tree_of};
 use lv_formula::Path;
 use std::marker::Model;
 
+/// An equation with names as written.
+#[derive(Debug, Drop)]
+pub struct Equation {
+    pub left: Path,
+    pub right: Path,
+}
+
 /// A formula with names as written. `And` and `Or` have their operands in written order.
 #[derive(Debug, Drop)]
 pub enum PhraseNode {
     True,
     False,
-    Equals(Path, Path),
+    Equals(Box<Equation>),
     Not(Box<PhraseNode>),
     And(Vec<PhraseNode>),
     Or(Vec<PhraseNode>),

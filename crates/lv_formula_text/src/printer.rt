@@ -40,7 +40,7 @@ fn write(writer: &mut LineWriter, node: &PhraseNode) -> Result<(), AllocError>
     match node {
         PhraseNode::True => writer.word(b"true"),
         PhraseNode::False => writer.word(b"false"),
-        PhraseNode::Equals(left, right) => write_equation(writer, left, right),
+        PhraseNode::Equals(sides) => write_equation(writer, &sides.left, &sides.right),
         PhraseNode::Not(f) => {
             writer.symbol(TokenKind::Not)?;
             write_operand(writer, TIGHTEST, f)

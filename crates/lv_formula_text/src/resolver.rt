@@ -72,7 +72,7 @@ fn resolve_node<S: Scope>(
     match node {
         PhraseNode::True => Ok(Ok(Formula::True)),
         PhraseNode::False => Ok(Ok(Formula::False)),
-        PhraseNode::Equals(left, right) => Ok(equation(scope, left, right)),
+        PhraseNode::Equals(sides) => Ok(equation(scope, &sides.left, &sides.right)),
         PhraseNode::Not(f) => match resolve_node(alloc, f, scope)? {
             Ok(f) => Ok(Ok(Formula::Not(Box::new(alloc, f)?))),
             Err(fault) => Ok(Err(fault)),
