@@ -31,8 +31,8 @@ pub record AreGathered (plant : Plant) (many first left : ℕ) (out : List Boole
 pub gathered_none : (plant : Plant) (many left : ℕ) (out : List Booleans) → left ≡ many → out ≡ [] → AreGathered plant many 0 left out
 gathered_none plant many left out all none =
     record {
-      rest = (λ i. none i ++ copies_from plant 0 (all i));
-      past = ap (past_copies plant 0) all;
+      rest = λ i. none i ++ copies_from plant 0 (all i);
+      past = ap (λ (k : ℕ). past_copies plant 0 k) all;
       fit = omega (arith, all);
     }
 
@@ -59,8 +59,8 @@ gathered_fit plant h many first left out are most some =
 pub gathered_all : (plant : Plant) (many steps first left : ℕ) (out : List Booleans) → many ≡ suc steps → AreGathered plant many first left out → left ≤ 0
     → (out ≡ copies_from plant 0 (suc steps)) × (first ≡ past_copies plant 0 (suc steps))
 gathered_all plant many steps first zero out is are none = (
-    sym (append-nil out) ∙ are.rest ∙ ap (copies_from plant 0) is,
-    are.past ∙ ap (past_copies plant 0) is,
+  sym (append-nil out) ∙ are.rest ∙ ap (λ (k : ℕ). copies_from plant 0 k) is,
+  are.past ∙ ap (λ (k : ℕ). past_copies plant 0 k) is,
 )
 gathered_all plant many steps first (suc n) out is are none = absurd (omega (arith, none))
 
