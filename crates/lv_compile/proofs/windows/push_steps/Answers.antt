@@ -70,7 +70,7 @@ steps-preserved c =
     let some = c.steps-test.true in
     let fit = c.steps.invariant.fit in
     let choices = c.steps.invariant.choices in
-    let behind = c.first.ensures ∙ ap (λ (x : Booleans). x.first) c.in_ok-copies.ensures.after in
+    let behind = c.first-first.ensures ∙ ap (λ (x : Booleans). x.first) c.in_ok-copies.ensures.after in
     let later = omega (arith, same, more, counts) in
     record {
       rest =
