@@ -70,8 +70,8 @@ steps-preserved c =
     let some = c.steps-test.true in
     let fit = c.steps.invariant.fit in
     let choices = c.steps.invariant.choices in
-    let behind = c.first.ensures ∙ ap (λ (x : Booleans). x.first) c.in_ok-copies.ensures.after in
-    let later = omega (arith, same, more, counts) in
+    let behind = c.first-first.ensures ∙ ap (λ (x : Booleans). x.first) c.in_ok-copies.ensures.after in
+    let later : c.steps.choice + c.moves_of_parts-choice.result ≡ c.steps.choice + sum (move_counts plant) = omega (arith, same, more, counts) in
     record {
       rest =
           steps_more plant c.steps.first _ c.steps.choice _ c.steps.left c.steps.out.items c.push_choices.new.out.items _ some c.steps.invariant.rest
