@@ -1,5 +1,5 @@
 -- The steps of reading, over plain lists of tokens.
-use Rattle.std.proofs.Common.{◌≡◌, refl, ◌≢◌, ◌+◌, ◌<◌, true, false, List, [], ◌∷◌, ◌++◌, Option, Some, None, sym, ap, subst, ◌∙◌, arith, append_assoc}
+use Rattle.std.proofs.Common.{◌≡◌, ◌≢◌, ◌+◌, ◌<◌, true, false, List, [], ◌∷◌, ◌++◌, Option, Some, None, sym, ap, subst, ◌∙◌, arith, append_assoc}
 use Rattle.lv_text.specs.declared.lexer.TokenKind.{TokenKind}
 use Rattle.lv_text.specs.declared.lexer.TokenKind.TheVariants.{Not, Open, Close}
 use Rattle.lv_text.specs.Lexemes.{Lexeme}
@@ -150,16 +150,3 @@ joined_step c ts now rest end sign fs gs f tree so_far operand t is all whole =
     let read = joined_found c ts now rest fs f so_far operand other in
     let same : joined c (fs ++ f ∷ []) ≡ tree = ap (joined c) (sym all) ∙ sym whole in
     subst (λ xs. Reads (IsJoined c) (level c) ts tree xs) (sym t.0) (subst (λ g. Reads (IsJoined c) (level c) ts g rest) same read)
-
--- one operand alone is itself
-alone_is : (c : Connective) (f : PhraseTree) → f ≡ joined c (f ∷ [])
-alone_is Equivalence f = refl
-alone_is Implication f = refl
-alone_is Disjunction f = refl
-alone_is Conjunction f = refl
-
--- no sign stands behind the first operand
-pub alone_step : (c : Connective) (ts rest end : List Lexeme) (sign : TokenKind) (f : PhraseTree)
-    → Reads (IsOperand c) (level c + 1) ts f rest → Takes sign rest false end → sign ≡ sign_of c → Reads (IsJoined c) (level c) ts f end
-alone_step c ts rest end sign f operand t is =
-    joined_step c ts ts rest end sign [] (f ∷ []) f f (joining_none c ts) operand t is refl (alone_is c f)

@@ -1,7 +1,7 @@
 //! The connectives that stand between operands. From the loosest to the tightest: `<=>`, `=>`, `|`, `&`.
 #![tactic(auto)]
 
-ghost use Rattle.std.specs.Prelude.{◌≡◌, ◌<◌, length, map, IfOk};
+ghost use Rattle.std.specs.Prelude.{◌≡◌, ◌<◌, ◌++◌, ◌∷◌, [], length, map, IfOk};
 ghost use Rattle.lv_formula_text.specs.PhraseTree.{tree_of};
 ghost use Rattle.lv_formula_text.specs.Connectives.{sign_of, level, joined};
 ghost use Rattle.lv_formula_text.specs.declared.connective.Connective.TheVariants.{Equivalence, Implication};
@@ -48,18 +48,19 @@ impl Connective {
         }
     }
 
-    /// The formula that operands make, in written order; one alone is itself.
+    /// The formula that operands make, in written order, the last apart; one alone is itself.
     pub fn join(
         self,
         alloc: Global,
         mut operands: Vec<PhraseNode>,
+        last: PhraseNode,
     ) -> Result<PhraseNode, AllocError>
-        requires { 0 < length operands.items }
-        ensures { IfOk result (λ node. tree_of node ≡ joined self (map tree_of operands.items)) }
+        ensures { IfOk result (λ node. tree_of node ≡ joined self (map tree_of operands.items ++ tree_of last ∷ [])) }
     {
-        if operands.len() == 1 {
-            return Ok(operands.pop().unwrap());
+        if operands.is_empty() {
+            return Ok(last);
         }
+        operands.push(last)?;
         match self {
             Connective::Equivalence => nest_equivalences(alloc, operands),
             Connective::Implication => nest_implications(alloc, operands),

@@ -28,22 +28,15 @@ pub(crate) fn joined(
     ensures found { IfOk result (λ found. Finds (IsJoined connective) (level connective) cursor.old (option_map tree_of found) cursor.new) }
     ensures left { length cursor.new ≤ length cursor.old }
 {
-    let Some(first) = operand(alloc, cursor, connective)? else {
-        return Ok(None);
-    };
-    if !cursor.takes(connective.sign()) {
-        return Ok(Some(first));
-    }
     let mut operands = Vec::new(alloc);
-    operands.push(first)?;
     'operands: loop {
         let Some(next) = operand(alloc, cursor, connective)? else {
             return Ok(None);
         };
-        operands.push(next)?;
         if !cursor.takes(connective.sign()) {
-            return Ok(Some(connective.join(alloc, operands)?));
+            return Ok(Some(connective.join(alloc, operands, next)?));
         }
+        operands.push(next)?;
     }
 }
 

@@ -1,5 +1,5 @@
 -- each step of reading is one over plain lists of tokens
-use Rattle.std.proofs.Common.{arith, subst, ◌≡◌, ◌+◌, [], ◌∷◌, ◌++◌, map, option_map, ap, ◌∙◌}
+use Rattle.std.proofs.Common.{arith, subst, ◌≡◌, refl, ◌+◌, [], ◌∷◌, ◌++◌, map, option_map, ap, ◌∙◌}
 use Rattle.std.proofs.lemmas.List.{map-append}
 use Rattle.std.proofs.lemmas.Result.{IfOk-weaker}
 use Rattle.lv_formula_text.specs.declared.phrase.PhraseNode.{Not}
@@ -9,52 +9,29 @@ use Rattle.lv_formula_text.specs.Connectives.{level}
 use Rattle.lv_formula_text.specs.Grammar.{IsUnary, IsOperand, IsJoined}
 use Rattle.lv_formula_text.specs.Reading.{Reads, HasNone}
 use Rattle.lv_formula_text.proofs.TreeLemmas.{tree_of-Not}
-use Rattle.lv_formula_text.proofs.ParserLemmas.{joining_none, joined_none, joining_step, joined_step, alone_step, operand_of_equivalence, operand_of_implication, operand_of_disjunction, operand_of_conjunction, negation_found, negation_none, enclosed_found, enclosed_none, enclosed_open, unary_atom}
+use Rattle.lv_formula_text.proofs.ParserLemmas.{joined_none, joining_step, joined_step, operand_of_equivalence, operand_of_implication, operand_of_disjunction, operand_of_conjunction, negation_found, negation_none, enclosed_found, enclosed_none, enclosed_open, unary_atom}
 use Rattle.lv_formula_text.proofs.parser.+read.Goals as goal
 
 pub joined-returns-in_default-clause-found : goal.joined-returns-in_default-clause-found
 joined-returns-in_default-clause-found t c =
-    let none : HasNone (IsOperand c.args.connective) (level c.args.connective + 1) c.args.cursor.now = rw c.in_default.is at c.in_ok-first.ensures.found in
-    joined_none c.args.connective c.args.cursor.now c.args.cursor.now [] (joining_none c.args.connective c.args.cursor.now) none
+    let none : HasNone (IsOperand c.args.connective) (level c.args.connective + 1) c.operands.cursor = rw c.in_default.is at c.in_ok-next.ensures.found in
+    joined_none c.args.connective c.args.cursor.now c.operands.cursor (map tree_of c.operands.operands.items) c.operands.invariant.reading none
 
 pub joined-returns-then-not-takes-clause-found : goal.joined-returns-then-not-takes-clause-found
 joined-returns-then-not-takes-clause-found t c =
-    let read : Reads (IsOperand c.args.connective) (level c.args.connective + 1) c.args.cursor.now (tree_of c.in-Some.first) c.operand.new.cursor =
-    rw c.in-Some.is at c.in_ok-first.ensures.found in
-    alone_step c.args.connective c.args.cursor.now c.operand.new.cursor c.takes.new.self c.sign.result (tree_of c.in-Some.first) read c.if-not-takes.ensures.told c.sign.ensures
-
-pub joined-operands-init : goal.joined-operands-init
-joined-operands-init t c =
-    let read : Reads (IsOperand c.args.connective) (level c.args.connective + 1) c.args.cursor.now (tree_of c.in-Some.first) c.operand.new.cursor =
-    rw c.in-Some.is at c.in_ok-first.ensures.found in
-    let items = ap (map tree_of) c.in_ok-push.ensures.items ∙ ap (λ xs. map tree_of (xs ++ c.in-Some.first ∷ [])) c.new-operands.ensures.items in
-    record {
-      reading = joining_step c.args.connective c.args.cursor.now c.args.cursor.now c.operand.new.cursor c.takes.new.self c.sign.result [] _ (tree_of c.in-Some.first)
-          (joining_none c.args.connective c.args.cursor.now) read c.if-not-takes.ensures.told c.sign.ensures items;
-      left = omega arith;
-    }
-
-pub joined-returns-in_default-2-clause-found : goal.joined-returns-in_default-2-clause-found
-joined-returns-in_default-2-clause-found t c =
-    let none : HasNone (IsOperand c.args.connective) (level c.args.connective + 1) c.operands.cursor = rw c.in_default-2.is at c.in_ok-next.ensures.found in
-    joined_none c.args.connective c.args.cursor.now c.operands.cursor (map tree_of c.operands.operands.items) c.operands.invariant.reading none
-
-pub joined-returns-then-not-takes-2-clause-found : goal.joined-returns-then-not-takes-2-clause-found
-joined-returns-then-not-takes-2-clause-found t c =
-    let read : Reads (IsOperand c.args.connective) (level c.args.connective + 1) c.operands.cursor (tree_of c.in-Some-2.next) c.operand-in-operands.new.cursor =
-    rw c.in-Some-2.is at c.in_ok-next.ensures.found in
-    let items = ap (map tree_of) c.in_ok-push-2.ensures.items ∙ map-append tree_of c.operands.operands.items (c.in-Some-2.next ∷ []) in
-    joined_step c.args.connective c.args.cursor.now c.operands.cursor c.operand-in-operands.new.cursor c.takes-in-operands.new.self c.sign-in-operands.result (map tree_of c.operands.operands.items) _ (tree_of c.in-Some-2.next) _
-    c.operands.invariant.reading read c.if-not-takes-2.ensures.told c.sign-in-operands.ensures items c.in_ok-join.ensures
+    let read : Reads (IsOperand c.args.connective) (level c.args.connective + 1) c.operands.cursor (tree_of c.in-Some.next) c.operand.new.cursor =
+    rw c.in-Some.is at c.in_ok-next.ensures.found in
+    joined_step c.args.connective c.args.cursor.now c.operands.cursor c.operand.new.cursor c.takes.new.self c.sign.result (map tree_of c.operands.operands.items)
+    (map tree_of c.operands.operands.items ++ tree_of c.in-Some.next ∷ []) (tree_of c.in-Some.next) _ c.operands.invariant.reading read c.if-not-takes.ensures.told c.sign.ensures refl c.in_ok-join.ensures
 
 pub joined-operands-preserved : goal.joined-operands-preserved
 joined-operands-preserved t c =
-    let read : Reads (IsOperand c.args.connective) (level c.args.connective + 1) c.operands.cursor (tree_of c.in-Some-2.next) c.operand-in-operands.new.cursor =
-    rw c.in-Some-2.is at c.in_ok-next.ensures.found in
-    let items = ap (map tree_of) c.in_ok-push-2.ensures.items ∙ map-append tree_of c.operands.operands.items (c.in-Some-2.next ∷ []) in
+    let read : Reads (IsOperand c.args.connective) (level c.args.connective + 1) c.operands.cursor (tree_of c.in-Some.next) c.operand.new.cursor =
+    rw c.in-Some.is at c.in_ok-next.ensures.found in
+    let items = ap (map tree_of) c.in_ok-push.ensures.items ∙ map-append tree_of c.operands.operands.items (c.in-Some.next ∷ []) in
     record {
-      reading = joining_step c.args.connective c.args.cursor.now c.operands.cursor c.operand-in-operands.new.cursor c.takes-in-operands.new.self c.sign-in-operands.result (map tree_of c.operands.operands.items) _ (tree_of c.in-Some-2.next)
-          c.operands.invariant.reading read c.if-not-takes-2.ensures.told c.sign-in-operands.ensures items;
+      reading = joining_step c.args.connective c.args.cursor.now c.operands.cursor c.operand.new.cursor c.takes.new.self c.sign.result (map tree_of c.operands.operands.items) _ (tree_of c.in-Some.next)
+          c.operands.invariant.reading read c.if-not-takes.ensures.told c.sign.ensures items;
       left = omega arith;
     }
 
