@@ -3,9 +3,8 @@ use Rattle.std.proofs.Common.{◌≡◌, ◌+◌, ◌++◌, suc, All, List, sum_
 use Rattle.std.specs.List.{sum}
 use Rattle.lv_model.specs.declared.plant.ComponentType.{ComponentType}
 use Rattle.lv_model.specs.declared.plant.Part.{Part}
-use Rattle.lv_model.specs.Lists.{sizes, part_moves, move_counts}
+use Rattle.lv_model.specs.Lists.{part_moves, move_counts}
 use Rattle.lv_compile.specs.Booleans.{Booleans}
-use Rattle.lv_compile.specs.FormulaClauses.{Clauses}
 use Rattle.lv_compile.specs.ModelClauses.{choices_clauses}
 use Rattle.lv_compile.specs.Speaking.{PartSpeaks}
 use Rattle.lv_compile.proofs.SumLemmas.{few_values, few_choices, mapped_sum}
