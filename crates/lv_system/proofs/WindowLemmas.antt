@@ -118,10 +118,10 @@ moves_long plant choice (f ∷ fs) are =
     omega (arith, rest, one, both)
 
 module _ (plant : Plant) (h : is_well_formed plant ≡ true) (start : List ValId) (on : List Further) (at_start : IsAssignment (sizes plant) start) (are : AreWhole plant on) where
-  values : List Bool
+  abbrev values : List Bool
   values = encoded_window plant start on
 
-  first_row : List Bool
+  abbrev first_row : List Bool
   first_row = value_rows (sizes plant) start
 
   first_long : length first_row ≡ sum (sizes plant)
