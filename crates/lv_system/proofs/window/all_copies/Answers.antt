@@ -1,5 +1,5 @@
 -- one copy after the other is gathered
-use Rattle.std.proofs.Common.{refl, ap, sym, subst, ◌∙◌, ◌+◌, ◌≤◌, suc, arith}
+use Rattle.std.proofs.Common.{refl, ap, ◌∙◌, ◌+◌, arith}
 use Rattle.std.specs.List.{sum}
 use Rattle.lv_system.proofs.GatheringLemmas.{gathered_none, gathered_more, gathered_fit, gathered_all}
 use Rattle.lv_system.proofs.window.all_copies.Goals as goal
