@@ -11,7 +11,7 @@ use Rattle.lv_window.specs.Joints.{window_slots, any_move, free_masks, window_zo
 use Rattle.lv_window_query.specs.Longer.{all_longer}
 
 module _ {X : Type 0} where
-  regroup : (out own rest after whole : List X) → out ++ (own ++ rest) ≡ whole → after ≡ out ++ own → after ++ rest ≡ whole
+  pub regroup : (out own rest after whole : List X) → out ++ (own ++ rest) ≡ whole → after ≡ out ++ own → after ++ rest ≡ whole
   regroup out own rest after whole so_far is = ap (λ (xs : List X). xs ++ rest) is ∙ append_assoc out own rest ∙ so_far
 
 module _ (plant : Plant) where
