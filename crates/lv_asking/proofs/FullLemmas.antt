@@ -2,7 +2,6 @@
 use Rattle.std.proofs.Common.{◌≡◌, ℕ, suc, ◌+◌, ◌<◌, true, nat_lt, List, [], ◌∷◌, get_or, refl, sym, ap, ◌∙◌, arith, All}
 use Rattle.std.proofs.lemmas.Bool.{and_parts, and_from, lt-ltb, ltb-true}
 use Rattle.std.proofs.lemmas.List.Elements.{All-cons}
-use Rattle.lv_base.specs.declared.search.Pair.{Pair}
 use Rattle.lv_base.specs.Choices.{slots_rise_from, pairs_from, pairs_of}
 use Rattle.lv_meaning.specs.PossibleLaws.{are_below}
 use Rattle.lv_asking.specs.Literals.{HasMove}
@@ -22,7 +21,7 @@ choices_have counts slot (n ∷ ns) (c ∷ cs) at below =
     let same : slot + 0 ≡ slot = omega arith in
     let here : get_or counts slot 0 ≡ n = sym (ap (λ k. get_or counts k 0) same) ∙ at 0 in
     All-cons (HasMove counts) (record { slot = slot; choice = c }) (pairs_from (slot + 1) cs) (record { below = omega (arith, less, here) })
-    (choices_have counts (slot + 1) ns cs (λ k. let next : slot + 1 + k ≡ slot + suc k = omega arith in ap (λ j. get_or counts j 0) next ∙ at (suc k)) two.1)
+    (choices_have counts (slot + 1) ns cs (λ k. let later : slot + 1 + k ≡ slot + suc k = omega arith in ap (λ j. get_or counts j 0) later ∙ at (suc k)) two.1)
 
 pub full_is_partial : (counts cs : List ℕ) → are_below counts cs ≡ true → IsPartial counts (pairs_of cs)
 full_is_partial counts cs below =

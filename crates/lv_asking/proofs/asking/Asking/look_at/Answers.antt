@@ -1,9 +1,9 @@
 -- the pair is left out, or kept
-use Rattle.std.proofs.Common.{◌≡◌, ◌+◌, ◌<◌, ◌++◌, List, length, drop, arith, false, is_none, subst, sym, ap, ◌∙◌}
+use Rattle.std.proofs.Common.{◌≡◌, ◌+◌, ◌<◌, ◌++◌, List, length, drop, arith, false, subst, sym, ap, ◌∙◌}
 use Rattle.lv_base.specs.declared.search.Pair.{Pair}
 use Rattle.lv_asking.specs.Literals.{marked_pairs}
-use Rattle.lv_asking.specs.Asking.{AskingValue, IsPartial, IsReducing, Decides}
-use Rattle.lv_asking.proofs.ReducingLemmas.{has_move, others_partial, kept_is_partial, unneeded, refuted_again, kept_one}
+use Rattle.lv_asking.specs.Asking.{AskingValue, IsPartial}
+use Rattle.lv_asking.proofs.ReducingLemmas.{has_move, others_partial, kept_is_partial, unneeded, refuted_again}
 use Rattle.lv_asking.proofs.asking.Asking.look_at.Goals as goal
 
 pub is_needed-requires : goal.is_needed-requires

@@ -1,6 +1,5 @@
 -- pair by pair
-use Rattle.std.proofs.Common.{◌≡◌, ◌+◌, ◌++◌, Bool, List, drop, sym, subst, ◌∙◌}
-use Rattle.lv_base.specs.declared.search.Pair.{Pair}
+use Rattle.std.proofs.Common.{◌+◌, ◌++◌, drop, sym, subst, ◌∙◌}
 use Rattle.lv_asking.specs.Asking.{AskingValue, Decides, IsPartial, IsReducing}
 use Rattle.lv_asking.proofs.ReducingLemmas.{kept_partial, reducing_last}
 use Rattle.lv_asking.proofs.asking.Asking.reduced.Goals as goal

@@ -1,11 +1,10 @@
 -- what the solver's answer says of the pairs
-use Rattle.std.proofs.Common.{◌≡◌, ◌++◌, Bool, List, All, subst, sym, ap, ◌∙◌}
+use Rattle.std.proofs.Common.{◌≡◌, ◌++◌, List, All, subst, sym, ap, ◌∙◌}
 use Rattle.std.proofs.lemmas.Result.{IfOk-weaker}
 use Rattle.lv_base.specs.declared.ids.Lit.{Lit}
-use Rattle.lv_base.specs.declared.search.Pair.{Pair}
 use Rattle.lv_clauses.specs.ClauseMap.{ClauseMap}
 use Rattle.lv_sat.specs.Answers.{IsModel}
-use Rattle.lv_asking.specs.Literals.{pair_literals, HasMove}
+use Rattle.lv_asking.specs.Literals.{pair_literals}
 use Rattle.lv_asking.specs.Refutation.{Refutes}
 use Rattle.lv_asking.specs.Asking.{AskingValue, IsPartial, IsAsking}
 use Rattle.lv_asking.proofs.ClauseLemmas.{asked_is_clause}
