@@ -1,10 +1,9 @@
 -- What is left in a queue when the first zone is split by the target of the member that it is kept by.
-use Rattle.std.proofs.Common.{◌≡◌, ℕ, suc, ◌+◌, ◌≤◌, Bool, true, false, not, ◌&&◌, ◌||◌, List, ◌∷◌, length, filter, inr, refl, sym, ◌∙◌, ap, subst, cond, nat_eq, nat_lt, arith}
+use Rattle.std.proofs.Common.{◌≡◌, ℕ, ◌+◌, ◌≤◌, Bool, true, false, not, ◌&&◌, ◌||◌, List, ◌∷◌, length, filter, inr, refl, sym, ◌∙◌, ap, subst, cond, nat_eq, nat_lt, arith}
 use Rattle.std.specs.Prelude.{All}
 use Rattle.std.specs.Map.{keys_of}
 use Rattle.std.specs.declared.cmp.Ordering.TheVariants.{Less}
 use Rattle.std.proofs.lemmas.Bool.{and_parts, or_parts, not-false}
-use Rattle.std.proofs.lemmas.List.Sums.{length-filter, count_by-le-length}
 use Rattle.lv_base.specs.declared.ids.Cost.{Cost}
 use Rattle.lv_base.specs.declared.rank.Rank.{Rank}
 use Rattle.lv_base.specs.declared.search.Pair.{Pair}
@@ -20,7 +19,7 @@ use Rattle.lv_search_walk.specs.Ranked.{is_among}
 use Rattle.lv_search_walk.specs.Groups.{have_same_groups}
 use Rattle.lv_search_walk.specs.Walk.{candidate_of}
 use Rattle.lv_search_walk.proofs.RankedLemmas.{one_list}
-use Rattle.lv_search.specs.Frontier.{IsLikeFirst, ThinsAlike, LeavesOut}
+use Rattle.lv_search.specs.Frontier.{LeavesFirst, IsLikeFirst, ThinsAlike, LeavesOut}
 use Rattle.lv_search.proofs.NextLemmas.{first_and_rest}
 use Rattle.lv_search.proofs.GroupLemmas.{has_own_groups}
 use Rattle.lv_search.proofs.TimesLemmas.{times_one}
@@ -130,18 +129,13 @@ module _ (slots : List (List Cost)) (groups : List (List ℕ)) (shape : have_sha
           record {
             keeps = keeps;
             same = filtered;
+            first =
+                let inside : out e.0 ≡ true = ap (have_same_groups groups e.0.choices) own ∙ has_own_groups groups e.0.choices in
+                let gone : keeps e.0 ≡ false = λ i. only_first i || not (inside i) in
+                subst (λ (rs : List Rank). LeavesFirst keeps rs) (sym left_is) gone;
             only = λ r k.
                 subst (λ (rs : List Rank). IsLikeFirst groups r rs) (sym left_is)
                 (sym (ap (have_same_groups groups r.choices) own) ∙ not-false (out r) (or_parts (others r) (not (out r)) k).1);
-            fewer =
-                let inside : out e.0 ≡ true = ap (have_same_groups groups e.0.choices) own ∙ has_own_groups groups e.0.choices in
-                let gone : keeps e.0 ≡ false = λ i. only_first i || not (inside i) in
-                let first_out : filter keeps (e.0 ∷ rest) ≡ filter keeps rest = ap (λ b. cond b (e.0 ∷ filter keeps rest) (filter keeps rest)) gone in
-                let short : length new_left ≡ length (filter keeps rest) = ap length filtered ∙ ap (λ rs. length (filter keeps rs)) left_is ∙ ap length first_out in
-                let counted = length-filter keeps rest in
-                let few = count_by-le-length keeps rest in
-                let long : length old_left ≡ suc (length rest) = ap length left_is in
-                omega (arith, short, counted, few, long);
           }
 
       drops : DropsAlike slots known groups (e ∷ es) new

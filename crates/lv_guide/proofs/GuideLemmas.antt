@@ -1,6 +1,6 @@
 -- What is left in a queue of zones that are each kept by a member, when zones are put in, when one is looked at again, and when the
 -- first is left out.
-use Rattle.std.proofs.Common.{◌≡◌, ℕ, ◌+◌, ◌<◌, ◌≤◌, Bool, true, false, not, ◌&&◌, ◌||◌, List, [], ◌∷◌, ◌++◌, length, drop, filter, refl, sym, ◌∙◌, ap, subst, cond, nat_eq, nat_lt, arith}
+use Rattle.std.proofs.Common.{◌≡◌, ℕ, ◌+◌, ◌≤◌, Bool, true, false, not, ◌&&◌, ◌||◌, List, [], ◌∷◌, ◌++◌, length, drop, filter, refl, sym, ◌∙◌, ap, subst, cond, nat_eq, nat_lt, arith}
 use Rattle.std.specs.Prelude.{slice_get, Some, All}
 use Rattle.std.specs.List.{AllByRecursion, list_all, list_any}
 use Rattle.std.specs.Map.{keys_of}
@@ -10,7 +10,6 @@ use Rattle.std.specs.declared.cmp.Ordering.{Ordering}
 use Rattle.std.specs.declared.cmp.Ordering.TheVariants.{Less, Equal, Greater}
 use Rattle.std.proofs.lemmas.Bool.{and_from, and_parts, or_left, or_right, eq-eqb, both_ways, false_from_ne_true, not-false}
 use Rattle.std.proofs.lemmas.List.Elements.{All-head, All-tail}
-use Rattle.std.proofs.lemmas.List.Sums.{length-filter, count_by-le-length}
 use Rattle.lv_base.specs.declared.ids.Cost.{Cost}
 use Rattle.lv_base.specs.declared.rank.Rank.{Rank}
 use Rattle.lv_base.specs.declared.search.Pair.{Pair}
@@ -30,7 +29,7 @@ use Rattle.lv_search_walk.specs.Ranked.{rises, is_rank, is_among}
 use Rattle.lv_search_walk.specs.Walk.{candidate_of, is_ruled_out}
 use Rattle.lv_search_walk.proofs.RankedLemmas.{not_before_itself, not_both_before, same_rank, is_itself, one_list, equal_by_cmp}
 use Rattle.lv_search_guide.specs.Free.{is_free_member, IsLeastFree, HasNoFree}
-use Rattle.lv_search.specs.Frontier.{FirstContains, Thins}
+use Rattle.lv_search.specs.Frontier.{FirstContains, LeavesFirst, Thins}
 use Rattle.lv_guide.specs.Guide.{is_free_rank, zones_in, left_in, IsKeyMember, IsKeyFirst, IsQueue, AreKeptBy, front_is_free, IsReady, HasRoomBy, HasMoreBy, HasSameFree, stale_in, LooksAgain, DropsFirst}
 use Rattle.lv_search.proofs.NextLemmas.{first_and_rest}
 use Rattle.lv_search.proofs.TimesLemmas.{times_none, times_one}
@@ -525,23 +524,17 @@ module _ (slots : List (List Cost)) where
     left_with : (entries : List Entry) → left_in slots more entries ≡ filter lacks (left_in slots known entries)
     left_with entries = (λ i. filter (λ r. ruled_out_more known conflict r.choices i) (ranked_members slots (zones_in entries))) ∙ filter_both (is_free_rank known) lacks (ranked_members slots (zones_in entries))
 
-    shorter : (rs : List Rank) → FirstContains conflict rs → length (filter lacks rs) < length rs
-    shorter [] inside = absurd inside
-    shorter (r ∷ rs) inside =
-        let out : filter lacks (r ∷ rs) ≡ filter lacks rs = ap (λ b. cond (not b) (r ∷ filter lacks rs) (filter lacks rs)) inside in
-        let short : length (filter lacks (r ∷ rs)) ≡ length (filter lacks rs) = ap length out in
-        let counted = length-filter lacks rs in
-        let few = count_by-le-length lacks rs in
-        omega (arith, short, counted, few)
+    lacks_first : (rs : List Rank) → FirstContains conflict rs → LeavesFirst lacks rs
+    lacks_first [] inside = inside
+    lacks_first (r ∷ rs) inside = ap not inside
 
     pub thins : (old new : List Entry) → HasSameFree slots more old new → FirstContains conflict (left_in slots known old) → Thins conflict (left_in slots known old) (left_in slots more new)
     thins old new same inside =
-        let is : left_in slots more new ≡ filter lacks (left_in slots known old) = same_left more old new same ∙ left_with old in
         record {
           keeps = lacks;
-          same = is;
+          same = same_left more old new same ∙ left_with old;
+          first = lacks_first (left_in slots known old) inside;
           only = λ r k. not-false (contains_all r.choices conflict) k;
-          fewer = subst (λ (rs : List Rank). length rs < length (left_in slots known old)) (sym is) (shorter (left_in slots known old) inside);
         }
 
   -- a call's zones are those that were held, and its conflicts those that are known

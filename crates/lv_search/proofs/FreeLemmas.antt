@@ -1,19 +1,15 @@
 -- What is left of a frontier's candidates without those that contain a known conflict.
-use Rattle.std.proofs.Common.{◌≡◌, ◌≢◌, ℕ, ◌<◌, Bool, true, false, not, List, [], ◌∷◌, length, drop, filter, get_or, cond, refl, sym, subst, ap, ◌∙◌, inl, inr, ⊎_elim}
+use Rattle.std.proofs.Common.{◌≡◌, ◌≢◌, ℕ, ◌<◌, Bool, true, false, not, List, [], ◌∷◌, length, drop, filter, cond, refl, sym, subst, ap, ◌∙◌, inl, inr}
 use Rattle.std.specs.Prelude.{slice_get, slice_index_or, position, Option, Some, None}
-use Rattle.std.specs.Option.{option_copied}
-use Rattle.std.specs.List.{list_any}
 use Rattle.std.proofs.lemmas.List.Quantifiers.{position-Some}
 use Rattle.std.proofs.lemmas.List.Folds.{list_any_at}
 use Rattle.std.proofs.lemmas.Option.{get_or_from_slice_get}
 use Rattle.lv_base.specs.declared.rank.Rank.{Rank}
 use Rattle.lv_base.specs.declared.search.Pair.{Pair}
 use Rattle.lv_base.specs.Choices.{contains_all}
-use Rattle.lv_search_walk.specs.Groups.{have_same_groups}
-use Rattle.lv_search_walk.specs.Walk.{is_ruled_out}
-use Rattle.lv_search.specs.Frontier.{FirstContains, LeavesFirst, Thins, IsLikeFirst, ThinsAlike, LeavesOut}
+use Rattle.lv_search.specs.Frontier.{FirstContains, LeavesFirst, Thins, IsLikeFirst, LeavesOut}
 use Rattle.lv_search.specs.Free.{is_free_rank, free_of, left_free, known_in_first, IsFirstFree, IsAhead}
-use Rattle.lv_search.proofs.NextLemmas.{position-None, first_and_rest, no_first, shorter_without}
+use Rattle.lv_search.proofs.NextLemmas.{position-None, shorter_without}
 
 filters_turned : (p q : Rank → Bool) (rs : List Rank) → filter p (filter q rs) ≡ filter q (filter p rs)
 filters_turned p q [] = refl

@@ -183,6 +183,10 @@ moves_sum plant choice (suc n) =
     let both : sum (move_counts plant ++ counts_of plant n) ≡ sum (move_counts plant) + sum (counts_of plant n) = sum_by-append (λ (x : ℕ). x) (move_counts plant) (counts_of plant n) in
     omega (arith, rest, both)
 
+-- and how many booleans
+pub window_total : (plant : Plant) (steps first n : ℕ) → first ≡ window_choice plant steps → n ≡ sum (counts_of plant steps) → first + n ≡ window_bools plant steps
+window_total plant steps first n at is = let all = moves_sum plant (window_choice plant steps) steps in omega (arith, at, is, all)
+
 few_moves : (plant : Plant) → is_well_formed plant ≡ true → (steps : ℕ) → sum (counts_of plant steps) ≤ 16384 * steps
 few_moves plant h zero = omega arith
 few_moves plant h (suc n) =

@@ -1,5 +1,5 @@
 -- what contains no known conflict is left as it was
-use Rattle.std.proofs.Common.{◌≡◌, ℕ, length}
+use Rattle.std.proofs.Common.{◌≡◌, length}
 use Rattle.lv_search.specs.Free.{free_of}
 use Rattle.lv_search.proofs.free.pass_known.Given as goal
 
