@@ -9,7 +9,7 @@ use Rattle.lv_model.specs.declared.plant.Plant.{Plant}
 use Rattle.lv_model.specs.Lists.{sizes, move_counts}
 use Rattle.lv_model.specs.WellFormed.{is_well_formed}
 use Rattle.lv_model.specs.Meaning.{is_feasible, parts_step, is_step}
-use Rattle.lv_compile.specs.Booleans.{Booleans, booleans_from}
+use Rattle.lv_compile.specs.Booleans.{booleans_from}
 use Rattle.lv_compile.specs.Laws.{are_true, Encode, EncodeMoves, move_number}
 use Rattle.lv_compile.specs.ModelClauses.{copy_clauses, choices_clauses}
 use Rattle.lv_compile.specs.Windows.{window_choice, copies_clauses, steps_clauses, raw_window, window_clauses}

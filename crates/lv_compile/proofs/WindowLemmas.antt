@@ -1,5 +1,5 @@
 -- The clauses of a window: they are clauses over its booleans, and those of one step are the plant's.
-use Rattle.std.proofs.Common.{◌≡◌, ◌+◌, ◌-◌, ◌*◌, ◌≤◌, ◌<◌, ℕ, zero, suc, true, List, [], ◌++◌, append-nil, append_assoc, refl, sym, ap, ap₂, ◌∙◌, arith}
+use Rattle.std.proofs.Common.{◌≡◌, ◌+◌, ◌-◌, ◌*◌, ◌≤◌, ◌<◌, ℕ, zero, suc, true, [], ◌++◌, append-nil, append_assoc, refl, sym, ap, ap₂, ◌∙◌, arith}
 use Rattle.std.specs.List.{sum, list_all}
 use Rattle.lv_clauses.specs.Literals.{is_clause}
 use Rattle.lv_model.specs.declared.plant.Plant.{Plant}
@@ -8,7 +8,7 @@ use Rattle.lv_model.specs.WellFormed.{is_well_formed}
 use Rattle.lv_compile.specs.Booleans.{Booleans, booleans_from, booleans_now, booleans_next, first_choice}
 use Rattle.lv_compile.specs.FormulaClauses.{Clauses}
 use Rattle.lv_compile.specs.Cleaning.{cleaned}
-use Rattle.lv_compile.specs.ModelClauses.{copy_clauses, choices_clauses, raw_clauses, model_clauses}
+use Rattle.lv_compile.specs.ModelClauses.{copy_clauses, choices_clauses, model_clauses}
 use Rattle.lv_compile.specs.Windows.{past_copies, past_moves, window_choice, window_bools, copies_clauses, steps_clauses, raw_window, window_clauses}
 use Rattle.lv_compile.proofs.SumLemmas.{mapped_sum, few_values}
 use Rattle.lv_compile.proofs.SpeakingLemmas.{system_speaks, parts_hold, parts_speak}

@@ -1,6 +1,6 @@
 -- The clauses of several steps, one behind the other: a copy of the variables before the first step and one after each, then the
 -- moves of each step, which leads from its copy to the next. A window of one step is the plant's own list.
-use Rattle.std.specs.Prelude.{◌≡◌, ℕ, ◌+◌, zero, suc, List, [], ◌++◌}
+use Rattle.std.specs.Prelude.{◌≡◌, ℕ, ◌+◌, zero, suc, [], ◌++◌}
 use Rattle.std.specs.List.{sum}
 use Rattle.lv_model.specs.declared.plant.Plant.{Plant}
 use Rattle.lv_model.specs.Lists.{sizes, move_counts}

@@ -3,9 +3,8 @@ use Rattle.std.proofs.Common.{◌≡◌, ◌+◌, ◌++◌, suc, All, List, sum_
 use Rattle.std.specs.List.{sum}
 use Rattle.lv_model.specs.declared.plant.ComponentType.{ComponentType}
 use Rattle.lv_model.specs.declared.plant.Part.{Part}
-use Rattle.lv_model.specs.Lists.{sizes, part_moves, move_counts}
+use Rattle.lv_model.specs.Lists.{part_moves, move_counts}
 use Rattle.lv_compile.specs.Booleans.{Booleans}
-use Rattle.lv_compile.specs.FormulaClauses.{Clauses}
 use Rattle.lv_compile.specs.ModelClauses.{choices_clauses}
 use Rattle.lv_compile.specs.Speaking.{PartSpeaks}
 use Rattle.lv_compile.proofs.SumLemmas.{few_values, few_choices, mapped_sum}
@@ -70,8 +69,8 @@ steps-preserved c =
     let some = c.steps-test.true in
     let fit = c.steps.invariant.fit in
     let choices = c.steps.invariant.choices in
-    let behind = c.first.ensures ∙ ap (λ (x : Booleans). x.first) c.in_ok-copies.ensures.after in
-    let later = omega (arith, same, more, counts) in
+    let behind = c.first-first.ensures ∙ ap (λ (x : Booleans). x.first) c.in_ok-copies.ensures.after in
+    let later : c.steps.choice + c.moves_of_parts-choice.result ≡ c.steps.choice + sum (move_counts plant) = omega (arith, same, more, counts) in
     record {
       rest =
           steps_more plant c.steps.first _ c.steps.choice _ c.steps.left c.steps.out.items c.push_choices.new.out.items _ some c.steps.invariant.rest
