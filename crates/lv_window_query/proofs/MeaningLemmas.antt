@@ -52,14 +52,14 @@ module _ (plant : Plant) (truth : ℕ → Bool) where
   known_holds (f ∷ fs) first choice a (x ∷ xs) many here further fits =
       list_all-append (literal_is_true truth) (step_literals plant first f) (window_literals plant (first + sum (sizes plant)) fs)
       ∙ ap₂ (λ (p q : Bool). p && q) (step_holds first f a x.after here further.0 (fits 0 f (omega arith)))
-      (known_holds fs (first + sum (sizes plant)) (choice + sum (move_counts plant)) x.after xs (omega (arith, many)) further.0 further.1.1 (All-tail (StepFits plant) f fs fits))
+      (known_holds fs (first + sum (sizes plant)) (choice + sum (move_counts plant)) x.after xs (omega (arith, many)) further.0 further.2 (All-tail (StepFits plant) f fs fits))
 
   -- what encodes the steps encodes whole ones
   whole_on : (first choice : ℕ) (a : List ValId) (on : List Further) → LeadOn plant a on → EncodeOn plant truth first choice on → AreWhole plant on
   whole_on first choice a [] lead further = tt
   whole_on first choice a (x ∷ xs) lead further =
-      (record { whole = lead.0.whole; in_range = further.0.in_range }, record { whole = further.1.0.each; in_range = further.1.0.in_range },
-      whole_on (first + sum (sizes plant)) (choice + sum (move_counts plant)) x.after xs lead.1 further.1.1)
+      (record { whole = lead.0.whole; in_range = further.0.in_range }, record { whole = further.1.each; in_range = further.1.in_range },
+      whole_on (first + sum (sizes plant)) (choice + sum (move_counts plant)) x.after xs lead.1 further.2)
 
 module _ (plant : Plant) (h : is_well_formed plant ≡ true) (steps : List Facts) (some : 1 ≤ length steps) (fits : All (StepFits plant) steps) (s : WindowValue) (is : IsWindowOf plant (length steps) s)
     (n : ℕ) (assumed : List Lit) (once : IsOnce n (window_literals plant 0 steps) assumed) where

@@ -18,7 +18,9 @@ module _ {X : Type 0} where
 module _ (plant : Plant) where
   pub slots_next : (left : ℕ) (grid after whole : List (List Cost)) → 0 < left → grid ++ window_slots plant left ≡ whole → after ≡ grid ++ move_slots plant → after ++ window_slots plant (left - 1) ≡ whole
   slots_next zero grid after whole more so_far is = absurd (omega (arith, more))
-  slots_next (suc n) grid after whole more so_far is = regroup grid (move_slots plant) (window_slots plant n) after whole so_far is
+  slots_next (suc n) grid after whole more so_far is =
+      let left : suc n - 1 ≡ n = omega arith in
+      ap (λ (k : ℕ). after ++ window_slots plant k) left ∙ regroup grid (move_slots plant) (window_slots plant n) after whole so_far is
 
   pub slots_done : (left : ℕ) (grid whole : List (List Cost)) → left ≤ 0 → grid ++ window_slots plant left ≡ whole → grid ≡ whole
   slots_done zero grid whole done so_far = sym (append-nil grid) ∙ so_far
@@ -43,7 +45,9 @@ module _ (plant : Plant) where
 
   pub masks_next : (left : ℕ) (masks after whole : List ℕ) → 0 < left → masks ++ free_masks plant left ≡ whole → after ≡ masks ++ own_masks → after ++ free_masks plant (left - 1) ≡ whole
   masks_next zero masks after whole more so_far is = absurd (omega (arith, more))
-  masks_next (suc n) masks after whole more so_far is = regroup masks own_masks (free_masks plant n) after whole so_far is
+  masks_next (suc n) masks after whole more so_far is =
+      let left : suc n - 1 ≡ n = omega arith in
+      ap (λ (k : ℕ). after ++ free_masks plant k) left ∙ regroup masks own_masks (free_masks plant n) after whole so_far is
 
   pub masks_done : (left : ℕ) (masks whole : List ℕ) → left ≤ 0 → masks ++ free_masks plant left ≡ whole → masks ≡ whole
   masks_done zero masks whole done so_far = sym (append-nil masks) ∙ so_far
@@ -53,7 +57,9 @@ module _ (plant : Plant) where
       → after ≡ out ++ part_joints plant.types slot (slot + length plant.parts) plant.parts → after ++ joints_from plant (slot + length plant.parts) (left - 1) ≡ whole
   joints_next zero slot out after whole more so_far is = absurd (omega (arith, more))
   joints_next (suc n) slot out after whole more so_far is =
-      regroup out (part_joints plant.types slot (slot + length plant.parts) plant.parts) (joints_from plant (slot + length plant.parts) n) after whole so_far is
+      let left : suc n - 1 ≡ n = omega arith in
+      ap (λ (k : ℕ). after ++ joints_from plant (slot + length plant.parts) k) left
+      ∙ regroup out (part_joints plant.types slot (slot + length plant.parts) plant.parts) (joints_from plant (slot + length plant.parts) n) after whole so_far is
 
   pub joints_on : (left slot behind : ℕ) (out after whole : List (List Pair)) → 0 < left → behind ≡ slot + length plant.parts → out ++ joints_from plant slot left ≡ whole
       → after ≡ out ++ part_joints plant.types slot (slot + length plant.parts) plant.parts → after ++ joints_from plant behind (left - 1) ≡ whole

@@ -17,10 +17,10 @@ steps-preserved c =
     let few = c.steps.invariant.few in
     let some = c.steps-test.true in
     let count = c.plant-plant.ensures.count in
-    let many = ap length c.as_slice.ensures in
+    let many = c.len.ensures in
     record {
       rest =
-          joints_on c.args.model.now c.steps.left c.steps.slot (c.steps.slot + length c.as_slice.result.now) c.steps.out.items c.push_step.new.out.items _ some
+          joints_on c.args.model.now c.steps.left c.steps.slot (c.steps.slot + c.len.result) c.steps.out.items c.push_step.new.out.items _ some
           (ap (λ n. c.steps.slot + n) (many ∙ ap (λ (p : Plant). length p.parts) plant_is)) c.steps.invariant.rest
           (c.in_ok-push_step.ensures ∙ ap (λ (p : Plant). c.steps.out.items ++ part_joints p.types c.steps.slot (c.steps.slot + length p.parts) p.parts) plant_is);
       few = omega (arith, few, some, count, many);

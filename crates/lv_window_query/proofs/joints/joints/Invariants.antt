@@ -5,7 +5,7 @@ use Rattle.lv_window_query.proofs.joints.joints.Given as goal
 
 abbrev pub invariant-steps : goal.invariant-steps
 invariant-steps l = record {
-  rest : l.out.items ++ joints_from l.plant l.slot l.left ≡ joints l.plant l.later;
+  rest : l.out.items ++ joints_from l.model l.slot l.left ≡ joints l.model l.later;
   few : l.slot + 256 * l.left ≤ 256 * l.later;
 }
 

@@ -16,8 +16,8 @@ push_observed-requires c =
     subst (λ (b : Booleans). All (HasValue b.sizes) c.as_slice.result.now) (sym c.bools_behind.ensures)
     (subst (λ (os : List Observation). All (HasValue (sizes c.args.model.now)) os) (sym (c.as_slice.ensures.value ∙ c.in_ok-before.ensures.observations)) c.requires.fits.in_range.now)
 
-pub push_observed-2-requires : goal.push_observed-2-requires
-push_observed-2-requires c =
+pub push_observed-requires-2 : goal.push_observed-requires-2
+push_observed-requires-2 c =
     subst (λ (b : Booleans). All (HasValue b.sizes) c.as_slice-2.result.now) (sym c.bools_behind-2.ensures)
     (subst (λ (os : List Observation). All (HasValue (sizes c.args.model.now)) os) (sym c.as_slice-2.ensures) c.requires.fits.in_range.next)
 
