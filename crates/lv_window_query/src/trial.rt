@@ -83,8 +83,9 @@ impl<'a> WindowTrial<'a> {
         requires fits { All (StepFits model.now) steps.items }
         ensures { IfOk result (λ trial. trial ≡ record { plant = model.now; steps = steps.items }) }
     {
-        let system = compile_window(alloc, model, steps.len() as u32)?;
-        let asking = asking_of(alloc, model, &system, steps.as_slice())?;
+        let known = steps.as_slice();
+        let system = compile_window(alloc, model, known.len() as u32)?;
+        let asking = asking_of(alloc, model, &system, known)?;
         Ok(WindowTrial {
             alloc,
             model,
