@@ -1,5 +1,5 @@
 -- A query is on the walk of the window, whatever its trial holds.
-use Rattle.std.proofs.Common.{◌≡◌, ℕ, suc, ◌+◌, ◌-◌, ◌≤◌, Bool, true, List, [], length, refl, sym, subst, ap, ◌∙◌, arith, Result, Ok, Err}
+use Rattle.std.proofs.Common.{◌≡◌, ℕ, suc, ◌+◌, Bool, true, List, [], length, refl, sym, subst, ap, ◌∙◌, arith, Result, Ok, Err}
 use Rattle.std.specs.Prelude.{None}
 use Rattle.std.specs.Result.{IfOk}
 use Rattle.lv_base.specs.declared.rank.Rank.{Rank}

@@ -1,10 +1,9 @@
 -- What a trial of trajectories asks, and what it tells.
-use Rattle.std.proofs.Common.{◌≡◌, ℕ, zero, suc, ◌+◌, ◌*◌, ◌^◌, ◌<◌, ◌≤◌, true, false, nat_lt, List, [], ◌∷◌, ◌++◌, length, refl, Option, Some, None, sym, subst, ap, ◌∙◌, arith, All}
+use Rattle.std.proofs.Common.{◌≡◌, ℕ, zero, suc, ◌+◌, ◌*◌, ◌^◌, ◌<◌, ◌≤◌, true, nat_lt, List, [], ◌∷◌, ◌++◌, length, refl, sym, subst, ap, ◌∙◌, arith, All}
 use Rattle.std.specs.List.{sum}
 use Rattle.std.proofs.lemmas.Bool.{and_parts}
 use Rattle.std.proofs.lemmas.List.{length-map, length-append}
 use Rattle.lv_base.specs.declared.ids.Lit.{Lit}
-use Rattle.lv_base.specs.declared.search.Pair.{Pair}
 use Rattle.lv_clauses.specs.ClauseMap.{ClauseMap}
 use Rattle.lv_model.specs.declared.plant.Plant.{Plant}
 use Rattle.lv_model.specs.Lists.{part_moves, move_counts}
@@ -17,7 +16,7 @@ use Rattle.lv_system.proofs.WindowLemmas.{moves_sum}
 use Rattle.lv_meaning.specs.declared.facts.Facts.{Facts}
 use Rattle.lv_meaning.specs.PossibleLaws.{are_below}
 use Rattle.lv_asking.specs.Literals.{IsOnce}
-use Rattle.lv_asking.specs.Asking.{AskingValue, Decides, IsReason}
+use Rattle.lv_asking.specs.Asking.{AskingValue, Decides}
 use Rattle.lv_window.specs.Possible.{is_possible_over}
 use Rattle.lv_window_query.specs.Known.{StepFits, window_literals}
 use Rattle.lv_window_query.specs.Trial.{TellsWindow}

@@ -29,12 +29,7 @@ struct Numbered<'m> {
 }
 
 /// The conflict of these two choices.
-fn conflict_of(
-    alloc: Global,
-    slots: Slots,
-    first: u32,
-    second: u32,
-) -> Result<Conflict, AllocError>
+fn conflict_of(alloc: Global, slots: Slots, first: u32, second: u32) -> Result<Conflict, AllocError>
     requires { slots.slot < slots.behind }
     ensures { IfOk result (λ c. c ≡ record { slot = slots.slot; choice = first } ∷ record { slot = slots.behind; choice = second } ∷ []) }
 {

@@ -50,7 +50,12 @@ fn any_moves(alloc: Global, model: &Model) -> Result<Vec<u64>, AllocError>
     ensures { IfOk result (λ masks. masks.items ≡ map (λ (p : Part). any_move) model.now.parts) }
 {
     let plant = model.plant();
-    plant.parts.as_slice().iter().map(|_| u64::MAX).collect(alloc)
+    plant
+        .parts
+        .as_slice()
+        .iter()
+        .map(|_| u64::MAX)
+        .collect(alloc)
 }
 
 /// Masks that leave every move of each part in each of so many steps.

@@ -1,5 +1,5 @@
 -- step by step
-use Rattle.std.proofs.Common.{◌≡◌, ◌+◌, ◌-◌, ◌*◌, ◌≤◌, ◌++◌, length, ap, ◌∙◌, arith}
+use Rattle.std.proofs.Common.{◌+◌, ◌++◌, length, ap, ◌∙◌, arith}
 use Rattle.lv_model.specs.declared.plant.Plant.{Plant}
 use Rattle.lv_window.specs.Joints.{part_joints}
 use Rattle.lv_window_query.proofs.StepLemmas.{joints_on, joints_done}

@@ -1,5 +1,5 @@
 -- what was added and the conflicts between the steps left are those between all
-use Rattle.std.proofs.Common.{◌≡◌, ◌+◌, ◌*◌, ◌≤◌, ◌++◌, length}
+use Rattle.std.proofs.Common.{◌≡◌, ◌+◌, ◌*◌, ◌≤◌, ◌++◌}
 use Rattle.lv_window.specs.Joints.{joints_from, joints}
 use Rattle.lv_window_query.proofs.joints.joints.Given as goal
 

@@ -1,5 +1,5 @@
 -- part by part
-use Rattle.std.proofs.Common.{◌≡◌, ◌+◌, ◌++◌, List, length, refl, ap, ◌∙◌}
+use Rattle.std.proofs.Common.{◌+◌, ◌++◌, List, length, refl, ap, ◌∙◌}
 use Rattle.lv_model.specs.declared.plant.ComponentType.{ComponentType}
 use Rattle.lv_model.specs.declared.plant.Part.{Part}
 use Rattle.lv_meaning.specs.Candidates.{type_moves}

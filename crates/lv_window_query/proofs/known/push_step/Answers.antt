@@ -1,5 +1,5 @@
 -- what is known of the step, before it and after it
-use Rattle.std.proofs.Common.{◌≡◌, List, All, sym, subst, ap, ◌∙◌}
+use Rattle.std.proofs.Common.{List, All, sym, subst, ◌∙◌}
 use Rattle.std.proofs.lemmas.Result.{IfOk-weaker}
 use Rattle.lv_model.specs.Lists.{sizes}
 use Rattle.lv_compile.specs.Booleans.{Booleans}

@@ -1,5 +1,5 @@
 -- step by step
-use Rattle.std.proofs.Common.{◌+◌, ◌++◌, List, length, sym, ap, ◌∙◌, arith}
+use Rattle.std.proofs.Common.{◌++◌, List, length, ap, ◌∙◌, arith}
 use Rattle.lv_base.specs.declared.ids.Lit.{Lit}
 use Rattle.lv_compile.specs.Windows.{past_copies}
 use Rattle.lv_meaning.specs.declared.facts.Facts.{Facts}

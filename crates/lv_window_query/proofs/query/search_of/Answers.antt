@@ -1,6 +1,5 @@
 -- the zones' members without a joint are the trajectories
-use Rattle.std.proofs.Common.{◌+◌, ◌-◌, ◌≤◌, arith, ap, ◌∙◌, sym}
-use Rattle.std.specs.Prelude.{None, []}
+use Rattle.std.proofs.Common.{◌-◌, arith, ap, ◌∙◌}
 use Rattle.std.proofs.lemmas.Result.{IfOk-weaker}
 use Rattle.lv_window_query.proofs.QueryLemmas.{start, search_is, zones_apart}
 use Rattle.lv_window_query.proofs.query.search_of.Goals as goal

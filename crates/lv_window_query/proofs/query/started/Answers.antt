@@ -1,7 +1,6 @@
 -- the trial means what the plant and what is known mean
 use Rattle.std.proofs.Common.{List, ap, ◌∙◌, sym}
 use Rattle.lv_meaning.specs.declared.facts.Facts.{Facts}
-use Rattle.lv_window_query.specs.Trial.{WindowTrialValue}
 use Rattle.lv_window_query.proofs.QueryLemmas.{start_is_tried}
 use Rattle.lv_window_query.proofs.query.started.Goals as goal
 

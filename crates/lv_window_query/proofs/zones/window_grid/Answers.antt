@@ -1,5 +1,5 @@
 -- step by step, each with a slot for each part
-use Rattle.std.proofs.Common.{◌≡◌, ◌+◌, ◌-◌, ◌*◌, ◌≤◌, ◌++◌, List, All, length, subst, sym, ap, ◌∙◌, arith}
+use Rattle.std.proofs.Common.{◌++◌, List, All, subst, sym, ap, ◌∙◌, arith}
 use Rattle.lv_base.specs.declared.ids.Cost.{Cost}
 use Rattle.lv_boxes.specs.Members.{IsSlot}
 use Rattle.lv_window_query.proofs.StepLemmas.{slots_next, slots_done, few_slots, more_slots}

@@ -1,5 +1,5 @@
 -- what is asked is asked of the steps
-use Rattle.std.proofs.Common.{◌≡◌, ◌≤◌, List, All, length, subst, sym, ◌∙◌}
+use Rattle.std.proofs.Common.{◌≤◌, List, All, length, subst, sym, ◌∙◌}
 use Rattle.lv_compile.specs.declared.windows.TheConstants.{WINDOW}
 use Rattle.lv_meaning.specs.declared.facts.Facts.{Facts}
 use Rattle.lv_window_query.specs.Known.{StepFits}
@@ -13,6 +13,7 @@ pub asking_of-requires-clause-fits : goal.asking_of-requires-clause-fits
 asking_of-requires-clause-fits c = subst (λ (fs : List Facts). All (StepFits c.args.model.now) fs) (sym c.as_slice-known.ensures.value) c.requires.fits
 
 pub invariant_of-result : goal.invariant_of-result
-invariant_of-result c =
-    (subst (λ (fs : List Facts). length fs ≤ WINDOW) (sym c.from_vec.ensures) c.requires.few,
-    subst (λ (fs : List Facts). TellsWindow c.args.model.now fs c.in_ok-asking.asking) (c.as_slice-known.ensures.value ∙ sym c.from_vec.ensures) c.in_ok-asking.ensures)
+invariant_of-result c = (
+  subst (λ (fs : List Facts). length fs ≤ WINDOW) (sym c.from_vec.ensures) c.requires.few,
+  subst (λ (fs : List Facts). TellsWindow c.args.model.now fs c.in_ok-asking.asking) (c.as_slice-known.ensures.value ∙ sym c.from_vec.ensures) c.in_ok-asking.ensures,
+)

@@ -1,7 +1,6 @@
 -- what is asked tells what is possible over the steps
-use Rattle.std.proofs.Common.{◌≡◌, ◌≤◌, List, ℕ, length, subst, sym, ap, ◌∙◌}
+use Rattle.std.proofs.Common.{List, ℕ, length, subst, sym}
 use Rattle.std.specs.Result.{IfOk}
-use Rattle.lv_compile.specs.declared.windows.TheConstants.{WINDOW}
 use Rattle.lv_compile.specs.WindowLaws.{counts_of}
 use Rattle.lv_asking.specs.Asking.{AskingValue, IsPartial, IsReason}
 use Rattle.lv_window.specs.Possible.{is_possible_over}
