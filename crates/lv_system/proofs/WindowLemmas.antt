@@ -1,5 +1,5 @@
 -- The system of a window: its clauses are true exactly where steps are encoded, one behind the other.
-use Rattle.std.proofs.Common.{◌≡◌, ◌+◌, ◌-◌, ◌*◌, ◌<◌, ◌≤◌, ◌^◌, ℕ, suc, zero, Bool, true, false, nat_eq, List, [], ◌∷◌, ◌++◌, length, take, is_some, slice_index_or, append_assoc, append-nil, All, refl, sym, subst, ap, ◌∙◌, arith}
+use Rattle.std.proofs.Common.{◌≡◌, ◌+◌, ◌*◌, ◌<◌, ◌≤◌, ◌^◌, ℕ, suc, zero, Bool, true, false, nat_eq, List, [], ◌∷◌, ◌++◌, length, take, is_some, slice_index_or, append_assoc, append-nil, All, refl, sym, subst, ap, ◌∙◌, arith}
 use Rattle.std.specs.List.{sum, list_all}
 use Rattle.std.proofs.lemmas.List.{length-append, get_or_append_left, get_or-append-add}
 use Rattle.std.proofs.lemmas.List.Sums.{sum_by-append}
@@ -8,7 +8,7 @@ use Rattle.lv_base.specs.declared.ids.ValId.{ValId}
 use Rattle.lv_base.specs.declared.ids.MoveId.{MoveId}
 use Rattle.lv_base.specs.declared.ids.ClauseId.{ClauseId}
 use Rattle.lv_clauses.specs.Literals.{clause_holds, is_clause}
-use Rattle.lv_clauses.specs.ClauseMap.{ClauseMap, satisfies}
+use Rattle.lv_clauses.specs.ClauseMap.{satisfies}
 use Rattle.lv_clauses.proofs.LiteralLemmas.{all_member}
 use Rattle.lv_formula.specs.Tree.{number_of}
 use Rattle.lv_model.specs.declared.plant.Plant.{Plant}
@@ -16,15 +16,14 @@ use Rattle.lv_model.specs.Lists.{sizes, move_counts}
 use Rattle.lv_model.specs.WellFormed.{is_well_formed}
 use Rattle.lv_model.specs.Meaning.{is_feasible}
 use Rattle.lv_model.proofs.Reading.{All-of_test}
-use Rattle.lv_compile.specs.Booleans.{Booleans, booleans_from}
+use Rattle.lv_compile.specs.Booleans.{booleans_from}
 use Rattle.lv_compile.specs.Laws.{Encode, EncodeMoves, move_number}
 use Rattle.lv_compile.specs.Windows.{past_copies, past_moves, window_choice, window_bools, window_clauses}
-use Rattle.lv_compile.specs.WindowLaws.{Further, all_moves, counts_of, LeadOn, EncodeOn, IsEncodedWindow}
+use Rattle.lv_compile.specs.WindowLaws.{Further, counts_of, LeadOn, EncodeOn, IsEncodedWindow}
 use Rattle.lv_compile.proofs.BooleanLemmas.{among_all}
 use Rattle.lv_compile.proofs.SumLemmas.{mapped_sum, few_choices}
 use Rattle.lv_compile.proofs.WindowLemmas.{few_past, window_are}
 use Rattle.lv_compile.proofs.WindowDecoding.{window_decoded, window_satisfied, choices_joined}
-use Rattle.lv_system.specs.Choices.{Choices}
 use Rattle.lv_system.specs.Encoding.{truth_in, value_rows, move_rows}
 use Rattle.lv_system.specs.Laws.{IsAssignment, IsFullChoice}
 use Rattle.lv_system.specs.Numbering.{AreNumbered, IsOver}
@@ -118,10 +117,10 @@ moves_long plant choice (f ∷ fs) are =
     omega (arith, rest, one, both)
 
 module _ (plant : Plant) (h : is_well_formed plant ≡ true) (start : List ValId) (on : List Further) (at_start : IsAssignment (sizes plant) start) (are : AreWhole plant on) where
-  values : List Bool
+  abbrev values : List Bool
   values = encoded_window plant start on
 
-  first_row : List Bool
+  abbrev first_row : List Bool
   first_row = value_rows (sizes plant) start
 
   first_long : length first_row ≡ sum (sizes plant)

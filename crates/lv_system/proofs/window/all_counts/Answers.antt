@@ -1,5 +1,5 @@
 -- the counts of one step after the other are gathered
-use Rattle.std.proofs.Common.{ap, ◌∙◌, ◌++◌}
+use Rattle.std.proofs.Common.{◌∙◌}
 use Rattle.lv_compile.specs.WindowLaws.{counts_of}
 use Rattle.lv_system.proofs.GatheringLemmas.{counts_more, counts_all}
 use Rattle.lv_system.proofs.window.all_counts.Goals as goal

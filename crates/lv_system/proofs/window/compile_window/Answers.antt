@@ -3,9 +3,7 @@ use Rattle.std.proofs.Common.{◌≡◌, ◌+◌, ℕ, true, suc, List, subst, a
 use Rattle.std.specs.List.{sum}
 use Rattle.lv_model.specs.declared.plant.Plant.{Plant}
 use Rattle.lv_model.specs.WellFormed.{is_well_formed}
-use Rattle.lv_compile.specs.Windows.{past_copies, window_choice}
-use Rattle.lv_compile.specs.WindowLaws.{counts_of}
-use Rattle.lv_system.specs.Choices.{Choices}
+use Rattle.lv_compile.specs.Windows.{past_copies}
 use Rattle.lv_system.specs.Windows.{copies_from}
 use Rattle.lv_system.proofs.WindowLemmas.{window_fits, window_total, window_over, window_of}
 use Rattle.lv_system.proofs.window.compile_window.Goals as goal
