@@ -1,5 +1,5 @@
 -- Possible partial choices over some steps have witnesses, a witness serves each part, and over one step they are those of a diagnosis.
-use Rattle.std.proofs.Common.{◌≡◌, ◌≤◌, ℕ, suc, zero, Bool, true, false, ◌&&◌, nat_lt, List, [], ◌∷◌, ◌++◌, length, map, take, drop, filter, append-nil, Contains, refl, sym, subst, ap, ◌∙◌, arith}
+use Rattle.std.proofs.Common.{◌≡◌, ℕ, Bool, true, false, ◌&&◌, nat_lt, List, [], ◌∷◌, ◌++◌, length, map, take, filter, append-nil, Contains, refl, sym, subst, arith}
 use Rattle.std.specs.List.{list_all}
 use Rattle.std.proofs.lemmas.Bool.{and_parts, and_from}
 use Rattle.std.proofs.lemmas.List.{length-map, take_all}
@@ -27,7 +27,7 @@ use Rattle.lv_meaning.proofs.SomeList.{list_found, found_list}
 use Rattle.lv_meaning.proofs.Possibility.{witnessed, possible, all_of_part, still_there}
 use Rattle.lv_meaning.proofs.Reasons.{at_pairs, apart_by}
 use Rattle.lv_window.specs.Possible.{leads, is_possible_over, is_possible_trajectory, is_possible_window_rank}
-use Rattle.lv_window.specs.Walk.{window_reason, window_walk, first_trajectories}
+use Rattle.lv_window.specs.Walk.{window_reason, window_walk}
 
 module _ (plant : Plant) (steps : List Facts) (partial : List Pair) where
   -- moves for all steps that extend the partial choice, and an assignment from which they lead on

@@ -1,5 +1,5 @@
 -- Exactly the trajectories are listed.
-use Rattle.std.proofs.Common.{◌≡◌, ℕ, zero, suc, ◌+◌, true, List, [], ◌∷◌, ◌++◌, length, slice_get, Some, Contains, ◌⊎◌, inl, inr, ⊎_elim, append-nil, append_assoc, refl, sym, subst, ap, ap₂, ◌∙◌, arith}
+use Rattle.std.proofs.Common.{◌≡◌, ℕ, zero, suc, ◌+◌, true, List, [], ◌∷◌, ◌++◌, length, slice_get, Some, Contains, inl, inr, ⊎_elim, append-nil, append_assoc, refl, sym, subst, ap, ap₂, ◌∙◌, arith}
 use Rattle.std.specs.List.{flat_map}
 use Rattle.lv_base.specs.declared.ids.ValId.{ValId}
 use Rattle.lv_base.specs.declared.rank.Rank.{Rank}
@@ -8,7 +8,7 @@ use Rattle.lv_model.specs.declared.state.TrackedState.{TrackedState}
 use Rattle.lv_search_walk.specs.Ranked.{rises, put_in_order}
 use Rattle.lv_search_walk.proofs.RankedLemmas.{rises_ranked}
 use Rattle.lv_meaning.specs.Candidates.{ranks_from, ranks_of, candidates}
-use Rattle.lv_meaning.specs.CandidateLaws.{are_moves, moves_cost}
+use Rattle.lv_meaning.specs.CandidateLaws.{moves_cost}
 use Rattle.lv_meaning.specs.Targets.{target_modes, target_of_rank}
 use Rattle.lv_meaning.proofs.Among.{Among, among, contained, among_left, among_right, among_either}
 use Rattle.lv_meaning.proofs.Listing.{same_rank, put_has, put_adds, GoesOn, goes_on, leads_there}

@@ -1,7 +1,6 @@
 -- The members of a window's zones that contain no joint are the trajectories.
-use Rattle.std.proofs.Common.{◌≡◌, ◌+◌, ◌≤◌, ◌<◌, ℕ, zero, suc, Bool, true, false, not, nat_eq, nat_lt, ◌&&◌, ◌||◌, List, [], ◌∷◌, ◌++◌, length, map, take, drop, get_or, slice_get, Some, All, inl, inr, ⊎_elim, append_assoc, refl, sym, subst, ap, ap₂, ◌∙◌, arith}
+use Rattle.std.proofs.Common.{◌≡◌, ◌+◌, ◌<◌, ℕ, zero, suc, Bool, true, false, not, nat_eq, nat_lt, ◌&&◌, ◌||◌, List, [], ◌∷◌, ◌++◌, length, map, get_or, slice_get, Some, All, inl, inr, ⊎_elim, append_assoc, refl, sym, subst, ap, ap₂, ◌∙◌, arith}
 use Rattle.std.specs.List.{list_all, list_any}
-use Rattle.std.specs.Cmp.Lexicographic.{pointwise}
 use Rattle.std.proofs.lemmas.Bool.{and_parts, and_from, or_parts, or_left, or_right, or_cases, lt-ltb, ltb-true, eqb-true, eq-eqb}
 use Rattle.std.proofs.lemmas.List.{length-append, length-map, get_or_append_left, get_or-append-add}
 use Rattle.std.proofs.lemmas.List.Elements.{All-tail}
@@ -9,17 +8,14 @@ use Rattle.std.proofs.lemmas.Nat.Bits.{bit_at_ones}
 use Rattle.lv_base.specs.declared.ids.Cost.{Cost}
 use Rattle.lv_base.specs.declared.ids.ValId.{ValId}
 use Rattle.lv_base.specs.declared.rank.Rank.{Rank}
-use Rattle.lv_base.specs.declared.search.Pair.{Pair}
-use Rattle.lv_base.specs.declared.search.Candidate.{Candidate}
 use Rattle.lv_base.specs.Choices.{picks}
 use Rattle.lv_boxes.specs.Masks.{has_choice}
-use Rattle.lv_boxes.specs.Members.{ZoneValue, is_left, are_left, choice_cost, choices_cost, is_member}
+use Rattle.lv_boxes.specs.Members.{ZoneValue, is_left, are_left, choices_cost}
 use Rattle.lv_boxes.specs.RankedMembers.{ranked_members, ranks_in, sources_differ}
 use Rattle.lv_boxes.proofs.RankedMemberLemmas.{one_test, ranked_members_rise, among_ranked_members_any}
 use Rattle.lv_model.specs.declared.plant.Plant.{Plant}
 use Rattle.lv_model.specs.declared.plant.ComponentType.{ComponentType}
 use Rattle.lv_model.specs.declared.plant.Part.{Part}
-use Rattle.lv_model.specs.declared.plant.Move.{Move}
 use Rattle.lv_model.specs.declared.state.TrackedState.{TrackedState}
 use Rattle.lv_model.specs.Lists.{part_moves, move_counts}
 use Rattle.lv_model.specs.WellFormed.{is_well_formed}
@@ -28,8 +24,7 @@ use Rattle.lv_search_walk.specs.Ranked.{is_rank, is_among}
 use Rattle.lv_search_walk.specs.Walk.{is_ruled_out, suit_all}
 use Rattle.lv_search_walk.proofs.RankedLemmas.{is_itself, same_rank, one_list}
 use Rattle.lv_meaning.proofs.Among.{Among, among, contained}
-use Rattle.lv_meaning.specs.Candidates.{type_moves}
-use Rattle.lv_meaning.specs.CandidateLaws.{goes_from, are_moves, moves_cost}
+use Rattle.lv_meaning.specs.CandidateLaws.{are_moves}
 use Rattle.lv_meaning.specs.PossibleLaws.{are_below}
 use Rattle.lv_meaning.specs.Targets.{target_modes}
 use Rattle.lv_search.specs.Free.{is_free_rank, free_of}
@@ -41,7 +36,7 @@ use Rattle.lv_search_zones.proofs.ZoneLemmas.{left_are_moves, left_below, cost_o
 use Rattle.lv_window.specs.Trajectories.{trajectories}
 use Rattle.lv_window.specs.Joints.{window_slots, any_move, free_masks, window_zone, window_zones, part_joints, joints_from, joints, is_full_window}
 use Rattle.lv_window.specs.Laws.{JoinUp, all_choices, all_cost, IsTrajectory}
-use Rattle.lv_window.proofs.JointLemmas.{IsAt, AreAt, ruled_both, parts_ruled}
+use Rattle.lv_window.proofs.JointLemmas.{AreAt, ruled_both, parts_ruled}
 use Rattle.lv_window.proofs.TrajectoryLemmas.{FarFrom, trajectories_rise, trajectory_listed, trajectory_is}
 
 -- choices that stand behind others

@@ -1,5 +1,5 @@
 -- What trajectories, possible choices over steps and walks of windows are, in the subject's own words.
-use Rattle.std.specs.Prelude.{◌≡◌, ◌<◌, ℕ, ◌+◌, suc, Bool, true, false, not, List, [], ◌∷◌, ◌++◌, length, Contains, slice_get, Some}
+use Rattle.std.specs.Prelude.{◌≡◌, ℕ, ◌+◌, suc, true, false, not, List, [], ◌∷◌, ◌++◌, length, Contains, slice_get, Some}
 use Rattle.std.specs.List.{list_all}
 use Rattle.lv_base.specs.declared.ids.ValId.{ValId}
 use Rattle.lv_base.specs.declared.rank.Rank.{Rank}
@@ -21,7 +21,7 @@ use Rattle.lv_meaning.specs.Targets.{target_modes}
 use Rattle.lv_meaning.specs.Diagnosis.{diagnosis_walk}
 use Rattle.lv_window.specs.Trajectories.{trajectories}
 use Rattle.lv_window.specs.Possible.{is_possible_over}
-use Rattle.lv_window.specs.Walk.{window_reason, window_walk, first_trajectories}
+use Rattle.lv_window.specs.Walk.{window_walk, first_trajectories}
 use Rattle.lv_window.specs.Joints.{window_slots, window_zones, joints, is_full_window}
 
 -- full choices, one for each of so many steps, of which the first goes from these modes and each later one from where the one before led

@@ -1,6 +1,6 @@
 -- Which partial choices of moves over some steps are possible. What is known of the steps is a list of facts, one for each: what was seen
 -- between two steps stands with the one before as next, with the one behind as present.
-use Rattle.std.specs.Prelude.{ℕ, Bool, true, ◌&&◌, List, [], ◌∷◌, length, take, drop}
+use Rattle.std.specs.Prelude.{Bool, true, ◌&&◌, List, [], ◌∷◌, length, take, drop}
 use Rattle.lv_base.specs.declared.ids.ValId.{ValId}
 use Rattle.lv_base.specs.declared.ids.MoveId.{MoveId}
 use Rattle.lv_base.specs.declared.rank.Rank.{Rank}

@@ -1,8 +1,8 @@
 -- What is known of a window, step by step.
-use Rattle.std.proofs.Common.{◌≡◌, ℕ, zero, suc, ◌+◌, ◌-◌, ◌<◌, ◌≤◌, List, [], ◌∷◌, ◌++◌, length, drop, get_or, slice_get, Option, Some, refl, sym, subst, ap, ap₂, ◌∙◌, arith, All, add-one}
+use Rattle.std.proofs.Common.{append-nil, ◌≡◌, ℕ, zero, suc, ◌+◌, ◌<◌, ◌≤◌, List, [], ◌∷◌, ◌++◌, length, drop, get_or, slice_get, Some, refl, sym, subst, ap, ap₂, ◌∙◌, arith, All, add-one}
 use Rattle.std.specs.List.{sum}
 use Rattle.std.proofs.lemmas.List.{drop_more, drop_all, append_assoc}
-use Rattle.std.proofs.lemmas.List.Elements.{All-tail, All-cons, All-append, All-nil}
+use Rattle.std.proofs.lemmas.List.Elements.{All-tail, All-cons, All-append}
 use Rattle.lv_base.specs.declared.ids.Lit.{Lit}
 use Rattle.lv_model.specs.declared.plant.Plant.{Plant}
 use Rattle.lv_model.specs.Lists.{sizes}
@@ -56,6 +56,21 @@ module _ (plant : Plant) where
       ∙ append_assoc before (step_literals plant (past_copies plant 0 i) (get_or steps i d)) (window_literals plant (past_copies plant 0 i + sum (sizes plant)) (drop (i + 1) steps))
       ∙ ap (λ (ls : List Lit). before ++ ls) (sym (known_more steps i d (past_copies plant 0 i) within))
       ∙ so_far
+
+  pub known_done : (steps : List Facts) (i : ℕ) (before whole : List Lit) → length steps ≤ i → before ++ window_literals plant (past_copies plant 0 i) (drop i steps) ≡ whole → before ≡ whole
+  known_done steps i before whole end so_far =
+      sym (append-nil before) ∙ ap (λ (fs : List Facts). before ++ window_literals plant (past_copies plant 0 i) fs) (sym (drop_all i steps end)) ∙ so_far
+
+  -- what is known of one step is what was seen before it, and after it
+  pub step_known : (facts : Facts) (steps : ℕ) (here there : Booleans) → here ≡ booleans_from plant (past_copies plant 0 steps) → there ≡ booleans_from plant (past_copies plant 0 (steps + 1))
+      → (seen : List Observation) → seen ≡ now_facts plant facts → (later : List Observation) → later ≡ facts.next → (before mid after : List Lit) → mid ≡ before ++ observed_literals here seen
+      → after ≡ mid ++ observed_literals there later → after ≡ before ++ step_literals plant (past_copies plant 0 steps) facts
+  step_known facts steps here there here_is there_is seen seen_is later later_is before mid after one other =
+      let behind : there ≡ booleans_from plant (past_copies plant 0 steps + sum (sizes plant)) = there_is ∙ ap (booleans_from plant) (past_more 0 steps) in
+      other
+      ∙ ap (λ (ls : List Lit). ls ++ observed_literals there later) one
+      ∙ append_assoc before (observed_literals here seen) (observed_literals there later)
+      ∙ (λ i. before ++ (observed_literals (here_is i) (seen_is i) ++ observed_literals (behind i) (later_is i)))
 
   -- each literal is of a boolean of a value
   observed_positive : (b : Booleans) (bound : ℕ) → b.first + sum b.sizes ≤ bound → (os : List Observation) → All (HasValue b.sizes) os → All (IsPositive bound) (observed_literals b os)

@@ -1,3 +1,4 @@
+pub mod BreakLemmas
 pub mod KnownLemmas
 pub mod PathLemmas
 pub mod MeaningLemmas

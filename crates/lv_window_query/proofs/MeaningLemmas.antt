@@ -1,5 +1,5 @@
 -- What is possible over the steps of a window is what the clauses of its system and what is known decide.
-use Rattle.std.proofs.Common.{◌≡◌, ℕ, ◌+◌, ◌≤◌, Bool, true, false, ◌&&◌, List, [], ◌∷◌, ◌++◌, length, map, refl, sym, subst, ap, ap₂, ◌∙◌, arith, All}
+use Rattle.std.proofs.Common.{◌≡◌, ℕ, ◌+◌, ◌≤◌, Bool, true, ◌&&◌, List, [], ◌∷◌, ◌++◌, length, map, refl, sym, subst, ap, ap₂, ◌∙◌, arith, All}
 use Rattle.std.specs.List.{list_all, sum}
 use Rattle.std.proofs.lemmas.Bool.{and_parts, and_from}
 use Rattle.std.proofs.lemmas.List.Elements.{All-tail}
@@ -9,7 +9,6 @@ use Rattle.lv_base.specs.declared.ids.ValId.{ValId}
 use Rattle.lv_base.specs.declared.ids.MoveId.{MoveId}
 use Rattle.lv_base.specs.declared.search.Pair.{Pair}
 use Rattle.lv_clauses.specs.Literals.{lit_holds}
-use Rattle.lv_clauses.specs.ClauseMap.{ClauseMap}
 use Rattle.lv_model.specs.declared.plant.Plant.{Plant}
 use Rattle.lv_model.specs.Lists.{sizes, move_counts}
 use Rattle.lv_model.specs.WellFormed.{is_well_formed}
@@ -25,10 +24,9 @@ use Rattle.lv_system.proofs.WindowLemmas.{model_is_a_window, window_has_a_model}
 use Rattle.lv_meaning.specs.declared.facts.Facts.{Facts}
 use Rattle.lv_meaning.specs.Facts.{now_facts, meets_facts}
 use Rattle.lv_meaning.specs.Possible.{value, move_number, extends}
-use Rattle.lv_meaning.specs.PossibleLaws.{are_below}
 use Rattle.lv_asking.specs.Literals.{observed_literals, pair_literals, HasMove, IsOnce}
 use Rattle.lv_asking.specs.Refutation.{HasModel}
-use Rattle.lv_asking.specs.Asking.{AskingValue, Decides}
+use Rattle.lv_asking.specs.Asking.{Decides}
 use Rattle.lv_asking.proofs.HoldLemmas.{observed_hold, pairs_hold}
 use Rattle.lv_asking.proofs.NumberLemmas.{items_back, all_below, length_below, below_at, value_number, number_of_move, no_value, no_move}
 use Rattle.lv_window.specs.Possible.{leads, is_possible_over}
@@ -52,14 +50,16 @@ module _ (plant : Plant) (truth : ℕ → Bool) where
   known_holds (f ∷ fs) first choice a (x ∷ xs) many here further fits =
       list_all-append (literal_is_true truth) (step_literals plant first f) (window_literals plant (first + sum (sizes plant)) fs)
       ∙ ap₂ (λ (p q : Bool). p && q) (step_holds first f a x.after here further.0 (fits 0 f (omega arith)))
-      (known_holds fs (first + sum (sizes plant)) (choice + sum (move_counts plant)) x.after xs (omega (arith, many)) further.0 further.1.1 (All-tail (StepFits plant) f fs fits))
+      (known_holds fs (first + sum (sizes plant)) (choice + sum (move_counts plant)) x.after xs (omega (arith, many)) further.0 further.2 (All-tail (StepFits plant) f fs fits))
 
   -- what encodes the steps encodes whole ones
   whole_on : (first choice : ℕ) (a : List ValId) (on : List Further) → LeadOn plant a on → EncodeOn plant truth first choice on → AreWhole plant on
   whole_on first choice a [] lead further = tt
-  whole_on first choice a (x ∷ xs) lead further =
-      (record { whole = lead.0.whole; in_range = further.0.in_range }, record { whole = further.1.0.each; in_range = further.1.0.in_range },
-      whole_on (first + sum (sizes plant)) (choice + sum (move_counts plant)) x.after xs lead.1 further.1.1)
+  whole_on first choice a (x ∷ xs) lead further = (
+    record { whole = lead.0.whole; in_range = further.0.in_range },
+    record { whole = further.1.each; in_range = further.1.in_range },
+    whole_on (first + sum (sizes plant)) (choice + sum (move_counts plant)) x.after xs lead.1 further.2,
+  )
 
 module _ (plant : Plant) (h : is_well_formed plant ≡ true) (steps : List Facts) (some : 1 ≤ length steps) (fits : All (StepFits plant) steps) (s : WindowValue) (is : IsWindowOf plant (length steps) s)
     (n : ℕ) (assumed : List Lit) (once : IsOnce n (window_literals plant 0 steps) assumed) where

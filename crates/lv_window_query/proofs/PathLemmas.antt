@@ -1,5 +1,5 @@
 -- Moves that lead on from an assignment, as steps one behind the other that meet what is known of each.
-use Rattle.std.proofs.Common.{◌≡◌, ℕ, zero, suc, ◌+◌, ◌<◌, Bool, true, false, ◌&&◌, nat_lt, List, [], ◌∷◌, ◌++◌, length, map, take, drop, refl, sym, subst, ap, ap₂, ◌∙◌, arith}
+use Rattle.std.proofs.Common.{◌≡◌, ℕ, ◌≤◌, Bool, true, ◌&&◌, nat_lt, List, [], ◌∷◌, ◌++◌, length, map, take, drop, refl, sym, subst, ap, ◌∙◌, arith}
 use Rattle.std.proofs.Math.Seq.{take-append_seam, drop-append_seam}
 use Rattle.std.proofs.lemmas.Bool.{and_parts, and_from}
 use Rattle.std.proofs.lemmas.List.{length-map, take-append-drop, map-append}
@@ -45,11 +45,11 @@ module _ (plant : Plant) where
   path_leads (f ∷ fs) a [] many lead whole met = absurd (omega (arith, many))
   path_leads (f ∷ fs) a (x ∷ xs) many lead whole met =
       let two = and_parts (meets_facts plant f a x.after) (meet_on plant fs x.after xs) met in
-      let own = whole.1.0.whole in
+      let own = whole.1.whole in
       let parts = parts_many in
       let long : length x.moves ≡ length plant.parts = omega (arith, own, parts) in
       let moves : List MoveId = x.moves ++ all_moves xs in
-      let rest : leads plant fs (all_moves xs) x.after ≡ true = path_leads fs x.after xs (omega (arith, many)) lead.1 whole.1.1 two.1 in
+      let rest : leads plant fs (all_moves xs) x.after ≡ true = path_leads fs x.after xs (omega (arith, many)) lead.1 whole.2 two.1 in
       let step : is_step plant a x.after (take (length plant.parts) moves) ≡ true = ap (is_step plant a x.after) (first_taken x.moves (all_moves xs) long) ∙ lead.0.step in
       let later : leads plant fs (drop (length plant.parts) moves) x.after ≡ true = ap (λ (ms : List MoveId). leads plant fs ms x.after) (first_dropped x.moves (all_moves xs) long) ∙ rest in
       found_list value (sizes plant) (goes_by f fs moves a) (map value_number x.after)

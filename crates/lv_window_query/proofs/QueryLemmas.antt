@@ -1,5 +1,5 @@
 -- A query is on the walk of the window, whatever its trial holds.
-use Rattle.std.proofs.Common.{◌≡◌, ℕ, suc, ◌+◌, ◌-◌, ◌≤◌, Bool, true, List, [], length, refl, sym, subst, ap, ◌∙◌, arith, Result, Ok, Err}
+use Rattle.std.proofs.Common.{◌≡◌, ℕ, suc, ◌+◌, Bool, true, List, [], length, refl, sym, subst, ap, ◌∙◌, arith, Result, Ok, Err}
 use Rattle.std.specs.Prelude.{None}
 use Rattle.std.specs.Result.{IfOk}
 use Rattle.lv_base.specs.declared.rank.Rank.{Rank}
@@ -59,6 +59,11 @@ zones_apart plant later tracked zones are = ap sources_differ are ∙ window_zon
 
 started : (suits fits : Candidate → Bool) (reason : Candidate → List Pair) (k : ℕ) (entries : List Rank) → IsUnderWay suits fits reason entries (start k entries)
 started suits fits reason k entries = record { walk = λ budget few. refl; trials = omega arith; k = refl; groups = refl; suit = λ suit. suit }
+
+pub start_is : (plant : Plant) (steps : List Facts) (tracked : List TrackedState) (k : ℕ) (s : Standing) → s ≡ start k (trajectories plant (length steps) tracked)
+    → (held : List Facts) → held ≡ steps → (q : WindowQueryValue) → q ≡ record { plant = plant; steps = held; standing = s }
+    → q ≡ record { plant = plant; steps = steps; standing = start k (trajectories plant (length steps) tracked) }
+start_is plant steps tracked k s is held held_is q made = made ∙ (λ i. record { plant = plant; steps = held_is i; standing = is i })
 
 -- a query that has tried nothing
 pub start_is_query : (plant : Plant) (steps : List Facts) (tracked : List TrackedState) (k : ℕ) (q : WindowQueryValue)

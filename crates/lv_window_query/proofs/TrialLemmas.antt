@@ -1,10 +1,12 @@
 -- What a trial of trajectories asks, and what it tells.
-use Rattle.std.proofs.Common.{◌≡◌, ℕ, ◌+◌, ◌≤◌, true, false, List, length, Option, Some, None, sym, subst, ap, ◌∙◌, arith, All}
+use Rattle.std.proofs.Common.{◌≡◌, ℕ, zero, suc, ◌+◌, ◌*◌, ◌^◌, ◌<◌, ◌≤◌, true, nat_lt, List, [], ◌∷◌, ◌++◌, length, refl, sym, subst, ap, ◌∙◌, arith, All}
 use Rattle.std.specs.List.{sum}
+use Rattle.std.proofs.lemmas.Bool.{and_parts}
+use Rattle.std.proofs.lemmas.List.{length-map, length-append}
 use Rattle.lv_base.specs.declared.ids.Lit.{Lit}
-use Rattle.lv_base.specs.declared.search.Pair.{Pair}
 use Rattle.lv_clauses.specs.ClauseMap.{ClauseMap}
 use Rattle.lv_model.specs.declared.plant.Plant.{Plant}
+use Rattle.lv_model.specs.Lists.{part_moves, move_counts}
 use Rattle.lv_model.specs.WellFormed.{is_well_formed}
 use Rattle.lv_compile.specs.Windows.{window_choice, window_bools}
 use Rattle.lv_compile.specs.WindowLaws.{counts_of}
@@ -12,8 +14,9 @@ use Rattle.lv_system.specs.Choices.{Choices}
 use Rattle.lv_system.specs.Windows.{WindowValue, IsWindowOf}
 use Rattle.lv_system.proofs.WindowLemmas.{moves_sum}
 use Rattle.lv_meaning.specs.declared.facts.Facts.{Facts}
+use Rattle.lv_meaning.specs.PossibleLaws.{are_below}
 use Rattle.lv_asking.specs.Literals.{IsOnce}
-use Rattle.lv_asking.specs.Asking.{AskingValue, Decides, IsReason}
+use Rattle.lv_asking.specs.Asking.{AskingValue, Decides}
 use Rattle.lv_window.specs.Possible.{is_possible_over}
 use Rattle.lv_window_query.specs.Known.{StepFits, window_literals}
 use Rattle.lv_window_query.specs.Trial.{TellsWindow}
@@ -46,3 +49,24 @@ module _ (plant : Plant) (steps : List Facts) (s : WindowValue) (is : IsWindowOf
         counts = ap (λ (v : AskingValue). v.choices.counts) a_is ∙ ap (λ (c : Choices). c.counts) (same ∙ is.choices);
         decides = subst (λ (v : AskingValue). Decides v (is_possible_over plant steps)) made decides;
       }
+
+-- a trajectory has few choices
+below_many : (ns cs : List ℕ) → are_below ns cs ≡ true → length cs ≡ length ns
+below_many [] [] below = refl
+below_many [] (c ∷ cs) below = absurd (cc below)
+below_many (n ∷ ns) [] below = absurd (cc below)
+below_many (n ∷ ns) (c ∷ cs) below = let rest = below_many ns cs (and_parts (nat_lt c n) (are_below ns cs) below).1 in omega (arith, rest)
+
+few_counts : (plant : Plant) → length plant.parts ≤ 256 → (steps : ℕ) → length (counts_of plant steps) ≤ 256 * steps
+few_counts plant few zero = omega arith
+few_counts plant few (suc n) =
+    let rest = few_counts plant few n in
+    let own : length (move_counts plant) ≡ length plant.parts = length-map plant.parts (part_moves plant.types) in
+    let both : length (move_counts plant ++ counts_of plant n) ≡ length (move_counts plant) + length (counts_of plant n) = length-append (move_counts plant) (counts_of plant n) in
+    omega (arith, rest, own, both, few)
+
+pub few_choices : (plant : Plant) → length plant.parts ≤ 256 → (steps : ℕ) → steps ≤ 4 → (cs : List ℕ) → are_below (counts_of plant steps) cs ≡ true → length cs < 2 ^ 32
+few_choices plant few steps most cs below =
+    let many = below_many (counts_of plant steps) cs below in
+    let counts = few_counts plant few steps in
+    omega (arith, many, counts, most)

@@ -29,12 +29,7 @@ struct Numbered<'m> {
 }
 
 /// The conflict of these two choices.
-fn conflict_of(
-    alloc: Global,
-    slots: Slots,
-    first: u32,
-    second: u32,
-) -> Result<Conflict, AllocError>
+fn conflict_of(alloc: Global, slots: Slots, first: u32, second: u32) -> Result<Conflict, AllocError>
     requires { slots.slot < slots.behind }
     ensures { IfOk result (λ c. c ≡ record { slot = slots.slot; choice = first } ∷ record { slot = slots.behind; choice = second } ∷ []) }
 {
@@ -58,7 +53,7 @@ fn push_break(
     second: Numbered<'_>,
 ) -> Result<(), AllocError>
     requires { slots.slot < slots.behind }
-    ensures { IfOk result (λ _. out.new.items ≡ out.old.items ++ breaks slots.slot slots.behind first.number first.of.now second.number second.of.now) }
+    ensures { IfOk result (λ _. out.new.items ≡ out.old.items ++ breaks slots.slot slots.behind first.entry.number first.entry.of.now second.entry.number second.entry.of.now) }
 {
     if second.of.source.0 != first.of.target.0 {
         out.push(conflict_of(alloc, slots, first.number, second.number)?)?;
@@ -76,7 +71,7 @@ fn push_breaks(
 ) -> Result<(), AllocError>
     requires order { slots.slot < slots.behind }
     requires few { length moves.now < 2 ^ 32 }
-    ensures { IfOk result (λ _. out.new.items ≡ out.old.items ++ breaks_of slots.slot slots.behind first.number first.of.now 0 moves.now) }
+    ensures { IfOk result (λ _. out.new.items ≡ out.old.items ++ breaks_of slots.slot slots.behind first.entry.number first.entry.of.now 0 moves.now) }
 {
     for (number, of) in moves.iter().enumerate() {
         let second = Numbered {

@@ -1,7 +1,7 @@
 //! What is known of a window as literals: of each step what was commanded and seen before it, and what was seen after it.
 #![tactic(auto)]
 
-ghost use Rattle.std.specs.Prelude.{◌≡◌, ◌+◌, ◌<◌, ◌++◌, All, IfOk, length};
+ghost use Rattle.std.specs.Prelude.{◌≡◌, ◌+◌, ◌<◌, ◌^◌, ◌++◌, All, IfOk, length};
 ghost use Rattle.lv_system.specs.Windows.{IsWindowOf};
 ghost use Rattle.lv_compile.specs.Booleans.{booleans_from};
 ghost use Rattle.lv_compile.specs.Windows.{past_copies};
@@ -35,6 +35,7 @@ fn push_step(
     facts: &Facts,
 ) -> Result<(), AllocError>
     requires copies { HasCopiesOf model.now system.now.copies }
+    requires room { steps + 1 < 2 ^ 64 }
     requires there { steps + 1 < length system.now.copies }
     requires fits { StepFits model.now facts.now }
     ensures { IfOk result (λ _. out.new.items ≡ out.old.items ++ step_literals model.now (past_copies model.now 0 steps) facts.now) }

@@ -92,6 +92,34 @@ fn search_of(
     Search::new_with(alloc, grid, zones, k, known)
 }
 
+/// A query that has tried nothing: what is known is asked about, and held beside the trial.
+fn started<'a>(
+    alloc: Global,
+    model: &'a Model,
+    asked: Vec<Facts>,
+    held: Vec<Facts>,
+    search: Search<Free<Zones>>,
+) -> Result<WindowQuery<'a>, AllocError>
+    requires some { 1 ≤ length asked.items }
+    requires few { length asked.items ≤ WINDOW }
+    requires fits { All (StepFits model.now) asked.items }
+    requires same { asked.items ≡ held.items }
+    ensures { IfOk result (λ query. query ≡ record { plant = model.now; steps = held.items; standing = search.standing }) }
+{
+    match WindowTrial::new(alloc, model, asked) {
+        Ok(trial) => Ok(WindowQuery {
+            model,
+            steps: Seq::from_vec(held),
+            trial,
+            search,
+        }),
+        Err(error) => {
+            drop(search);
+            Err(error)
+        }
+    }
+}
+
 /// A query that has tried nothing, for the first `k` trajectories of the tracked states that are possible by what is known of
 /// each of one to four steps, the oldest first: what was seen between two steps stands with the one before as next, with the
 /// one behind as present. What is known may contradict itself.
@@ -113,18 +141,7 @@ pub fn window<'a>(
     let asked = all_copied(alloc, steps)?;
     let held = all_copied(alloc, steps)?;
     let search = search_of(alloc, model, tracked, steps.len() as u32, k)?;
-    match WindowTrial::new(alloc, model, asked) {
-        Ok(trial) => Ok(WindowQuery {
-            model,
-            steps: Seq::from_vec(held),
-            trial,
-            search,
-        }),
-        Err(error) => {
-            drop(search);
-            Err(error)
-        }
-    }
+    started(alloc, model, asked, held, search)
 }
 
 impl<'a> WindowQuery<'a> {

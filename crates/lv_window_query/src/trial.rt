@@ -7,7 +7,7 @@ ghost use Rattle.lv_base.specs.Choices.{pairs_of};
 ghost use Rattle.lv_compile.specs.declared.windows.TheConstants.{WINDOW};
 ghost use Rattle.lv_compile.specs.WindowLaws.{counts_of};
 ghost use Rattle.lv_system.specs.Windows.{IsWindowOf};
-ghost use Rattle.lv_asking.specs.Asking.{IsPartial};
+ghost use Rattle.lv_asking.specs.Asking.{IsPartial, IsReason};
 ghost use Rattle.lv_window.specs.Possible.{is_possible_over, is_possible_trajectory};
 ghost use Rattle.lv_window.specs.Walk.{window_reason};
 ghost use Rattle.lv_window.specs.Joints.{is_full_window};
@@ -17,7 +17,7 @@ ghost use Rattle.lv_window_query.specs.Trial.{TellsWindow};
 use crate::known::window_literals;
 use lv_asking::Asking;
 use lv_asking::literals::each_once;
-use lv_base::{Candidate, Pair, Seq, pairs_of};
+use lv_base::{Candidate, Conflict, Pair, Seq, pairs_of};
 use lv_meaning::Facts;
 use lv_model::Model;
 use lv_sat::Effort;
@@ -37,6 +37,8 @@ pub struct WindowTrial<'a> {
 }
 
 impl<'a> marker::Model for WindowTrial<'a> {
+    ghost use Rattle.std.specs.Prelude.{length, ◌≤◌};
+    ghost use Rattle.lv_compile.specs.declared.windows.TheConstants.{WINDOW};
     ghost use Rattle.lv_window_query.specs.Trial.{WindowTrialValue, TellsWindow};
     ghost use Rattle.std.specs.Coded.{codes};
     ghost use Rattle.lv_model.specs.lv_formula.contracts.Condition as condition;
@@ -47,7 +49,7 @@ impl<'a> marker::Model for WindowTrial<'a> {
 
     ghost view = { λ t. record { plant = t.model.now; steps = t.steps } };
 
-    ghost invariant = { λ t. TellsWindow t.model.now t.steps t.asking };
+    ghost invariant = { λ t. (length t.steps ≤ WINDOW) × TellsWindow t.model.now t.steps t.asking };
 }
 
 /// What is asked about the choices of these steps.
@@ -81,8 +83,9 @@ impl<'a> WindowTrial<'a> {
         requires fits { All (StepFits model.now) steps.items }
         ensures { IfOk result (λ trial. trial ≡ record { plant = model.now; steps = steps.items }) }
     {
-        let system = compile_window(alloc, model, steps.len() as u32)?;
-        let asking = asking_of(alloc, model, &system, steps.as_slice())?;
+        let known = steps.as_slice();
+        let system = compile_window(alloc, model, known.len() as u32)?;
+        let asking = asking_of(alloc, model, &system, known)?;
         Ok(WindowTrial {
             alloc,
             model,
@@ -102,7 +105,17 @@ impl<'a> WindowTrial<'a> {
         ensures pairs { IfOk result (λ out. out.items ≡ pairs_of candidate.now.choices) }
         ensures partial { IfOk result (λ out. IsPartial (counts_of self.now.plant (length self.now.steps)) out.items) }
     {
+        let _plant = self.model.plant();
         pairs_of(self.alloc, candidate.choices.as_slice())
+    }
+
+    /// Nothing where the pairs are possible together, else their reason.
+    fn reason_of(&mut self, pairs: &[Pair]) -> Result<Option<Conflict>, AllocError>
+        requires { IsPartial (counts_of self.old.plant (length self.old.steps)) pairs.now }
+        ensures reason { IfOk result (IsReason (is_possible_over self.old.plant self.old.steps) pairs.now) }
+        ensures same { self.new ≡ self.old }
+    {
+        self.asking.reason(pairs)
     }
 }
 
@@ -125,7 +138,7 @@ impl Trial for WindowTrial<'_> {
 
     fn attempt(&mut self, candidate: &Candidate) -> Result<Tried, AllocError> {
         let pairs = self.choices_of(candidate)?;
-        match self.asking.reason(pairs.as_slice())? {
+        match self.reason_of(pairs.as_slice())? {
             None => Ok(Tried::Fits),
             Some(conflict) => Ok(Tried::Refused(conflict)),
         }

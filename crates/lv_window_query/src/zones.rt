@@ -2,12 +2,13 @@
 //! step goes from its modes and the later ones from any.
 #![tactic(auto)]
 
-ghost use Rattle.std.specs.Prelude.{◌≡◌, ◌+◌, ◌<◌, ◌≤◌, ◌++◌, All, IfOk, length};
+ghost use Rattle.std.specs.Prelude.{◌≡◌, ◌+◌, ◌<◌, ◌≤◌, ◌++◌, All, IfOk, length, map};
 ghost use Rattle.lv_base.specs.declared.limits.TheConstants.{TRACKED};
 ghost use Rattle.lv_boxes.specs.Members.{IsSlot};
 ghost use Rattle.lv_compile.specs.declared.windows.TheConstants.{WINDOW};
 ghost use Rattle.lv_meaning.specs.Candidates.{IsTracked};
-ghost use Rattle.lv_window.specs.Joints.{window_slots, free_masks, window_zones};
+ghost use Rattle.lv_model.specs.declared.plant.Part.{Part};
+ghost use Rattle.lv_window.specs.Joints.{window_slots, any_move, free_masks, window_zones};
 ghost use Rattle.lv_window_query.specs.Longer.{longer, all_longer};
 
 use lv_base::{Cost, Seq};
@@ -44,12 +45,24 @@ pub fn window_grid(alloc: Global, model: &Model, steps: u32) -> Result<Grid, All
     Ok(grid)
 }
 
+/// Masks that leave every move of each part.
+fn any_moves(alloc: Global, model: &Model) -> Result<Vec<u64>, AllocError>
+    ensures { IfOk result (λ masks. masks.items ≡ map (λ (p : Part). any_move) model.now.parts) }
+{
+    let plant = model.plant();
+    plant
+        .parts
+        .as_slice()
+        .iter()
+        .map(|_| u64::MAX)
+        .collect(alloc)
+}
+
 /// Masks that leave every move of each part in each of so many steps.
 fn free_masks(alloc: Global, model: &Model, steps: u32) -> Result<Vec<u64>, AllocError>
     ensures { IfOk result (λ masks. masks.items ≡ free_masks model.now steps) }
 {
-    let plant = model.plant();
-    let own: Vec<u64> = plant.parts.as_slice().iter().map(|_| u64::MAX).collect(alloc)?;
+    let own = any_moves(alloc, model)?;
     let mut masks = Vec::new(alloc);
     let mut left = steps;
     'steps: while left > 0 {

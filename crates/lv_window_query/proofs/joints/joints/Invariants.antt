@@ -1,12 +1,13 @@
 -- what was added and the conflicts between the steps left are those between all
-use Rattle.std.proofs.Common.{◌≡◌, ◌+◌, ◌*◌, ◌≤◌, ◌++◌, length}
-use Rattle.lv_base.specs.declared.limits.TheConstants.{PARTS}
-use Rattle.lv_compile.specs.declared.windows.TheConstants.{WINDOW}
+use Rattle.std.proofs.Common.{◌≡◌, ◌+◌, ◌*◌, ◌≤◌, ◌++◌}
 use Rattle.lv_window.specs.Joints.{joints_from, joints}
 use Rattle.lv_window_query.proofs.joints.joints.Given as goal
 
-abbrev pub invariant-loop-steps : goal.invariant-loop-steps
-invariant-loop-steps l = record {
-  rest : l.out.items ++ joints_from l.plant l.slot l.left ≡ joints l.plant l.later;
-  few : l.slot + PARTS * l.left ≤ PARTS * l.later;
+abbrev pub invariant-steps : goal.invariant-steps
+invariant-steps l = record {
+  rest : l.out.items ++ joints_from l.model l.slot l.left ≡ joints l.model l.later;
+  few : l.slot + 256 * l.left ≤ 256 * l.later;
 }
+
+abbrev pub decreases-steps : goal.decreases-steps
+decreases-steps l = l.left

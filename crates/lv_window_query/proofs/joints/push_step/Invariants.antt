@@ -5,5 +5,5 @@ use Rattle.lv_window_query.proofs.joints.push_step.Given as goal
 
 abbrev pub invariant-loop-part : goal.invariant-loop-part
 invariant-loop-part l =
-    l.out.items ++ part_joints l.plant.types (l.slot + l.part) (l.slot + length l.plant.parts + l.part) (drop l.part l.plant.parts)
-    ≡ l.initial.out.items ++ part_joints l.plant.types l.slot (l.slot + length l.plant.parts) l.plant.parts
+    l.out.items ++ part_joints l.plant.types (l.slot + l.part) (l.slot + length l.parts + l.part) (drop l.part l.parts)
+    ≡ l.initial.out.items ++ part_joints l.plant.types l.slot (l.slot + length l.parts) l.parts

@@ -1,6 +1,5 @@
 -- the zones' members without a joint are the trajectories
-use Rattle.std.proofs.Common.{◌+◌, ◌-◌, ◌≤◌, arith, ap, ◌∙◌, sym}
-use Rattle.std.specs.Prelude.{None, []}
+use Rattle.std.proofs.Common.{◌-◌, arith, ap, ◌∙◌}
 use Rattle.std.proofs.lemmas.Result.{IfOk-weaker}
 use Rattle.lv_window_query.proofs.QueryLemmas.{start, search_is, zones_apart}
 use Rattle.lv_window_query.proofs.query.search_of.Goals as goal
@@ -15,6 +14,6 @@ returns c =
     (λ s told.
     told
     ∙ ap (start c.args.k)
-    (search_is c.args.model.now c.plant-plant.ensures.well_formed c.args.tracked.now c.args.steps (c.args.steps - 1) (omega (arith, some)) c.in_ok-grid.grid c.in_ok-grid.ensures c.in_ok-zones.zones.items c.in_ok-zones.ensures
+    (search_is c.args.model.now (rw c.plant-plant.ensures.plant at c.plant-plant.ensures.well_formed) c.args.tracked.now c.args.steps (c.args.steps - 1) (omega (arith, some)) c.in_ok-grid.grid c.in_ok-grid.ensures c.in_ok-zones.zones.items c.in_ok-zones.ensures
     c.in_ok-known.known.items c.in_ok-known.ensures))
     c.new_with.ensures

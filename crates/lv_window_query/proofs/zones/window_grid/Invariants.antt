@@ -3,8 +3,11 @@ use Rattle.std.proofs.Common.{◌≡◌, ◌+◌, ◌*◌, ◌≤◌, ◌++◌, 
 use Rattle.lv_window.specs.Joints.{window_slots}
 use Rattle.lv_window_query.proofs.zones.window_grid.Given as goal
 
-abbrev pub invariant-loop-steps : goal.invariant-loop-steps
-invariant-loop-steps l = record {
+abbrev pub invariant-steps : goal.invariant-steps
+invariant-steps l = record {
   rest : l.grid ++ window_slots l.model l.left ≡ window_slots l.model l.steps;
   few : length l.grid + 256 * l.left ≤ 1024;
 }
+
+abbrev pub decreases-steps : goal.decreases-steps
+decreases-steps l = l.left
