@@ -36,11 +36,14 @@ abbrev pub later_moves : Plant → ℕ → List ℕ → List ℕ
 later_moves plant zero choices = []
 later_moves plant (suc later) choices = codes " ; " ++ moves_text plant choices ++ later_moves plant later (drop (length plant.parts) choices)
 
+-- `I cost C from S: `
+abbrev pub listed_head : ℕ → Rank → List ℕ
+listed_head n r = decimal n ++ codes " cost " ++ decimal r.cost.0 ++ codes " from " ++ decimal (r.source + 1) ++ codes ": "
+
 -- `I cost C from S: MOVES`, with the moves of each of so many steps
 abbrev pub listed_line : Plant → ℕ → ℕ → Rank → List ℕ
 listed_line plant steps n r =
-    decimal n ++ codes " cost " ++ decimal r.cost.0 ++ codes " from " ++ decimal (r.source + 1) ++ codes ": " ++ moves_text plant r.choices
-    ++ later_moves plant (steps - 1) (drop (length plant.parts) r.choices) ++ codes "\n"
+    listed_head n r ++ moves_text plant r.choices ++ later_moves plant (steps - 1) (drop (length plant.parts) r.choices) ++ codes "\n"
 
 -- a line for each listed candidate or trajectory, the first with this number
 abbrev pub listed_lines : Plant → ℕ → ℕ → List Rank → List ℕ

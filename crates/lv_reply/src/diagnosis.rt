@@ -5,7 +5,7 @@
 ghost use Rattle.std.specs.Prelude.{◌≡◌, ◌+◌, ◌<◌, ◌^◌, ◌++◌, [], ◌∷◌, IfOk, All, length, drop, decimal, codes, map};
 ghost use Rattle.std.specs.Option.{option_copied};
 ghost use Rattle.lv_reply.specs.Moves.{move_text};
-ghost use Rattle.lv_reply.specs.Diagnosis.{shown, shown_move, shown_moves, moves_text, later_moves, listed_line, listed_lines, settled_text, unsettled_text};
+ghost use Rattle.lv_reply.specs.Diagnosis.{shown, shown_move, shown_moves, moves_text, later_moves, listed_head, listed_line, listed_lines, settled_text, unsettled_text};
 
 use crate::moves::text_of_move;
 use crate::pieces::{push_joined, push_number};
@@ -97,6 +97,7 @@ fn behind_step<'c>(plant: &Plant, choices: &'c [u32]) -> &'c [u32]
 }
 
 /// Adds what so many later steps show, each behind a semicolon.
+#[tactic(auto, using(crate::proofs::MoveLemmas::gone_on))]
 fn push_later_moves(
     alloc: Global,
     out: &mut Vec<u8>,
@@ -115,6 +116,19 @@ fn push_later_moves(
     Ok(())
 }
 
+/// Adds what stands before the moves in the line of what is listed.
+fn push_head(out: &mut Vec<u8>, n: u64, rank: &Rank) -> Result<(), AllocError>
+    ensures { IfOk result (λ _. out.new.items ≡ out.old.items ++ listed_head n rank.now) }
+{
+    push_number(out, n)?;
+    out.extend_from_slice(b" cost ")?;
+    push_number(out, rank.cost.0)?;
+    out.extend_from_slice(b" from ")?;
+    push_number(out, rank.source as u64 + 1)?;
+    out.extend_from_slice(b": ")?;
+    Ok(())
+}
+
 /// Adds the line of what is listed over so many steps.
 fn push_line(
     alloc: Global,
@@ -127,12 +141,7 @@ fn push_line(
     ensures { IfOk result (λ _. out.new.items ≡ out.old.items ++ listed_line plant.now steps n rank.now) }
 {
     let choices = rank.choices.as_slice();
-    push_number(out, n)?;
-    out.extend_from_slice(b" cost ")?;
-    push_number(out, rank.cost.0)?;
-    out.extend_from_slice(b" from ")?;
-    push_number(out, rank.source as u64 + 1)?;
-    out.extend_from_slice(b": ")?;
+    push_head(out, n, rank)?;
     push_moves(alloc, out, plant, choices)?;
     let later = behind_step(plant, choices);
     push_later_moves(alloc, out, plant, steps.saturating_sub(1), later)?;

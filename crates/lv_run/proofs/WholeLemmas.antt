@@ -16,7 +16,7 @@ use Rattle.lv_plant.specs.lv_session.lv_reply.declared.reply.Reply.{Reply}
 use Rattle.lv_plant.specs.lv_session.lv_reply.declared.reply.Reply.TheVariants.{Nothing, Accepted, Refused, Settled, Unsettled, Conflicts, Committed, States, Recovered, NoRecovery, Undecided, CommandConflicts, Labels, Contradiction, Certificate, Probed, Tested, NoTest, SettledWindow, UnsettledWindow, WindowConflicts}
 use Rattle.lv_plant.specs.lv_session.lv_reply.Pieces.{joined}
 use Rattle.lv_plant.specs.lv_session.lv_reply.Variables.{equation}
-use Rattle.lv_plant.specs.lv_session.lv_reply.Diagnosis.{moves_text, later_moves, listed_lines, settled_text, unsettled_text}
+use Rattle.lv_plant.specs.lv_session.lv_reply.Diagnosis.{moves_text, later_moves, listed_head, listed_lines, settled_text, unsettled_text}
 use Rattle.lv_plant.specs.lv_session.lv_reply.Conflicts.{pair_text, timed_pair_text, command_text, conflict_lines, conflicts_by, conflicts_text, window_conflicts_text, command_conflicts_text}
 use Rattle.lv_plant.specs.lv_session.lv_reply.Recovery.{shown_settings, recovery_text, test_text, undecided_text}
 use Rattle.lv_plant.specs.lv_session.lv_reply.declared.probes.Probed.{Probed as ProbedNumbers}
@@ -56,7 +56,7 @@ listed_whole : (plant : Plant) (steps n : ℕ) (ranks : List Rank) → is_whole 
 listed_whole plant steps n [] = refl
 listed_whole plant steps n (r ∷ rs) =
     line_before
-    (decimal n ++ codes " cost " ++ decimal r.cost.0 ++ codes " from " ++ decimal (r.source + 1) ++ codes ": " ++ moves_text plant r.choices
+    (listed_head n r ++ moves_text plant r.choices
     ++ later_moves plant (steps - 1) (drop (length plant.parts) r.choices))
     (listed_lines plant steps (n + 1) rs) (listed_whole plant steps (n + 1) rs)
 
