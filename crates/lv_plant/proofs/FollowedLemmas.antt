@@ -16,7 +16,7 @@ use Rattle.lv_reply.specs.declared.reply.Reply.TheVariants.{Settled as SettledRe
 use Rattle.lv_session.specs.lv_session_request.declared.goals.Goal.{Goal}
 use Rattle.lv_session.specs.lv_session_request.Held.{observation_of}
 use Rattle.lv_session.specs.lv_session_state.declared.query.Query.{Query}
-use Rattle.lv_session.specs.lv_session_state.declared.query.Query.TheVariants.{Absent, Diagnosis, Recovery, Test}
+use Rattle.lv_session.specs.lv_session_state.declared.query.Query.TheVariants.{Absent, Diagnosis, Recovery, Test, Window}
 use Rattle.lv_session.specs.lv_session_state.State.{SessionState, aim_of, formula_of, recovery, reply_by, diagnosis_reply}
 use Rattle.lv_session.specs.Session.{RunningSession, stepped}
 use Rattle.lv_session.specs.lv_session_state.Applying.{first_values, values_by, recovery_values, applied}
@@ -233,6 +233,7 @@ unfolding recovery
 found_by s u Absent e h = absurd (cc h)
 found_by s u (Diagnosis sum) e h = absurd (cc h)
 found_by s u (Test x sum) e h = absurd (cc h)
+found_by s u (Window steps sum) e h = absurd (cc h)
 found_by s u (Recovery sum) e h =
     let two = values_settled (recovery s.plant s.state sum).outcome (recovery s.plant s.state sum).listed u h in
     let one = first_found (recovery s.plant s.state sum).listed u two.1 in

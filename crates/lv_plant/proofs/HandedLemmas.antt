@@ -66,7 +66,7 @@ word_by o =
     (cond (named_so (codes "recover") o) (Some said.Recover) (cond (named_so (codes "more") o) (Some said.More) (cond (named_so (codes "commit") o) (Some said.Commit)
     (cond (named_so (codes "conflicts") o) (Some said.Conflicts) (cond (named_so (codes "certificate") o) (Some said.Certificate) (cond (named_so (codes "labels") o) (Some said.Labels)
     (cond (named_so (codes "states") o) (Some said.States) (cond (named_so (codes "reset") o) (Some said.Reset) (cond (named_so (codes "quit") o) (Some said.Quit)
-    (cond (named_so (codes "probe") o) (Some said.Probe) (cond (named_so (codes "test") o) (Some said.Test) None)))))))))))))))))))
+    (cond (named_so (codes "probe") o) (Some said.Probe) (cond (named_so (codes "test") o) (Some said.Test) (cond (named_so (codes "window") o) (Some said.Window) None))))))))))))))))))))
 
 abbrev goes_by : Option (List ℕ) → Bool
 goes_by o =
@@ -141,6 +141,7 @@ handed_by plant lists ts said.Reset h = absurd (cc h)
 handed_by plant lists ts said.Quit h = absurd (cc h)
 handed_by plant lists ts said.Probe h = absurd (cc h)
 handed_by plant lists ts said.Test h = absurd (cc h)
+handed_by plant lists ts said.Window h = absurd (cc h)
 
 handed_tokens : (plant : Plant) (ts : List Lexeme) → goes_to_session ts ≡ true → asks_handed (asked plant (lists_of plant) ts) ≡ true
 handed_tokens plant ts h = by (nat_eq (length ts) 0)

@@ -17,7 +17,7 @@ use Rattle.lv_session.specs.lv_session_request.declared.request.Request.TheVaria
 use Rattle.lv_session.specs.lv_session_request.Held.{observation_of}
 use Rattle.lv_session.specs.lv_session_request.Requests.{request_of, IsRequestOf}
 use Rattle.lv_session.specs.lv_session_state.declared.query.Query.{Query}
-use Rattle.lv_session.specs.lv_session_state.declared.query.Query.TheVariants.{Absent, Diagnosis, Recovery, Test}
+use Rattle.lv_session.specs.lv_session_state.declared.query.Query.TheVariants.{Absent, Diagnosis, Recovery, Test, Window}
 use Rattle.lv_session.specs.lv_session_state.State.{SessionState, rest, unchanged, cleared, is_held, has_no_room, observe, is_goal, has_no_goal_room, lacks_goal_name, set_goal, drop_goal, recovered, recover, conflicts}
 use Rattle.lv_session.specs.Session.{carried_out, answered, stepped}
 use Rattle.lv_session.specs.lv_session_state.Applying.{applied}
@@ -89,6 +89,7 @@ module _ (plant : Plant) (state : SessionState) where
   conflicts_stay (Diagnosis sum) = stays_same state
   conflicts_stay (Recovery sum) = stays_same state
   conflicts_stay (Test x sum) = stays_same state
+  conflicts_stay (Window steps sum) = stays_same state
 
   request_stays : (r : Request) → is_handed r ≡ true → IsRequestOf plant r → Stays state (carried_out plant state r).state
   request_stays request.Nothing handed is = stays_same state
@@ -115,6 +116,7 @@ module _ (plant : Plant) (state : SessionState) where
   request_stays request.Quit handed is = absurd (cc handed)
   request_stays request.Probe handed is = absurd (cc handed)
   request_stays (request.Test x) handed is = absurd (cc handed)
+  request_stays (request.Window steps) handed is = absurd (cc handed)
 
   -- a line that is handed on
   pub line_stays : (line : List ℕ) → forms.asked_by line ≡ forms.for_session → Stays state (stepped plant state line).state

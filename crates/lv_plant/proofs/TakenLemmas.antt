@@ -27,8 +27,8 @@ use Rattle.lv_reply.specs.declared.reply.Reply.TheVariants.{Refused as RefusedRe
 use Rattle.lv_session.specs.lv_session_request.declared.request.Sighting.{Sighting}
 use Rattle.lv_session.specs.lv_session_request.Held.{observation_of}
 use Rattle.lv_session.specs.lv_session_state.declared.query.Query.{Query}
-use Rattle.lv_session.specs.lv_session_state.declared.query.Query.TheVariants.{Absent, Diagnosis, Recovery, Test}
-use Rattle.lv_session.specs.lv_session_state.State.{SessionState, unchanged as session_unchanged, facts_of, walked, reply_by, diagnosis_reply, taken_over, advanced_to, commit_by, commit}
+use Rattle.lv_session.specs.lv_session_state.declared.query.Query.TheVariants.{Absent, Diagnosis, Recovery, Test, Window}
+use Rattle.lv_session.specs.lv_session_state.State.{SessionState, unchanged as session_unchanged, facts_of, walked, reply_by, diagnosis_reply, taken_over, advanced_to, tracing, last_step, commit_by, commit}
 use Rattle.lv_plant_step.specs.declared.asked.PlantStep.{PlantStep}
 use Rattle.lv_plant_step.specs.Laws.{IsPlantStep}
 use Rattle.lv_plant_step.proofs.SolutionLemmas.{mv_number}
@@ -97,6 +97,11 @@ commit_keeps (Diagnosis sum) plant state = by (walked plant state sum).outcome
     by Unsettled = refl
 commit_keeps (Recovery sum) plant state = refl
 commit_keeps (Test x sum) plant state = refl
+commit_keeps (Window steps sum) plant state = by (tracing plant state steps sum).outcome
+  where
+    by : (o : Outcome) → (commit_by o plant state (map (last_step plant) (tracing plant state steps sum).listed)).state.goals ≡ state.goals
+    by Settled = taking_keeps plant state (map (last_step plant) (tracing plant state steps sum).listed)
+    by Unsettled = refl
 
 same_walk : (plant : Plant) (state : SessionState) (q : Query) (sum : ℕ) → walked plant (record state { query = q }) sum ≡ walked plant state sum
 unfolding walked

@@ -1,5 +1,5 @@
--- The text of the conflicts of a diagnosis or of a recovery.
-use Rattle.std.specs.Prelude.{ℕ, ◌+◌, List, [], ◌∷◌, ◌++◌, length, map, slice_get, codes, decimal}
+-- The text of the conflicts of a diagnosis, a window or a recovery.
+use Rattle.std.specs.Prelude.{ℕ, ◌+◌, ◌/◌, ◌%◌, List, [], ◌∷◌, ◌++◌, length, map, slice_get, codes, decimal}
 use Rattle.std.specs.Option.{option_map_or}
 use Rattle.lv_base.specs.declared.search.Pair.{Pair}
 use Rattle.lv_base.specs.declared.ids.VarId.{VarId}
@@ -20,6 +20,16 @@ choice_text types p n =
 -- the part and move of a pair; nothing where there is no such part
 abbrev pub pair_text : Plant → Pair → List ℕ
 pair_text plant pair = option_map_or (λ (p : Part). choice_text plant.types p pair.choice) (slice_get plant.parts pair.slot) []
+
+-- the same of the part at a place; nothing where there is no such part
+abbrev pub choice_at : Plant → ℕ → ℕ → List ℕ
+choice_at plant place n = option_map_or (λ (p : Part). choice_text plant.types p n) (slice_get plant.parts place) []
+
+-- `at S`, S being the time from which the pair's step starts, and its part and move; the first step starts from this time. Slots count the
+-- parts of one step after those of the one before
+abbrev pub timed_pair_text : Plant → ℕ → Pair → List ℕ
+timed_pair_text plant first pair =
+    codes "at " ++ decimal (first + pair.slot / length plant.parts) ++ codes " " ++ choice_at plant (pair.slot % length plant.parts) pair.choice
 
 -- the value of a control, a number of these, as `v.cmd=open`; nothing where there is no such control
 abbrev pub command_text : Plant → List VarId → Pair → List ℕ
@@ -42,6 +52,10 @@ conflicts_by text kept trials =
 -- the conflicts of a diagnosis: of moves
 unfoldable pub conflicts_text : Plant → List (List Pair) → ℕ → List ℕ
 conflicts_text plant kept trials = conflicts_by (pair_text plant) kept trials
+
+-- the conflicts of a window whose first step starts from this time: of moves, with the time of each
+unfoldable pub window_conflicts_text : Plant → ℕ → List (List Pair) → ℕ → List ℕ
+window_conflicts_text plant first kept trials = conflicts_by (timed_pair_text plant first) kept trials
 
 -- the conflicts of a recovery: of values of the controls
 unfoldable pub command_conflicts_text : Plant → List (List Pair) → ℕ → List ℕ

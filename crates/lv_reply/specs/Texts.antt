@@ -4,9 +4,9 @@ use Rattle.lv_model.specs.declared.plant.Plant.{Plant}
 use Rattle.lv_reply.specs.declared.reply.Refusal.{Refusal}
 use Rattle.lv_reply.specs.declared.reply.Refusal.TheVariants.{UnknownWord, Form, UnknownName, NoControl, NoObservable, NoValue, NameHeld, NameNotHeld, OutOfLimits, NoQuery, NotUnsettled, NothingListed, NoGoal, TooManyHeld, LineTooLong, ByteNotAllowed, TooComplex, TooManyCommits}
 use Rattle.lv_reply.specs.declared.reply.Reply.{Reply}
-use Rattle.lv_reply.specs.declared.reply.Reply.TheVariants.{Nothing, Accepted, Refused, Settled, Unsettled, Conflicts, Committed, States, Recovered, NoRecovery, Undecided, CommandConflicts, Labels, Contradiction, Certificate, Probed, Tested, NoTest}
+use Rattle.lv_reply.specs.declared.reply.Reply.TheVariants.{Nothing, Accepted, Refused, Settled, Unsettled, Conflicts, Committed, States, Recovered, NoRecovery, Undecided, CommandConflicts, Labels, Contradiction, Certificate, Probed, Tested, NoTest, SettledWindow, UnsettledWindow, WindowConflicts}
 use Rattle.lv_reply.specs.Diagnosis.{settled_text, unsettled_text}
-use Rattle.lv_reply.specs.Conflicts.{conflicts_text, command_conflicts_text}
+use Rattle.lv_reply.specs.Conflicts.{conflicts_text, window_conflicts_text, command_conflicts_text}
 use Rattle.lv_reply.specs.Recovery.{recovery_text, test_text, undecided_text}
 use Rattle.lv_reply.specs.Labels.{labels_text}
 use Rattle.lv_reply.specs.Probes.{probe_text}
@@ -42,8 +42,8 @@ abbrev pub reply_text : Plant → Reply → List ℕ
 reply_text plant Nothing = []
 reply_text plant Accepted = codes "ok\n"
 reply_text plant (Refused refusal) = refusal_text refusal
-reply_text plant (Settled listed) = settled_text plant listed
-reply_text plant (Unsettled listed trials) = unsettled_text plant listed trials
+reply_text plant (Settled listed) = settled_text plant 1 listed
+reply_text plant (Unsettled listed trials) = unsettled_text plant 1 listed trials
 reply_text plant (Conflicts kept trials) = conflicts_text plant kept trials
 reply_text plant (Committed time tracked) = committed_text time tracked
 reply_text plant (States time tracked) = states_text plant time tracked
@@ -57,3 +57,6 @@ reply_text plant Certificate = []
 reply_text plant (Probed listed observables best) = probe_text plant listed observables best
 reply_text plant (Tested rank) = test_text plant rank
 reply_text plant NoTest = codes "no test\n"
+reply_text plant (SettledWindow steps listed) = settled_text plant steps listed
+reply_text plant (UnsettledWindow steps listed trials) = unsettled_text plant steps listed trials
+reply_text plant (WindowConflicts first kept trials) = window_conflicts_text plant first kept trials

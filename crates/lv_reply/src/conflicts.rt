@@ -1,10 +1,10 @@
-//! The text of conflicts: how many were kept in how many trials, and a line for each with its moves or, of a recovery,
-//! its values of controls.
+//! The text of conflicts: how many were kept in how many trials, and a line for each with its moves, those of a window with
+//! the time from which each starts, or, of a recovery, its values of controls.
 #![tactic(auto)]
 
-ghost use Rattle.std.specs.Prelude.{ℕ, ◌≡◌, ◌+◌, ◌++◌, List, IfOk, map, drop, decimal, codes};
+ghost use Rattle.std.specs.Prelude.{ℕ, ◌≡◌, ◌+◌, ◌/◌, ◌%◌, ◌++◌, List, IfOk, map, drop, decimal, codes};
 ghost use Rattle.lv_base.specs.declared.search.Pair.{Pair};
-ghost use Rattle.lv_reply.specs.Conflicts.{choice_text, pair_text, command_text, conflict_line, conflict_lines, conflicts_by, conflicts_text, command_conflicts_text};
+ghost use Rattle.lv_reply.specs.Conflicts.{choice_text, choice_at, pair_text, timed_pair_text, command_text, conflict_line, conflict_lines, conflicts_by, conflicts_text, window_conflicts_text, command_conflicts_text};
 
 use crate::moves::text_of_item;
 use crate::pieces::{push_joined, push_number};
@@ -70,6 +70,59 @@ impl PairText for Choices<'_> {
             Some(part) => text_of_choice(alloc, self.plant.types.as_slice(), part, pair.choice),
             None => Ok(Vec::new(alloc)),
         }
+    }
+}
+
+/// Which step a slot is of, where each has so many parts.
+fn step_of(parts: usize, slot: u32) -> u32
+    ensures { result ≡ slot / parts }
+{
+    if parts == 0 {
+        return 0;
+    }
+    (slot as usize / parts) as u32
+}
+
+/// The place of a slot among the parts of its step.
+fn place_of(parts: usize, slot: u32) -> usize
+    ensures { result ≡ slot % parts }
+{
+    if parts == 0 {
+        return slot as usize;
+    }
+    slot as usize % parts
+}
+
+/// The part's move of this number; nothing where there is no such part or move.
+fn text_at(alloc: Global, plant: &Plant, place: usize, n: u32) -> Result<Vec<u8>, AllocError>
+    ensures { IfOk result (λ out. out.items ≡ choice_at plant.now place n) }
+{
+    match plant.parts.as_slice().get(place) {
+        Some(part) => text_of_choice(alloc, plant.types.as_slice(), part, n),
+        None => Ok(Vec::new(alloc)),
+    }
+}
+
+/// Pairs of a part in a step of a window, whose first step starts from this time, and one of the part's moves.
+#[derive(Drop)]
+struct TimedChoices<'a> {
+    plant: &'a Plant,
+    first: u32,
+}
+
+impl PairText for TimedChoices<'_> {
+    ghost text = { λ s. timed_pair_text s.plant.now s.first };
+
+    /// Nothing but the time where there is no such part or move.
+    fn text(&self, alloc: Global, pair: Pair) -> Result<Vec<u8>, AllocError> {
+        let parts = self.plant.parts.len();
+        let time = u64::from(self.first) + u64::from(step_of(parts, pair.slot));
+        let text = text_at(alloc, self.plant, place_of(parts, pair.slot), pair.choice)?;
+        let mut out = Vec::from_slice(alloc, b"at ")?;
+        push_number(&mut out, time)?;
+        out.extend_from_slice(b" ")?;
+        out.extend_from_slice(text.as_slice())?;
+        Ok(out)
     }
 }
 
@@ -165,6 +218,20 @@ pub fn conflicts_text(
     ensures { IfOk result (λ out. out.items ≡ conflicts_text plant.now kept.now trials) }
 {
     conflicts_by(alloc, &Choices { plant }, kept, trials)
+}
+
+/// The text of these conflicts of a window whose first step starts from this time, which were kept in so many trials.
+#[tactic(auto, unfolding(crate::specs::Conflicts::window_conflicts_text))]
+pub fn window_conflicts_text(
+    alloc: Global,
+    plant: &Plant,
+    first: u32,
+    kept: &[Seq<Pair>],
+    trials: u64,
+) -> Result<Vec<u8>, AllocError>
+    ensures { IfOk result (λ out. out.items ≡ window_conflicts_text plant.now first kept.now trials) }
+{
+    conflicts_by(alloc, &TimedChoices { plant, first }, kept, trials)
 }
 
 /// The text of these conflicts of a recovery, which were kept in so many trials.

@@ -1,11 +1,11 @@
-//! The text of a diagnosis: how many candidates are listed, and a line for each with its cost, the tracked state that it
-//! starts from, and its steps and faults.
+//! The text of a diagnosis or a window: how many candidates or trajectories are listed, and a line for each with its cost,
+//! the tracked state that it starts from, and the steps and faults of each step of the plant.
 #![tactic(auto)]
 
 ghost use Rattle.std.specs.Prelude.{◌≡◌, ◌+◌, ◌<◌, ◌^◌, ◌++◌, [], ◌∷◌, IfOk, All, length, drop, decimal, codes, map};
 ghost use Rattle.std.specs.Option.{option_copied};
 ghost use Rattle.lv_reply.specs.Moves.{move_text};
-ghost use Rattle.lv_reply.specs.Diagnosis.{shown, shown_move, shown_moves, moves_text, listed_line, listed_lines, settled_text, unsettled_text};
+ghost use Rattle.lv_reply.specs.Diagnosis.{shown, shown_move, shown_moves, moves_text, later_moves, listed_head, listed_line, listed_lines, settled_text, unsettled_text};
 
 use crate::moves::text_of_move;
 use crate::pieces::{push_joined, push_number};
@@ -75,75 +75,129 @@ fn shown_moves(
     Ok(out)
 }
 
-/// Adds the line of a listed candidate.
-fn push_line(
+/// Adds what a step of the plant shows, of whose choices these are the first.
+fn push_moves(
     alloc: Global,
     out: &mut Vec<u8>,
     plant: &Plant,
-    n: u64,
-    rank: &Rank,
+    choices: &[u32],
 ) -> Result<(), AllocError>
-    ensures { IfOk result (λ _. out.new.items ≡ out.old.items ++ listed_line plant.now n rank.now) }
+    ensures { IfOk result (λ _. out.new.items ≡ out.old.items ++ moves_text plant.now choices.now) }
 {
-    let moves = shown_moves(
-        alloc,
-        plant.types.as_slice(),
-        plant.parts.as_slice(),
-        rank.choices.as_slice(),
-    )?;
+    let moves = shown_moves(alloc, plant.types.as_slice(), plant.parts.as_slice(), choices)?;
+    push_joined(out, moves.as_slice())
+}
+
+/// The choices behind those of one step.
+fn behind_step<'c>(plant: &Plant, choices: &'c [u32]) -> &'c [u32]
+    ensures { result.now ≡ drop (length plant.now.parts) choices.now }
+{
+    let parts = plant.parts.len().min(choices.len());
+    &choices[parts..]
+}
+
+/// Adds what so many later steps show, each behind a semicolon.
+#[tactic(auto, using(crate::proofs::MoveLemmas::gone_on))]
+fn push_later_moves(
+    alloc: Global,
+    out: &mut Vec<u8>,
+    plant: &Plant,
+    later: u32,
+    choices: &[u32],
+) -> Result<(), AllocError>
+    ensures { IfOk result (λ _. out.new.items ≡ out.old.items ++ later_moves plant.now later choices.now) }
+{
+    let mut rest = choices;
+    for _step in 0..later {
+        out.extend_from_slice(b" ; ")?;
+        push_moves(alloc, out, plant, rest)?;
+        rest = behind_step(plant, rest);
+    }
+    Ok(())
+}
+
+/// Adds what stands before the moves in the line of what is listed.
+fn push_head(out: &mut Vec<u8>, n: u64, rank: &Rank) -> Result<(), AllocError>
+    ensures { IfOk result (λ _. out.new.items ≡ out.old.items ++ listed_head n rank.now) }
+{
     push_number(out, n)?;
     out.extend_from_slice(b" cost ")?;
     push_number(out, rank.cost.0)?;
     out.extend_from_slice(b" from ")?;
     push_number(out, rank.source as u64 + 1)?;
     out.extend_from_slice(b": ")?;
-    push_joined(out, moves.as_slice())?;
+    Ok(())
+}
+
+/// Adds the line of what is listed over so many steps.
+fn push_line(
+    alloc: Global,
+    out: &mut Vec<u8>,
+    plant: &Plant,
+    steps: u32,
+    n: u64,
+    rank: &Rank,
+) -> Result<(), AllocError>
+    ensures { IfOk result (λ _. out.new.items ≡ out.old.items ++ listed_line plant.now steps n rank.now) }
+{
+    let choices = rank.choices.as_slice();
+    push_head(out, n, rank)?;
+    push_moves(alloc, out, plant, choices)?;
+    let later = behind_step(plant, choices);
+    push_later_moves(alloc, out, plant, steps.saturating_sub(1), later)?;
     out.extend_from_slice(b"\n")?;
     Ok(())
 }
 
-/// Adds the lines of the listed candidates.
+/// Adds the lines of what is listed over so many steps.
 fn push_lines(
     alloc: Global,
     out: &mut Vec<u8>,
     plant: &Plant,
+    steps: u32,
     ranks: &[Rank],
 ) -> Result<(), AllocError>
-    ensures { IfOk result (λ _. out.new.items ≡ out.old.items ++ listed_lines plant.now 1 ranks.now) }
+    ensures { IfOk result (λ _. out.new.items ≡ out.old.items ++ listed_lines plant.now steps 1 ranks.now) }
 {
     for (i, rank) in ranks.iter().enumerate() {
-        push_line(alloc, out, plant, i as u64 + 1, rank)?;
+        push_line(alloc, out, plant, steps, i as u64 + 1, rank)?;
     }
     Ok(())
 }
 
-/// The text of a settled diagnosis that lists these candidates.
+/// The text of what is settled and lists these over so many steps; of a diagnosis it is one.
 #[tactic(auto, unfolding(crate::specs::Diagnosis::settled_text))]
-pub fn settled_text(alloc: Global, plant: &Plant, ranks: &[Rank]) -> Result<Vec<u8>, AllocError>
-    ensures { IfOk result (λ out. out.items ≡ settled_text plant.now ranks.now) }
+pub fn settled_text(
+    alloc: Global,
+    plant: &Plant,
+    steps: u32,
+    ranks: &[Rank],
+) -> Result<Vec<u8>, AllocError>
+    ensures { IfOk result (λ out. out.items ≡ settled_text plant.now steps ranks.now) }
 {
     let mut out = Vec::from_slice(alloc, b"settled ")?;
     push_number(&mut out, ranks.len() as u64)?;
     out.extend_from_slice(b"\n")?;
-    push_lines(alloc, &mut out, plant, ranks)?;
+    push_lines(alloc, &mut out, plant, steps, ranks)?;
     Ok(out)
 }
 
-/// The text of a diagnosis that listed these candidates in so many trials and isn't settled.
+/// The text of what listed these over so many steps in so many trials and isn't settled.
 #[tactic(auto, unfolding(crate::specs::Diagnosis::unsettled_text))]
 pub fn unsettled_text(
     alloc: Global,
     plant: &Plant,
+    steps: u32,
     ranks: &[Rank],
     trials: u64,
 ) -> Result<Vec<u8>, AllocError>
-    ensures { IfOk result (λ out. out.items ≡ unsettled_text plant.now ranks.now trials) }
+    ensures { IfOk result (λ out. out.items ≡ unsettled_text plant.now steps ranks.now trials) }
 {
     let mut out = Vec::from_slice(alloc, b"unsettled ")?;
     push_number(&mut out, ranks.len() as u64)?;
     out.extend_from_slice(b" trials ")?;
     push_number(&mut out, trials)?;
     out.extend_from_slice(b"\n")?;
-    push_lines(alloc, &mut out, plant, ranks)?;
+    push_lines(alloc, &mut out, plant, steps, ranks)?;
     Ok(out)
 }

@@ -7,8 +7,8 @@
 //!
 //! | file | the text of |
 //! |---|---|
-//! | `diagnosis` | the candidates that a diagnosis lists, settled or not |
-//! | `conflicts` | the conflicts that it kept, or a recovery |
+//! | `diagnosis` | the candidates that a diagnosis lists, settled or not, and the trajectories of a window |
+//! | `conflicts` | the conflicts that it kept, or a window, or a recovery |
 //! | `recovery` | a recovery or a test, settled or not |
 //! | `probes` | what observations would leave of a diagnosis |
 //! | `labels` | what propagation finds |

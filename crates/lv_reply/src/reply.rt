@@ -35,7 +35,7 @@ pub enum Refusal {
     NoQuery,
     /// No unsettled query is current.
     NotUnsettled,
-    /// The settled diagnosis lists nothing.
+    /// The settled diagnosis, or window, lists nothing.
     NothingListed,
     /// No goal is held.
     NoGoal,
@@ -119,4 +119,12 @@ pub enum Reply {
     Tested(Rank),
     /// No set of commands does.
     NoTest,
+    /// A window over so many steps that is settled: the trajectories that it lists, in the order of their ranks. Each has a
+    /// choice for each part of each step.
+    SettledWindow(u32, Seq<Rank>),
+    /// A window over so many steps whose budget was used up before: the trajectories listed so far, and the number of trials.
+    UnsettledWindow(u32, Seq<Rank>, u64),
+    /// The time from which the first step of a window starts, the conflicts that it kept, in the order of their trials, and
+    /// the number of all trials. Slots count the parts of one step after those of the one before.
+    WindowConflicts(u32, Seq<Seq<Pair>>, u64),
 }

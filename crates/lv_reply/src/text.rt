@@ -4,7 +4,7 @@
 ghost use Rattle.std.specs.Prelude.{◌≡◌, IfOk};
 ghost use Rattle.lv_reply.specs.Texts.{refusal_text, reply_text};
 
-use crate::conflicts::{command_conflicts_text, conflicts_text};
+use crate::conflicts::{command_conflicts_text, conflicts_text, window_conflicts_text};
 use crate::diagnosis::{settled_text, unsettled_text};
 use crate::labels::labels_text;
 use crate::probes::probe_text;
@@ -33,9 +33,9 @@ pub fn reply_text(alloc: Global, model: &Model, reply: &Reply) -> Result<Vec<u8>
         Reply::Nothing => Ok(Vec::new(alloc)),
         Reply::Accepted => Vec::from_slice(alloc, b"ok\n"),
         Reply::Refused(refusal) => refusal_text(alloc, *refusal),
-        Reply::Settled(listed) => settled_text(alloc, plant, listed.as_slice()),
+        Reply::Settled(listed) => settled_text(alloc, plant, 1, listed.as_slice()),
         Reply::Unsettled(listed, trials) => {
-            unsettled_text(alloc, plant, listed.as_slice(), *trials)
+            unsettled_text(alloc, plant, 1, listed.as_slice(), *trials)
         }
         Reply::Conflicts(kept, trials) => conflicts_text(alloc, plant, kept.as_slice(), *trials),
         Reply::Committed(time, tracked) => committed_text(alloc, *time, *tracked),
@@ -54,5 +54,14 @@ pub fn reply_text(alloc: Global, model: &Model, reply: &Reply) -> Result<Vec<u8>
         }
         Reply::Tested(rank) => test_text(alloc, model, rank),
         Reply::NoTest => Vec::from_slice(alloc, b"no test\n"),
+        Reply::SettledWindow(steps, listed) => {
+            settled_text(alloc, plant, *steps, listed.as_slice())
+        }
+        Reply::UnsettledWindow(steps, listed, trials) => {
+            unsettled_text(alloc, plant, *steps, listed.as_slice(), *trials)
+        }
+        Reply::WindowConflicts(first, kept, trials) => {
+            window_conflicts_text(alloc, plant, *first, kept.as_slice(), *trials)
+        }
     }
 }

@@ -13,7 +13,7 @@ use Rattle.lv_certcheck.specs.lv_cert_meaning.Laws.{IsValid}
 use Rattle.lv_certcheck.specs.Verdicts.{verdict_of, IsVerdictOn, of_lines}
 use Rattle.lv_certcheck.specs.declared.check.Verdict.TheVariants.{Valid}
 use Rattle.lv_plant.specs.lv_session.lv_session_state.declared.query.Query.{Query}
-use Rattle.lv_plant.specs.lv_session.lv_session_state.declared.query.Query.TheVariants.{Absent, Diagnosis, Recovery, Test}
+use Rattle.lv_plant.specs.lv_session.lv_session_state.declared.query.Query.TheVariants.{Absent, Diagnosis, Recovery, Test, Window}
 use Rattle.lv_plant.specs.lv_session.lv_session_state.State.{SessionState}
 use Rattle.lv_plant.specs.lv_session.Certificates.{Certifies, IsTextOf}
 use Rattle.lv_plant.specs.lv_session.Transcript.{IsTranscriptFrom, ends, goes_on, AddsTranscript}
@@ -29,6 +29,7 @@ certificate_valid : (plant : Plant) (state : SessionState) (q : Query) (text : L
 certificate_valid plant state Absent text name is = absurd is
 certificate_valid plant state (Diagnosis sum) text name is = valid_text plant is.lines is.certifies.judged text is.certifies.valid (is.formed name) is.is
 certificate_valid plant state (Test x sum) text name is = absurd is
+certificate_valid plant state (Window steps sum) text name is = absurd is
 certificate_valid plant state (Recovery sum) text name is = valid_text plant is.lines is.certifies.judged text is.certifies.valid (is.formed name) is.is
 
 pub printed_valid : PrintedCertificateIsValid

@@ -1,5 +1,5 @@
 -- Each text that a session may reply is empty or ends with a line feed.
-use Rattle.std.proofs.Common.{◌≡◌, ℕ, ◌+◌, Bool, true, nat_eq, List, [], ◌∷◌, ◌++◌, length, map, refl, ◌∙◌, ap}
+use Rattle.std.proofs.Common.{◌≡◌, ℕ, ◌+◌, ◌-◌, Bool, true, nat_eq, List, [], ◌∷◌, ◌++◌, length, drop, map, refl, ◌∙◌, ap}
 use Rattle.std.specs.Prelude.{codes, decimal, flat_map, Option}
 use Rattle.lv_base.specs.declared.ids.VarId.{VarId}
 use Rattle.lv_base.specs.declared.rank.Rank.{Rank}
@@ -13,11 +13,11 @@ use Rattle.lv_certcheck.specs.lv_cert.declared.line.Line.{Line}
 use Rattle.lv_certcheck.specs.lv_cert.Texts.{words_of, joined as joined_words, text_of}
 use Rattle.lv_plant.specs.lv_session.lv_reply.declared.labels.Label.{Label}
 use Rattle.lv_plant.specs.lv_session.lv_reply.declared.reply.Reply.{Reply}
-use Rattle.lv_plant.specs.lv_session.lv_reply.declared.reply.Reply.TheVariants.{Nothing, Accepted, Refused, Settled, Unsettled, Conflicts, Committed, States, Recovered, NoRecovery, Undecided, CommandConflicts, Labels, Contradiction, Certificate, Probed, Tested, NoTest}
+use Rattle.lv_plant.specs.lv_session.lv_reply.declared.reply.Reply.TheVariants.{Nothing, Accepted, Refused, Settled, Unsettled, Conflicts, Committed, States, Recovered, NoRecovery, Undecided, CommandConflicts, Labels, Contradiction, Certificate, Probed, Tested, NoTest, SettledWindow, UnsettledWindow, WindowConflicts}
 use Rattle.lv_plant.specs.lv_session.lv_reply.Pieces.{joined}
 use Rattle.lv_plant.specs.lv_session.lv_reply.Variables.{equation}
-use Rattle.lv_plant.specs.lv_session.lv_reply.Diagnosis.{moves_text, listed_lines, settled_text, unsettled_text}
-use Rattle.lv_plant.specs.lv_session.lv_reply.Conflicts.{pair_text, command_text, conflict_lines, conflicts_by, conflicts_text, command_conflicts_text}
+use Rattle.lv_plant.specs.lv_session.lv_reply.Diagnosis.{moves_text, later_moves, listed_head, listed_lines, settled_text, unsettled_text}
+use Rattle.lv_plant.specs.lv_session.lv_reply.Conflicts.{pair_text, timed_pair_text, command_text, conflict_lines, conflicts_by, conflicts_text, window_conflicts_text, command_conflicts_text}
 use Rattle.lv_plant.specs.lv_session.lv_reply.Recovery.{shown_settings, recovery_text, test_text, undecided_text}
 use Rattle.lv_plant.specs.lv_session.lv_reply.declared.probes.Probed.{Probed as ProbedNumbers}
 use Rattle.lv_plant.specs.lv_session.lv_reply.Probes.{probed_line, best_text, probe_text}
@@ -25,7 +25,7 @@ use Rattle.lv_plant.specs.lv_session.lv_reply.Labels.{moment_word, label_line, l
 use Rattle.lv_plant.specs.lv_session.lv_reply.States.{part_texts, state_lines, committed_text, states_text}
 use Rattle.lv_plant.specs.lv_session.lv_reply.Texts.{code_of, reply_text}
 use Rattle.lv_plant.specs.lv_session.lv_session_state.declared.query.Query.{Query}
-use Rattle.lv_plant.specs.lv_session.lv_session_state.declared.query.Query.TheVariants.{Absent, Diagnosis, Recovery, Test}
+use Rattle.lv_plant.specs.lv_session.lv_session_state.declared.query.Query.TheVariants.{Absent, Diagnosis, Recovery, Test, Window}
 use Rattle.lv_plant.specs.lv_session.lv_session_state.State.{SessionState}
 use Rattle.lv_plant.specs.lv_session.Session.{stepped}
 use Rattle.lv_plant.specs.lv_session.Certificates.{Certifies, IsTextOf}
@@ -52,17 +52,22 @@ certificate_whole (l ∷ ls) = line_before (joined_words (words_of l)) (text_of 
 
 -- ---- the other replies
 
-listed_whole : (plant : Plant) (n : ℕ) (ranks : List Rank) → is_whole (listed_lines plant n ranks) ≡ true
-listed_whole plant n [] = refl
-listed_whole plant n (r ∷ rs) = line_before (decimal n ++ codes " cost " ++ decimal r.cost.0 ++ codes " from " ++ decimal (r.source + 1) ++ codes ": " ++ moves_text plant r.choices) (listed_lines plant (n + 1) rs) (listed_whole plant (n + 1) rs)
+listed_whole : (plant : Plant) (steps n : ℕ) (ranks : List Rank) → is_whole (listed_lines plant steps n ranks) ≡ true
+listed_whole plant steps n [] = refl
+listed_whole plant steps n (r ∷ rs) =
+    line_before
+    (listed_head n r ++ moves_text plant r.choices
+    ++ later_moves plant (steps - 1) (drop (length plant.parts) r.choices))
+    (listed_lines plant steps (n + 1) rs) (listed_whole plant steps (n + 1) rs)
 
-settled_whole : (plant : Plant) (ranks : List Rank) → is_whole (settled_text plant ranks) ≡ true
+settled_whole : (plant : Plant) (steps : ℕ) (ranks : List Rank) → is_whole (settled_text plant steps ranks) ≡ true
 unfolding settled_text
-settled_whole plant ranks = line_before (codes "settled " ++ decimal (length ranks)) (listed_lines plant 1 ranks) (listed_whole plant 1 ranks)
+settled_whole plant steps ranks = line_before (codes "settled " ++ decimal (length ranks)) (listed_lines plant steps 1 ranks) (listed_whole plant steps 1 ranks)
 
-unsettled_whole : (plant : Plant) (ranks : List Rank) (trials : ℕ) → is_whole (unsettled_text plant ranks trials) ≡ true
+unsettled_whole : (plant : Plant) (steps : ℕ) (ranks : List Rank) (trials : ℕ) → is_whole (unsettled_text plant steps ranks trials) ≡ true
 unfolding unsettled_text
-unsettled_whole plant ranks trials = line_before (codes "unsettled " ++ decimal (length ranks) ++ codes " trials " ++ decimal trials) (listed_lines plant 1 ranks) (listed_whole plant 1 ranks)
+unsettled_whole plant steps ranks trials =
+    line_before (codes "unsettled " ++ decimal (length ranks) ++ codes " trials " ++ decimal trials) (listed_lines plant steps 1 ranks) (listed_whole plant steps 1 ranks)
 
 conflict_lines_whole : (text : Pair → List ℕ) (n : ℕ) (kept : List (List Pair)) → is_whole (conflict_lines text n kept) ≡ true
 conflict_lines_whole text n [] = refl
@@ -74,6 +79,10 @@ conflicts_whole text kept trials = line_before (codes "conflicts " ++ decimal (l
 conflicts_of_moves : (plant : Plant) (kept : List (List Pair)) (trials : ℕ) → is_whole (conflicts_text plant kept trials) ≡ true
 unfolding conflicts_text
 conflicts_of_moves plant kept trials = conflicts_whole (pair_text plant) kept trials
+
+conflicts_of_windows : (plant : Plant) (first : ℕ) (kept : List (List Pair)) (trials : ℕ) → is_whole (window_conflicts_text plant first kept trials) ≡ true
+unfolding window_conflicts_text
+conflicts_of_windows plant first kept trials = conflicts_whole (timed_pair_text plant first) kept trials
 
 conflicts_of_commands : (plant : Plant) (kept : List (List Pair)) (trials : ℕ) → is_whole (command_conflicts_text plant kept trials) ≡ true
 unfolding command_conflicts_text
@@ -121,8 +130,8 @@ pub reply_whole : (plant : Plant) (reply : Reply) → is_whole (reply_text plant
 reply_whole plant Nothing = refl
 reply_whole plant Accepted = refl
 reply_whole plant (Refused refusal) = line_whole (codes "error " ++ code_of refusal)
-reply_whole plant (Settled listed) = settled_whole plant listed
-reply_whole plant (Unsettled listed trials) = unsettled_whole plant listed trials
+reply_whole plant (Settled listed) = settled_whole plant 1 listed
+reply_whole plant (Unsettled listed trials) = unsettled_whole plant 1 listed trials
 reply_whole plant (Conflicts kept trials) = conflicts_of_moves plant kept trials
 reply_whole plant (Committed time tracked) = committed_whole time tracked
 reply_whole plant (States time tracked) = states_whole plant time tracked
@@ -136,6 +145,9 @@ reply_whole plant Certificate = refl
 reply_whole plant (Probed listed observables best) = probe_whole plant listed observables best
 reply_whole plant (Tested rank) = test_whole plant rank
 reply_whole plant NoTest = refl
+reply_whole plant (SettledWindow steps listed) = settled_whole plant steps listed
+reply_whole plant (UnsettledWindow steps listed trials) = unsettled_whole plant steps listed trials
+reply_whole plant (WindowConflicts first kept trials) = conflicts_of_windows plant first kept trials
 
 -- ---- whatever a session may reply
 
@@ -146,6 +158,7 @@ certified_whole : (query : Query) (plant : Plant) (state : SessionState) (text :
 certified_whole Absent plant state text is = absurd is
 certified_whole (Diagnosis sum) plant state text is = ap is_whole is.is ∙ certificate_whole is.lines
 certified_whole (Test x sum) plant state text is = absurd is
+certified_whole (Window steps sum) plant state text is = absurd is
 certified_whole (Recovery sum) plant state text is = ap is_whole is.is ∙ certificate_whole is.lines
 
 text_whole : (plant : Plant) (state : SessionState) (reply : Reply) (text : List ℕ) → IsTextOf plant state reply text → is_whole text ≡ true
@@ -167,6 +180,9 @@ text_whole plant state Certificate text is = certified_whole state.query plant s
 text_whole plant state (Probed listed observables best) text is = other_whole plant (Probed listed observables best) text is
 text_whole plant state (Tested rank) text is = other_whole plant (Tested rank) text is
 text_whole plant state NoTest text is = other_whole plant NoTest text is
+text_whole plant state (SettledWindow steps listed) text is = other_whole plant (SettledWindow steps listed) text is
+text_whole plant state (UnsettledWindow steps listed trials) text is = other_whole plant (UnsettledWindow steps listed trials) text is
+text_whole plant state (WindowConflicts first kept trials) text is = other_whole plant (WindowConflicts first kept trials) text is
 
 pub replies_are_whole : RepliesAreWhole
 replies_are_whole s line text says = text_whole s.plant (stepped s.plant s.state line).state (stepped s.plant s.state line).reply text says

@@ -12,7 +12,8 @@ use Rattle.lv_reply.specs.declared.reply.Reply.TheVariants.{Nothing as Silence}
 use Rattle.lv_session.specs.lv_session_request.declared.words.Word.{Word}
 use Rattle.lv_session.specs.lv_session_request.declared.words.Word.TheVariants as word
 use Rattle.lv_session.specs.lv_session_request.declared.request.Request.{Request}
-use Rattle.lv_session.specs.lv_session_request.declared.request.Request.TheVariants.{Nothing, Track, TrackDistinct, SetBudget, SetControl, Release, Observe, Retract, RetractAt, SetGoal, DropGoal, Diagnose, Recover, More, Commit, Conflicts, Labels, LabelsFrom, States, Reset, Quit, Probe, Test}
+use Rattle.lv_session.specs.lv_session_request.declared.request.Request.TheVariants.{Nothing, Track, TrackDistinct, SetBudget, SetControl, Release, Observe, Retract, RetractAt, SetGoal, DropGoal, Diagnose, Recover, More, Commit, Conflicts, Labels, LabelsFrom, States, Reset, Quit, Probe, Test, Window}
+use Rattle.lv_session.specs.lv_session_request.declared.request.TheConstants.{WINDOW}
 use Rattle.lv_session.specs.lv_session_request.Chain.{and_then}
 use Rattle.lv_session.specs.lv_session_request.Forms.{first_word, has_distinct_form, has_at_form, limited, number_to}
 use Rattle.lv_session.specs.lv_session_request.Goals.{goal_of}
@@ -75,6 +76,7 @@ by_word plant lists word.Reset line h = alone_never Reset line refl
 by_word plant lists word.Quit line h = alone_never Quit line refl
 by_word plant lists word.Probe line h = alone_never Probe line refl
 by_word plant lists word.Test line h = never (tested_of plant lists line) (λ x. Test x) (λ _. refl)
+by_word plant lists word.Window line h = never (number_to WINDOW line) (λ n. Window n) (λ _. refl)
 
 -- the first word, in front of those that come later
 abbrev is_certificate_found : Option Word → Bool
@@ -100,7 +102,8 @@ first_other line h =
     (other_word (says (codes "conflicts") line 0) word.Conflicts _ refl (its_word (says (codes "certificate") line 0) _ h
     (other_word (says (codes "labels") line 0) word.Labels _ refl (other_word (says (codes "states") line 0) word.States _ refl
     (other_word (says (codes "reset") line 0) word.Reset _ refl (other_word (says (codes "quit") line 0) word.Quit _ refl
-    (other_word (says (codes "probe") line 0) word.Probe _ refl (other_word (says (codes "test") line 0) word.Test _ refl refl)))))))))))))))))))
+    (other_word (says (codes "probe") line 0) word.Probe _ refl (other_word (says (codes "test") line 0) word.Test _ refl
+    (other_word (says (codes "window") line 0) word.Window _ refl refl))))))))))))))))))))
 
 asked_other : (plant : Plant) (lists : Lists) (line : List Lexeme) → says (codes "certificate") line 0 ≡ false → asks (asked plant lists line) ≡ false
 asked_other plant lists line h = by (nat_eq (length line) 0) (first_word line) (first_other line h)

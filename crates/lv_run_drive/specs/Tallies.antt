@@ -1,7 +1,7 @@
 -- What replies come to, counted one by one.
 use Rattle.std.specs.Prelude.{ℕ, ◌+◌, ◌-◌, ◌*◌, ◌^◌, ◌≤◌, length}
 use Rattle.lv_reply.specs.declared.reply.Reply.{Reply}
-use Rattle.lv_reply.specs.declared.reply.Reply.TheVariants.{Nothing, Refused, Settled, Unsettled, Undecided, Conflicts, CommandConflicts, Committed, States}
+use Rattle.lv_reply.specs.declared.reply.Reply.TheVariants.{Nothing, Refused, Settled, Unsettled, Undecided, Conflicts, CommandConflicts, Committed, States, SettledWindow, UnsettledWindow, WindowConflicts}
 use Rattle.lv_run_drive.specs.declared.tally.Tally.{Tally}
 
 -- before any reply
@@ -18,6 +18,9 @@ counted t Nothing = t
 counted t (Refused refusal) = record (replied t 0) { errors = t.errors + 1 }
 counted t (Settled listed) = record (replied t 0) { settled = t.settled + 1 }
 counted t (Unsettled listed trials) = record (replied t 0) { unsettled = t.unsettled + 1 }
+counted t (SettledWindow steps listed) = record (replied t 0) { settled = t.settled + 1 }
+counted t (UnsettledWindow steps listed trials) = record (replied t 0) { unsettled = t.unsettled + 1 }
+counted t (WindowConflicts first kept trials) = record (replied t 0) { trials = t.trials + trials }
 counted t (Undecided trials) = record (replied t 0) { unsettled = t.unsettled + 1 }
 counted t (Conflicts kept trials) = record (replied t 0) { trials = t.trials + trials }
 counted t (CommandConflicts kept trials) = record (replied t 0) { trials = t.trials + trials }

@@ -19,11 +19,11 @@ pub struct Tally {
     pub replies: u64,
     /// Lines that were refused.
     pub errors: u64,
-    /// Diagnoses that settled.
+    /// Diagnoses and windows that settled.
     pub settled: u64,
-    /// Diagnoses, recoveries and tests whose budget was used up before.
+    /// Diagnoses, recoveries, tests and windows whose budget was used up before.
     pub unsettled: u64,
-    /// The trials told where conflicts were shown, of diagnoses, recoveries and tests, all together.
+    /// The trials told where conflicts were shown, of all kinds of queries together.
     pub trials: u128,
     /// The tracked states told by the last reply; none where it tells no such number.
     pub tracked: u64,
@@ -70,15 +70,17 @@ impl Tally {
                 errors: self.errors + 1,
                 ..self.replied(0)
             },
-            Reply::Settled(_) => Tally {
+            Reply::Settled(_) | Reply::SettledWindow(_, _) => Tally {
                 settled: self.settled + 1,
                 ..self.replied(0)
             },
-            Reply::Unsettled(_, _) | Reply::Undecided(_) => Tally {
+            Reply::Unsettled(_, _) | Reply::Undecided(_) | Reply::UnsettledWindow(_, _, _) => Tally {
                 unsettled: self.unsettled + 1,
                 ..self.replied(0)
             },
-            Reply::Conflicts(_, trials) | Reply::CommandConflicts(_, trials) => Tally {
+            Reply::Conflicts(_, trials)
+            | Reply::CommandConflicts(_, trials)
+            | Reply::WindowConflicts(_, _, trials) => Tally {
                 trials: self.trials + *trials as u128,
                 ..self.replied(0)
             },

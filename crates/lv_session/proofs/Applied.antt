@@ -17,7 +17,7 @@ use Rattle.lv_session_state.specs.lv_meaning.Recovery.{candidate_recovers, candi
 use Rattle.lv_session_state.specs.lv_meaning.RecoveryLaws.{IsCommandSet}
 use Rattle.lv_session_state.proofs.lv_meaning.CommandSets.{listed_is_set}
 use Rattle.lv_session_state.specs.declared.query.Query.{Query}
-use Rattle.lv_session_state.specs.declared.query.Query.TheVariants.{Absent, Diagnosis, Recovery, Test}
+use Rattle.lv_session_state.specs.declared.query.Query.TheVariants.{Absent, Diagnosis, Recovery, Test, Window}
 use Rattle.lv_session.specs.declared.workings.Workings.{Workings}
 use Rattle.lv_session_state.specs.State.{SessionState, aim_of, recovery}
 use Rattle.lv_session.specs.Session.{RunningSession}
@@ -69,6 +69,7 @@ module _ (plant : Plant) (state : SessionState) where
   recovers_all (Diagnosis sum) u e = absurd (cc e)
   recovers_all (Recovery sum) u e = found_set (recovery plant state sum).outcome (recovery plant state sum).listed u (sets_listed sum) e
   recovers_all (Test x sum) u e = absurd (cc e)
+  recovers_all (Window steps sum) u e = absurd (cc e)
 
   applied_kept : (u : List ℕ) → IsStateOf plant state → is_command_set plant u ≡ true → IsStateOf plant (applied state u)
   applied_kept u is set =

@@ -1,5 +1,5 @@
 -- What is kept of the current query stays that of the state, whatever is asked for.
-use Rattle.std.proofs.Common.{◌≡◌, ℕ, ◌+◌, Bool, true, false, cond, nat_eq, nat_le, ◌-◌, slice_get, Option, None, Some, List, [], ◌∷◌, ◌++◌, length, filter, Result, Ok, Err, IfOk, OnOk, sym, ◌∙◌, ap, subst, refl}
+use Rattle.std.proofs.Common.{◌≡◌, ℕ, ◌+◌, Bool, true, false, cond, nat_eq, nat_le, ◌-◌, slice_get, Option, None, Some, List, [], ◌∷◌, ◌++◌, length, map, filter, Result, Ok, Err, IfOk, OnOk, sym, ◌∙◌, ap, subst, refl}
 use Rattle.std.specs.Option.{option_map_or}
 use Rattle.lv_base.specs.declared.limits.TheConstants.{COMMITS}
 use Rattle.lv_base.specs.declared.ids.VarId.{VarId}
@@ -17,13 +17,13 @@ use Rattle.lv_session_state.specs.lv_session_request.declared.request.Sighting.{
 use Rattle.lv_session_state.specs.lv_session_request.declared.request.Request.{Request}
 use Rattle.lv_session_state.specs.lv_session_request.declared.request.Retraction.{Retraction}
 use Rattle.lv_session_state.specs.Times.{is_kept, is_held_of, without_of, retract_at}
-use Rattle.lv_session_state.specs.lv_session_request.declared.request.Request.TheVariants.{Nothing, Track, TrackDistinct, SetBudget, SetControl, Release, Observe, Retract, RetractAt, SetGoal, DropGoal, Diagnose, Recover, More, Commit, Conflicts, Certificate, Labels, LabelsFrom, States, Reset, Quit, Probe, Test as ToTest}
+use Rattle.lv_session_state.specs.lv_session_request.declared.request.Request.TheVariants.{Nothing, Track, TrackDistinct, SetBudget, SetControl, Release, Observe, Retract, RetractAt, SetGoal, DropGoal, Diagnose, Recover, More, Commit, Conflicts, Certificate, Labels, LabelsFrom, States, Reset, Quit, Probe, Test as ToTest, Window as ToWindow}
 use Rattle.lv_session_state.specs.declared.query.Query.{Query}
-use Rattle.lv_session_state.specs.declared.query.Query.TheVariants.{Absent, Diagnosis, Recovery, Test}
+use Rattle.lv_session_state.specs.declared.query.Query.TheVariants.{Absent, Diagnosis, Recovery, Test, Window}
 use Rattle.lv_session_state.specs.declared.running.Running.{Running}
 use Rattle.lv_session_state.specs.declared.running.Running.TheVariants as kept
 use Rattle.lv_session_state.specs.lv_session_request.Held.{lacks_name}
-use Rattle.lv_session_state.specs.State.{SessionState, Stepped, unchanged, cleared, walked, recovery, is_held, has_no_room, observe, retract, is_goal, has_no_goal_room, lacks_goal_name, set_goal, drop_goal, commit, commit_by, testing, conflicts, taken_over, advanced_to}
+use Rattle.lv_session_state.specs.State.{SessionState, Stepped, unchanged, cleared, walked, recovery, is_held, has_no_room, observe, retract, is_goal, has_no_goal_room, lacks_goal_name, set_goal, drop_goal, commit, commit_by, testing, tracing, last_step, conflicts, taken_over, advanced_to}
 use Rattle.lv_session.specs.Session.{labelled, labelled_from, is_certifiable, certificate, probed_reply, probe_by, probe, carried_out}
 use Rattle.lv_session_state.specs.Current.{IsKeptOf, IsCurrent}
 use Rattle.lv_session.specs.Kept.{IsCaredFor}
@@ -40,6 +40,10 @@ same_test : (plant : Plant) (state : SessionState) (budget : ℕ) (ended : Bool)
 unfolding testing
 same_test plant state budget ended x sum = refl
 
+same_window : (plant : Plant) (state : SessionState) (budget : ℕ) (ended : Bool) (steps sum : ℕ) → tracing plant (record state { budget = budget; is_ended = ended }) steps sum ≡ tracing plant state steps sum
+unfolding tracing
+same_window plant state budget ended steps sum = refl
+
 module _ (plant : Plant) (state : SessionState) (running : Running) (is : IsCurrent plant state running) where
   -- the budget and whether the session has ended are no part of a query
   pub others_kept : (budget : ℕ) (ended : Bool) → IsCurrent plant (record state { budget = budget; is_ended = ended }) running
@@ -48,17 +52,25 @@ module _ (plant : Plant) (state : SessionState) (running : Running) (is : IsCurr
       by : (q : Query) (r : Running) → IsKeptOf q plant state r → IsKeptOf q plant (record state { budget = budget; is_ended = ended }) r
       by Absent r h = tt
       by (Diagnosis sum) kept.Nothing h = h
+      by (Diagnosis sum) (kept.Window w) h = h
       by (Diagnosis sum) (kept.Recovery r) h = h
       by (Diagnosis sum) (kept.Test t) h = h
       by (Diagnosis sum) (kept.Diagnosis d) h = record { plant_is = h.plant_is; facts_are = h.facts_are; k = h.k; distinct = h.distinct; on_walk = h.on_walk; came_to = same_walk plant state budget ended sum ∙ h.came_to }
       by (Recovery sum) kept.Nothing h = h
+      by (Recovery sum) (kept.Window w) h = h
       by (Recovery sum) (kept.Diagnosis d) h = h
       by (Recovery sum) (kept.Test t) h = h
       by (Recovery sum) (kept.Recovery r) h = record { plant_is = h.plant_is; aim_is = h.aim_is; some = h.some; on_walk = h.on_walk; came_to = same_recovery plant state budget ended sum ∙ h.came_to }
       by (Test x sum) kept.Nothing h = h
+      by (Test x sum) (kept.Window w) h = h
       by (Test x sum) (kept.Diagnosis d) h = h
       by (Test x sum) (kept.Recovery r) h = h
       by (Test x sum) (kept.Test t) h = record { plant_is = h.plant_is; aim_is = h.aim_is; var_is = h.var_is; on_walk = h.on_walk; came_to = same_test plant state budget ended x sum ∙ h.came_to }
+      by (Window steps sum) kept.Nothing h = h
+      by (Window steps sum) (kept.Diagnosis d) h = h
+      by (Window steps sum) (kept.Recovery r) h = h
+      by (Window steps sum) (kept.Test t) h = h
+      by (Window steps sum) (kept.Window w) h = record { plant_is = h.plant_is; steps_are = h.steps_are; k = h.k; on_walk = h.on_walk; came_to = same_window plant state budget ended steps sum ∙ h.came_to }
 
   observe_current : (s : Sighting) → IsCurrent plant (observe state s).state running
   observe_current s = by (is_held state s.name) (has_no_room state s.name)
@@ -127,6 +139,11 @@ module _ (plant : Plant) (state : SessionState) (running : Running) (is : IsCurr
       by Unsettled = is
   commit_current (Recovery sum) = is
   commit_current (Test x sum) = is
+  commit_current (Window steps sum) = by (tracing plant state steps sum).outcome
+    where
+      by : (o : Outcome) → IsCurrent plant (commit_by o plant state (map (last_step plant) (tracing plant state steps sum).listed)).state running
+      by Settled = taken_current (map (last_step plant) (tracing plant state steps sum).listed)
+      by Unsettled = is
 
   probe_current : (q : Query) → IsCurrent plant (probe q plant state).state running
   probe_current Absent = is
@@ -141,12 +158,14 @@ module _ (plant : Plant) (state : SessionState) (running : Running) (is : IsCurr
       by Unsettled = is
   probe_current (Recovery sum) = is
   probe_current (Test x sum) = is
+  probe_current (Window steps sum) = is
 
   conflicts_current : (q : Query) → IsCurrent plant (conflicts q plant state).state running
   conflicts_current Absent = is
   conflicts_current (Diagnosis sum) = is
   conflicts_current (Recovery sum) = is
   conflicts_current (Test x sum) = is
+  conflicts_current (Window steps sum) = is
 
   certificate_current : (q : Query) → IsCurrent plant (certificate q plant state).state running
   certificate_current q = by (is_certifiable q plant state)
@@ -176,6 +195,7 @@ module _ (plant : Plant) (old : SessionState) (before after : Running) (is : IsC
   cared_for Recover care = care
   cared_for (More n) care = care
   cared_for (ToTest x) care = care
+  cared_for (ToWindow steps) care = care
   cared_for Commit care = left (commit old.query plant old).state (commit_current plant old before is old.query) care
   cared_for Conflicts care = left (conflicts old.query plant old).state (conflicts_current plant old before is old.query) care
   cared_for Certificate care = left (certificate old.query plant old).state (certificate_current plant old before is old.query) care

@@ -33,22 +33,24 @@ use Rattle.lv_session_state.specs.lv_session_request.declared.goals.Goal.{Goal}
 use Rattle.lv_session_state.specs.lv_session_request.declared.request.Sighting.{Sighting}
 use Rattle.lv_session_state.specs.lv_session_request.declared.request.Retraction.{Retraction}
 use Rattle.lv_session_state.specs.lv_session_request.declared.request.Request.{Request}
-use Rattle.lv_session_state.specs.lv_session_request.declared.request.Request.TheVariants.{Nothing, Track, TrackDistinct, SetBudget, SetControl, Release, Observe, Retract, RetractAt, SetGoal, DropGoal, Diagnose, Recover, More, Commit, Conflicts, Certificate, Labels, LabelsFrom, States, Reset, Quit, Probe, Test as ToTest}
+use Rattle.lv_session_state.specs.lv_session_request.declared.request.Request.TheVariants.{Nothing, Track, TrackDistinct, SetBudget, SetControl, Release, Observe, Retract, RetractAt, SetGoal, DropGoal, Diagnose, Recover, More, Commit, Conflicts, Certificate, Labels, LabelsFrom, States, Reset, Quit, Probe, Test as ToTest, Window as ToWindow}
 use Rattle.lv_session_state.specs.lv_session_request.Forms.{IsUpTo}
 use Rattle.lv_session_state.specs.lv_session_request.Goals.{IsGoalIn}
 use Rattle.lv_session_state.specs.lv_session_request.Requests.{IsSightingIn, IsRequestOf}
 use Rattle.lv_session_state.specs.declared.query.Query.{Query}
-use Rattle.lv_session_state.specs.declared.query.Query.TheVariants.{Absent, Diagnosis, Recovery, Test}
+use Rattle.lv_session_state.specs.declared.query.Query.TheVariants.{Absent, Diagnosis, Recovery, Test, Window}
 use Rattle.lv_session_state.specs.lv_session_request.Held.{lacks_name}
-use Rattle.lv_session_state.specs.State.{SessionState, Stepped, start, rest, unchanged, cleared, walked, recovery, is_held, observe, retract, is_goal, lacks_goal_name, set_goal, drop_goal, recovered, recover, more, more_by, more_recovery_by, commit, commit_by, testing, more_test_by, conflicts, taken_over, past_of, advanced_to}
-use Rattle.lv_session_state.specs.declared.history.Past.{Past}
-use Rattle.lv_session_state.specs.History.{without_in}
+use Rattle.lv_session_state.specs.State.{SessionState, Stepped, start, rest, unchanged, cleared, walked, recovery, is_held, observe, retract, is_goal, lacks_goal_name, set_goal, drop_goal, recovered, recover, more, more_by, more_recovery_by, commit, commit_by, testing, more_test_by, tracing, traced, look_back, more_window_by, last_step, conflicts, taken_over, past_of, advanced_to}
+use Rattle.lv_session_state.specs.lv_session_history.declared.history.Past.{Past}
+use Rattle.lv_session_state.specs.lv_session_history.History.{has_steps, without_in}
+use Rattle.lv_session_state.specs.lv_session_history.Pasts.{StateCosts, IsHistoryOf}
 use Rattle.lv_session_state.specs.Times.{first_time, is_kept, is_held_of, without_of, retract_at}
-use Rattle.lv_session_state.proofs.HistoryLemmas.{history_without, history_on}
+use Rattle.lv_session_state.proofs.lv_session_history.HistoryLemmas.{history_without, history_on}
 use Rattle.lv_session.specs.Session.{is_certifiable, certificate, labelled, labelled_from, probed_reply, probe_by, probe, carried_out}
-use Rattle.lv_session_state.specs.States.{StateCosts, RankCosts, IsHistoryOf, IsStateOf, IsListOf}
+use Rattle.lv_session_state.specs.States.{RankCosts, IsStateOf, IsListOf}
 use Rattle.lv_session.proofs.Fitting.{start_fits, all_fit}
 use Rattle.lv_session_state.proofs.Listed.{list_of}
+use Rattle.lv_session_state.proofs.WindowsAsked.{last_list_of}
 
 -- every control rests
 pub rest_whole : (cs : List VarId) → length (map (λ (c : VarId). rest) cs) ≡ length cs
@@ -238,6 +240,13 @@ module _ (plant : Plant) (state : SessionState) (h : is_well_formed plant ≡ tr
       by None = is
       by (Some s) = is
 
+  look_back_kept : (steps : ℕ) → IsStateOf plant (look_back plant state steps).state
+  look_back_kept steps = by (has_steps state.history steps)
+    where
+      by : (b : Bool) → IsStateOf plant (cond b (traced plant state steps state.budget) (unchanged state (Refused OutOfLimits))).state
+      by true = numbers_kept state.k state.distinct state.budget (Window steps state.budget) state.is_ended is.k
+      by false = is
+
   more_kept : (q : Query) (n : ℕ) → IsStateOf plant (more q plant state n).state
   more_kept Absent n = is
   more_kept (Diagnosis sum) n = by (walked plant state sum).outcome
@@ -255,12 +264,18 @@ module _ (plant : Plant) (state : SessionState) (h : is_well_formed plant ≡ tr
       by : (o : Outcome) → IsStateOf plant (more_test_by o plant state x (sum + n)).state
       by Settled = is
       by Unsettled = numbers_kept state.k state.distinct state.budget (Test x (sum + n)) state.is_ended is.k
+  more_kept (Window steps sum) n = by (tracing plant state steps sum).outcome
+    where
+      by : (o : Outcome) → IsStateOf plant (more_window_by o plant state steps (sum + n)).state
+      by Settled = is
+      by Unsettled = numbers_kept state.k state.distinct state.budget (Window steps (sum + n)) state.is_ended is.k
 
   conflicts_kept : (q : Query) → IsStateOf plant (conflicts q plant state).state
   conflicts_kept Absent = is
   conflicts_kept (Diagnosis sum) = is
   conflicts_kept (Recovery sum) = is
   conflicts_kept (Test x sum) = is
+  conflicts_kept (Window steps sum) = is
 
   certificate_kept : (q : Query) → IsStateOf plant (certificate q plant state).state
   certificate_kept q = by (is_certifiable q plant state)
@@ -310,6 +325,11 @@ module _ (plant : Plant) (state : SessionState) (h : is_well_formed plant ≡ tr
       by Unsettled = is
   commit_kept (Recovery sum) = is
   commit_kept (Test x sum) = is
+  commit_kept (Window steps sum) = by (tracing plant state steps sum).outcome
+    where
+      by : (o : Outcome) → IsStateOf plant (commit_by o plant state (map (last_step plant) (tracing plant state steps sum).listed)).state
+      by Settled = taken_kept (map (last_step plant) (tracing plant state steps sum).listed) (last_list_of plant state h is steps sum)
+      by Unsettled = is
 
   probe_kept : (q : Query) → IsStateOf plant (probe q plant state).state
   probe_kept Absent = is
@@ -324,6 +344,7 @@ module _ (plant : Plant) (state : SessionState) (h : is_well_formed plant ≡ tr
       by Unsettled = is
   probe_kept (Recovery sum) = is
   probe_kept (Test x sum) = is
+  probe_kept (Window steps sum) = is
 
   pub request_kept : (request : Request) → IsRequestOf plant request → IsStateOf plant (carried_out plant state request).state
   request_kept Nothing within = is
@@ -350,6 +371,7 @@ module _ (plant : Plant) (state : SessionState) (h : is_well_formed plant ≡ tr
   request_kept Quit within = numbers_kept state.k state.distinct state.budget state.query true is.k
   request_kept Probe within = probe_kept state.query
   request_kept (ToTest x) within = numbers_kept state.k state.distinct state.budget (Test x state.budget) state.is_ended is.k
+  request_kept (ToWindow steps) within = look_back_kept steps
 
 -- whether a request was carried out or memory was wanting
 pub state_kept : {E : Type 0} (plant : Plant) (old new : SessionState) (request : Request) (result : Result Reply E) → is_well_formed plant ≡ true → IsStateOf plant old → IsRequestOf plant request

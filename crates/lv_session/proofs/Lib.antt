@@ -3,6 +3,7 @@ pub mod Fitting
 pub mod Keeping
 pub mod StepLaws
 pub mod Slices
+pub mod OneStep
 pub mod Steps
 pub mod Answering
 pub mod TrueAnswers

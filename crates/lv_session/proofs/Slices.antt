@@ -7,8 +7,8 @@ use Rattle.lv_model.specs.declared.plant.Plant.{Plant}
 use Rattle.lv_search_walk.specs.declared.outcome.Outcome.{Outcome}
 use Rattle.lv_search_walk.specs.declared.outcome.Outcome.TheVariants.{Unsettled}
 use Rattle.lv_session_state.specs.declared.query.Query.{Query}
-use Rattle.lv_session_state.specs.declared.query.Query.TheVariants.{Diagnosis, Recovery, Test}
-use Rattle.lv_session_state.specs.State.{SessionState, walked, recovery, testing, more, more_by, more_recovery_by, more_test_by}
+use Rattle.lv_session_state.specs.declared.query.Query.TheVariants.{Diagnosis, Recovery, Test, Window}
+use Rattle.lv_session_state.specs.State.{SessionState, walked, recovery, testing, tracing, more, more_by, more_recovery_by, more_test_by, more_window_by}
 use Rattle.lv_session.specs.Laws.{gone_on, GoesOn}
 
 -- which query is current plays no part in what one comes to
@@ -23,6 +23,10 @@ other_recovery plant state q trials = refl
 other_test : (plant : Plant) (state : SessionState) (q : Query) (x : VarId) (trials : ℕ) → testing plant (record state { query = q }) x trials ≡ testing plant state x trials
 unfolding testing
 other_test plant state q x trials = refl
+
+other_window : (plant : Plant) (state : SessionState) (q : Query) (steps trials : ℕ) → tracing plant (record state { query = q }) steps trials ≡ tracing plant state steps trials
+unfolding tracing
+other_window plant state q steps trials = refl
 
 sum_more : (first n : ℕ) (ns : List ℕ) → first + n + sum ns ≡ first + sum (n ∷ ns)
 sum_more first n ns = let more = sum_by-cons (λ (k : ℕ). k) n ns in omega (arith, more)
@@ -67,6 +71,19 @@ module _ (plant : Plant) (state : SessionState) where
       ap (λ (s : SessionState). gone_on plant s ns) (one_test x first n on.0) ∙ tests x (first + n) ns on.1
       ∙ ap (λ (t : ℕ). record state { query = Test x t }) (sum_more first n ns)
 
+  one_window : (steps first n : ℕ) → (tracing plant state steps first).outcome ≡ Unsettled
+      → (more (Window steps first) plant (record state { query = Window steps first }) n).state ≡ record state { query = Window steps (first + n) }
+  one_window steps first n unsettled =
+      ap (λ (o : Outcome). (more_window_by o plant (record state { query = Window steps first }) steps (first + n)).state)
+      (ap (λ w. w.outcome) (other_window plant state (Window steps first) steps first) ∙ unsettled)
+
+  windows : (steps first : ℕ) (ns : List ℕ) → GoesOn (λ trials. (tracing plant state steps trials).outcome) first ns
+      → gone_on plant (record state { query = Window steps first }) ns ≡ record state { query = Window steps (first + sum ns) }
+  windows steps first [] on = let none : first ≡ first + sum [] = omega arith in ap (λ (t : ℕ). record state { query = Window steps t }) none
+  windows steps first (n ∷ ns) on =
+      ap (λ (s : SessionState). gone_on plant s ns) (one_window steps first n on.0) ∙ windows steps (first + n) ns on.1
+      ∙ ap (λ (t : ℕ). record state { query = Window steps t }) (sum_more first n ns)
+
   pub diagnosis_slices : (first : ℕ) (ns : List ℕ) → state.query ≡ Diagnosis first → GoesOn (λ trials. (walked plant state trials).outcome) first ns
       → gone_on plant state ns ≡ record state { query = Diagnosis (first + sum ns) }
   diagnosis_slices first ns is on = ap (λ (q : Query). gone_on plant (record state { query = q }) ns) is ∙ slices first ns on
@@ -78,3 +95,7 @@ module _ (plant : Plant) (state : SessionState) where
   pub test_slices : (x : VarId) (first : ℕ) (ns : List ℕ) → state.query ≡ Test x first → GoesOn (λ trials. (testing plant state x trials).outcome) first ns
       → gone_on plant state ns ≡ record state { query = Test x (first + sum ns) }
   test_slices x first ns is on = ap (λ (q : Query). gone_on plant (record state { query = q }) ns) is ∙ tests x first ns on
+
+  pub window_slices : (steps first : ℕ) (ns : List ℕ) → state.query ≡ Window steps first → GoesOn (λ trials. (tracing plant state steps trials).outcome) first ns
+      → gone_on plant state ns ≡ record state { query = Window steps (first + sum ns) }
+  window_slices steps first ns is on = ap (λ (q : Query). gone_on plant (record state { query = q }) ns) is ∙ windows steps first ns on

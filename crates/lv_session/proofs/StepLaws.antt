@@ -1,5 +1,5 @@
 -- What holds of every step of a session.
-use Rattle.std.proofs.Common.{◌≡◌, ℕ, ◌+◌, Bool, true, false, ◌||◌, cond, nat_eq, nat_le, ◌-◌, slice_get, Option, None, Some, List, ◌∷◌, [], ◌++◌, length, filter, Result, Ok, Err, refl, sym, ◌∙◌, ap, subst}
+use Rattle.std.proofs.Common.{◌≡◌, ℕ, ◌+◌, Bool, true, false, ◌||◌, cond, nat_eq, nat_le, ◌-◌, slice_get, Option, None, Some, List, ◌∷◌, [], ◌++◌, length, map, filter, Result, Ok, Err, refl, sym, ◌∙◌, ap, subst}
 use Rattle.std.specs.Option.{option_map_or}
 use Rattle.std.proofs.lemmas.Bool.{or_parts}
 use Rattle.lv_base.specs.declared.limits.TheConstants.{COMMITS}
@@ -24,13 +24,14 @@ use Rattle.lv_session_state.specs.lv_session_request.declared.goals.Goal.{Goal}
 use Rattle.lv_session_state.specs.lv_session_request.declared.request.Sighting.{Sighting}
 use Rattle.lv_session_state.specs.lv_session_request.declared.request.Request.{Request}
 use Rattle.lv_session_state.specs.lv_session_request.declared.request.Retraction.{Retraction}
+use Rattle.lv_session_state.specs.lv_session_history.History.{has_steps}
 use Rattle.lv_session_state.specs.Times.{is_kept, is_held_of, without_of, retract_at}
-use Rattle.lv_session_state.specs.lv_session_request.declared.request.Request.TheVariants.{Nothing, Track, TrackDistinct, SetBudget, SetControl, Release, Observe, Retract, RetractAt, SetGoal, DropGoal, Diagnose, Recover, More, Commit, Conflicts, Certificate, Labels, LabelsFrom, States, Reset, Quit, Probe, Test as ToTest}
+use Rattle.lv_session_state.specs.lv_session_request.declared.request.Request.TheVariants.{Nothing, Track, TrackDistinct, SetBudget, SetControl, Release, Observe, Retract, RetractAt, SetGoal, DropGoal, Diagnose, Recover, More, Commit, Conflicts, Certificate, Labels, LabelsFrom, States, Reset, Quit, Probe, Test as ToTest, Window as ToWindow}
 use Rattle.lv_session_state.specs.lv_session_request.Requests.{request_of}
 use Rattle.lv_session_state.specs.declared.query.Query.{Query}
-use Rattle.lv_session_state.specs.declared.query.Query.TheVariants.{Absent, Diagnosis, Recovery, Test}
+use Rattle.lv_session_state.specs.declared.query.Query.TheVariants.{Absent, Diagnosis, Recovery, Test, Window}
 use Rattle.lv_session_state.specs.lv_session_request.Held.{lacks_name}
-use Rattle.lv_session_state.specs.State.{SessionState, Stepped, unchanged, cleared, walked, recovery, is_held, has_no_room, observe, retract, is_goal, has_no_goal_room, lacks_goal_name, set_goal, drop_goal, reply_by, diagnosis_reply, diagnosed, found, recovery_reply_by, recovery_reply, recovered, recover, more, more_by, more_recovery_by, facts_of, commit, commit_by, testing, test_reply_by, test_reply, found_test, tested, more_test_by, conflicts, taken_over, advanced_to}
+use Rattle.lv_session_state.specs.State.{SessionState, Stepped, unchanged, cleared, walked, recovery, is_held, has_no_room, observe, retract, is_goal, has_no_goal_room, lacks_goal_name, set_goal, drop_goal, reply_by, diagnosis_reply, diagnosed, found, recovery_reply_by, recovery_reply, recovered, recover, more, more_by, more_recovery_by, facts_of, commit, commit_by, testing, test_reply_by, test_reply, found_test, tested, more_test_by, tracing, window_reply_by, window_reply, traced, look_back, more_window_by, last_step, conflicts, taken_over, advanced_to}
 use Rattle.lv_session.specs.Session.{is_certifiable, certificate, labels_reply, labelled, labelled_from, probed_reply, probe_by, probe, carried_out, answered, stepped}
 use Rattle.lv_session.specs.Certificates.{IsDue}
 use Rattle.lv_session.specs.Laws.{is_refused, is_certificate, clears}
@@ -167,6 +168,30 @@ module _ (plant : Plant) (state : SessionState) where
     told = λ _. (or_parts (is_refused (tested plant state x sum).reply) _ (test_no_refusal (testing plant state x sum).outcome (testing plant state x sum))).1;
   }
 
+  -- nor is a window
+  window_no_refusal : (o : Outcome) (steps : ℕ) (w : Walked) → keeps (window_reply_by o steps w) ≡ false
+  window_no_refusal Settled steps w = refl
+  window_no_refusal Unsettled steps w = refl
+
+  window_due : (next : SessionState) (o : Outcome) (steps : ℕ) (w : Walked) → IsDue plant next (window_reply_by o steps w)
+  window_due next Settled steps w = tt
+  window_due next Unsettled steps w = tt
+
+  fair_window : (steps sum : ℕ) → IsFair plant state false false (traced plant state steps sum)
+  fair_window steps sum = record {
+    kept = λ e. let clash : true ≡ false = sym e ∙ window_no_refusal (tracing plant state steps sum).outcome steps (tracing plant state steps sum) in absurd (cc clash);
+    carried = λ e _. absurd (cc e);
+    due = window_due (traced plant state steps sum).state (tracing plant state steps sum).outcome steps (tracing plant state steps sum);
+    told = λ _. (or_parts (is_refused (traced plant state steps sum).reply) _ (window_no_refusal (tracing plant state steps sum).outcome steps (tracing plant state steps sum))).1;
+  }
+
+  fair_look_back : (steps : ℕ) → IsFair plant state false false (look_back plant state steps)
+  fair_look_back steps = by (has_steps state.history steps)
+    where
+      by : (b : Bool) → IsFair plant state false false (cond b (traced plant state steps state.budget) (unchanged state (Refused OutOfLimits)))
+      by true = fair_window steps state.budget
+      by false = fair_refusal plant state false OutOfLimits
+
   fair_recover : IsFair plant state false false (recover plant state)
   fair_recover = by (nat_eq (length state.goals) 0)
     where
@@ -212,12 +237,18 @@ module _ (plant : Plant) (state : SessionState) where
       by : (o : Outcome) → IsFair plant state false false (more_test_by o plant state x (sum + n))
       by Settled = record { kept = λ _. refl; carried = λ e _. absurd (cc e); due = tt; told = λ _. refl }
       by Unsettled = fair_test x (sum + n)
+  fair_more (Window steps sum) n = by (tracing plant state steps sum).outcome
+    where
+      by : (o : Outcome) → IsFair plant state false false (more_window_by o plant state steps (sum + n))
+      by Settled = record { kept = λ _. refl; carried = λ e _. absurd (cc e); due = tt; told = λ _. refl }
+      by Unsettled = fair_window steps (sum + n)
 
   fair_conflicts : (q : Query) → IsFair plant state false false (conflicts q plant state)
   fair_conflicts Absent = record { kept = λ _. refl; carried = λ e _. absurd (cc e); due = tt; told = λ _. refl }
   fair_conflicts (Diagnosis sum) = record { kept = λ _. refl; carried = λ e _. absurd (cc e); due = tt; told = λ _. refl }
   fair_conflicts (Recovery sum) = record { kept = λ _. refl; carried = λ e _. absurd (cc e); due = tt; told = λ _. refl }
   fair_conflicts (Test x sum) = record { kept = λ _. refl; carried = λ e _. absurd (cc e); due = tt; told = λ _. refl }
+  fair_conflicts (Window steps sum) = record { kept = λ _. refl; carried = λ e _. absurd (cc e); due = tt; told = λ _. refl }
 
   fair_certificate : IsFair plant state false true (certificate state.query plant state)
   fair_certificate = by (is_certifiable state.query plant state) refl
@@ -244,6 +275,11 @@ module _ (plant : Plant) (state : SessionState) where
       by Unsettled = record { kept = λ _. refl; carried = λ _ e. absurd (cc e); due = tt; told = λ _. refl }
   fair_commit (Recovery sum) = record { kept = λ _. refl; carried = λ _ e. absurd (cc e); due = tt; told = λ _. refl }
   fair_commit (Test x sum) = record { kept = λ _. refl; carried = λ _ e. absurd (cc e); due = tt; told = λ _. refl }
+  fair_commit (Window steps sum) = by (tracing plant state steps sum).outcome
+    where
+      by : (o : Outcome) → IsFair plant state true false (commit_by o plant state (map (last_step plant) (tracing plant state steps sum).listed))
+      by Settled = fair_taking (map (last_step plant) (tracing plant state steps sum).listed)
+      by Unsettled = record { kept = λ _. refl; carried = λ _ e. absurd (cc e); due = tt; told = λ _. refl }
 
   fair_probe : (q : Query) → IsFair plant state false false (probe q plant state)
   fair_probe Absent = fair_refusal plant state false NoQuery
@@ -258,6 +294,7 @@ module _ (plant : Plant) (state : SessionState) where
       by Unsettled = fair_refusal plant state false NoQuery
   fair_probe (Recovery sum) = fair_refusal plant state false NoQuery
   fair_probe (Test x sum) = fair_refusal plant state false NoQuery
+  fair_probe (Window steps sum) = fair_refusal plant state false NoQuery
 
   pub fair_request : (request : Request) → IsFair plant state (clears request) (asks_certificate request) (carried_out plant state request)
   fair_request Nothing = record { kept = λ _. refl; carried = λ e _. absurd (cc e); due = tt; told = λ _. refl }
@@ -284,6 +321,7 @@ module _ (plant : Plant) (state : SessionState) where
   fair_request Quit = record { kept = λ e. absurd (cc e); carried = λ e _. absurd (cc e); due = tt; told = λ _. refl }
   fair_request Probe = fair_probe state.query
   fair_request (ToTest x) = fair_test x state.budget
+  fair_request (ToWindow steps) = fair_look_back steps
 
   answered_due : (r : Result Request Refusal) → IsDue plant (answered plant state r).state (answered plant state r).reply
   answered_due (Ok request) = (fair_request request).due
@@ -339,6 +377,11 @@ module _ (plant : Plant) (state : SessionState) where
       → (more q plant state n).reply ≡ test_reply (testing plant state x (sum + n))
   sum_tested x sum n q is unsettled =
       ap (λ (asked : Query). (more asked plant state n).reply) is ∙ ap (λ (o : Outcome). (more_test_by o plant state x (sum + n)).reply) unsettled
+
+  pub sum_traced : (steps sum n : ℕ) (q : Query) → q ≡ Window steps sum → (tracing plant state steps sum).outcome ≡ Unsettled
+      → (more q plant state n).reply ≡ window_reply steps (tracing plant state steps (sum + n))
+  sum_traced steps sum n q is unsettled =
+      ap (λ (asked : Query). (more asked plant state n).reply) is ∙ ap (λ (o : Outcome). (more_window_by o plant state steps (sum + n)).reply) unsettled
 
   pub ended_stays : (line : List ℕ) → state.is_ended ≡ true → stepped plant state line ≡ unchanged state Silence
   ended_stays line e = ap (λ b. cond b (unchanged state Silence) (answered plant state (request_of plant line))) e

@@ -23,6 +23,7 @@ use Rattle.lv_session_state.specs.lv_session_request.declared.request.Command.{C
 use Rattle.lv_session_state.specs.lv_session_request.declared.request.Sighting.{Sighting}
 use Rattle.lv_session_state.specs.lv_session_request.declared.request.Request.{Request}
 use Rattle.lv_session_state.specs.lv_session_request.declared.request.Request.TheVariants as request
+use Rattle.lv_session_state.specs.lv_session_request.declared.request.TheConstants.{WINDOW}
 use Rattle.lv_session_state.specs.lv_session_request.declared.words.Word.{Word}
 use Rattle.lv_session_state.specs.lv_session_request.declared.words.Word.TheVariants as said
 use Rattle.lv_session_state.specs.lv_session_request.Chain.{and_then}
@@ -219,6 +220,7 @@ module _ (plant : Plant) (ts : List Lexeme) (read : AreRead ts) (shallow : is_to
   by_word said.Quit r first h = alone_in request.Quit r tt h
   by_word said.Probe r first h = alone_in request.Probe r tt h
   by_word said.Test r first h = made_in (tested_of plant (lists_of plant) ts) request.Test r (λ x e. tested_in plant ts x e) h
+  by_word said.Window r first h = made_in (number_to WINDOW ts) request.Window r (λ n e. number_up_to WINDOW ts n e) h
 
 module _ (plant : Plant) where
   tokens_in : (ts : List Lexeme) (r : Request) → AreRead ts → asked plant (lists_of plant) ts ≡ Ok r → IsRequestOf plant r

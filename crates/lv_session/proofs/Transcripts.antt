@@ -5,7 +5,7 @@ use Rattle.std.proofs.lemmas.Bool.{or_parts}
 use Rattle.lv_io.specs.Whole.{AddsFront}
 use Rattle.lv_model.specs.declared.plant.Plant.{Plant}
 use Rattle.lv_reply.specs.declared.reply.Reply.{Reply}
-use Rattle.lv_reply.specs.declared.reply.Reply.TheVariants.{Nothing, Accepted, Refused, Settled, Unsettled, Conflicts, Committed, States, Recovered, NoRecovery, Undecided, CommandConflicts, Labels, Contradiction, Certificate, Probed, Tested, NoTest}
+use Rattle.lv_reply.specs.declared.reply.Reply.TheVariants.{Nothing, Accepted, Refused, Settled, Unsettled, Conflicts, Committed, States, Recovered, NoRecovery, Undecided, CommandConflicts, Labels, Contradiction, Certificate, Probed, Tested, NoTest, SettledWindow, UnsettledWindow, WindowConflicts}
 use Rattle.lv_reply.specs.Texts.{reply_text}
 use Rattle.lv_session_state.specs.State.{SessionState}
 use Rattle.lv_session.specs.Session.{stepped}
@@ -34,6 +34,9 @@ one_text plant state Contradiction text none says = says
 one_text plant state (Probed listed observables best) text none says = says
 one_text plant state (Tested rank) text none says = says
 one_text plant state NoTest text none says = says
+one_text plant state (SettledWindow steps listed) text none says = says
+one_text plant state (UnsettledWindow steps listed trials) text none says = says
+one_text plant state (WindowConflicts first kept trials) text none says = says
 
 pub own_text : (plant : Plant) (state : SessionState) (reply : Reply) → is_certificate reply ≡ false → IsTextOf plant state reply (reply_text plant reply)
 own_text plant state Certificate none = absurd (cc none)
@@ -54,6 +57,9 @@ own_text plant state Contradiction none = refl
 own_text plant state (Probed listed observables best) none = refl
 own_text plant state (Tested rank) none = refl
 own_text plant state NoTest none = refl
+own_text plant state (SettledWindow steps listed) none = refl
+own_text plant state (UnsettledWindow steps listed trials) none = refl
+own_text plant state (WindowConflicts first kept trials) none = refl
 
 -- none among the replies to lines
 abbrev NoneTold : Plant → SessionState → List (List ℕ) → Type 0

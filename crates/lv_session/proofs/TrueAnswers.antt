@@ -1,5 +1,5 @@
 -- Settled answers are the first.
-use Rattle.std.proofs.Common.{◌≡◌, ℕ, ◌+◌, ◌-◌, Bool, true, false, cond, nat_eq, nat_le, slice_get, Option, None, Some, List, [], ◌∷◌, ◌++◌, length, Contains, filter, Result, Ok, Err, refl, sym, subst, arith}
+use Rattle.std.proofs.Common.{◌≡◌, ℕ, ◌+◌, ◌-◌, Bool, true, false, cond, nat_eq, nat_le, slice_get, Option, None, Some, List, [], ◌∷◌, ◌++◌, length, map, Contains, filter, Result, Ok, Err, refl, sym, subst, arith}
 use Rattle.std.specs.Option.{option_map_or}
 use Rattle.lv_base.specs.declared.limits.TheConstants.{COMMITS}
 use Rattle.lv_base.specs.declared.ids.VarId.{VarId}
@@ -20,14 +20,16 @@ use Rattle.lv_reply.specs.declared.reply.Refusal.{Refusal}
 use Rattle.lv_reply.specs.declared.reply.Refusal.TheVariants.{NameHeld, NameNotHeld, OutOfLimits, NoQuery, NothingListed, NoGoal, TooManyHeld, TooManyCommits}
 use Rattle.lv_reply.specs.declared.reply.Reply.TheVariants.{Nothing as Silence, Refused, Committed, Certificate as Certified}
 use Rattle.lv_session_state.specs.lv_session_request.declared.request.Request.{Request}
+use Rattle.lv_session_state.specs.lv_session_history.History.{has_steps}
 use Rattle.lv_session_state.specs.Times.{is_kept, is_held_of, without_of, retract_at}
-use Rattle.lv_session_state.specs.lv_session_request.declared.request.Request.TheVariants.{Nothing, Track, TrackDistinct, SetBudget, SetControl, Release, Observe, Retract, RetractAt, SetGoal, DropGoal, Diagnose, Recover, More, Commit, Conflicts, Certificate, Labels, LabelsFrom, States, Reset, Quit, Probe, Test as ToTest}
+use Rattle.lv_session_state.specs.lv_session_request.declared.request.Request.TheVariants.{Nothing, Track, TrackDistinct, SetBudget, SetControl, Release, Observe, Retract, RetractAt, SetGoal, DropGoal, Diagnose, Recover, More, Commit, Conflicts, Certificate, Labels, LabelsFrom, States, Reset, Quit, Probe, Test as ToTest, Window as ToWindow}
 use Rattle.lv_session_state.specs.lv_session_request.Requests.{request_of}
 use Rattle.lv_session_state.specs.lv_session_request.Held.{lacks_name}
 use Rattle.lv_session_state.specs.declared.query.Query.{Query}
-use Rattle.lv_session_state.specs.declared.query.Query.TheVariants.{Absent, Diagnosis, Recovery, Test}
-use Rattle.lv_session_state.specs.State.{SessionState, Stepped, unchanged, cleared, walked, recovery, aim_of, test_aim_of, facts_of, is_held, has_no_room, is_goal, has_no_goal_room, lacks_goal_name, reply_by, diagnosed, found, recovery_reply_by, recovered, more, more_by, more_recovery_by, commit, commit_by, testing, found_test, test_reply_by, tested, more_test_by, conflicts, taken_over, advanced_to}
+use Rattle.lv_session_state.specs.declared.query.Query.TheVariants.{Absent, Diagnosis, Recovery, Test, Window}
+use Rattle.lv_session_state.specs.State.{SessionState, Stepped, unchanged, cleared, walked, recovery, aim_of, test_aim_of, facts_of, is_held, has_no_room, is_goal, has_no_goal_room, lacks_goal_name, reply_by, diagnosed, found, recovery_reply_by, recovered, more, more_by, more_recovery_by, commit, commit_by, testing, found_test, test_reply_by, tested, more_test_by, tracing, window_reply_by, traced, more_window_by, last_step, conflicts, taken_over, advanced_to}
 use Rattle.lv_session_state.proofs.TestWalks.{test_found, test_none}
+use Rattle.lv_session_state.proofs.WindowReadings.{window_settled}
 use Rattle.lv_session.specs.Session.{is_certifiable, labels_reply, labelled, labelled_from, probed_reply, probe_by, probe, carried_out, answered, stepped}
 use Rattle.lv_session.specs.Transcript.{IsTranscriptFrom, ends, goes_on, AddsTranscript}
 use Rattle.lv_session.specs.Answers.{IsTrueAnswer, AnswersTruly, IsTrueTranscriptFrom, all_told, told, AddsTrueTranscript}
@@ -87,6 +89,14 @@ module _ (plant : Plant) (state : SessionState) where
   test_true : (x : VarId) (sum : ℕ) → AnswersTruly plant state (tested plant state x sum)
   test_true x sum = test_by_true x sum (testing plant state x sum).outcome refl
 
+  -- a window that came to its walk
+  window_by_true : (q : Query) (steps sum : ℕ) (o : Outcome) → (tracing plant state steps sum).outcome ≡ o → IsTrueAnswer plant state q (window_reply_by o steps (tracing plant state steps sum))
+  window_by_true q steps sum Settled settled = window_settled plant state steps sum settled
+  window_by_true q steps sum Unsettled e = tt
+
+  window_true : (steps sum : ℕ) → AnswersTruly plant state (traced plant state steps sum)
+  window_true steps sum = window_by_true (Window steps sum) steps sum (tracing plant state steps sum).outcome refl
+
   more_true : (q : Query) (n : ℕ) → AnswersTruly plant state (more q plant state n)
   more_true Absent n = tt
   more_true (Diagnosis sum) n = by (walked plant state sum).outcome
@@ -104,6 +114,11 @@ module _ (plant : Plant) (state : SessionState) where
       by : (o : Outcome) → AnswersTruly plant state (more_test_by o plant state x (sum + n))
       by Settled = tt
       by Unsettled = test_true x (sum + n)
+  more_true (Window steps sum) n = by (tracing plant state steps sum).outcome
+    where
+      by : (o : Outcome) → AnswersTruly plant state (more_window_by o plant state steps (sum + n))
+      by Settled = tt
+      by Unsettled = window_true steps (sum + n)
 
   taking_true : (listed : List Rank) → AnswersTruly plant state (taken_over plant state listed)
   taking_true listed =
@@ -120,6 +135,11 @@ module _ (plant : Plant) (state : SessionState) where
       by Unsettled = tt
   commit_true (Recovery sum) = tt
   commit_true (Test x sum) = tt
+  commit_true (Window steps sum) = by (tracing plant state steps sum).outcome
+    where
+      by : (o : Outcome) → AnswersTruly plant state (commit_by o plant state (map (last_step plant) (tracing plant state steps sum).listed))
+      by Settled = taking_true (map (last_step plant) (tracing plant state steps sum).listed)
+      by Unsettled = tt
 
   probe_true : (q : Query) → AnswersTruly plant state (probe q plant state)
   probe_true Absent = tt
@@ -132,12 +152,14 @@ module _ (plant : Plant) (state : SessionState) where
       by Unsettled = tt
   probe_true (Recovery sum) = tt
   probe_true (Test x sum) = tt
+  probe_true (Window steps sum) = tt
 
   conflicts_true : (q : Query) → AnswersTruly plant state (conflicts q plant state)
   conflicts_true Absent = tt
   conflicts_true (Diagnosis sum) = tt
   conflicts_true (Recovery sum) = tt
   conflicts_true (Test x sum) = tt
+  conflicts_true (Window steps sum) = tt
 
   request_true : (request : Request) → AnswersTruly plant state (carried_out plant state request)
   request_true Nothing = tt
@@ -172,6 +194,7 @@ module _ (plant : Plant) (state : SessionState) where
   request_true Quit = tt
   request_true Probe = probe_true state.query
   request_true (ToTest x) = test_true x state.budget
+  request_true (ToWindow steps) = either (has_steps state.history steps) (traced plant state steps state.budget) (unchanged state (Refused OutOfLimits)) (window_true steps state.budget) tt
 
   answered_true : (r : Result Request Refusal) → AnswersTruly plant state (answered plant state r)
   answered_true (Ok request) = request_true request

@@ -9,10 +9,11 @@ use Rattle.lv_session_state.specs.lv_meaning.Commands.{is_command_set}
 use Rattle.lv_session_state.specs.lv_meaning.Recovers.{recovers}
 use Rattle.lv_session_state.specs.lv_meaning.RecoveryLaws.{IsRecovery}
 use Rattle.lv_reply.specs.declared.reply.Reply.{Reply}
-use Rattle.lv_reply.specs.declared.reply.Reply.TheVariants.{Settled, Recovered, NoRecovery, Tested, NoTest}
+use Rattle.lv_reply.specs.declared.reply.Reply.TheVariants.{Settled, Recovered, NoRecovery, Tested, NoTest, SettledWindow}
 use Rattle.lv_session_state.specs.declared.query.Query.{Query}
 use Rattle.lv_session_state.specs.declared.query.Query.TheVariants.{Test}
-use Rattle.lv_session_state.specs.State.{SessionState, Stepped, start, facts_of, aim_of, test_aim_of}
+use Rattle.lv_session_state.specs.State.{SessionState, Stepped, start, facts_of, aim_of, test_aim_of, window_base, window_facts}
+use Rattle.lv_session_state.specs.lv_window.Walk.{first_trajectories}
 use Rattle.lv_session_state.specs.TestLaws.{IsTest, NoneTests}
 use Rattle.lv_session.specs.Session.{stepped}
 use Rattle.lv_session.specs.Transcript.{SessionStep, IsTranscript}
@@ -31,13 +32,15 @@ IsTrueNone plant state query = ⊥
 -- or all if fewer are; with the flag, only such of them as lead to a state to which no possible candidate of lower rank leads; a recovery
 -- is the first command set that takes every tracked state nominally to the goals, and that there is none is told where none does; a test
 -- is the first command set that tests the variable of the query that is current behind the line, and that there is none is told where none
--- does; of other replies nothing is asked
+-- does; a settled window lists the first k trajectories of its steps that are possible, from what was tracked before them, with all that is
+-- held of their times when the line comes; of other replies nothing is asked
 abbrev pub IsTrueAnswer : Plant → SessionState → Query → Reply → Type 0
 IsTrueAnswer plant state query (Settled listed) = listed ≡ answer state.distinct state.k plant (facts_of state) state.tracked
 IsTrueAnswer plant state query (Recovered rank) = IsRecovery plant (aim_of state) rank
 IsTrueAnswer plant state query NoRecovery = (u : List ℕ) → is_command_set plant u ≡ true → recovers plant (aim_of state) u ≡ false
 IsTrueAnswer plant state query (Tested rank) = IsTrueTest plant state query rank
 IsTrueAnswer plant state query NoTest = IsTrueNone plant state query
+IsTrueAnswer plant state query (SettledWindow steps listed) = listed ≡ first_trajectories state.k plant (window_facts state steps) (window_base state steps)
 IsTrueAnswer plant state query reply = Unit {0}
 
 -- what a line does and what it replies is a true answer of the state that it found

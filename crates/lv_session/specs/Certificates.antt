@@ -8,7 +8,7 @@ use Rattle.lv_reply.specs.declared.reply.Reply.{Reply}
 use Rattle.lv_reply.specs.declared.reply.Reply.TheVariants.{Certificate}
 use Rattle.lv_reply.specs.Texts.{reply_text}
 use Rattle.lv_session_state.specs.declared.query.Query.{Query}
-use Rattle.lv_session_state.specs.declared.query.Query.TheVariants.{Absent, Diagnosis, Recovery, Test}
+use Rattle.lv_session_state.specs.declared.query.Query.TheVariants.{Absent, Diagnosis, Recovery, Test, Window}
 use Rattle.lv_session_state.specs.State.{SessionState, facts_of, aim_of, walked, recovery}
 use Rattle.lv_session.specs.Session.{is_certifiable}
 
@@ -32,6 +32,7 @@ Certifies Absent plant state text = ⊥
 Certifies (Diagnosis sum) plant state text = CertifiesWalked plant state sum text
 Certifies (Recovery sum) plant state text = CertifiesRecovered plant state sum text
 Certifies (Test x sum) plant state text = ⊥
+Certifies (Window steps sum) plant state text = ⊥
 
 -- the text may stand for the reply that came with this state: a certificate has one of those of the current query, and any other reply
 -- has its own text

@@ -2,7 +2,7 @@
 use Rattle.std.specs.Prelude.{◌≡◌, Bool, false, Option, IfSome}
 use Rattle.lv_model.specs.declared.plant.Plant.{Plant}
 use Rattle.lv_session_state.specs.lv_session_request.declared.request.Request.{Request}
-use Rattle.lv_session_state.specs.lv_session_request.declared.request.Request.TheVariants.{Diagnose, Recover, More, Test as ToTest}
+use Rattle.lv_session_state.specs.lv_session_request.declared.request.Request.TheVariants.{Diagnose, Recover, More, Test as ToTest, Window as ToWindow}
 use Rattle.lv_session_state.specs.declared.running.Running.{Running}
 use Rattle.lv_session.specs.declared.workings.Workings.{Workings}
 use Rattle.lv_session_state.specs.State.{SessionState}
@@ -15,6 +15,7 @@ IsCaredFor Diagnose plant next before after = IsCurrent plant next after
 IsCaredFor Recover plant next before after = IsCurrent plant next after
 IsCaredFor (More n) plant next before after = IsCurrent plant next after
 IsCaredFor (ToTest x) plant next before after = IsCurrent plant next after
+IsCaredFor (ToWindow steps) plant next before after = IsCurrent plant next after
 IsCaredFor request plant next before after = after ≡ before
 
 -- what is held to ask for labels, if anything, is of the plant

@@ -16,9 +16,9 @@ use Rattle.lv_reply.specs.Texts.{reply_text}
 use Rattle.lv_session_state.specs.lv_session_request.Held.{observation_of}
 use Rattle.lv_session_state.specs.lv_session_request.declared.request.Sighting.{Sighting}
 use Rattle.lv_session_state.specs.lv_session_request.declared.request.Request.{Request}
-use Rattle.lv_session_state.specs.lv_session_request.declared.request.Request.TheVariants.{Track, TrackDistinct, SetControl, Release, Observe, Retract, RetractAt, SetGoal, DropGoal, More, Commit, Reset}
-use Rattle.lv_session_state.specs.declared.query.Query.TheVariants.{Absent, Diagnosis, Recovery, Test}
-use Rattle.lv_session_state.specs.State.{SessionState, start, facts_of, walked, recovery, observe, testing, diagnosis_reply, recovery_reply, test_reply}
+use Rattle.lv_session_state.specs.lv_session_request.declared.request.Request.TheVariants.{Track, TrackDistinct, SetControl, Release, Observe, Retract, RetractAt, SetGoal, DropGoal, Diagnose, More, Commit, Reset, Window as ToWindow}
+use Rattle.lv_session_state.specs.declared.query.Query.TheVariants.{Absent, Diagnosis, Recovery, Test, Window}
+use Rattle.lv_session_state.specs.State.{SessionState, start, facts_of, walked, recovery, observe, testing, tracing, diagnosis_reply, recovery_reply, test_reply, window_reply}
 use Rattle.lv_session.specs.Session.{is_certifiable, carried_out, stepped}
 use Rattle.lv_session_state.specs.States.{IsStateOf}
 use Rattle.lv_session.specs.Transcript.{IsTranscript, AddsFrontOfTranscript}
@@ -94,6 +94,8 @@ pub record MoreIsTheSum : Type 0 where
       → (carried_out plant state (More n)).reply ≡ recovery_reply (recovery plant state (sum + n))
   pub of_test : (plant : Plant) (state : SessionState) (x : VarId) (sum n : ℕ) → state.query ≡ Test x sum → (testing plant state x sum).outcome ≡ Unsettled
       → (carried_out plant state (More n)).reply ≡ test_reply (testing plant state x (sum + n))
+  pub of_window : (plant : Plant) (state : SessionState) (steps sum n : ℕ) → state.query ≡ Window steps sum → (tracing plant state steps sum).outcome ≡ Unsettled
+      → (carried_out plant state (More n)).reply ≡ window_reply steps (tracing plant state steps (sum + n))
 
 -- the state behind a `more` line with each of these numbers
 abbrev pub gone_on : Plant → SessionState → List ℕ → SessionState
@@ -113,6 +115,8 @@ pub record SlicesAreTheSum : Type 0 where
       → GoesOn (λ trials. (recovery plant state trials).outcome) first ns → gone_on plant state ns ≡ record state { query = Recovery (first + sum ns) }
   pub of_test : (plant : Plant) (state : SessionState) (x : VarId) (first : ℕ) (ns : List ℕ) → state.query ≡ Test x first
       → GoesOn (λ trials. (testing plant state x trials).outcome) first ns → gone_on plant state ns ≡ record state { query = Test x (first + sum ns) }
+  pub of_window : (plant : Plant) (state : SessionState) (steps first : ℕ) (ns : List ℕ) → state.query ≡ Window steps first
+      → GoesOn (λ trials. (tracing plant state steps trials).outcome) first ns → gone_on plant state ns ≡ record state { query = Window steps (first + sum ns) }
 
 -- the start is a state of the plant, and what any line leads to from one is one: modes and values are there, no state costs more than
 -- its steps can, and all is within its limits
@@ -136,3 +140,8 @@ abbrev pub NumbersAreListed : Type 0
 NumbersAreListed = (plant : Plant) (state : SessionState) (sum other : ℕ) (s : Sighting) → state.distinct ≡ false → (walked plant state sum).outcome ≡ Settled
     → length (walked plant state sum).listed < state.k → is_refused (observe state s).reply ≡ false → (walked plant (observe state s).state other).outcome ≡ Settled
     → number_with plant (facts_of state) (map candidate_of (walked plant state sum).listed) (observation_of s) ≡ length (walked plant (observe state s).state other).listed
+
+-- without the flag a window of one step replies as a diagnosis does
+abbrev pub OneStepReadsAsADiagnosis : Type 0
+OneStepReadsAsADiagnosis = (plant : Plant) (state : SessionState) → state.distinct ≡ false
+    → reply_text plant (carried_out plant state (ToWindow 1)).reply ≡ reply_text plant (carried_out plant state Diagnose).reply

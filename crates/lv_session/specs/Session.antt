@@ -17,21 +17,22 @@ use Rattle.lv_reply.specs.declared.reply.Refusal.TheVariants.{OutOfLimits, NoQue
 use Rattle.lv_reply.specs.declared.reply.Reply.{Reply}
 use Rattle.lv_reply.specs.declared.reply.Reply.TheVariants.{Nothing as Silence, Refused, States as StatesReply, Labels as LabelsReply, Contradiction, Certificate as CertificateReply, Probed as ProbedReply}
 use Rattle.lv_session_state.specs.lv_session_request.declared.request.Request.{Request}
-use Rattle.lv_session_state.specs.lv_session_request.declared.request.Request.TheVariants.{Nothing, Track, TrackDistinct, SetBudget, SetControl, Release, Observe, Retract, RetractAt, SetGoal, DropGoal, Diagnose, Recover, More, Commit, Conflicts, Certificate, Labels, LabelsFrom, States, Reset, Quit, Probe, Test as ToTest}
+use Rattle.lv_session_state.specs.lv_session_request.declared.request.Request.TheVariants.{Nothing, Track, TrackDistinct, SetBudget, SetControl, Release, Observe, Retract, RetractAt, SetGoal, DropGoal, Diagnose, Recover, More, Commit, Conflicts, Certificate, Labels, LabelsFrom, States, Reset, Quit, Probe, Test as ToTest, Window as ToWindow}
 use Rattle.lv_session_state.specs.lv_session_request.Requests.{request_of}
 use Rattle.lv_session_state.specs.declared.query.Query.{Query}
-use Rattle.lv_session_state.specs.declared.query.Query.TheVariants.{Absent, Diagnosis, Recovery, Test}
+use Rattle.lv_session_state.specs.declared.query.Query.TheVariants.{Absent, Diagnosis, Recovery, Test, Window}
 use Rattle.lv_session_state.specs.Times.{retract_at}
-use Rattle.lv_session_state.specs.State.{SessionState, facts_of, walked, recovery, Stepped, unchanged, track, set_budget, set_control, release, observe, retract, set_goal, drop_goal, diagnosed, tested, recover, more, conflicts, is_settled_by, commit, reset, quit}
+use Rattle.lv_session_state.specs.State.{SessionState, facts_of, walked, recovery, Stepped, unchanged, track, set_budget, set_control, release, observe, retract, set_goal, drop_goal, diagnosed, tested, look_back, recover, more, conflicts, is_settled_by, commit, reset, quit}
 
--- a query is current of which there are certificates: one that is settled, and no test
+-- a query is current of which there are certificates: one that is settled, and no test or window
 abbrev pub is_certifiable : Query → Plant → SessionState → Bool
 is_certifiable Absent plant state = false
 is_certifiable (Diagnosis sum) plant state = is_settled_by (walked plant state sum).outcome
 is_certifiable (Recovery sum) plant state = is_settled_by (recovery plant state sum).outcome
 is_certifiable (Test x sum) plant state = false
+is_certifiable (Window steps sum) plant state = false
 
--- `certificate`: one of the current query, which has to be settled, and no test
+-- `certificate`: one of the current query, which has to be settled, and no test or window
 abbrev pub certificate : Query → Plant → SessionState → Stepped
 certificate q plant state = if is_certifiable q plant state then unchanged state CertificateReply else unchanged state (Refused NoQuery)
 
@@ -53,6 +54,7 @@ probe Absent plant state = unchanged state (Refused NoQuery)
 probe (Diagnosis sum) plant state = probe_by (walked plant state sum).outcome plant state (walked plant state sum).listed
 probe (Recovery sum) plant state = unchanged state (Refused NoQuery)
 probe (Test x sum) plant state = unchanged state (Refused NoQuery)
+probe (Window steps sum) plant state = unchanged state (Refused NoQuery)
 
 -- what propagation finds, as a reply
 abbrev pub labels_reply : Labelling → Reply
@@ -94,6 +96,7 @@ carried_out plant state Reset = reset plant
 carried_out plant state Quit = quit state
 carried_out plant state Probe = probe state.query plant state
 carried_out plant state (ToTest x) = tested plant state x state.budget
+carried_out plant state (ToWindow steps) = look_back plant state steps
 
 -- a refused line leaves the whole state
 abbrev pub answered : Plant → SessionState → Result Request Refusal → Stepped

@@ -31,6 +31,7 @@ fn is_certifiable(state: &State, model: &Model, running: &Running<'_>) -> bool
         Query::Diagnosis(_) => state.is_settled(model, running),
         Query::Recovery(_) => state.is_settled(model, running),
         Query::Test(_, _) => false,
+        Query::Window(_, _) => false,
     }
 }
 
@@ -163,14 +164,17 @@ pub(crate) fn certificate_text(
             Running::Diagnosis(run) => diagnosis_text(state, alloc, model, system, run),
             Running::Recovery(_) => unreachable!(),
             Running::Test(_) => unreachable!(),
+            Running::Window(_) => unreachable!(),
             Running::Nothing => unreachable!(),
         },
         Query::Recovery(_) => match running {
             Running::Recovery(run) => recovery_text(state, alloc, model, system, run),
             Running::Diagnosis(_) => unreachable!(),
             Running::Test(_) => unreachable!(),
+            Running::Window(_) => unreachable!(),
             Running::Nothing => unreachable!(),
         },
         Query::Test(_, _) => unreachable!(),
+        Query::Window(_, _) => unreachable!(),
     }
 }

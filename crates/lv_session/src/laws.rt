@@ -1,7 +1,7 @@
 //! What holds of steps and transcripts. The functions do nothing; their clauses are the laws.
 #![tactic(auto)]
 
-ghost use Rattle.lv_session.specs.Laws.{TranscriptIsOne, RefusedLineChangesNothing, NoQuerySurvivesAChange, MoreIsTheSum, SlicesAreTheSum, StatesStayStates, CertificateChangesNothing, EndedIsSilent, NumbersAreListed};
+ghost use Rattle.lv_session.specs.Laws.{TranscriptIsOne, RefusedLineChangesNothing, NoQuerySurvivesAChange, MoreIsTheSum, SlicesAreTheSum, StatesStayStates, CertificateChangesNothing, EndedIsSilent, NumbersAreListed, OneStepReadsAsADiagnosis};
 ghost use Rattle.lv_session.specs.Answers.{SettledAnswersAreFirst};
 
 /// Where no certificate is told, a session has exactly one transcript.
@@ -48,7 +48,8 @@ pub fn ended_is_silent()
 /// Each settled diagnosis of every transcript lists the first k candidates of the tracked states that are possible under
 /// the facts, in the order of their ranks, or all if fewer are; each settled recovery is the first command set that takes
 /// every tracked state nominally to the goals, and `no recovery` is told exactly where none does; each settled test is the
-/// first command set that tests the observable from the tracked states, and `no test` is told exactly where none does.
+/// first command set that tests the observable from the tracked states, and `no test` is told exactly where none does;
+/// each settled window lists the first k trajectories of its steps that are possible with what is held of their times.
 pub fn settled_answers_are_first()
     ensures { SettledAnswersAreFirst }
 {}
@@ -57,4 +58,9 @@ pub fn settled_answers_are_first()
 /// settled diagnosis lists once an observation of that value is held.
 pub fn numbers_are_listed()
     ensures { NumbersAreListed }
+{}
+
+/// Where listed candidates may lead to one state, a window of one step replies as a diagnosis does.
+pub fn one_step_reads_as_a_diagnosis()
+    ensures { OneStepReadsAsADiagnosis }
 {}

@@ -76,9 +76,11 @@ pub(crate) fn probe(
             },
             Running::Recovery(_) => Ok(Reply::Refused(Refusal::NoQuery)),
             Running::Test(_) => Ok(Reply::Refused(Refusal::NoQuery)),
+            Running::Window(_) => Ok(Reply::Refused(Refusal::NoQuery)),
             Running::Nothing => Ok(Reply::Refused(Refusal::NoQuery)),
         },
         Query::Recovery(_) => Ok(Reply::Refused(Refusal::NoQuery)),
         Query::Test(_, _) => Ok(Reply::Refused(Refusal::NoQuery)),
+        Query::Window(_, _) => Ok(Reply::Refused(Refusal::NoQuery)),
     }
 }

@@ -72,5 +72,6 @@ pub(crate) fn carry_out<'a>(
             let budget = state.budget();
             state.test(alloc, model, system, running, var, budget)
         }
+        Request::Window(steps) => state.look_back(alloc, model, running, steps),
     }
 }

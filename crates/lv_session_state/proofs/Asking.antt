@@ -36,7 +36,8 @@ use Rattle.lv_session_state.specs.declared.running.Running.TheVariants as kept
 use Rattle.lv_session_state.specs.Current.{come_to, IsDiagnosisAt, IsKeptOf}
 use Rattle.lv_session_request.specs.Held.{observation_of}
 use Rattle.lv_session_state.specs.State.{SessionState, facts_of, unchanged, walked, trials, diagnosed, more, more_by, conflicts, commit, commit_by, taken_over}
-use Rattle.lv_session_state.specs.States.{StateCosts, RankCosts, IsStateOf, IsListOf}
+use Rattle.lv_session_history.specs.Pasts.{StateCosts}
+use Rattle.lv_session_state.specs.States.{RankCosts, IsStateOf, IsListOf}
 use Rattle.lv_session_state.proofs.Listed.{list_of, all_trials}
 
 has_variable : (ranges : List Range) (x v : ℕ) → has_value ranges x v ≡ true → x < length ranges
@@ -44,7 +45,7 @@ has_variable [] x v h = absurd (cc h)
 has_variable (r ∷ rs) zero v h = omega arith
 has_variable (r ∷ rs) (suc x) v h = let rest = has_variable rs x v h in omega (arith, rest)
 
-observed_in_range : (plant : Plant) (ss : List Sighting) → All (IsSightingIn plant) ss → All (IsInRange (variable_count plant)) (map observation_of ss)
+pub observed_in_range : (plant : Plant) (ss : List Sighting) → All (IsSightingIn plant) ss → All (IsInRange (variable_count plant)) (map observation_of ss)
 observed_in_range plant [] all = All-nil (IsInRange (variable_count plant))
 observed_in_range plant (s ∷ ss) all =
     let has = has_variable (plant_ranges plant) s.var.0 s.val.0 (All-head (IsSightingIn plant) s ss all).value in
@@ -52,7 +53,7 @@ observed_in_range plant (s ∷ ss) all =
     All-cons (IsInRange (variable_count plant)) (observation_of s) (map observation_of ss) (record { below = omega (arith, has, count) })
     (observed_in_range plant ss (All-tail (IsSightingIn plant) s ss all))
 
-observed_values : (plant : Plant) (ss : List Sighting) → All (IsSightingIn plant) ss → All (HasValue (sizes plant)) (map observation_of ss)
+pub observed_values : (plant : Plant) (ss : List Sighting) → All (IsSightingIn plant) ss → All (HasValue (sizes plant)) (map observation_of ss)
 observed_values plant [] all = All-nil (HasValue (sizes plant))
 observed_values plant (s ∷ ss) all =
     All-cons (HasValue (sizes plant)) (observation_of s) (map observation_of ss)
@@ -72,7 +73,7 @@ facts_in_range plant state is = record {
   next = observed_values plant state.next is.next;
 }
 
-tracked_from : (parts time : ℕ) (ss : List TrackedState) → time ≤ COMMITS → All (HasModes parts) ss → All (StateCosts time) ss → All (IsTracked parts) ss
+pub tracked_from : (parts time : ℕ) (ss : List TrackedState) → time ≤ COMMITS → All (HasModes parts) ss → All (StateCosts time) ss → All (IsTracked parts) ss
 tracked_from parts time [] early modes costs = All-nil (IsTracked parts)
 tracked_from parts time (s ∷ ss) early modes costs =
     let most = (All-head (StateCosts time) s ss costs).most in

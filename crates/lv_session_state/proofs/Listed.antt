@@ -25,7 +25,8 @@ use Rattle.lv_meaning.specs.CandidateLaws.{goes_from, are_moves, moves_cost, IsC
 use Rattle.lv_meaning.proofs.Listing.{is_candidate}
 use Rattle.lv_tracker.specs.Targets.{HasMoves}
 use Rattle.lv_session_state.specs.State.{SessionState, facts_of, walked, trials}
-use Rattle.lv_session_state.specs.States.{most_cost, StateCosts, RankCosts, IsStateOf, IsListOf}
+use Rattle.lv_session_history.specs.Pasts.{most_cost, StateCosts}
+use Rattle.lv_session_state.specs.States.{RankCosts, IsStateOf, IsListOf}
 
 -- what holds of all entries holds of those that a walk lists
 module _ (P : Rank → Type 0) (alike : Rank → Rank → Bool) (fits : Candidate → Bool) (reason : Candidate → List Pair) (k budget : ℕ) where
@@ -41,7 +42,7 @@ module _ (P : Rank → Type 0) (alike : Rank → Rank → Bool) (fits : Candidat
       (λ _ _ _ _. listed_all rs (listed ++ (r ∷ [])) kept (All-append P listed (r ∷ []) before (All-cons P r [] (All-head P r rs all) (All-nil P))) rest)
       (λ _ _ _. listed_all rs listed (kept ++ (reason (candidate_of r) ∷ [])) before rest)
 
-move_for_each : (types : List ComponentType) (ps : List Part) (vs : List ValId) (cs : List ℕ) → are_moves types ps vs cs ≡ true → length cs ≡ length ps
+pub move_for_each : (types : List ComponentType) (ps : List Part) (vs : List ValId) (cs : List ℕ) → are_moves types ps vs cs ≡ true → length cs ≡ length ps
 move_for_each types [] vs [] e = refl
 move_for_each types [] vs (c ∷ cs) e = absurd (cc e)
 move_for_each types (p ∷ ps) [] cs e = absurd (cc e)
@@ -59,7 +60,7 @@ cheap_move : (types : List ComponentType) (k n : ℕ) (o : Option ComponentType)
 cheap_move types k n None is all = cheap_at [] n (slice_get {X = Move} [] n) refl (All-nil MoveIsCheap)
 cheap_move types k n (Some t) is all = cheap_at t.moves n (slice_get t.moves n) refl (All-at TypeIsSmall types k t all is).costs
 
-cheap_moves : (types : List ComponentType) (ps : List Part) (cs : List ℕ) → All TypeIsSmall types → moves_cost types ps cs ≤ FAULT_COST * length ps
+pub cheap_moves : (types : List ComponentType) (ps : List Part) (cs : List ℕ) → All TypeIsSmall types → moves_cost types ps cs ≤ FAULT_COST * length ps
 cheap_moves types [] cs all = omega arith
 cheap_moves types (p ∷ ps) [] all = omega arith
 cheap_moves types (p ∷ ps) (c ∷ cs) all =

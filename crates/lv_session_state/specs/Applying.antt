@@ -7,7 +7,7 @@ use Rattle.lv_search_walk.specs.declared.outcome.Outcome.TheVariants.{Settled, U
 use Rattle.lv_search_walk.specs.Walk.{Walked}
 use Rattle.lv_meaning.specs.Possible.{value}
 use Rattle.lv_session_state.specs.declared.query.Query.{Query}
-use Rattle.lv_session_state.specs.declared.query.Query.TheVariants.{Absent, Diagnosis, Recovery, Test}
+use Rattle.lv_session_state.specs.declared.query.Query.TheVariants.{Absent, Diagnosis, Recovery, Test, Window}
 use Rattle.lv_session_state.specs.State.{SessionState, recovery}
 
 -- those of the first command set listed, if there is one
@@ -29,6 +29,7 @@ recovery_values Absent plant state = None
 recovery_values (Diagnosis sum) plant state = None
 recovery_values (Recovery sum) plant state = values_found (recovery plant state sum)
 recovery_values (Test x sum) plant state = None
+recovery_values (Window steps sum) plant state = None
 
 -- the controls are commanded to these values, and no query is current
 abbrev pub applied : SessionState → List ℕ → SessionState

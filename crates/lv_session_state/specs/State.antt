@@ -1,5 +1,5 @@
 -- The state of a session, and what a request does to it.
-use Rattle.std.specs.Prelude.{ℕ, ◌+◌, Bool, false, true, ◌||◌, ◌&&◌, not, nat_eq, nat_le, nat_lt, List, [], ◌∷◌, ◌++◌, length, map, filter, slice_set, if◌then◌else◌}
+use Rattle.std.specs.Prelude.{ℕ, ◌+◌, ◌-◌, Bool, false, true, ◌||◌, ◌&&◌, not, nat_eq, nat_le, nat_lt, List, [], ◌∷◌, ◌++◌, length, drop, map, filter, slice_set, if◌then◌else◌}
 use Rattle.std.specs.List.{list_any}
 use Rattle.lv_base.specs.declared.ids.ValId.{ValId}
 use Rattle.lv_base.specs.declared.ids.VarId.{VarId}
@@ -20,17 +20,20 @@ use Rattle.lv_meaning.specs.declared.aim.Aim.{Aim}
 use Rattle.lv_meaning.specs.Recovery.{recovery_walk}
 use Rattle.lv_reconf.specs.Tests.{test_walk}
 use Rattle.lv_tracker.specs.Tracked.{start_state, advanced}
-use Rattle.lv_reply.specs.declared.reply.Refusal.TheVariants.{NameHeld, NameNotHeld, NoQuery, NotUnsettled, NothingListed, NoGoal, TooManyHeld, TooManyCommits}
+use Rattle.lv_reply.specs.declared.reply.Refusal.TheVariants.{NameHeld, NameNotHeld, OutOfLimits, NoQuery, NotUnsettled, NothingListed, NoGoal, TooManyHeld, TooManyCommits}
 use Rattle.lv_reply.specs.declared.reply.Reply.{Reply}
-use Rattle.lv_reply.specs.declared.reply.Reply.TheVariants.{Accepted, Refused, Settled as SettledReply, Unsettled as UnsettledReply, Conflicts as ConflictsReply, Committed, Recovered, NoRecovery, Undecided, CommandConflicts, Tested, NoTest}
+use Rattle.lv_reply.specs.declared.reply.Reply.TheVariants.{Accepted, Refused, Settled as SettledReply, Unsettled as UnsettledReply, Conflicts as ConflictsReply, Committed, Recovered, NoRecovery, Undecided, CommandConflicts, Tested, NoTest, SettledWindow, UnsettledWindow, WindowConflicts}
 use Rattle.lv_session_request.specs.Held.{observation_of, has_name, lacks_name}
 use Rattle.lv_session_request.specs.declared.goals.Goal.{Goal}
 use Rattle.lv_session_request.specs.declared.request.Command.{Command}
 use Rattle.lv_session_request.specs.declared.request.Sighting.{Sighting}
-use Rattle.lv_session_state.specs.declared.history.Past.{Past}
+use Rattle.lv_session_history.specs.declared.history.Past.{Past}
+use Rattle.lv_session_history.specs.History.{with_room, has_steps, commits_in}
+use Rattle.lv_session_history.specs.Steps.{tracked_before, facts_on}
+use Rattle.lv_window.specs.Trajectories.{trajectories}
+use Rattle.lv_window.specs.Walk.{window_walk}
 use Rattle.lv_session_state.specs.declared.query.Query.{Query}
-use Rattle.lv_session_state.specs.declared.query.Query.TheVariants.{Absent, Diagnosis, Recovery, Test}
-use Rattle.lv_session_state.specs.History.{with_room}
+use Rattle.lv_session_state.specs.declared.query.Query.TheVariants.{Absent, Diagnosis, Recovery, Test, Window}
 
 -- the states that the plant may be in; how many commits were made; how many candidates a diagnosis lists, and whether no two of
 -- them may lead to one state; the trials of a new query; the value that each control is commanded to, in written order; the observations of the assignments before and after the
@@ -112,6 +115,22 @@ test_aim_of state = record { tracked = state.tracked; present = map observation_
 -- the walk of a test of the variable with so many trials along the command sets
 unfoldable pub testing : Plant → SessionState → VarId → ℕ → Walked
 testing plant state x trials = test_walk plant (test_aim_of state) x trials
+
+-- where the last so many steps start, and what is known of each, the last being the one that isn't committed
+abbrev pub window_base : SessionState → ℕ → List TrackedState
+window_base state steps = tracked_before (commits_in state.history steps) state.tracked
+
+abbrev pub window_facts : SessionState → ℕ → List Facts
+window_facts state steps = facts_on (commits_in state.history steps) state.present (facts_of state)
+
+-- the time from which the first of them starts
+abbrev pub window_start : SessionState → ℕ → ℕ
+window_start state steps = state.time - length (commits_in state.history steps)
+
+-- the walk of a window over these steps with so many trials along the trajectories
+unfoldable pub tracing : Plant → SessionState → ℕ → ℕ → Walked
+tracing plant state steps trials =
+    window_walk plant (window_facts state steps) state.k trials (trajectories plant (length (window_facts state steps)) (window_base state steps))
 
 pub record Stepped : Type 0 where
   pub state : SessionState
@@ -244,6 +263,22 @@ test_reply w = test_reply_by w.outcome w
 abbrev pub tested : Plant → SessionState → VarId → ℕ → Stepped
 tested plant state x sum = record { state = record state { query = Test x sum }; reply = test_reply (testing plant state x sum) }
 
+abbrev pub window_reply_by : Outcome → ℕ → Walked → Reply
+window_reply_by Settled steps w = SettledWindow steps w.listed
+window_reply_by Unsettled steps w = UnsettledWindow steps w.listed (trials w)
+
+-- what a window over so many steps that came to this replies
+abbrev pub window_reply : ℕ → Walked → Reply
+window_reply steps w = window_reply_by w.outcome steps w
+
+-- a window, and one that goes on: the current query is a window over these steps with so many trials
+abbrev pub traced : Plant → SessionState → ℕ → ℕ → Stepped
+traced plant state steps sum = record { state = record state { query = Window steps sum }; reply = window_reply steps (tracing plant state steps sum) }
+
+-- `window`: so many steps have to be kept
+abbrev pub look_back : Plant → SessionState → ℕ → Stepped
+look_back plant state steps = if has_steps state.history steps then traced plant state steps state.budget else unchanged state (Refused OutOfLimits)
+
 -- `recover`: some goal has to be held
 abbrev pub recover : Plant → SessionState → Stepped
 recover plant state = if nat_eq (length state.goals) 0 then unchanged state (Refused NoGoal) else recovered plant state state.budget
@@ -260,12 +295,17 @@ abbrev pub more_test_by : Outcome → Plant → SessionState → VarId → ℕ �
 more_test_by Settled plant state x sum = unchanged state (Refused NotUnsettled)
 more_test_by Unsettled plant state x sum = tested plant state x sum
 
+abbrev pub more_window_by : Outcome → Plant → SessionState → ℕ → ℕ → Stepped
+more_window_by Settled plant state steps sum = unchanged state (Refused NotUnsettled)
+more_window_by Unsettled plant state steps sum = traced plant state steps sum
+
 -- `more`: a query that isn't settled goes on with the sum of its trials
 abbrev pub more : Query → Plant → SessionState → ℕ → Stepped
 more Absent plant state n = unchanged state (Refused NotUnsettled)
 more (Diagnosis sum) plant state n = more_by (walked plant state sum).outcome plant state (sum + n)
 more (Recovery sum) plant state n = more_recovery_by (recovery plant state sum).outcome plant state (sum + n)
 more (Test x sum) plant state n = more_test_by (testing plant state x sum).outcome plant state x (sum + n)
+more (Window steps sum) plant state n = more_window_by (tracing plant state steps sum).outcome plant state steps (sum + n)
 
 -- `conflicts`: those that the current query kept
 abbrev pub conflicts : Query → Plant → SessionState → Stepped
@@ -273,6 +313,8 @@ conflicts Absent plant state = unchanged state (Refused NoQuery)
 conflicts (Diagnosis sum) plant state = unchanged state (ConflictsReply (walked plant state sum).kept (trials (walked plant state sum)))
 conflicts (Recovery sum) plant state = unchanged state (CommandConflicts (recovery plant state sum).kept (trials (recovery plant state sum)))
 conflicts (Test x sum) plant state = unchanged state (CommandConflicts (testing plant state x sum).kept (trials (testing plant state x sum)))
+conflicts (Window steps sum) plant state =
+    unchanged state (WindowConflicts (window_start state steps) (tracing plant state steps sum).kept (trials (tracing plant state steps sum)))
 
 -- with this outcome a query is settled
 abbrev pub is_settled_by : Outcome → Bool
@@ -285,6 +327,7 @@ is_settled Absent plant state = false
 is_settled (Diagnosis sum) plant state = is_settled_by (walked plant state sum).outcome
 is_settled (Recovery sum) plant state = is_settled_by (recovery plant state sum).outcome
 is_settled (Test x sum) plant state = is_settled_by (testing plant state x sum).outcome
+is_settled (Window steps sum) plant state = is_settled_by (tracing plant state steps sum).outcome
 
 -- a query is current
 abbrev pub is_asked : Query → Bool
@@ -292,6 +335,7 @@ is_asked Absent = false
 is_asked (Diagnosis sum) = true
 is_asked (Recovery sum) = true
 is_asked (Test x sum) = true
+is_asked (Window steps sum) = true
 
 -- a query is current that `more` goes on with
 abbrev pub is_unsettled : Plant → SessionState → Bool
@@ -324,12 +368,17 @@ abbrev pub commit_by : Outcome → Plant → SessionState → List Rank → Step
 commit_by Settled plant state listed = taken_over plant state listed
 commit_by Unsettled plant state listed = unchanged state (Refused NoQuery)
 
--- `commit`: a settled diagnosis that is current is taken over
+-- the last step of a trajectory, at what the whole cost: its last choices, one for each part
+abbrev pub last_step : Plant → Rank → Rank
+last_step plant r = record r { choices = drop (length r.choices - length plant.parts) r.choices }
+
+-- `commit`: a settled diagnosis that is current is taken over, and of a settled window what its trajectories led to
 abbrev pub commit : Query → Plant → SessionState → Stepped
 commit Absent plant state = unchanged state (Refused NoQuery)
 commit (Diagnosis sum) plant state = commit_by (walked plant state sum).outcome plant state (walked plant state sum).listed
 commit (Recovery sum) plant state = unchanged state (Refused NoQuery)
 commit (Test x sum) plant state = unchanged state (Refused NoQuery)
+commit (Window steps sum) plant state = commit_by (tracing plant state steps sum).outcome plant state (map (last_step plant) (tracing plant state steps sum).listed)
 
 -- `reset`
 abbrev pub reset : Plant → Stepped

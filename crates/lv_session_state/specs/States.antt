@@ -1,9 +1,8 @@
 -- What holds of the state of a session over a plant, whatever lines came.
-use Rattle.std.specs.Prelude.{ℕ, ◌+◌, ◌-◌, ◌≤◌, ◌*◌, ◌≡◌, nat_lt, if◌then◌else◌, List, [], ◌∷◌, length, All}
-use Rattle.lv_base.specs.declared.limits.TheConstants.{TRACKED, COMMITS, PARTS, FAULT_COST, OBSERVATIONS, GOALS}
+use Rattle.std.specs.Prelude.{ℕ, ◌+◌, ◌≤◌, ◌≡◌, List, length, All}
+use Rattle.lv_base.specs.declared.limits.TheConstants.{TRACKED, COMMITS, OBSERVATIONS, GOALS}
 use Rattle.lv_base.specs.declared.rank.Rank.{Rank}
 use Rattle.lv_model.specs.declared.plant.Plant.{Plant}
-use Rattle.lv_model.specs.declared.state.TrackedState.{TrackedState}
 use Rattle.lv_model.specs.Lists.{sizes, controls}
 use Rattle.lv_meaning.specs.Facts.{commanded, HasValue}
 use Rattle.lv_tracker.specs.Targets.{HasMoves}
@@ -12,45 +11,12 @@ use Rattle.lv_meaning.specs.Ranges.{StateFits}
 use Rattle.lv_session_request.specs.Forms.{IsUpTo}
 use Rattle.lv_session_request.specs.Goals.{IsGoalIn}
 use Rattle.lv_session_request.specs.Requests.{IsSightingIn}
-use Rattle.lv_session_state.specs.declared.history.Past.{Past}
-use Rattle.lv_session_state.specs.declared.history.TheConstants.{HISTORY}
+use Rattle.lv_session_history.specs.Pasts.{most_cost, StateCosts, IsHistoryOf}
 use Rattle.lv_session_state.specs.State.{SessionState}
 
--- what the faults of all parts cost at most in so many steps
-abbrev pub most_cost : ℕ → ℕ
-most_cost time = PARTS * FAULT_COST * time
-
--- the state costs no more than so many steps can
-pub record StateCosts (time : ℕ) (s : TrackedState) : Type 0 where
-  pub most : s.cost.0 ≤ most_cost time
-
--- the same of a candidate
+-- the candidate costs no more than so many steps can
 pub record RankCosts (time : ℕ) (r : Rank) : Type 0 where
   pub most : r.cost.0 ≤ most_cost time
-
--- what is kept of the commit at this time: the same as of the state before it
-pub record IsPastOf (plant : Plant) (time : ℕ) (p : Past) : Type 0 where
-  pub controls_whole : length p.controls ≡ length (controls plant)
-  pub values : All (HasValue (sizes plant)) (commanded (controls plant) p.controls)
-  pub modes : All (HasModes (length plant.parts)) p.tracked
-  pub fit : All (StateFits plant) p.tracked
-  pub costs : All (StateCosts time) p.tracked
-  pub observed : All (IsSightingIn plant) p.observed
-  pub few : length p.observed ≤ OBSERVATIONS
-
--- of the commits from this time on
-abbrev pub ArePastOf : Plant → ℕ → List Past → Type 0
-ArePastOf plant time [] = Unit {0}
-ArePastOf plant time (p ∷ ps) = IsPastOf plant time p × ArePastOf plant (time + 1) ps
-
--- of how many commits before this time something is kept
-abbrev pub kept_before : ℕ → ℕ
-kept_before time = if nat_lt time HISTORY then time else HISTORY
-
--- what is kept of the last commits before this time
-pub record IsHistoryOf (plant : Plant) (time : ℕ) (history : List Past) : Type 0 where
-  pub each : ArePastOf plant (time - length history) history
-  pub many : length history ≡ kept_before time
 
 -- there is a value for each control, which the control has, and a mode for each part in each tracked state, which the part's type has;
 -- a tracked state costs no more than the steps so far can; what was observed are values that observables have; the goals are formulas

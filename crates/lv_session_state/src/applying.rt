@@ -53,9 +53,11 @@ impl State {
                 Running::Recovery(run) => values_found(run),
                 Running::Diagnosis(_) => None,
                 Running::Test(_) => None,
+                Running::Window(_) => None,
                 Running::Nothing => None,
             },
             Query::Test(_, _) => None,
+            Query::Window(_, _) => None,
         }
     }
 

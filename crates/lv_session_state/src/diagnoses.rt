@@ -31,7 +31,7 @@ use lv_tracker::Tracked;
 use std::alloc::{AllocError, Global};
 
 /// Copies of ranks.
-fn copied_ranks(alloc: Global, ranks: &[Rank]) -> Result<Vec<Rank>, AllocError>
+pub(crate) fn copied_ranks(alloc: Global, ranks: &[Rank]) -> Result<Vec<Rank>, AllocError>
     ensures { IfOk result (λ out. out.items ≡ ranks.now) }
 {
     let mut out = Vec::new(alloc);

@@ -1,4 +1,4 @@
-//! The state of a session over a model, and what is asked of it: diagnoses, recoveries and tests.
+//! The state of a session over a model, and what is asked of it: diagnoses, recoveries, tests and windows.
 //!
 //! | file | what it is |
 //! |---|---|
@@ -8,13 +8,13 @@
 //! | `diagnoses` | diagnoses asked for, gone on with and taken over |
 //! | `recoveries` | recoveries asked for and gone on with |
 //! | `tests` | tests asked for and gone on with |
-//! | `history` | what is kept of the last commits |
-//! | `times` | the times that are kept, what is observed of each, and what is known of the last steps |
+//! | `windows` | windows of the last steps asked for, gone on with and taken over |
+//! | `times` | the times that are kept, and what is observed of each |
 //! | `applying` | the values that the current recovery gives the controls |
 //! | `queries` | the current query gone on with, shown and taken over, and whether it is settled |
 //! | `query` | the current query |
 //! | `running` | what is kept of it from line to line |
-//! | `laws` | what a settled test is |
+//! | `laws` | what a settled test is, and a settled window |
 //!
 //! What a request does is a function of the state: the state that it leads to, and the reply.
 #![tactic(auto)]
@@ -22,7 +22,6 @@
 mod applying;
 mod diagnoses;
 mod goals;
-pub mod history;
 pub mod laws;
 mod observations;
 mod queries;
@@ -32,17 +31,18 @@ pub mod running;
 pub mod state;
 mod tests;
 mod times;
+mod windows;
 
 pub use applying::values_of;
 pub use goals::texts_of;
-pub use history::{History, Past};
 pub use lv_ident::QueryEffort;
 pub use lv_meaning::Facts;
 pub use lv_model_names::Lists;
+pub use lv_session_history::{History, Past};
 pub use lv_session_request::{
     Command, Goal, Held, Request, Retraction, Sighting, Unread, request_of,
 };
 pub use lv_system::{StepSystem, compile};
 pub use query::Query;
-pub use running::{Diagnosed, Recovering, Running, Testing};
+pub use running::{Diagnosed, Recovering, Running, Testing, Tracing};
 pub use state::State;

@@ -14,4 +14,6 @@ pub enum Query {
     Recovery(u64),
     /// A test of an observable, with the trials that it may make, those that were added to it included.
     Test(VarId, u64),
+    /// A window over so many steps, with the trials that it may make, those that were added to it included.
+    Window(u32, u64),
 }

@@ -4,6 +4,7 @@
 use lv_ident::{Query, QueryEffort};
 use lv_reconf::{Query as RecoveryQuery, TestQuery};
 use lv_search_walk::Outcome;
+use lv_window_query::WindowQuery;
 
 /// A diagnosis that has run: its search, and what its last run came to.
 #[derive(Drop)]
@@ -26,6 +27,13 @@ pub struct Testing<'a> {
     pub outcome: Outcome,
 }
 
+/// A window that has run: its search, and what its last run came to.
+#[derive(Drop)]
+pub struct Tracing<'a> {
+    pub query: WindowQuery<'a>,
+    pub outcome: Outcome,
+}
+
 /// What is kept of the current query, in a box, so that whoever holds it holds little. Where no query is current, what is
 /// kept means nothing.
 #[derive(Drop)]
@@ -34,6 +42,7 @@ pub enum Running<'a> {
     Diagnosis(Box<Diagnosed<'a>>),
     Recovery(Box<Recovering<'a>>),
     Test(Box<Testing<'a>>),
+    Window(Box<Tracing<'a>>),
 }
 
 impl Running<'_> {
@@ -41,7 +50,7 @@ impl Running<'_> {
     pub fn effort(&self) -> Option<QueryEffort> {
         match self {
             Running::Diagnosis(run) => Some(run.query.effort()),
-            Running::Recovery(_) | Running::Test(_) | Running::Nothing => None,
+            Running::Recovery(_) | Running::Test(_) | Running::Window(_) | Running::Nothing => None,
         }
     }
 }

@@ -5,15 +5,15 @@ ghost use Rattle.std.specs.Prelude.{◌≡◌, ◌+◌, ◌<◌, ◌++◌, [], �
 ghost use Rattle.lv_base.specs.declared.limits.TheConstants.{COMMITS};
 ghost use Rattle.lv_session_state.specs.State.{start, resting, past_of, cleared, track, set_budget, set_control, release, commanded, reset, quit};
 ghost use Rattle.lv_reply.specs.declared.reply.Reply.TheVariants.{States};
-ghost use Rattle.lv_session_state.specs.History.{with_room};
+ghost use Rattle.lv_session_history.specs.History.{with_room};
 ghost use Rattle.lv_session_state.specs.declared.query.Query.TheVariants.{Absent};
 
-use crate::history::{History, Past};
 use crate::query::Query;
 use lv_base::limits::{LISTED, TRIALS};
 use lv_base::{Seq, ValId};
 use lv_model::Model;
 use lv_reply::Reply;
+use lv_session_history::{History, Past};
 use lv_session_request::{Command, Goal, Held};
 use lv_tracker::{Tracked, copies_of};
 use std::alloc::{AllocError, Global};

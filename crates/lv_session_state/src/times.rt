@@ -1,17 +1,13 @@
-//! The times that a session keeps: what is observed of each, and what is known of the last steps.
+//! The times that a session keeps, and what is observed of each.
 #![tactic(auto)]
 
-ghost use Rattle.std.specs.Prelude.{◌≡◌, ◌≤◌, IfOk};
+ghost use Rattle.std.specs.Prelude.{◌≡◌, ◌≤◌};
 ghost use Rattle.lv_base.specs.declared.limits.TheConstants.{COMMITS};
-ghost use Rattle.lv_session_state.specs.Times.{first_time, is_kept, is_held_of, without_of, retract_at, has_steps, commits_in, observed_before, facts_on, window_base, window_facts};
+ghost use Rattle.lv_session_state.specs.Times.{first_time, is_kept, is_held_of, without_of, retract_at};
 
-use crate::history::Past;
 use crate::state::State;
-use lv_meaning::Facts;
 use lv_reply::{Refusal, Reply};
-use lv_session_request::{Held, Retraction, facts};
-use lv_tracker::Tracked;
-use std::alloc::{AllocError, Global};
+use lv_session_request::Retraction;
 
 impl State {
     /// The time of the oldest commit that is kept.
@@ -73,65 +69,5 @@ impl State {
         }
         self.take_out_of(time, name);
         self.cleared()
-    }
-
-    /// Whether so many steps are kept, with the one that isn't committed.
-    pub fn has_steps(&self, steps: u32) -> bool
-        ensures { result ≡ has_steps self.now steps }
-    {
-        u64::from(steps) <= self.history.len() as u64 + 1
-    }
-
-    /// The commits among the last so many steps, the oldest first.
-    fn commits_in(&self, steps: u32) -> &[Past]
-        requires { 1 ≤ steps }
-        ensures { result.now ≡ commits_in self.now steps }
-    {
-        let first = (self.history.len() + 1).saturating_sub(steps as usize);
-        &self.history.as_slice()[first..]
-    }
-
-    /// What is observed of the time before the first of these commits.
-    fn observed_before<'a>(&'a self, commits: &'a [Past]) -> &'a Held
-        ensures { result.now ≡ observed_before commits.now self.now }
-    {
-        match commits.first() {
-            Some(past) => &past.observed,
-            None => &self.present,
-        }
-    }
-
-    /// The tracked states that the last so many steps start from.
-    pub fn window_base(&self, steps: u32) -> &Tracked
-        requires { 1 ≤ steps }
-        ensures { result.now ≡ window_base self.now steps }
-    {
-        match self.commits_in(steps).first() {
-            Some(past) => &past.tracked,
-            None => &self.tracked,
-        }
-    }
-
-    /// What is known of the steps of these commits, and of the one behind them.
-    fn facts_on(&self, alloc: Global, commits: &[Past]) -> Result<Vec<Facts>, AllocError>
-        ensures { IfOk result (λ out. out.items ≡ facts_on commits.now self.now) }
-    {
-        let mut out = Vec::new(alloc);
-        let mut rest = commits;
-        while let Some((past, more)) = rest.split_first() {
-            let next = self.observed_before(more);
-            out.push(facts(alloc, past.controls.as_slice(), &past.observed, next)?)?;
-            rest = more;
-        }
-        out.push(self.facts(alloc)?)?;
-        Ok(out)
-    }
-
-    /// What is known of each of the last so many steps, the oldest first.
-    pub fn window_facts(&self, alloc: Global, steps: u32) -> Result<Vec<Facts>, AllocError>
-        requires { 1 ≤ steps }
-        ensures { IfOk result (λ out. out.items ≡ window_facts self.now steps) }
-    {
-        self.facts_on(alloc, self.commits_in(steps))
     }
 }

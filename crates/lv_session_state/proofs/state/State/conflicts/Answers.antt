@@ -5,11 +5,13 @@ use Rattle.lv_model.specs.WellFormed.{is_well_formed}
 use Rattle.lv_session_state.specs.declared.running.Diagnosed.{Diagnosed}
 use Rattle.lv_session_state.specs.declared.running.Recovering.{Recovering}
 use Rattle.lv_session_state.specs.declared.running.Testing.{Testing}
+use Rattle.lv_session_state.specs.declared.running.Tracing.{Tracing}
 use Rattle.lv_session_state.specs.State.{SessionState}
-use Rattle.lv_session_state.specs.Current.{IsDiagnosisAt, IsRecoveryAt, IsTestAt}
+use Rattle.lv_session_state.specs.Current.{IsDiagnosisAt, IsRecoveryAt, IsTestAt, IsTracingAt}
 use Rattle.lv_session_state.proofs.Asking.{listed_at, kept_is}
 use Rattle.lv_session_state.proofs.RecoveriesAsked.{few_at, kept_recovery}
 use Rattle.lv_session_state.proofs.TestsAsked.{few_at_test, kept_test}
+use Rattle.lv_session_state.proofs.WindowsAsked.{few_at_window, kept_window}
 use Rattle.lv_session_state.proofs.state.State.conflicts.Goals as goal
 
 pub diagnosis_conflicts-requires : goal.diagnosis_conflicts-requires
@@ -35,3 +37,12 @@ test_conflicts-requires c =
     let at = subst (λ (r : Testing). IsTestAt c.args.model.now c.args.self.now c.in-Test.field-0 c.in-Test.field-1 r) (sym c.deref-in-Test-running-3.ensures)
     (kept_test c.args.self.now.query c.args.model.now c.args.self.now c.args.running.now c.in-Test.field-0 c.in-Test.field-1 c.in-Test-running-3.run' query c.in-Test-running-3.is c.requires.running) in
     few_at_test c.args.model.now c.args.self.now c.in-Test.field-0 c.in-Test.field-1 c.deref-in-Test-running-3.result.now at
+
+-- and what a window lists
+pub window_conflicts-requires : goal.window_conflicts-requires
+window_conflicts-requires c =
+    let well : is_well_formed c.args.model.now ≡ true = subst (λ (p : Plant). is_well_formed p ≡ true) c.plant-plant.ensures.plant c.plant-plant.ensures.well_formed in
+    let query = ap (λ (s : SessionState). s.query) (sym c.self.view_is) ∙ c.in-Window.is in
+    let at = subst (λ (t : Tracing). IsTracingAt c.args.model.now c.args.self.now c.in-Window.field-0 c.in-Window.field-1 t) (sym c.deref-in-Window-running-4.ensures)
+    (kept_window c.args.self.now.query c.args.model.now c.args.self.now c.args.running.now c.in-Window.field-0 c.in-Window.field-1 c.in-Window-running-4.run' query c.in-Window-running-4.is c.requires.running) in
+    few_at_window c.args.model.now c.args.self.now c.in-Window.field-0 c.in-Window.field-1 c.deref-in-Window-running-4.result.now at well c.requires.state

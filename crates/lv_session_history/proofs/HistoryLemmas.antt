@@ -9,10 +9,10 @@ use Rattle.lv_model.specs.declared.plant.Plant.{Plant}
 use Rattle.lv_session_request.specs.declared.request.Sighting.{Sighting}
 use Rattle.lv_session_request.specs.Held.{lacks_name}
 use Rattle.lv_session_request.specs.Requests.{IsSightingIn}
-use Rattle.lv_session_state.specs.declared.history.Past.{Past}
-use Rattle.lv_session_state.specs.declared.history.TheConstants.{HISTORY}
-use Rattle.lv_session_state.specs.History.{with_room, without, without_in}
-use Rattle.lv_session_state.specs.States.{IsPastOf, ArePastOf, kept_before, IsHistoryOf}
+use Rattle.lv_session_history.specs.declared.history.Past.{Past}
+use Rattle.lv_session_history.specs.declared.history.TheConstants.{HISTORY}
+use Rattle.lv_session_history.specs.History.{with_room, without, without_in}
+use Rattle.lv_session_history.specs.Pasts.{IsPastOf, ArePastOf, kept_before, IsHistoryOf}
 
 -- without an observation
 

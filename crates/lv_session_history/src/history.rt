@@ -5,12 +5,13 @@
 //! | `History::new` | nothing is kept, and there is room for all that ever is |
 //! | `remember` | keeps one commit more; the oldest goes where there are as many as are kept |
 //! | `has`, `take_out` | whether an observation of a name is kept of a commit, and taking it out |
-//! | `as_slice`, `len` | what is kept, the oldest first |
+//! | `len` | how many commits are kept |
+//! | `has_steps`, `commits_in` | whether so many steps are kept, and the commits among them |
 #![tactic(auto)]
 
 ghost use Rattle.std.specs.Prelude.{◌≡◌, ◌≤◌, ◌++◌, [], ◌∷◌, length, IfOk};
-ghost use Rattle.lv_session_state.specs.declared.history.TheConstants.{HISTORY};
-ghost use Rattle.lv_session_state.specs.History.{with_room, is_held_in, without_in};
+ghost use Rattle.lv_session_history.specs.declared.history.TheConstants.{HISTORY};
+ghost use Rattle.lv_session_history.specs.History.{with_room, is_held_in, without_in, has_steps, commits_in};
 
 use lv_base::{Seq, ValId};
 use lv_session_request::Held;
@@ -39,8 +40,8 @@ pub struct History {
 impl Model for History {
     ghost use Rattle.std.specs.Prelude.{List};
     ghost use Rattle.std.specs.Vec.{vec_len, vec_capacity};
-    ghost use Rattle.lv_session_state.specs.declared.history.Past.{Past};
-    ghost use Rattle.lv_session_state.specs.Rooms.{IsRoomy};
+    ghost use Rattle.lv_session_history.specs.declared.history.Past.{Past};
+    ghost use Rattle.lv_session_history.specs.Rooms.{IsRoomy};
 
     ghost Value = { List Past };
 
@@ -69,19 +70,28 @@ impl History {
         self.past.push_reserved(past);
     }
 
-    /// What is kept, the oldest first.
-    pub fn as_slice(&self) -> &[Past]
-        ensures { result.now ≡ self.now }
-    {
-        self.past.as_slice()
-    }
-
     /// How many commits are kept.
     pub fn len(&self) -> usize
         ensures len { result ≡ length self.now }
         ensures few { result ≤ HISTORY }
     {
         self.past.len()
+    }
+
+    /// Whether so many steps are kept, with the one that isn't committed.
+    pub fn has_steps(&self, steps: u32) -> bool
+        ensures { result ≡ has_steps self.now steps }
+    {
+        steps as usize <= self.past.len() + 1
+    }
+
+    /// The commits among the last so many steps, the oldest first.
+    pub fn commits_in(&self, steps: u32) -> &[Past]
+        ensures { result.now ≡ commits_in self.now steps }
+    {
+        let older = (self.past.len() + 1).saturating_sub(steps as usize);
+        let first = older.min(self.past.len());
+        &self.past.as_slice()[first..]
     }
 
     /// Whether what is kept at this place has an observation of this name.

@@ -1,0 +1,4 @@
+pub mod History
+pub mod Rooms
+pub mod Steps
+pub mod Pasts
