@@ -84,7 +84,12 @@ fn push_moves(
 ) -> Result<(), AllocError>
     ensures { IfOk result (λ _. out.new.items ≡ out.old.items ++ moves_text plant.now choices.now) }
 {
-    let moves = shown_moves(alloc, plant.types.as_slice(), plant.parts.as_slice(), choices)?;
+    let moves = shown_moves(
+        alloc,
+        plant.types.as_slice(),
+        plant.parts.as_slice(),
+        choices,
+    )?;
     push_joined(out, moves.as_slice())
 }
 

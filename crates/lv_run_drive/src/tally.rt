@@ -74,10 +74,11 @@ impl Tally {
                 settled: self.settled + 1,
                 ..self.replied(0)
             },
-            Reply::Unsettled(_, _) | Reply::Undecided(_) | Reply::UnsettledWindow(_, _, _) => Tally {
-                unsettled: self.unsettled + 1,
-                ..self.replied(0)
-            },
+            Reply::Unsettled(_, _) | Reply::Undecided(_) | Reply::UnsettledWindow(_, _, _) =>
+                Tally {
+                    unsettled: self.unsettled + 1,
+                    ..self.replied(0)
+                },
             Reply::Conflicts(_, trials)
             | Reply::CommandConflicts(_, trials)
             | Reply::WindowConflicts(_, _, trials) => Tally {

@@ -31,7 +31,7 @@ window_settled plant state steps budget settled =
 one_step : (plant : Plant) (facts : Facts) (k budget : ℕ) (ranks : List Rank) → window_walk plant (facts ∷ []) k budget ranks ≡ diagnosis_walk plant facts k false budget ranks
 one_step plant facts k budget ranks =
     λ i. walk (λ (c : Candidate). one_step_possible plant facts (pairs_of c.choices) i)
-        (λ (c : Candidate). reduced (λ (ps : List Pair). one_step_possible plant facts ps i) [] (pairs_of c.choices)) k budget ranks
+    (λ (c : Candidate). reduced (λ (ps : List Pair). one_step_possible plant facts ps i) [] (pairs_of c.choices)) k budget ranks
 
 -- no commit is among the last step
 none_committed : (history : List Past) → commits_in history 1 ≡ []
@@ -41,7 +41,7 @@ pub one_step_walk : (plant : Plant) (state : SessionState) (budget : ℕ) → st
 unfolding tracing walked
 one_step_walk plant state budget repeats =
     ap (λ (ps : List Past). window_walk plant (facts_on ps state.present (facts_of state)) state.k budget
-        (trajectories plant (length (facts_on ps state.present (facts_of state))) (tracked_before ps state.tracked))) (none_committed state.history)
+    (trajectories plant (length (facts_on ps state.present (facts_of state))) (tracked_before ps state.tracked))) (none_committed state.history)
     ∙ one_step plant (facts_of state) state.k budget (trajectories plant 1 state.tracked)
     ∙ ap (λ (ranks : List Rank). diagnosis_walk plant (facts_of state) state.k false budget ranks) (one_step_entries plant state.tracked)
     ∙ ap (λ (d : Bool). diagnosis_walk plant (facts_of state) state.k d budget (candidates plant state.tracked)) (sym repeats)

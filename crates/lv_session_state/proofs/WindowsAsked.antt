@@ -199,8 +199,8 @@ module _ (plant : Plant) (state : SessionState) (h : is_well_formed plant ≡ tr
   unfolding tracing
   few_traced n =
       let few : length (tracing plant state steps n).listed ≤ state.k =
-          at_most none_alike (is_possible_trajectory plant (window_facts state steps)) (window_reason plant (window_facts state steps)) state.k n
-          (trajectories plant (length (window_facts state steps)) (window_base state steps)) [] [] (omega arith) in
+      at_most none_alike (is_possible_trajectory plant (window_facts state steps)) (window_reason plant (window_facts state steps)) state.k n
+      (trajectories plant (length (window_facts state steps)) (window_base state steps)) [] [] (omega arith) in
       let k = is.k.few in
       omega (arith, few, k)
 

@@ -65,11 +65,7 @@ fn window_conflicts(alloc: Global, first: u32, run: &Tracing<'_>) -> Result<Repl
     ensures { IfOk result (λ reply. reply ≡ WindowConflicts first (window_come_to run.now).kept (trials (window_come_to run.now))) }
 {
     let kept = copied_conflicts(alloc, run.query.conflicts())?;
-    Ok(Reply::WindowConflicts(
-        first,
-        Seq::from_vec(kept),
-        window_trials(run),
-    ))
+    Ok(Reply::WindowConflicts(first, Seq::from_vec(kept), window_trials(run)))
 }
 
 /// Whether a query with this outcome is settled.
