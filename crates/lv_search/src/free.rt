@@ -3,8 +3,7 @@
 //! other frontier leaves out whatever contains a known conflict as soon as that comes to its front.
 #![tactic(auto)]
 
-ghost use Rattle.std.specs.Prelude.{◌≡◌, true, List, IfOk, OnOk};
-ghost use Rattle.lv_base.specs.declared.rank.Rank.{Rank};
+ghost use Rattle.std.specs.Prelude.{◌≡◌, IfOk, OnOk};
 ghost use Rattle.lv_search.specs.Free.{free_of, left_free, known_in_first, IsFirstFree};
 
 use super::frontier::Frontier;

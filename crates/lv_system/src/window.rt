@@ -2,8 +2,7 @@
 //! of them.
 #![tactic(auto)]
 
-ghost use Rattle.std.specs.Prelude.{◌≡◌, ◌+◌, ◌<◌, ◌≤◌, ◌^◌, ◌++◌, IfOk, IsTrue, length, slice_get, Some, suc};
-ghost use Rattle.std.specs.List.{sum};
+ghost use Rattle.std.specs.Prelude.{◌≡◌, ◌<◌, ◌≤◌, IfOk, IsTrue, length, slice_get, Some, suc};
 ghost use Rattle.lv_model.specs.WellFormed.{is_well_formed};
 ghost use Rattle.lv_compile.specs.declared.windows.TheConstants.{WINDOW};
 ghost use Rattle.lv_compile.specs.Windows.{past_copies};
@@ -38,13 +37,14 @@ impl marker::Model for WindowSystem {
     ghost view = { λ s. record { set = s.set; copies = s.copies; choices = s.choices } };
 }
 
-/// The copies of the variables before the first of so many steps and after each, and the boolean behind them.
+/// Copies of the variables, one behind the other, and the boolean behind them.
 #[derive(Drop)]
 struct AllCopies {
     copies: Vec<ValueBools>,
     past: u32,
 }
 
+/// The copies of the variables before the first of so many steps and after each.
 fn all_copies(alloc: Global, plant: &Plant, steps: u32) -> Result<AllCopies, AllocError>
     requires well { IsTrue (is_well_formed plant.now) }
     requires few { steps ≤ WINDOW }
