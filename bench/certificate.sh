@@ -13,12 +13,18 @@ prepare "$@"
 
 # the most kilobytes that a check of this certificate over the model holds, which is to be valid
 held_by() {
-  python3 - "$program" "$1" "$2" <<'PY'
-import resource, subprocess, sys
-done = subprocess.run([sys.argv[1], "check", sys.argv[2], sys.argv[3]], capture_output=True)
-if done.stdout != b"valid\n":
-    sys.exit(f"not valid: {done.stdout!r}, status {done.returncode}")
-print(resource.getrusage(resource.RUSAGE_CHILDREN).ru_maxrss)
+  if ! "$program" check "$1" "$2" | grep -qx valid; then
+    echo 'not valid' >&2
+    exit 1
+  fi
+  # A small process measures, since what it begins has at least its own peak.
+  python3 -S - "$program" check "$1" "$2" <<'PY'
+import os, sys
+child = os.fork()
+if child == 0:
+    os.dup2(os.open(os.devnull, os.O_WRONLY), 1)
+    os.execv(sys.argv[1], sys.argv[1:])
+print(os.wait4(child, 0)[2].ru_maxrss)
 PY
 }
 

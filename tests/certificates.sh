@@ -24,6 +24,7 @@ judged() {
 # The worked certificates, and changed ones.
 judged 'the worked certificate' "$worked" '' valid
 judged 'line 11 without its last hint' "$worked" '11s/ 35 0$/ 0/' 'invalid 11'
+judged 'line 11 with its last hint twice' "$worked" '11s/ 35 0$/ 35 35 0/' 'invalid 11'
 judged 'without line 19' "$worked" 19d 'invalid 19'
 judged 'line 11 with its first hints swapped' "$worked" '11s/117 92/92 117/' 'invalid 11'
 judged 'a hint at the line itself' "$worked" '13s/.*/clause 0 118 0/' 'invalid 13'

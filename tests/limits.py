@@ -53,6 +53,38 @@ def clauses(laws_of_two):
     return text + "law p.mode = m\n" * laws_of_two
 
 
+def fan(count):
+    """So many parts that may break each by itself."""
+    text = "domain d a b\ntype t\nobservable x d\nmode good\nmode bad\nin good x = a\nin bad x = b\nfault good -> bad cost 1\nend\n"
+    return text + numbered(count, "part p", " t good")
+
+
+def chain():
+    """4,096 variables in 256 parts, of which all but the modes have one value."""
+    laws = "".join(f"law x{i} = x{i - 1}\n" for i in range(1, 15))
+    text = "domain d a b\ntype t\n" + numbered(15, "observable x", " d") + "mode m\n" + laws + "end\n" + numbered(256, "part p", " t m")
+    return text + "".join(f"law p{i}.x0 = p{i - 1}.x14\n" for i in range(1, 256))
+
+
+def refused_one_by_one():
+    """A chain of four parts with 32 moves each that carries nothing on, unless a part has come to a mode that none comes to. So each
+    of its 1,048,576 candidates is impossible, and for a reason of its own, since without any of its moves it wouldn't be."""
+    text = "domain bit off on\ntype t\nvariable s bit\nobservable t bit\nmode ok\nmode worn\nmode wild\n"
+    text += "in ok t = s\nin worn t = s\nin wild t = on\n" + "".join(f"fault ok -> worn cost {i}\n" for i in range(1, 32)) + "end\n"
+    return text + numbered(4, "part p", " t ok") + "law p0.s = off\n" + "".join(f"law p{i}.s = p{i - 1}.t\n" for i in range(1, 4))
+
+
+def wide():
+    """A part with 24 observables, of which the first two are known."""
+    return "domain d a b\ntype t\n" + numbered(24, "observable x", " d") + "mode m\nin m x0 = a & x1 = a\nend\npart p t m\n"
+
+
+def large_goal(turned):
+    """A goal of 4,096 clauses, of 12 literals each: one of twelve pairs is as the first two are known to be."""
+    pairs = [(2 * (i + turned) % 24, 2 * (i + turned) % 24 + 1) for i in range(12)]
+    return f"goal g{turned} " + "|".join(f"(p.x{x}=a&p.x{y}=a)" for x, y in pairs) + "\n"
+
+
 def filled(front, size, line):
     """The front with lines behind it, to so many bytes."""
     room = size - len(front)
@@ -60,6 +92,9 @@ def filled(front, size, line):
 
 
 # Certificates.
+
+# In the place of a text: the certificate that the run before wrote.
+WRITTEN = None
 
 
 def certificate(**changed):
@@ -80,8 +115,8 @@ def rows():
     def model(name, text, verdict=None):
         return name, ["run", text, b""], 3 if verdict else 0, verdict or "", ""
 
-    def check(name, text, status, last, err=""):
-        return name, ["check", VALVE, text], status, err, last
+    def check(name, text, status, last, err="", model=VALVE):
+        return name, ["check", model, text], status, err, last
 
     flow = "v.out = zero\n"
     yield model("256 parts", parts(256))
@@ -104,10 +139,18 @@ def rows():
     yield run("65 goals", numbered(65, "goal g", " " + flow.strip()), "error S14")
     yield run("k 64", "track 64\n", "ok")
     yield run("k 65", "track 65\n", "error S09")
+    states = "track 64\ndiagnose\ncommit\ndiagnose\n"
+    yield run("64 candidates from 64 states of 256 parts", states, "64 cost 1 from 1: p193 good>bad #1", model=fan(256))
+    yield run("a certificate of that, written", states + "certificate\n", "end", model=fan(256))
+    yield check("that, checked", WRITTEN, 0, "valid", model=fan(256))
+    yield run("labels of 4,096 variables in a chain", "observe o p0.x0 = b\nlabels\n", "next p255.x14 = b", model=chain())
+    yield run("64 goals of 4,096 clauses", "".join(map(large_goal, range(64))) + "recover\n", "recovery cost 0: -", model=wide())
     yield run("a budget of 1,000,000", "budget 1000000\n", "ok")
     yield run("a budget of 1,000,001", "budget 1000001\n", "error S09")
     unsettled = "budget 1\nobserve o v.out = zero\ncommand v.cmd = open\ndiagnose\n"
     yield run("1,000,000 trials more", unsettled + "more 1000000\n", "1 cost 3 from 1: v closed>stuck_closed #3")
+    tries = "budget 20000\nobserve o p3.t = on\ndiagnose\n"
+    yield run("20,000 trials, each refused for a reason of its own", tries, "unsettled 0 trials 20000", model=refused_one_by_one())
     yield run("1,000,001 trials more", unsettled + "more 1000001\n", "error S09")
     yield run("a name of 64 bytes", "observe " + "n" * 64 + " " + flow, "ok")
     yield run("a name of 65 bytes", "observe " + "n" * 65 + " " + flow, "error S14")
@@ -158,10 +201,12 @@ def measured(words):
 
 def main(program):
     failed = count = 0
+    out = b""
     with tempfile.TemporaryDirectory() as folder:
         for name, (word, *texts), status, line, last in rows():
             files = []
             for i, text in enumerate(texts):
+                text = out[out.index(b"certificate ") :] if text is WRITTEN else text
                 files.append(os.path.join(folder, f"file{i}"))
                 with open(files[-1], "wb") as file:
                     file.write(text if isinstance(text, bytes) else text.encode())
