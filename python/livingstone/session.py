@@ -207,7 +207,8 @@ class Session:
     def in_slices(
         self, word: str, slice_: int, budget: int, progress: Progress
     ) -> Union[Diagnosis, Recovery, Refusal]:
-        """A `diagnose`, a `recover` or, with `more`, the current query, in slices of so many trials up to a budget.
+        """A `diagnose`, `window W` or `recover`, or with `more` the current query, in slices of so many trials up to a
+        budget.
 
         Behind each slice `progress` is told the trials made and those allowed. An interrupt between slices or in one
         leaves the session usable, with the query as far as it came. The session's own budget is that of a slice
