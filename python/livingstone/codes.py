@@ -30,16 +30,17 @@ _CODES: Dict[str, Tuple[str, str]] = {
             "variables"),
     "M15": ("the text has no part", "declare one: part NAME TYPE MODE"),
     "S01": ("the first word is none of a session's", "words: track budget command release observe retract goal drop "
-            "diagnose recover more conflicts certificate commit labels states reset quit probe test"),
+            "diagnose window recover more conflicts certificate commit labels states reset quit probe test"),
     "S02": ("the line has not the form of its word", "as in: command P.C = V, observe NAME P.O = V, goal NAME FORMULA"),
     "S03": ("there is no such part, or it has no such variable", ""),
     "S04": ("the variable is no control", "only controls are commanded and released"),
     "S05": ("the variable is no observable", "only observables are observed"),
     "S06": ("the variable has no such value", ""),
     "S07": ("that name is in use", "retract or drop the old one first"),
-    "S08": ("nothing of that name is held", "a commit takes observations before the last step away"),
+    "S08": ("nothing of that name is held", "behind the next commit but one an observation is held with its time alone: retract "
+            "NAME at S"),
     "S09": ("the number is outside its limits", "track 1 to 64, budget and more 1 to 1,000,000, labels up to the "
-            "number of tracked states"),
+            "number of tracked states, window up to 4 and the number of commits and 1, retract's time from three commits back"),
     "S10": ("no query is current that this word could take", "diagnose or recover first; what changes the question "
             "takes the query away"),
     "S11": ("no unsettled query is current", "only a query that used up its trials goes on"),

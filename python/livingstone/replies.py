@@ -21,15 +21,18 @@ class Move:
     source: str
     target: str
     number: Optional[int]
+    # In the conflicts of a window: the time that its step goes from.
+    time: Optional[int] = None
 
     @property
     def is_stay(self) -> bool:
         return self.number is None
 
     def __str__(self) -> str:
+        when = "" if self.time is None else f"at {self.time} "
         if self.number is None:
-            return f"{self.part} {self.source} stay"
-        return f"{self.part} {self.source}>{self.target} #{self.number}"
+            return f"{when}{self.part} {self.source} stay"
+        return f"{when}{self.part} {self.source}>{self.target} #{self.number}"
 
 
 @dataclass(frozen=True)
@@ -45,12 +48,14 @@ class Setting:
 
 @dataclass(frozen=True)
 class Candidate:
-    """A transition of the plant from a tracked state; the parts that aren't among its moves stay."""
+    """A transition of the plant from a tracked state; the parts that aren't among its moves stay. Of a window of several
+    steps `moves` are those of the first, and `later` those of each step behind it."""
 
     number: int
     cost: int
     source: int
     moves: Tuple[Move, ...]
+    later: Tuple[Tuple[Move, ...], ...] = ()
 
 
 @dataclass(frozen=True)
@@ -71,6 +76,11 @@ class Label:
     value: str
 
 
+def _told(pairs: List[Tuple[str, Any]]) -> Dict[str, Any]:
+    """What a window alone tells is left out elsewhere."""
+    return {name: value for name, value in pairs if (name, value) not in (("time", None), ("later", ()))}
+
+
 @dataclass(frozen=True)
 class Reply:
     """A reply; `text` is what the program wrote, without the last line feed."""
@@ -78,7 +88,7 @@ class Reply:
     text: str
 
     def to_dict(self) -> Dict[str, Any]:
-        return {"reply": type(self).__name__.lower(), **dataclasses.asdict(self)}
+        return {"reply": type(self).__name__.lower(), **dataclasses.asdict(self, dict_factory=_told)}
 
     def to_json(self) -> str:
         return json.dumps(self.to_dict())
@@ -252,7 +262,8 @@ def _diagnosis(text: str, head: List[str], rest: List[str]) -> Diagnosis:
 def _candidate(line: str) -> Candidate:
     match = _matched(r"(\d+) cost (\d+) from (\d+): (.+)", line)
     number, cost, source = (int(match.group(place)) for place in (1, 2, 3))
-    return Candidate(number, cost, source, tuple(_move(item) for item in _items(match.group(4))))
+    first, *later = (tuple(_move(item) for item in _items(step)) for step in match.group(4).split(" ; "))
+    return Candidate(number, cost, source, first, tuple(later))
 
 
 def _matched(pattern: str, line: str) -> "re.Match[str]":
@@ -267,13 +278,12 @@ def _items(text: str) -> List[str]:
 
 
 def _move(item: str) -> Move:
-    part, change, last = item.split(" ")
-    if last == "stay":
-        return Move(part, change, change, None)
-    source, target = change.split(">")
-    if not last.startswith("#"):
-        raise ValueError(item)
-    return Move(part, source, target, int(last[1:]))
+    match = _matched(r"(?:at (\d+) )?(\w+) (?:(\w+) stay|(\w+)>(\w+) #(\d+))", item)
+    time, part, mode, source, target, number = match.groups()
+    when = None if time is None else int(time)
+    if mode is not None:
+        return Move(part, mode, mode, None, when)
+    return Move(part, source, target, int(number), when)
 
 
 def _setting(item: str) -> Setting:

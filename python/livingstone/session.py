@@ -175,8 +175,9 @@ class Session:
         """After the step to come, the observable was seen to have that value."""
         self._expect(f"observe {name} {observable} = {value}", Accepted)
 
-    def retract(self, name: str) -> None:
-        self._expect(f"retract {name}", Accepted)
+    def retract(self, name: str, time: Optional[int] = None) -> None:
+        """Takes an observation out: a present or next one, or the one of that time."""
+        self._expect(f"retract {name}" if time is None else f"retract {name} at {time}", Accepted)
 
     def goal(self, name: str, formula: str) -> None:
         self._expect(f"goal {name} {formula}", Accepted)
@@ -188,6 +189,10 @@ class Session:
 
     def diagnose(self) -> Diagnosis:
         return self._expect("diagnose", Diagnosis)
+
+    def window(self, steps: int) -> Diagnosis:
+        """The likeliest trajectories of so many steps, 1 to 4, of which the step to come is the last."""
+        return self._expect(f"window {steps}", Diagnosis)
 
     def recover(self) -> Recovery:
         return self._expect("recover", Recovery)
@@ -202,7 +207,8 @@ class Session:
     def in_slices(
         self, word: str, slice_: int, budget: int, progress: Progress
     ) -> Union[Diagnosis, Recovery, Refusal]:
-        """A `diagnose`, a `recover` or, with `more`, the current query, in slices of so many trials up to a budget.
+        """A `diagnose`, `window W` or `recover`, or with `more` the current query, in slices of so many trials up to a
+        budget.
 
         Behind each slice `progress` is told the trials made and those allowed. An interrupt between slices or in one
         leaves the session usable, with the query as far as it came. The session's own budget is that of a slice

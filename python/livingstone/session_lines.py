@@ -18,10 +18,11 @@ FORMS: Dict[str, Tuple[str, ...]] = {
     "command": (*_PATH, "=", "word"),
     "release": _PATH,
     "observe": ("own", *_PATH, "=", "word"),
-    "retract": ("own",),
+    "retract": ("own", "time?"),
     "goal": ("own", "formula"),
     "drop": ("own",),
     "diagnose": (),
+    "window": ("number",),
     "recover": (),
     "more": ("number",),
     "conflicts": (),
@@ -68,6 +69,8 @@ def _fault_index(plant: Optional[Plant], found: List[Token], code: str) -> int:
         statement = read_line(found)
     except (FormFault, IndexError) as fault:
         return fault.index if isinstance(fault, FormFault) else 0
+    if code == "S09" and statement.word == "retract":
+        return len(found) - 1
     if code in ("S07", "S08", "S09", "S14"):
         return min(1, len(found) - 1)
     if statement.formula is not None and plant is not None:

@@ -166,6 +166,10 @@ def read_item(reader: Reader, item: str, statement: Statement) -> Optional[Token
             reader.expect("when")
         statement.formula_index = reader.index
         statement.formula = reader.formula()
+    elif item == "time?":
+        if reader.index < len(reader.tokens):
+            reader.expect("at")
+            return reader.take("number")
     elif item == "distinct?":
         if reader.index < len(reader.tokens):
             reader.expect("distinct")

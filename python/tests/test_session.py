@@ -29,6 +29,7 @@ from livingstone import (
     Setting,
     Silence,
 )
+from livingstone.history import Held
 from livingstone.replies import parse_reply
 from livingstone.transport import PipeTransport
 
@@ -147,6 +148,29 @@ class Replies(unittest.TestCase):
         resting = parse_reply("recover", "recovery cost 0: -")
         assert isinstance(resting, Recovery)
         self.assertEqual((resting.cost, resting.settings), (0, ()))
+
+    def test_the_reply_of_a_window(self) -> None:
+        text = "settled 2\n1 cost 0 from 1: v closed>open #1 ; -\n2 cost 5 from 1: v closed>open #1 ; v open>stuck_open #4"
+        reply = parse_reply("window 2", text)
+        opens, sticks = Move("v", "closed", "open", 1), Move("v", "open", "stuck_open", 4)
+        self.assertEqual(reply, Diagnosis(text, True, (Candidate(1, 0, 1, (opens,), ((),)), Candidate(2, 5, 1, (opens,), ((sticks,),)))))
+        text = "conflicts 2 trials 3\n1: at 1 v open>closed #2\n2: at 0 v closed stay, at 1 v closed stay"
+        reply = parse_reply("conflicts", text)
+        stays = (Move("v", "closed", "closed", None, 0), Move("v", "closed", "closed", None, 1))
+        self.assertEqual(reply, Conflicts(text, 3, ((Move("v", "open", "closed", 2, 1),), stays)))
+        self.assertEqual(str(stays[1]), "at 1 v closed stay")
+
+    def test_what_is_held_when_an_earlier_observation_goes(self) -> None:
+        held = Held()
+        for number, (line, reply) in enumerate([
+            ("observe a v.out = zero", "ok"), ("commit", "time 1 tracked 1"), ("observe b v.out = zero", "ok"), ("commit", "time 2 tracked 1"),
+            ("observe a v.out = some", "ok"), ("retract a at 1", "ok"),
+        ], 1):
+            held.take(number, line.encode(), parse_reply(line, reply))
+        self.assertEqual(sorted(held.observations), ["a", "b"])
+        held.take(7, b"retract b at 2", parse_reply("retract", "ok"))
+        held.take(8, b"retract a at 3", parse_reply("retract", "ok"))
+        self.assertEqual(held.observations, {})
 
     def test_no_form(self) -> None:
         for text in ("", "okay", "settled 2\n1 cost 0 from 1: -", "settled x", "1 cost", "labels 1\nthen a = b",

@@ -10,7 +10,7 @@ syntax match lvSessionOperator '<=>\|=>\|->\|[=!&|().]'
 syntax match lvSessionNumber '[0-9]\+\ze\%([^0-9A-Za-z_]\|$\)'
 syntax match lvSessionConstant '\<\%(true\|false\|mode\)\>'
 syntax match lvSessionError '^\s*[A-Za-z_][A-Za-z0-9_]*'
-syntax match lvSessionWord '^\s*\%(track\|budget\|command\|release\|observe\|retract\|goal\|drop\|diagnose\|recover\|more\|conflicts\|certificate\|commit\|labels\|states\|reset\|quit\|probe\|test\)\>'
+syntax match lvSessionWord '^\s*\%(track\|budget\|command\|release\|observe\|retract\|goal\|drop\|diagnose\|recover\|more\|conflicts\|certificate\|commit\|labels\|states\|reset\|quit\|probe\|test\|window\)\>'
 syntax match lvSessionComment '#.*$'
 
 highlight default link lvSessionError Error

@@ -1,5 +1,5 @@
 """A session at the terminal: line editing, a history that is kept, completion of words and of the model's names, each
-refusal with its meaning. A long diagnosis or recovery is made in slices with a bar, and an interrupt stops it where it
+refusal with its meaning. A long diagnosis, window or recovery is made in slices with a bar, and an interrupt stops it where it
 is: `more B` goes on. `help` tells the words, and the end of the input or `quit` ends the session."""
 
 from __future__ import annotations
@@ -85,8 +85,8 @@ class Console:
         """A line's reply; queries are made in slices."""
         word = first_word(line.encode("utf-8", "replace"))
         plain = line.split("#")[0].split()
-        if plain in (["diagnose"], ["recover"]):
-            return self.session.in_slices(plain[0], self.slice, self.budget, self.progress)
+        if plain in (["diagnose"], ["recover"]) or (word == "window" and len(plain) == 2):
+            return self.session.in_slices(" ".join(plain), self.slice, self.budget, self.progress)
         more = re.fullmatch(r"more\s+0*([0-9]{1,7})", line.split("#")[0].strip())
         if more and 1 <= int(more.group(1)) <= 1_000_000:
             return self.session.in_slices("more", self.slice, int(more.group(1)), self.progress)

@@ -138,7 +138,8 @@ def _part(item: Any) -> str:
 
 
 def _colour_moves(plant: Plant, boxes: Dict[str, Box], shown: Candidate) -> None:
-    for move in shown.moves:
+    # Of a window the last step is shown, which is the one to come.
+    for move in (shown.moves, *shown.later)[-1]:
         box = boxes[move.part]
         box.lines = [f"{move.source} > {move.target}"]
         shown_as = (move.number, move.source, move.target)
