@@ -2,6 +2,7 @@ pub mod Free
 pub mod Boxes
 pub mod Cheapest
 pub mod Lowest
+pub mod First
 pub mod Narrow
 pub mod Prices
 pub mod Dear

@@ -5,8 +5,9 @@ ghost use Rattle.std.specs.Prelude.{◌≡◌, ◌+◌, ◌*◌, ◌≤◌, IfOk
 ghost use Rattle.lv_search_guide.specs.Free.{LeastFreeTells};
 ghost use Rattle.lv_search_guide.specs.Lowest.{LowestTells};
 
+use super::behind::drop_behind;
 use super::cheapest::cheapest;
-use super::look::{ABOVE_ALL, Member};
+use super::look::{ABOVE_ALL, Looked, Member, look};
 use super::lowest::lowest;
 use super::masks::Masks;
 use super::narrow::narrow;
@@ -45,11 +46,29 @@ fn first_in(
     if !narrow(conflicts, &mut masks) {
         return Ok(None);
     }
+    drop_behind(alloc, grid, conflicts, &mut masks)?;
     first_left(alloc, grid, conflicts, &masks)
 }
 
 /// As `first_in`, of a box from which nothing more can be taken out.
 fn first_left(
+    alloc: Global,
+    grid: &Grid,
+    conflicts: &[Conflict],
+    masks: &Masks,
+) -> Result<Option<Member>, AllocError>
+    ensures first { IfOk result (λ first. LowestTells grid.now conflicts.now masks.now first) }
+    ensures bound { IfOk result (λ first. IfSome first (λ member. member.cost ≤ 4096 * 1000000)) }
+{
+    match look(alloc, grid, conflicts, masks, ABOVE_ALL)? {
+        Looked::Nothing => Ok(None),
+        Looked::Found(member) => Ok(Some(member)),
+        Looked::Splits(_) => first_found(alloc, grid, conflicts, masks),
+    }
+}
+
+/// As `first_in`, of a box whose first member contains a conflict: it is searched for.
+fn first_found(
     alloc: Global,
     grid: &Grid,
     conflicts: &[Conflict],
