@@ -2,7 +2,8 @@
 use Rattle.std.proofs.Common.{◌≡◌, ◌≢◌, ℕ, zero, suc, ◌+◌, ◌<◌, ◌≤◌, Bool, true, false, not, nat_lt, nat_eq, ◌&&◌, ◌||◌, List, [], ◌∷◌, length, cond, Option, Some, None, ◌⊎◌, inl, inr, refl, sym, ◌∙◌, ap, subst, arith}
 use Rattle.std.specs.Prelude.{slice_index, slice_index_or, slice_set, sum}
 use Rattle.std.proofs.lemmas.Bool.{and_from, and_parts, eq-eqb, eqb-true, lt-ltb, ltb-true, false_from_ne_true, cases_eq, cases_lt}
-use Rattle.std.proofs.lemmas.List.{set-get_or, get_or_past, get_or-set_same}
+use Rattle.std.proofs.lemmas.Nat.Bits.{bit_at_above}
+use Rattle.std.proofs.lemmas.List.{set-get_or, get_or_past}
 use Rattle.lv_base.specs.declared.ids.Cost.{Cost}
 use Rattle.lv_base.specs.declared.search.Pair.{Pair}
 use Rattle.lv_base.specs.Order.{comes_before}
@@ -163,6 +164,9 @@ module _ (slots : List (List Cost)) (conflicts : List (List Pair)) (masks loose 
   abbrev put : List ℕ → List ℕ
   put choices = slice_set choices s k.first
 
+  has_none : (c : ℕ) → has_choice 0 c ≡ false
+  has_none c = rw (bit_at_above 0 0 c (omega arith) (omega arith)) refl
+
   has_loose : has_left loose (record { slot = s; choice = k.first }) ≡ true
   has_loose = and_from (nat_lt s (length loose)) (has_choice (slice_index loose s) k.first) (by (cases_lt s (length loose))) k.is.loose_too
     where
@@ -172,9 +176,6 @@ module _ (slots : List (List Cost)) (conflicts : List (List Pair)) (masks loose 
           let none : slice_index loose s ≡ 0 = get_or_past loose s 0 past in
           let has : has_choice 0 k.first ≡ true = subst (λ (n : ℕ). has_choice n k.first ≡ true) none k.is.loose_too in
           absurd (clash (has_choice 0 k.first) has (has_none k.first))
-      where
-        has_none : (c : ℕ) → has_choice 0 c ≡ false
-        has_none c = grind arith
 
   stands_in : (choices : List ℕ) → is_free slots conflicts masks choices ≡ true → StandsIn slots conflicts new choices
   stands_in choices free = by (has_choice kept (slice_index choices s)) refl
@@ -249,6 +250,21 @@ loose_now slots conflicts old new loose false t are = subst (λ (ms : List ℕ).
 pub drops_slot : (slots : List (List Cost)) (conflicts : List (List Pair)) (old mid new loose : List ℕ) (changed more : Bool) → AreLoose conflicts old loose → DropsTells slots conflicts old mid changed
     → (AreLoose conflicts mid loose → DropsTells slots conflicts mid new more) → DropsTells slots conflicts old new (changed || more)
 drops_slot slots conflicts old mid new loose changed more are t step = drops_after slots conflicts old mid new changed more t (step (loose_now slots conflicts old mid loose changed t are))
+
+-- the same of what was read and what was written
+pub slot_drops : (slots : List (List Cost)) (conflicts : List (List Pair)) (masks loose : List ℕ) (s : ℕ) (costs : List Cost) (word mask kept : ℕ) (new : List ℕ) → s < length slots → slice_index_or slots s [] ≡ costs
+    → word ≡ slice_index loose s → mask ≡ slice_index masks s → AreLoose conflicts masks loose → IsKeptLoose costs word mask kept → kept ≢ mask → new ≡ slice_set masks s kept → KeepsFirstOfLess slots conflicts masks new
+slot_drops slots conflicts masks loose s costs word mask kept new within row word_is mask_is are k other new_is =
+    subst (λ (ms : List ℕ). KeepsFirstOfLess slots conflicts masks ms) (sym new_is)
+    (kept_drops slots conflicts masks loose s kept within are
+    (subst (λ (cs : List Cost). IsKeptLoose cs (slice_index loose s) (slice_index masks s) kept) (sym row)
+    (subst (λ (n : ℕ). IsKeptLoose costs n (slice_index masks s) kept) word_is (subst (λ (n : ℕ). IsKeptLoose costs word n kept) mask_is k)))
+    (λ e. other (e ∙ sym mask_is)))
+
+pub drops_slot_by : (slots : List (List Cost)) (conflicts : List (List Pair)) (old mid new loose : List ℕ) (changed more now : Bool) → now ≡ (changed || more) → AreLoose conflicts old loose
+    → DropsTells slots conflicts old mid changed → (AreLoose conflicts mid loose → DropsTells slots conflicts mid new more) → DropsTells slots conflicts old new now
+drops_slot_by slots conflicts old mid new loose changed more now is are t step =
+    subst (DropsTells slots conflicts old new) (sym is) (drops_slot slots conflicts old mid new loose changed more are t step)
 
 -- of a slot's choices
 pub kept_begins : (costs : List Cost) (first mask : ℕ) → has_choice mask first ≡ true → IsKeptBefore costs first mask mask

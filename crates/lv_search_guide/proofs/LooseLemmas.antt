@@ -128,7 +128,7 @@ none_bound masks loose = record { stays = λ slots choices p h left free. refl }
 module _ (conflicts : List (List Pair)) (pairs : List Pair) (masks old new : List ℕ) (are : AreLoose conflicts masks old) where
   bound_by : ((p : Pair) → has_left new p ≡ true → has_left old p ≡ true)
       → ((slots : List (List Cost)) (choices : List ℕ) (p : Pair) → has_left new p ≡ true → are_left slots masks (slice_set choices p.slot p.choice) ≡ true → contains_all (slice_set choices p.slot p.choice) pairs ≡ true
-          → contains_all choices pairs ≡ true)
+      → contains_all choices pairs ≡ true)
       → AreLoose (conflicts ++ pairs ∷ []) masks new
   bound_by inside before = record { stays = stays }
     where
@@ -140,7 +140,7 @@ module _ (conflicts : List (List Pair)) (pairs : List Pair) (masks old new : Lis
           let put : List ℕ = slice_set choices p.slot p.choice in
           list_any-append (contains_all put) conflicts (pairs ∷ [])
           ∙ (λ i. are.stays slots choices p (inside p h) left parts.0 i
-              || (false_from_ne_true (contains_all put pairs) (λ has. clash (contains_all choices pairs) (before slots choices p h left has) last.0) i || false))
+          || (false_from_ne_true (contains_all put pairs) (λ has. clash (contains_all choices pairs) (before slots choices p h left has) last.0) i || false))
 
   pub bound_out : TakesOut pairs old new → AreLoose (conflicts ++ pairs ∷ []) masks new
   bound_out t = bound_by t.inside (λ slots choices p h left has. contained_before choices p pairs (t.apart p h) has)

@@ -83,8 +83,7 @@ fn first_loose(costs: &[Cost], loose: u64, mask: u64) -> Option<usize>
 }
 
 /// Whether a choice ranks before another one, if there is another.
-fn is_before(costs: &[Cost], choice: usize, other: Option<usize>) -> bool
-{
+fn is_before(costs: &[Cost], choice: usize, other: Option<usize>) -> bool {
     match other {
         Some(other) => ranks_first(costs, choice, other),
         None => true,

@@ -60,6 +60,7 @@ fn first_left(
     ensures first { IfOk result (λ first. LowestTells grid.now conflicts.now masks.now first) }
     ensures bound { IfOk result (λ first. IfSome first (λ member. member.cost ≤ 4096 * 1000000)) }
 {
+    let _slots = grid.slots();
     match look(alloc, grid, conflicts, masks, ABOVE_ALL)? {
         Looked::Nothing => Ok(None),
         Looked::Found(member) => Ok(Some(member)),
