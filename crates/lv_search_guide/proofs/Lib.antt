@@ -8,3 +8,4 @@ pub mod DearLemmas
 pub mod SlotLemmas
 pub mod FirstLemmas
 pub mod LooseLemmas
+pub mod PartLemmas

@@ -6,7 +6,7 @@ use Rattle.lv_base.specs.declared.search.Pair.{Pair}
 use Rattle.lv_boxes.specs.Masks.{has_choice}
 use Rattle.lv_boxes.specs.Members.{are_left, choice_cost}
 use Rattle.lv_search_walk.specs.Walk.{is_ruled_out}
-use Rattle.lv_search_guide.specs.Boxes.{has_left}
+use Rattle.lv_search_guide.specs.Boxes.{has_left, HasNone}
 use Rattle.lv_search_guide.specs.Lowest.{LowestTells}
 use Rattle.lv_search_guide.specs.declared.look.Member.{Member}
 
@@ -65,3 +65,8 @@ are_apart p q = not (nat_eq p.slot q.slot && nat_eq p.choice q.choice)
 pub record TakesOut (pairs : List Pair) (old new : List ℕ) : Type 0 where
   pub inside : (p : Pair) → has_left new p ≡ true → has_left old p ≡ true
   pub apart : (p : Pair) → has_left new p ≡ true → list_all (are_apart p) pairs ≡ true
+
+-- a box that keeps the first member, if the old one has free members
+abbrev pub SettlesTells : List (List Cost) → List (List Pair) → List ℕ → Option (List ℕ) → Type 0
+SettlesTells slots conflicts masks None = HasNone slots conflicts masks
+SettlesTells slots conflicts masks (Some new) = KeepsFirst slots conflicts masks new

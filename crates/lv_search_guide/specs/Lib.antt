@@ -6,5 +6,4 @@ pub mod First
 pub mod Narrow
 pub mod Prices
 pub mod Dear
-pub mod Slots
 pub use Rattle.lv_boxes.specs as lv_boxes

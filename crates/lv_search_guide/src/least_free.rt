@@ -6,14 +6,13 @@ ghost use Rattle.lv_search_guide.specs.Free.{LeastFreeTells};
 ghost use Rattle.lv_search_guide.specs.Lowest.{LowestTells};
 
 use super::behind::drop_behind;
-use super::cheapest::cheapest;
-use super::look::{ABOVE_ALL, Looked, Member, look};
-use super::lowest::lowest;
+use super::look::Member;
 use super::masks::Masks;
 use super::narrow::narrow;
-use super::prices::low_of;
+use super::parts::first_by_parts;
 use lv_base::{Conflict, Cost, Rank};
 use lv_boxes::{Grid, Zone};
+use lv_search_parts::live::live_in;
 use std::alloc::{AllocError, Global};
 
 /// The rank of the zone's member that ranks first among those that contain none of these conflicts; `None` exactly where
@@ -47,7 +46,7 @@ fn first_in(
         return Ok(None);
     }
     drop_behind(alloc, grid, conflicts, &mut masks)?;
-    first_left(alloc, grid, conflicts, &masks)
+    first_left(alloc, grid, conflicts, masks)
 }
 
 /// As `first_in`, of a box from which nothing more can be taken out.
@@ -55,35 +54,13 @@ fn first_left(
     alloc: Global,
     grid: &Grid,
     conflicts: &[Conflict],
-    masks: &Masks,
+    masks: Masks,
 ) -> Result<Option<Member>, AllocError>
-    ensures first { IfOk result (λ first. LowestTells grid.now conflicts.now masks.now first) }
+    ensures first { IfOk result (λ first. LowestTells grid.now conflicts.now masks first) }
     ensures bound { IfOk result (λ first. IfSome first (λ member. member.cost ≤ 4096 * 1000000)) }
 {
-    let _slots = grid.slots();
-    match look(alloc, grid, conflicts, masks, ABOVE_ALL)? {
-        Looked::Nothing => Ok(None),
-        Looked::Found(member) => Ok(Some(member)),
-        Looked::Splits(_) => first_found(alloc, grid, conflicts, masks),
-    }
-}
-
-/// As `first_in`, of a box whose first member contains a conflict: it is searched for.
-fn first_found(
-    alloc: Global,
-    grid: &Grid,
-    conflicts: &[Conflict],
-    masks: &Masks,
-) -> Result<Option<Member>, AllocError>
-    ensures first { IfOk result (λ first. LowestTells grid.now conflicts.now masks.now first) }
-    ensures bound { IfOk result (λ first. IfSome first (λ member. member.cost ≤ 4096 * 1000000)) }
-{
-    let _slots = grid.slots();
-    let low = low_of(alloc, grid, conflicts, masks)?;
-    match cheapest(alloc, grid, conflicts, masks, low, ABOVE_ALL)? {
-        Some(member) => Ok(Some(lowest(alloc, grid, conflicts, masks, member)?)),
-        None => Ok(None),
-    }
+    let live = live_in(alloc, conflicts, masks.as_slice())?;
+    first_by_parts(alloc, grid, live.as_slice(), masks)
 }
 
 /// What a member of a zone ranks as.

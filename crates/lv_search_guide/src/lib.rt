@@ -5,13 +5,16 @@
 //! Choices are taken out first that the member can't have: those that only members have which contain a conflict, and those
 //! that rank after one which stands in no conflict. If the first member of what is left contains no conflict, that is it.
 //!
-//! Else it goes in two steps, since ranks compare costs first. A cheapest member is looked for in boxes, smaller and smaller
+//! Else the slots that conflicts join to one that it contains are a part of the box, which is settled apart.
+//!
+//! In a part it goes in two steps, since ranks compare costs first. A cheapest member is looked for in boxes, smaller and smaller
 //! ones, of which each is given up as soon as nothing in it can be cheaper than what was found. Then, slot by slot, it
 //! is asked whether some member as cheap has a lower choice there.
 //!
 //! | file | what it holds |
 //! |---|---|
 //! | `least_free` | the member that ranks first |
+//! | `parts` | the same part by part of a box |
 //! | `cheapest` | a cheapest member, by a stack of boxes |
 //! | `look` | what is to be done with one box |
 //! | `loose` | choices that stand in no conflict |
@@ -34,6 +37,7 @@ mod loose;
 mod lowest;
 mod masks;
 mod narrow;
+mod parts;
 mod prices;
 
 pub use laws::least_free_is_one;

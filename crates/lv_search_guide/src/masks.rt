@@ -34,6 +34,13 @@ impl Masks {
         })
     }
 
+    /// The box with these masks, in their own memory.
+    pub(crate) fn from_vec(words: Vec<u64>) -> Masks
+        ensures { result ≡ words.items }
+    {
+        Masks { words }
+    }
+
     pub(crate) fn as_slice(&self) -> &[u64]
         ensures { result.now ≡ self.now }
     {
