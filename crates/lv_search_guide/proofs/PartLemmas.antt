@@ -1,6 +1,6 @@
 -- A part whose slots no conflict joins to others, with its first member in place, keeps the first member of the whole.
 use Rattle.std.proofs.Common.{◌≡◌, ℕ, zero, suc, ◌+◌, ◌<◌, ◌≤◌, Bool, true, false, not, nat_lt, nat_eq, ◌&&◌, ◌||◌, List, [], ◌∷◌, length, map, Option, Some, None, refl, sym, ◌∙◌, ap, subst, arith}
-use Rattle.std.specs.Prelude.{filter}
+use Rattle.std.specs.Prelude.{filter, All}
 use Rattle.std.specs.List.{list_all}
 use Rattle.std.proofs.lemmas.Bool.{and_from, and_parts, or_parts, eq-eqb, false_from_ne_true, not-true}
 use Rattle.lv_base.specs.declared.ids.Cost.{Cost}
@@ -8,13 +8,15 @@ use Rattle.lv_base.specs.declared.search.Pair.{Pair}
 use Rattle.lv_base.specs.Choices.{contains_all}
 use Rattle.lv_base.specs.Order.{comes_before}
 use Rattle.lv_boxes.specs.Masks.{has_choice, only_choice}
-use Rattle.lv_boxes.specs.Members.{is_left, are_left, choices_cost}
+use Rattle.lv_boxes.specs.Members.{IsSlot, is_left, are_left, choices_cost}
 use Rattle.lv_boxes.proofs.MaskLemmas.{has_choice-only}
 use Rattle.lv_search_walk.specs.Walk.{is_ruled_out}
 use Rattle.lv_search_parts.specs.Slots.{only, put_in, pair_in, is_inside, is_outside}
 use Rattle.lv_search_parts.specs.Parts.{is_whole, inner_of, fixed, IsPart, IsLiveOf}
 use Rattle.lv_search_guide.specs.declared.look.Member.{Member}
-use Rattle.lv_search_guide.specs.Boxes.{is_free, HasNone}
+use Rattle.lv_search_guide.specs.Boxes.{is_free, CostsAtLeast, HasNone}
+use Rattle.lv_search_guide.specs.Cheapest.{IsFirstUnder}
+use Rattle.lv_search_guide.proofs.FreeLemmas.{none_above_all}
 use Rattle.lv_search_guide.specs.Lowest.{IsLowest, LowestTells}
 use Rattle.lv_search_guide.specs.First.{KeepsFirst}
 use Rattle.lv_search_guide.proofs.BoxLemmas.{free_is_left, free_from, length-left}
@@ -78,7 +80,8 @@ outside_from marks k whole out = let h : (false || is_outside marks k) ≡ true 
 unruled_put : (marks : List Bool) (ys xs : List ℕ) (ks : List (List Pair)) → length marks ≡ length xs → length ys ≡ length (only marks xs) → list_all (is_whole marks) ks ≡ true
     → is_ruled_out (inner_of marks ks) ys ≡ false → is_ruled_out ks xs ≡ false → is_ruled_out ks (put_in marks ys xs) ≡ false
 unruled_put marks ys xs [] same long whole inner outer = refl
-unruled_put marks ys xs (k ∷ ks) same long whole inner outer = by (is_inside marks k) refl
+unruled_put marks ys xs (k ∷ ks) same long whole inner outer =
+    by (is_inside marks k) refl (λ i o. unruled_put marks ys xs ks same long (and_parts (is_whole marks k) (list_all (is_whole marks) ks) whole).1 i o)
   where
     wholes : (is_whole marks k ≡ true) × (list_all (is_whole marks) ks ≡ true)
     wholes = and_parts (is_whole marks k) (list_all (is_whole marks) ks) whole
@@ -86,27 +89,27 @@ unruled_put marks ys xs (k ∷ ks) same long whole inner outer = by (is_inside m
     outers : (contains_all xs k ≡ false) × (is_ruled_out ks xs ≡ false)
     outers = or_parts (contains_all xs k) (is_ruled_out ks xs) outer
 
-    by : (b : Bool) → is_inside marks k ≡ b → is_ruled_out (k ∷ ks) (put_in marks ys xs) ≡ false
-    by true inside =
+    by : (b : Bool) → is_inside marks k ≡ b → (is_ruled_out (inner_of marks ks) ys ≡ false → is_ruled_out ks xs ≡ false → is_ruled_out ks (put_in marks ys xs) ≡ false)
+        → is_ruled_out (k ∷ ks) (put_in marks ys xs) ≡ false
+    by true inside rest =
         let inners = or_parts (contains_all ys (map (pair_in marks) k)) (is_ruled_out (inner_of marks ks) ys) (sym (inner_cons marks k ks ys inside) ∙ inner) in
-        ruled_cons k ks (put_in marks ys xs) (contains_inside marks ys xs k same long inside ∙ inners.0) (unruled_put marks ys xs ks same long wholes.1 inners.1 outers.1)
-    by false out =
-        ruled_cons k ks (put_in marks ys xs) (contains_outside marks ys xs k same long (outside_from marks k wholes.0 out) ∙ outers.0)
-        (unruled_put marks ys xs ks same long wholes.1 (sym (inner_skip marks k ks ys out) ∙ inner) outers.1)
+        ruled_cons k ks (put_in marks ys xs) (contains_inside marks ys xs k same long inside ∙ inners.0) (rest inners.1 outers.1)
+    by false out rest =
+        ruled_cons k ks (put_in marks ys xs) (contains_outside marks ys xs k same long (outside_from marks k wholes.0 out) ∙ outers.0) (rest (sym (inner_skip marks k ks ys out) ∙ inner) outers.1)
 
 unruled_only : (marks : List Bool) (xs : List ℕ) (ks : List (List Pair)) → length marks ≡ length xs → is_ruled_out ks xs ≡ false → is_ruled_out (inner_of marks ks) (only marks xs) ≡ false
 unruled_only marks xs [] same outer = refl
-unruled_only marks xs (k ∷ ks) same outer = by (is_inside marks k) refl
+unruled_only marks xs (k ∷ ks) same outer = by (is_inside marks k) refl (unruled_only marks xs ks same (or_parts (contains_all xs k) (is_ruled_out ks xs) outer).1)
   where
     outers : (contains_all xs k ≡ false) × (is_ruled_out ks xs ≡ false)
     outers = or_parts (contains_all xs k) (is_ruled_out ks xs) outer
 
-    by : (b : Bool) → is_inside marks k ≡ b → is_ruled_out (inner_of marks (k ∷ ks)) (only marks xs) ≡ false
-    by true inside =
+    by : (b : Bool) → is_inside marks k ≡ b → is_ruled_out (inner_of marks ks) (only marks xs) ≡ false → is_ruled_out (inner_of marks (k ∷ ks)) (only marks xs) ≡ false
+    by true inside rest =
         let own : contains_all (only marks xs) (map (pair_in marks) k) ≡ false =
         sym (contains_inside marks (only marks xs) xs k same refl inside) ∙ ap (λ vs. contains_all vs k) (put_own marks xs same) ∙ outers.0 in
-        inner_cons marks k ks (only marks xs) inside ∙ (λ i. own i || unruled_only marks xs ks same outers.1 i)
-    by false out = inner_skip marks k ks (only marks xs) out ∙ unruled_only marks xs ks same outers.1
+        inner_cons marks k ks (only marks xs) inside ∙ (λ i. own i || rest i)
+    by false out rest = inner_skip marks k ks (only marks xs) out ∙ rest
 
 -- the first member of the part is what the first member of the whole has there
 module _ (slots : List (List Cost)) (live : List (List Pair)) (masks : List ℕ) (marks : List Bool) (part : IsPart live (length slots) marks) where
@@ -194,16 +197,26 @@ live_lowest_of slots conflicts live then masks read answer read_is then_is l t =
     live_lowest slots conflicts live masks answer (subst (λ (ms : List ℕ). IsLiveOf conflicts ms live) read_is l) (subst (λ (ks : List (List Pair)). LowestTells slots ks masks answer) then_is t)
 
 -- a part settled
-pub settles_fixed : (slots : List (List Cost)) (live : List (List Pair)) (masks : List ℕ) (marks : List Bool) (member : Member) (read new : List ℕ) → IsPart live (length slots) marks
-    → IsLowest (only marks slots) (inner_of marks live) (only marks masks) member → read ≡ masks → new ≡ fixed marks member.choices read → KeepsFirst slots live masks new
-settles_fixed slots live masks marks member read new part y read_is new_is =
-    subst (λ (ms : List ℕ). KeepsFirst slots live masks ms) (sym (new_is ∙ ap (fixed marks member.choices) read_is)) (part_keeps slots live masks marks part member y)
+pub settles_fixed : (slots : List (List Cost)) (live : List (List Pair)) (masks : List ℕ) (marks : List Bool) (member : Member) (read ys new : List ℕ) → IsPart live (length slots) marks
+    → IsLowest (only marks slots) (inner_of marks live) (only marks masks) member → read ≡ masks → ys ≡ member.choices → new ≡ fixed marks ys read → KeepsFirst slots live masks new
+settles_fixed slots live masks marks member read ys new part y read_is ys_is new_is =
+    subst (λ (ms : List ℕ). KeepsFirst slots live masks ms) (sym (new_is ∙ (λ i. fixed marks (ys_is i) (read_is i)))) (part_keeps slots live masks marks part member y)
 
 pub settles_not : (slots : List (List Cost)) (live : List (List Pair)) (masks read new : List ℕ) → read ≡ masks → new ≡ read → KeepsFirst slots live masks new
 settles_not slots live masks read new read_is new_is = subst (λ (ms : List ℕ). KeepsFirst slots live masks ms) (sym (new_is ∙ read_is)) (keeps_itself slots live masks)
 
--- the first member of a part by what was made of it
-pub part_first : (rows rows_too : List (List Cost)) (ks ks_too : List (List Pair)) (masks masks_too : List ℕ) (answer : Option Member) → rows ≡ rows_too → ks ≡ ks_too → masks ≡ masks_too → LowestTells rows ks masks answer
-    → LowestTells rows_too ks_too masks_too answer
-part_first rows rows_too ks ks_too masks masks_too answer a b d t =
-    subst (λ (rs : List (List Cost)). LowestTells rs ks_too masks_too answer) a (subst (λ (qs : List (List Pair)). LowestTells rows qs masks_too answer) b (subst (λ (ms : List ℕ). LowestTells rows ks ms answer) d t))
+-- what is told of a box that keeps the first member
+pub keeps_none : (slots : List (List Cost)) (conflicts : List (List Pair)) (old new : List ℕ) → KeepsFirst slots conflicts old new → HasNone slots conflicts new → HasNone slots conflicts old
+keeps_none slots conflicts old new k n = k.first None n
+
+pub keeps_dear : (slots : List (List Cost)) (conflicts : List (List Pair)) (old new : List ℕ) → length slots ≤ 4096 → All IsSlot slots → KeepsFirst slots conflicts old new → CostsAtLeast slots conflicts new 4096000001
+    → HasNone slots conflicts old
+keeps_dear slots conflicts old new few each k low = k.first None (none_above_all slots conflicts new few each low)
+
+pub keeps_found : (slots : List (List Cost)) (conflicts : List (List Pair)) (old new : List ℕ) (under : ℕ) (member : Member) → KeepsFirst slots conflicts old new → IsFirstUnder slots conflicts new under member
+    → IsLowest slots conflicts old member
+keeps_found slots conflicts old new under member k f = k.first (Some member) (record { cheapest = f.found.cheapest; first = f.first })
+
+pub keeps_answer : (slots : List (List Cost)) (conflicts : List (List Pair)) (old new : List ℕ) (answer : Option Member) → KeepsFirst slots conflicts old new → LowestTells slots conflicts new answer
+    → LowestTells slots conflicts old answer
+keeps_answer slots conflicts old new answer k t = k.first answer t
