@@ -1,7 +1,7 @@
 -- Boxes that keep the first member: for each free member that was taken out another one is left that isn't after it.
-use Rattle.std.proofs.Common.{◌≡◌, ◌≢◌, ℕ, zero, suc, ◌+◌, ◌<◌, ◌≤◌, Bool, true, false, not, nat_lt, nat_eq, ◌&&◌, ◌||◌, List, [], ◌∷◌, length, cond, Option, Some, None, ◌⊎◌, inl, inr, refl, sym, ◌∙◌, ap, subst, arith}
+use Rattle.std.proofs.Common.{◌≡◌, ◌≢◌, ℕ, zero, suc, ◌+◌, ◌<◌, ◌≤◌, Bool, true, false, not, nat_lt, nat_eq, ◌&&◌, ◌||◌, List, [], ◌∷◌, length, cond, Option, Some, None, ◌⊎◌, inl, inr, refl, sym, ◌∙◌, subst, arith}
 use Rattle.std.specs.Prelude.{slice_index, slice_index_or, slice_set, sum}
-use Rattle.std.proofs.lemmas.Bool.{and_from, and_parts, eq-eqb, eqb-true, lt-ltb, ltb-true, false_from_ne_true, cases_eq, cases_lt}
+use Rattle.std.proofs.lemmas.Bool.{and_from, and_parts, eqb-true, lt-ltb, ltb-true, false_from_ne_true, cases_eq, cases_lt}
 use Rattle.std.proofs.lemmas.Nat.Bits.{bit_at_above}
 use Rattle.std.proofs.lemmas.List.{set-get_or, get_or_past}
 use Rattle.lv_base.specs.declared.ids.Cost.{Cost}
@@ -15,8 +15,8 @@ use Rattle.lv_search_walk.specs.Walk.{is_ruled_out}
 use Rattle.lv_search_guide.specs.declared.look.Member.{Member}
 use Rattle.lv_search_guide.specs.Boxes.{is_free, has_left}
 use Rattle.lv_search_guide.specs.Lowest.{LowestTells}
-use Rattle.lv_search_guide.specs.First.{KeepsFirst, KeepsFirstOfLess, DropsTells, AreLoose, ranks_first, IsKeptBefore, IsLooseLeft, IsKeptLoose, KeptTells}
-use Rattle.lv_search_guide.proofs.BoxLemmas.{free_is_left, free_from, length-left, smaller, without_and_only}
+use Rattle.lv_search_guide.specs.First.{KeepsFirst, KeepsFirstOfLess, DropsTells, AreLoose, ranks_first, IsKeptBefore, IsKeptLoose}
+use Rattle.lv_search_guide.proofs.BoxLemmas.{free_from, length-left, smaller, without_and_only}
 use Rattle.lv_search_guide.proofs.PriceLemmas.{left_at}
 
 clash : (b : Bool) → b ≡ true → b ≡ false → ⊥

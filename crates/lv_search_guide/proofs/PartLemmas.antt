@@ -1,6 +1,6 @@
 -- A part whose slots no conflict joins to others, with its first member in place, keeps the first member of the whole.
-use Rattle.std.proofs.Common.{◌≡◌, ℕ, zero, suc, ◌+◌, ◌<◌, ◌≤◌, Bool, true, false, not, nat_lt, nat_eq, ◌&&◌, ◌||◌, List, [], ◌∷◌, length, map, Option, Some, None, refl, sym, ◌∙◌, ap, subst, arith}
-use Rattle.std.specs.Prelude.{filter, All}
+use Rattle.std.proofs.Common.{◌≡◌, ℕ, ◌+◌, ◌≤◌, Bool, true, false, not, nat_lt, nat_eq, ◌&&◌, ◌||◌, List, [], ◌∷◌, length, map, Option, Some, None, refl, sym, ◌∙◌, ap, subst, arith}
+use Rattle.std.specs.Prelude.{All}
 use Rattle.std.specs.List.{list_all}
 use Rattle.std.proofs.lemmas.Bool.{and_from, and_parts, or_parts, eq-eqb, false_from_ne_true, not-true}
 use Rattle.lv_base.specs.declared.ids.Cost.{Cost}
@@ -20,7 +20,7 @@ use Rattle.lv_search_guide.proofs.FreeLemmas.{none_above_all}
 use Rattle.lv_search_guide.specs.Lowest.{IsLowest, LowestTells}
 use Rattle.lv_search_guide.specs.First.{KeepsFirst}
 use Rattle.lv_search_guide.proofs.BoxLemmas.{free_is_left, free_from, length-left}
-use Rattle.lv_search_guide.proofs.SlotLemmas.{left_only, left_put, cost_put, contains_inside, contains_outside, order_put, put_own, length-only}
+use Rattle.lv_search_guide.proofs.SlotLemmas.{left_only, cost_put, contains_inside, contains_outside, order_put, put_own}
 use Rattle.lv_search_guide.proofs.FirstLemmas.{StandsIn, keeps_by, keeps_itself}
 
 clash : (b : Bool) → b ≡ true → b ≡ false → ⊥

@@ -1,5 +1,5 @@
 -- one slot more
-use Rattle.std.proofs.Common.{rules, sym, ap, ◌∙◌, ◌||◌, Bool, []}
+use Rattle.std.proofs.Common.{sym, ap, ◌∙◌, ◌||◌, Bool, []}
 use Rattle.lv_search_guide.proofs.DearLemmas.{item_at}
 use Rattle.lv_search_guide.proofs.FirstLemmas.{drops_slot_by}
 use Rattle.lv_search_guide.proofs.behind.drop_once.Goals.{then-changed, else-changed}
