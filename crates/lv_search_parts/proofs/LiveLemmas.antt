@@ -1,5 +1,5 @@
 -- What a box leaves of conflicts, pair by pair and conflict by conflict.
-use Rattle.std.proofs.Common.{◌≡◌, ℕ, zero, suc, ◌+◌, ◌<◌, ◌≤◌, Bool, true, false, not, nat_lt, nat_eq, ◌&&◌, ◌||◌, List, [], ◌∷◌, ◌++◌, length, take, drop, drop-cons, get_or, refl, sym, ◌∙◌, ap, subst, add-one, arith}
+use Rattle.std.proofs.Common.{◌≡◌, ℕ, zero, suc, ◌+◌, ◌<◌, ◌≤◌, Bool, true, false, nat_lt, nat_eq, ◌&&◌, ◌||◌, List, [], ◌∷◌, ◌++◌, length, take, drop, drop-cons, get_or, refl, sym, ◌∙◌, ap, subst, add-one, arith}
 use Rattle.std.specs.Prelude.{slice_index, slice_set}
 use Rattle.std.specs.List.{list_all}
 use Rattle.std.proofs.Math.Seq.{take-suc}
@@ -8,10 +8,9 @@ use Rattle.std.proofs.lemmas.List.{take_all, set-get_or, append_assoc}
 use Rattle.std.proofs.lemmas.List.Folds.{list_any-append, list_all-append}
 use Rattle.lv_base.specs.declared.ids.Cost.{Cost}
 use Rattle.lv_base.specs.declared.search.Pair.{Pair}
-use Rattle.lv_base.specs.declared.search.Candidate.{Candidate}
 use Rattle.lv_base.specs.Choices.{picks, contains_all, slots_rise, slots_rise_from}
 use Rattle.lv_boxes.specs.Masks.{has_choice, only_choice}
-use Rattle.lv_boxes.specs.Members.{ZoneValue, is_left, are_left}
+use Rattle.lv_boxes.specs.Members.{is_left, are_left}
 use Rattle.lv_boxes.specs.Parts.{masks_with}
 use Rattle.lv_boxes.proofs.PartsLemmas.{is_member-with}
 use Rattle.lv_boxes.proofs.MemberLemmas.{length-are_left}

@@ -1,5 +1,5 @@
 -- What a box leaves of conflicts, and the part of the box that some of them speak of.
-use Rattle.std.specs.Prelude.{◌≡◌, ℕ, ◌<◌, Bool, true, false, nat_lt, nat_eq, ◌&&◌, ◌||◌, List, [], ◌∷◌, length, map, filter, slice_index}
+use Rattle.std.specs.Prelude.{◌≡◌, ℕ, ◌<◌, Bool, true, false, nat_lt, nat_eq, ◌&&◌, ◌||◌, List, ◌∷◌, length, map, filter, slice_index}
 use Rattle.std.specs.List.{list_all}
 use Rattle.lv_base.specs.declared.ids.Cost.{Cost}
 use Rattle.lv_base.specs.declared.search.Pair.{Pair}

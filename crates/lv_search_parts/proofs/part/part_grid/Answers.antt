@@ -1,6 +1,5 @@
 -- one slot more
-use Rattle.std.proofs.Common.{sym, subst, ◌∙◌, ◌<◌, [], List}
-use Rattle.lv_base.specs.declared.ids.Cost.{Cost}
+use Rattle.std.proofs.Common.{subst, ◌<◌, []}
 use Rattle.lv_search_parts.proofs.PartLemmas.{only_next, only_room, same_by}
 use Rattle.lv_search_parts.proofs.part.part_grid.Goals as goal
 

@@ -1,5 +1,4 @@
 -- one mask more
-use Rattle.std.proofs.Common.{refl}
 use Rattle.lv_search_parts.proofs.PartLemmas.{only_next, same_at}
 use Rattle.lv_search_parts.proofs.part.part_masks.Goals as goal
 

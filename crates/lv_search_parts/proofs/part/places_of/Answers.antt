@@ -1,5 +1,5 @@
 -- one mark more
-use Rattle.std.proofs.Common.{◌≡◌, List, ℕ, ◌+◌, sym, subst, arith}
+use Rattle.std.proofs.Common.{List, ℕ, ◌+◌, sym, subst, arith}
 use Rattle.lv_search_parts.specs.Parts.{ArePlaces}
 use Rattle.lv_search_parts.proofs.PartLemmas.{places_begin, places_more, place_zero, place_next, few_more}
 use Rattle.lv_search_parts.proofs.part.places_of.Goals as goal
