@@ -6,3 +6,6 @@ pub mod NarrowLemmas
 pub mod PriceLemmas
 pub mod DearLemmas
 pub mod SlotLemmas
+pub mod FirstLemmas
+pub mod LooseLemmas
+pub mod PartLemmas

@@ -3,12 +3,13 @@ use Rattle.std.proofs.Common.{◌≡◌, ℕ, ◌+◌, ◌*◌, ◌^◌, ◌<◌
 use Rattle.std.specs.Prelude.{find, sum, option_map, option_to_list, IfSome}
 use Rattle.std.proofs.Math.Nat.{one-le-pow, pow-le-pow_right}
 use Rattle.std.proofs.lemmas.Grind.{pow_more}
-use Rattle.std.proofs.lemmas.Bool.{and_parts, or_cases, or_left, or_right, cases_lt}
+use Rattle.std.proofs.lemmas.Bool.{and_parts, or_cases, or_left, or_right, cases_lt, false_from_ne_true}
 use Rattle.std.proofs.lemmas.List.Folds.{list_any-append}
 use Rattle.std.proofs.lemmas.List.Sums.{sum_by-append, sum_by-cons, sum_by_push}
 use Rattle.lv_base.specs.declared.ids.Cost.{Cost}
 use Rattle.lv_base.specs.declared.search.Pair.{Pair}
 use Rattle.lv_base.specs.Choices.{picks, contains_all}
+use Rattle.lv_base.specs.Order.{comes_before}
 use Rattle.lv_base.specs.Rank.{ranks_before}
 use Rattle.lv_boxes.specs.Members.{are_left, choices_cost, rank_in}
 use Rattle.lv_boxes.specs.Least.{cheapest_choices, IsLeastMember}
@@ -19,7 +20,7 @@ use Rattle.lv_search_guide.specs.declared.look.Member.{Member}
 use Rattle.lv_search_guide.specs.declared.look.Looked.{Looked}
 use Rattle.lv_search_guide.specs.declared.cheapest.Best.{Best}
 use Rattle.lv_search_guide.specs.Boxes.{is_free, CostsAtLeast, is_open}
-use Rattle.lv_search_guide.specs.Cheapest.{IsCheapestLeft, HasNoneLeft, IsCheapestUnder, CheapestTells, FallsApart, LookTells, splits_of, is_free_in_some, BestTells, IsUnderWay, weight_of, TakesBox}
+use Rattle.lv_search_guide.specs.Cheapest.{IsCheapestLeft, HasNoneLeft, IsCheapestUnder, IsFirstUnder, CheapestTells, FallsApart, LookTells, splits_of, is_free_in_some, BestTells, IsUnderWay, weight_of, TakesBox}
 use Rattle.lv_search_guide.specs.Narrow.{HasSameFree, IsNoMoreBy, HasNoneBy}
 use Rattle.lv_search_guide.proofs.BoxLemmas.{zone_at, candidate_at, free_with, free_without, free_is_left, free_from, found_passes, some_pass, found_itself, none_pass, both_smaller, all_contain}
 
@@ -39,9 +40,17 @@ cheapest_some slots masks member sum_is written bound =
       left = least.member;
       costs = sym cost;
       least = λ choices left. rw cost (no_cheaper choices (least.first (candidate_at choices) left));
+      first = λ choices left same. in_order choices (same ∙ cost) (least.first (candidate_at choices) left);
       bound = bound;
     }
   where
+    in_order : (choices : List ℕ) → choices_cost slots choices ≡ choices_cost slots member.choices → ranks_before (rank_in slots (zone_at masks) choices) (rank_in slots (zone_at masks) member.choices) ≡ false
+        → comes_before choices member.choices ≡ false
+    in_order choices same h = false_from_ne_true (comes_before choices member.choices) (λ before. clash _ (first before) h)
+      where
+        first : comes_before choices member.choices ≡ true → ranks_before (rank_in slots (zone_at masks) choices) (rank_in slots (zone_at masks) member.choices) ≡ true
+        first before = rw before (grind arith)
+
     no_cheaper : (choices : List ℕ) → ranks_before (rank_in slots (zone_at masks) choices) (rank_in slots (zone_at masks) member.choices) ≡ false
         → choices_cost slots member.choices ≤ choices_cost slots choices
     no_cheaper choices h = by (cases_lt (choices_cost slots choices) (choices_cost slots member.choices))
@@ -79,16 +88,23 @@ left_at_least slots conflicts masks under member m much =
 
 -- a cheapest member that contains no conflict is a cheapest of those
 pub look_found : (slots : List (List Cost)) (conflicts : List (List Pair)) (masks : List ℕ) (under : ℕ) (member : Member) → IsCheapestLeft slots masks member → member.cost < under
-    → find (contains_all member.choices) conflicts ≡ None → IsCheapestUnder slots conflicts masks under member
+    → find (contains_all member.choices) conflicts ≡ None → IsFirstUnder slots conflicts masks under member
 look_found slots conflicts masks under member m less none =
     record {
-      cheapest = record {
-        free = free_from slots conflicts masks member.choices m.left (none_pass (contains_all member.choices) conflicts none);
-        costs = m.costs;
-        least = record { least = λ choices free. m.least choices (free_is_left slots conflicts masks choices free) };
+      found = record {
+        cheapest = record {
+          free = free_from slots conflicts masks member.choices m.left (none_pass (contains_all member.choices) conflicts none);
+          costs = m.costs;
+          least = record { least = λ choices free. m.least choices (free_is_left slots conflicts masks choices free) };
+        };
+        below = less;
       };
-      below = less;
+      first = λ others free same. m.first others (free_is_left slots conflicts masks others free) same;
     }
+
+pub first_is_found : (slots : List (List Cost)) (conflicts : List (List Pair)) (masks : List ℕ) (under : ℕ) (member : Member) → IsFirstUnder slots conflicts masks under member
+    → IsCheapestUnder slots conflicts masks under member
+first_is_found slots conflicts masks under member f = f.found
 
 -- one that contains a conflict has an open pair of it, by which the box falls apart
 pub look_splits : (slots : List (List Cost)) (masks : List ℕ) (member : Member) (conflicts : List (List Pair)) (conflict : List Pair) (p : Pair) → IsCheapestLeft slots masks member

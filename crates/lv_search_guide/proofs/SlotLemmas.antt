@@ -1,6 +1,6 @@
 -- Members of a box are the members of its two parts, put together; what they cost, how they are ordered and what they contain is
 -- told part by part.
-use Rattle.std.proofs.Common.{◌≡◌, ℕ, zero, suc, ◌+◌, ◌<◌, ◌≤◌, Bool, true, false, not, ◌&&◌, ◌||◌, nat_lt, nat_eq, List, [], ◌∷◌, length, map, ◌⊎◌, inl, inr, refl, sym, ◌∙◌, ap, subst, arith}
+use Rattle.std.proofs.Common.{◌≡◌, ℕ, zero, suc, ◌+◌, ◌<◌, ◌≤◌, Bool, true, false, not, ◌&&◌, ◌||◌, nat_lt, nat_eq, List, [], ◌∷◌, length, map, ◌⊎◌, inl, inr, refl, sym, ◌∙◌, ap, arith}
 use Rattle.std.specs.Prelude.{slice_index}
 use Rattle.std.specs.List.{list_all}
 use Rattle.std.proofs.lemmas.Bool.{and_from, and_parts, or_left, or_right, or_parts, lt-ltb, ltb-true, eq-eqb, false_from_ne_true, not-true}
@@ -15,7 +15,7 @@ use Rattle.lv_search_guide.specs.declared.look.Member.{Member}
 use Rattle.lv_search_guide.specs.Boxes.{is_free}
 use Rattle.lv_search_guide.specs.Lowest.{IsLowest}
 use Rattle.lv_search_guide.proofs.BoxLemmas.{free_is_left, free_from, length-left}
-use Rattle.lv_search_guide.specs.Slots.{only, put_in, is_marked, place_of, pair_in, is_inside, is_outside}
+use Rattle.lv_search_parts.specs.Slots.{only, put_in, is_marked, place_of, pair_in, is_inside, is_outside}
 
 clash : (b : Bool) → b ≡ true → b ≡ false → ⊥
 clash b p q = cc
@@ -160,13 +160,13 @@ order_put (false ∷ marks) ys zs (x ∷ xs) same long too h =
     by false false c out h = absurd (cc h)
 
 -- a list and its own part put in
-put_own : (marks : List Bool) (xs : List ℕ) → length marks ≡ length xs → put_in marks (only marks xs) xs ≡ xs
+pub put_own : (marks : List Bool) (xs : List ℕ) → length marks ≡ length xs → put_in marks (only marks xs) xs ≡ xs
 put_own [] xs same = refl
 put_own (mark ∷ marks) [] same = absurd (omega (arith, same))
 put_own (true ∷ marks) (x ∷ xs) same = ap (λ ys. x ∷ ys) (put_own marks xs (omega (arith, same)))
 put_own (false ∷ marks) (x ∷ xs) same = ap (λ ys. x ∷ ys) (put_own marks xs (omega (arith, same)))
 
-length-only : (marks : List Bool) (xs ys : List ℕ) → length xs ≡ length ys → length (only marks xs) ≡ length (only marks ys)
+pub length-only : (marks : List Bool) (xs ys : List ℕ) → length xs ≡ length ys → length (only marks xs) ≡ length (only marks ys)
 length-only [] xs ys same = refl
 length-only (true ∷ marks) [] [] same = refl
 length-only (false ∷ marks) [] [] same = refl

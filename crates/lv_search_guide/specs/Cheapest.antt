@@ -3,6 +3,7 @@ use Rattle.std.specs.Prelude.{◌≡◌, ℕ, ◌*◌, ◌^◌, ◌<◌, ◌≤�
 use Rattle.std.specs.List.{list_any, sum_by}
 use Rattle.lv_base.specs.declared.ids.Cost.{Cost}
 use Rattle.lv_base.specs.declared.search.Pair.{Pair}
+use Rattle.lv_base.specs.Order.{comes_before}
 use Rattle.lv_boxes.specs.Members.{are_left, choices_cost}
 use Rattle.lv_boxes.specs.Parts.{masks_with, masks_without}
 use Rattle.lv_search_guide.specs.Boxes.{is_free, CostsAtLeast}
@@ -11,11 +12,12 @@ use Rattle.lv_search_guide.specs.declared.look.Looked.{Looked}
 use Rattle.lv_search_guide.specs.declared.look.Looked.TheVariants.{Nothing, Found, Splits}
 use Rattle.lv_search_guide.specs.declared.cheapest.Best.{Best}
 
--- a member of the box, whatever the conflicts, that costs least
+-- a member of the box, whatever the conflicts, that costs least, and none as cheap comes before it
 pub record IsCheapestLeft (slots : List (List Cost)) (masks : List ℕ) (member : Member) : Type 0 where
   pub left : are_left slots masks member.choices ≡ true
   pub costs : choices_cost slots member.choices ≡ member.cost
   pub least : (choices : List ℕ) → are_left slots masks choices ≡ true → member.cost ≤ choices_cost slots choices
+  pub first : (choices : List ℕ) → are_left slots masks choices ≡ true → choices_cost slots choices ≡ member.cost → comes_before choices member.choices ≡ false
   pub bound : member.cost ≤ 4096 * 1000000
 
 -- the box has no members
@@ -36,6 +38,11 @@ pub record IsCheapestUnder (slots : List (List Cost)) (conflicts : List (List Pa
   pub cheapest : IsCheapest slots conflicts masks member
   pub below : member.cost < under
 
+-- and no other that is as cheap comes before it
+pub record IsFirstUnder (slots : List (List Cost)) (conflicts : List (List Pair)) (masks : List ℕ) (under : ℕ) (member : Member) : Type 0 where
+  pub found : IsCheapestUnder slots conflicts masks under member
+  pub first : (others : List ℕ) → is_free slots conflicts masks others ≡ true → choices_cost slots others ≡ member.cost → comes_before others member.choices ≡ false
+
 -- a cheapest free member, where one costs less than this
 abbrev pub CheapestTells : List (List Cost) → List (List Pair) → List ℕ → ℕ → Option Member → Type 0
 CheapestTells slots conflicts masks under None = CostsAtLeast slots conflicts masks under
@@ -49,7 +56,7 @@ pub record FallsApart (masks : List ℕ) (p : Pair) : Type 0 where
 
 abbrev pub LookTells : List (List Cost) → List (List Pair) → List ℕ → ℕ → Looked → Type 0
 LookTells slots conflicts masks under Nothing = CostsAtLeast slots conflicts masks under
-LookTells slots conflicts masks under (Found member) = IsCheapestUnder slots conflicts masks under member
+LookTells slots conflicts masks under (Found member) = IsFirstUnder slots conflicts masks under member
 LookTells slots conflicts masks under (Splits p) = FallsApart masks p
 
 -- by the first open pair, where there is one

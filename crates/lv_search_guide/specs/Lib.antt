@@ -2,8 +2,8 @@ pub mod Free
 pub mod Boxes
 pub mod Cheapest
 pub mod Lowest
+pub mod First
 pub mod Narrow
 pub mod Prices
 pub mod Dear
-pub mod Slots
 pub use Rattle.lv_boxes.specs as lv_boxes

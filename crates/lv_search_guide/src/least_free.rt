@@ -5,14 +5,14 @@ ghost use Rattle.std.specs.Prelude.{◌≡◌, ◌+◌, ◌*◌, ◌≤◌, IfOk
 ghost use Rattle.lv_search_guide.specs.Free.{LeastFreeTells};
 ghost use Rattle.lv_search_guide.specs.Lowest.{LowestTells};
 
-use super::cheapest::cheapest;
-use super::look::{ABOVE_ALL, Member};
-use super::lowest::lowest;
+use super::behind::drop_behind;
+use super::look::Member;
 use super::masks::Masks;
 use super::narrow::narrow;
-use super::prices::low_of;
+use super::parts::first_by_parts;
 use lv_base::{Conflict, Cost, Rank};
 use lv_boxes::{Grid, Zone};
+use lv_search_parts::live::live_in;
 use std::alloc::{AllocError, Global};
 
 /// The rank of the zone's member that ranks first among those that contain none of these conflicts; `None` exactly where
@@ -45,7 +45,8 @@ fn first_in(
     if !narrow(conflicts, &mut masks) {
         return Ok(None);
     }
-    first_left(alloc, grid, conflicts, &masks)
+    drop_behind(alloc, grid, conflicts, &mut masks)?;
+    first_left(alloc, grid, conflicts, masks)
 }
 
 /// As `first_in`, of a box from which nothing more can be taken out.
@@ -53,17 +54,13 @@ fn first_left(
     alloc: Global,
     grid: &Grid,
     conflicts: &[Conflict],
-    masks: &Masks,
+    masks: Masks,
 ) -> Result<Option<Member>, AllocError>
-    ensures first { IfOk result (λ first. LowestTells grid.now conflicts.now masks.now first) }
+    ensures first { IfOk result (λ first. LowestTells grid.now conflicts.now masks first) }
     ensures bound { IfOk result (λ first. IfSome first (λ member. member.cost ≤ 4096 * 1000000)) }
 {
-    let _slots = grid.slots();
-    let low = low_of(alloc, grid, conflicts, masks)?;
-    match cheapest(alloc, grid, conflicts, masks, low, ABOVE_ALL)? {
-        Some(member) => Ok(Some(lowest(alloc, grid, conflicts, masks, member)?)),
-        None => Ok(None),
-    }
+    let live = live_in(alloc, conflicts, masks.as_slice())?;
+    first_by_parts(alloc, grid, live.as_slice(), masks)
 }
 
 /// What a member of a zone ranks as.

@@ -1,7 +1,7 @@
 //! A box: of each slot the choices left, as a mask in which bit `c` is 1 where choice `c` is left.
 #![tactic(auto)]
 
-ghost use Rattle.std.specs.Prelude.{◌≡◌, IfOk};
+ghost use Rattle.std.specs.Prelude.{◌≡◌, slice_index, slice_set, IfOk};
 ghost use Rattle.lv_boxes.specs.Parts.{masks_with, masks_without};
 ghost use Rattle.lv_search_guide.specs.Boxes.{has_left};
 
@@ -34,10 +34,37 @@ impl Masks {
         })
     }
 
+    /// The box with these masks, in their own memory.
+    pub(crate) fn from_vec(words: Vec<u64>) -> Masks
+        ensures { result ≡ words.items }
+    {
+        Masks { words }
+    }
+
     pub(crate) fn as_slice(&self) -> &[u64]
         ensures { result.now ≡ self.now }
     {
         self.words.as_slice()
+    }
+
+    /// The choices left of a slot, none where the box hasn't the slot.
+    pub(crate) fn at(&self, slot: usize) -> u64
+        ensures { result ≡ slice_index self.now slot }
+    {
+        if slot < self.words.len() {
+            self.words[slot]
+        } else {
+            0
+        }
+    }
+
+    /// Leaves these choices of a slot. A slot that the box hasn't is passed over.
+    pub(crate) fn replace(&mut self, slot: usize, mask: u64)
+        ensures { self.new ≡ slice_set self.old slot mask }
+    {
+        if slot < self.words.len() {
+            self.words[slot] = mask;
+        }
     }
 
     /// Whether the box has the pair's choice at its slot.

@@ -1,0 +1,13 @@
+-- one mask more
+use Rattle.std.proofs.Common.{refl, subst, ◌<◌}
+use Rattle.lv_search_parts.proofs.PartLemmas.{fixed_more, few_more}
+use Rattle.lv_search_parts.proofs.part.fixed.Goals as goal
+
+pub loop-slot-preserved : goal.loop-slot-preserved
+loop-slot-preserved c =
+    record {
+      rest =
+          fixed_more c.loop-slot.new.items c.push.new.self.items c.args.marks.now c.args.choices.now c.args.masks.now _ c.loop-slot.slot c.loop-slot.place c.fixed_at.result c.one_if-place.result _ _ _
+          c.loop-slot-test.true (subst (λ n. c.loop-slot.slot < n) c.requires.long c.loop-slot-test.true) refl c.fixed_at.ensures c.one_if-place.ensures c.in_ok-push.ensures.items c.loop-slot.invariant.rest;
+      few = few_more _ c.loop-slot.place c.loop-slot.slot c.one_if-place.result c.one_if-place.ensures c.loop-slot.invariant.few;
+    }

@@ -1,0 +1,3 @@
+pub mod Slots
+pub mod Parts
+pub use Rattle.lv_boxes.specs as lv_boxes

@@ -1,0 +1,176 @@
+//! The smaller box of the slots that are marked, numbered anew.
+#![tactic(auto)]
+
+ghost use Rattle.std.specs.Prelude.{◌≡◌, ◌<◌, ◌≤◌, ◌^◌, true, length, map, nat_lt, ◌&&◌, ◌++◌, ◌∷◌, [], slice_index, IfOk, OnOk, IsTrue, if◌then◌else◌};
+ghost use Rattle.lv_boxes.specs.Masks.{only_choice};
+ghost use Rattle.lv_boxes.specs.Members.{IsSlot};
+ghost use Rattle.lv_base.specs.declared.search.Pair.{Pair};
+ghost use Rattle.lv_base.specs.Choices.{slots_rise};
+ghost use Rattle.lv_search_parts.specs.Slots.{only, is_inside, pair_in};
+ghost use Rattle.lv_search_parts.specs.Parts.{inner_of, ArePlaces, fixed};
+
+use super::marks::is_inside;
+use lv_base::{Conflict, Cost, Pair};
+use lv_boxes::{Grid, mask};
+use std::alloc::{AllocError, Global};
+
+/// The grid of the slots that are marked.
+pub fn part_grid(alloc: Global, grid: &Grid, marks: &[bool]) -> Result<Grid, AllocError>
+    requires { length marks.now ≡ length grid.now }
+    ensures { IfOk result (λ part. part ≡ only marks.now grid.now) }
+{
+    let slots = grid.slots();
+    let mut part = Grid::new(alloc)?;
+    for (slot, mark) in marks.iter().enumerate() {
+        push_slot_if(*mark, slots[slot].as_slice(), &mut part)?;
+    }
+    Ok(part)
+}
+
+/// Adds a slot to a grid, where that is so.
+fn push_slot_if(is: bool, costs: &[Cost], grid: &mut Grid) -> Result<(), AllocError>
+    requires slot { IsSlot costs.now }
+    requires room { is ≡ true → length grid.old < 4096 }
+    ensures { OnOk result (grid.new ≡ (if is then grid.old ++ costs.now ∷ [] else grid.old)) }
+{
+    if !is {
+        return Ok(());
+    }
+    grid.push_slot(costs)?;
+    Ok(())
+}
+
+/// The masks of the slots that are marked.
+pub fn part_masks(alloc: Global, masks: &[u64], marks: &[bool]) -> Result<Vec<u64>, AllocError>
+    requires { length marks.now ≡ length masks.now }
+    ensures { IfOk result (λ part. part.items ≡ only marks.now masks.now) }
+{
+    let mut part = Vec::new(alloc);
+    for (slot, mark) in marks.iter().enumerate() {
+        push_if(*mark, masks[slot], &mut part)?;
+    }
+    Ok(part)
+}
+
+/// Adds a mask to a list, where that is so.
+fn push_if(is: bool, mask: u64, masks: &mut Vec<u64>) -> Result<(), AllocError>
+    ensures { OnOk result (masks.new.items ≡ (if is then masks.old.items ++ mask ∷ [] else masks.old.items)) }
+{
+    if !is {
+        return Ok(());
+    }
+    masks.push(mask)?;
+    Ok(())
+}
+
+/// The conflicts whose slots are all marked, with the numbers that these have in the part.
+pub fn part_conflicts(
+    alloc: Global,
+    conflicts: &[Conflict],
+    marks: &[bool],
+) -> Result<Vec<Conflict>, AllocError>
+    requires { length marks.now < 2 ^ 32 }
+    ensures { IfOk result (λ inner. inner.items ≡ inner_of marks.now conflicts.now) }
+{
+    let places = places_of(alloc, marks)?;
+    let mut inner = Vec::new(alloc);
+    for conflict in conflicts {
+        if is_inside(marks, conflict.pairs()) {
+            inner.push(placed(alloc, conflict.pairs(), marks, places.as_slice())?)?;
+        }
+    }
+    Ok(inner)
+}
+
+/// Of each slot how many marked ones come before it.
+fn places_of(alloc: Global, marks: &[bool]) -> Result<Vec<u32>, AllocError>
+    requires { length marks.now < 2 ^ 32 }
+    ensures { IfOk result (λ places. ArePlaces marks.now (length marks.now) places.items) }
+{
+    let mut places = Vec::new(alloc);
+    let mut place = 0;
+    for mark in marks {
+        places.push(place)?;
+        place += one_if(*mark);
+    }
+    Ok(places)
+}
+
+/// A conflict whose slots are all marked, with the numbers that these have in the part.
+fn placed(
+    alloc: Global,
+    pairs: &[Pair],
+    marks: &[bool],
+    places: &[u32],
+) -> Result<Conflict, AllocError>
+    requires places { ArePlaces marks.now (length marks.now) places.now }
+    requires inside { is_inside marks.now pairs.now ≡ true }
+    requires rising { IsTrue (slots_rise pairs.now) }
+    ensures { IfOk result (λ conflict. conflict ≡ map (pair_in marks.now) pairs.now) }
+{
+    let out = renumbered(alloc, pairs, places)?;
+    Conflict::from_pairs(alloc, out.as_slice())
+}
+
+/// The pairs with the numbers of their slots looked up.
+fn renumbered(alloc: Global, pairs: &[Pair], places: &[u32]) -> Result<Vec<Pair>, AllocError>
+    ensures { IfOk result (λ out. out.items ≡ map (λ (p : Pair). record { slot = slice_index places.now p.slot; choice = p.choice }) pairs.now) }
+{
+    let mut out = Vec::new(alloc);
+    for pair in pairs {
+        out.push(Pair {
+            slot: number_at(places, pair.slot as usize),
+            choice: pair.choice,
+        })?;
+    }
+    Ok(out)
+}
+
+/// A number of a list, or 0, where there isn't one.
+fn number_at(numbers: &[u32], place: usize) -> u32
+    ensures { result ≡ slice_index numbers.now place }
+{
+    if place < numbers.len() {
+        numbers[place]
+    } else {
+        0
+    }
+}
+
+/// The masks with these choices alone at the slots that are marked.
+pub fn fixed(
+    alloc: Global,
+    masks: &[u64],
+    marks: &[bool],
+    choices: &[u32],
+) -> Result<Vec<u64>, AllocError>
+    requires long { length marks.now ≡ length masks.now }
+    requires few { length marks.now < 2 ^ 32 }
+    ensures { IfOk result (λ new. new.items ≡ fixed marks.now choices.now masks.now) }
+{
+    let mut new = Vec::new(alloc);
+    let mut place: u32 = 0;
+    for (slot, mark) in marks.iter().enumerate() {
+        new.push(fixed_at(*mark, masks[slot], choices, place as usize))?;
+        place += one_if(*mark);
+    }
+    Ok(new)
+}
+
+/// The mask with the choice at this place alone, where the slot is marked and there is that choice.
+fn fixed_at(mark: bool, mask: u64, choices: &[u32], place: usize) -> u64
+    ensures { result ≡ (if mark && nat_lt place (length choices.now) then only_choice mask (slice_index choices.now place) else mask) }
+{
+    if mark && place < choices.len() {
+        mask::only(mask, choices[place])
+    } else {
+        mask
+    }
+}
+
+/// 1 where that is so, else 0.
+fn one_if(is: bool) -> u32
+    ensures { result ≡ (if is then 1 else 0) }
+{
+    if is { 1 } else { 0 }
+}
