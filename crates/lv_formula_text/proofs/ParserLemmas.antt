@@ -1,12 +1,12 @@
 -- The steps of reading, over plain lists of tokens.
-use Rattle.std.proofs.Common.{◌≡◌, ◌≢◌, ◌+◌, ◌<◌, true, false, List, [], ◌∷◌, ◌++◌, Option, Some, None, sym, ap, subst, ◌∙◌, arith, append_assoc}
+use Rattle.std.proofs.Common.{◌≡◌, ◌≢◌, ℕ, zero, suc, ◌+◌, ◌-◌, ◌<◌, ◌≤◌, length, true, false, List, [], ◌∷◌, ◌++◌, Option, Some, None, sym, ap, subst, ◌∙◌, arith, append_assoc}
 use Rattle.lv_text.specs.declared.lexer.TokenKind.{TokenKind}
 use Rattle.lv_text.specs.declared.lexer.TokenKind.TheVariants.{Not, Open, Close}
 use Rattle.lv_text.specs.Lexemes.{Lexeme}
 use Rattle.lv_formula_text.specs.declared.connective.Connective.{Connective}
 use Rattle.lv_formula_text.specs.declared.connective.Connective.TheVariants.{Equivalence, Implication, Disjunction, Conjunction}
 use Rattle.lv_formula_text.specs.PhraseTree.{PhraseTree, negation}
-use Rattle.lv_formula_text.specs.Connectives.{sign_of, level, joined, first_kind, binding}
+use Rattle.lv_formula_text.specs.Connectives.{sign_of, level, joined, negations, first_kind, binding}
 use Rattle.lv_formula_text.specs.Cursors.{Takes}
 use Rattle.lv_formula_text.specs.Grammar.{IsAtom, IsUnary, negated, enclosed, atomic, IsOperand, implication, disjunction, conjunction, unary, IsChain, alone, followed, IsJoined, joining}
 use Rattle.lv_formula_text.specs.Reading.{Reads, HasNone, Finds}
@@ -150,3 +150,34 @@ joined_step c ts now rest end sign fs gs f tree so_far operand t is all whole =
     let read = joined_found c ts now rest fs f so_far operand other in
     let same : joined c (fs ++ f ∷ []) ≡ tree = ap (joined c) (sym all) ∙ sym whole in
     subst (λ xs. Reads (IsJoined c) (level c) ts tree xs) (sym t.0) (subst (λ g. Reads (IsJoined c) (level c) ts g rest) same read)
+
+-- so many tokens are negation signs, and others are behind them
+pub record Negating (ts rest : List Lexeme) : Type 0 where
+  pub completes : (f : PhraseTree) (end : List Lexeme) → Reads IsUnary 5 rest f end → Reads IsUnary 5 ts (negations (length ts - length rest) f) end
+  pub none : HasNone IsUnary 5 rest → HasNone IsUnary 5 ts
+  pub left : length rest ≤ length ts
+
+pub negating_none : (ts : List Lexeme) → Negating ts ts
+negating_none ts = record {
+  completes = λ f end r. let none : 0 ≡ length ts - length ts = omega arith in subst (λ n. Reads IsUnary 5 ts (negations n f) end) none r;
+  none = λ none. none;
+  left = omega arith;
+}
+
+pub negating_more : (ts rest less : List Lexeme) → Negating ts rest → Takes Not rest true less → Negating ts less
+negating_more ts rest less so_far t = record {
+  completes = λ f end r. subst (λ n. Reads IsUnary 5 ts (negations n f) end) one_more (so_far.completes (negation f) end (negation_found rest less end f t r));
+  none = λ none. so_far.none (negation_none rest less t none);
+  left = omega (long, so_far.left, arith);
+}
+  where
+    long : length rest ≡ suc (length less)
+    long = ap length t.1
+
+    one_more : suc (length ts - length rest) ≡ length ts - length less
+    one_more = omega (long, so_far.left, arith)
+
+-- one negation sign more
+pub negations_more : (n : ℕ) (f : PhraseTree) → 0 < n → negations n f ≡ negations (n - 1) (negation f)
+negations_more zero f some = absurd (omega arith)
+negations_more (suc n) f some = let same : n ≡ suc n - 1 = omega arith in ap (λ m. negations m (negation f)) same

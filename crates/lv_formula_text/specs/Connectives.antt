@@ -1,11 +1,11 @@
 -- The signs of connectives, how tightly they bind, and what operands with a connective between them make.
-use Rattle.std.specs.Prelude.{ℕ, List, [], ◌∷◌, Option, Some, None}
+use Rattle.std.specs.Prelude.{ℕ, zero, suc, List, [], ◌∷◌, Option, Some, None}
 use Rattle.lv_text.specs.declared.lexer.TokenKind.{TokenKind}
 use Rattle.lv_text.specs.declared.lexer.TokenKind.TheVariants.{Iff, Implies, And, Or}
 use Rattle.lv_text.specs.Lexemes.{Lexeme}
 use Rattle.lv_formula_text.specs.declared.connective.Connective.{Connective}
 use Rattle.lv_formula_text.specs.declared.connective.Connective.TheVariants.{Equivalence, Implication, Disjunction, Conjunction}
-use Rattle.lv_formula_text.specs.PhraseTree.{PhraseTree, always, all, any, implies, iff, trees_of}
+use Rattle.lv_formula_text.specs.PhraseTree.{PhraseTree, always, negation, all, any, implies, iff, trees_of}
 
 -- the token that stands between the operands
 abbrev pub sign_of : Connective → TokenKind
@@ -35,6 +35,11 @@ joined Disjunction (t ∷ []) = t
 joined Disjunction (t ∷ u ∷ ts) = any (trees_of (t ∷ u ∷ ts))
 joined Conjunction (t ∷ []) = t
 joined Conjunction (t ∷ u ∷ ts) = all (trees_of (t ∷ u ∷ ts))
+
+-- so many negations of a formula
+abbrev pub negations : ℕ → PhraseTree → PhraseTree
+negations zero f = f
+negations (suc n) f = negations n (negation f)
 
 -- the kind of the first token
 abbrev pub first_kind : List Lexeme → Option TokenKind

@@ -48,6 +48,13 @@ impl<'a> Cursor<'a> {
         self.end <= self.place
     }
 
+    /// How many tokens are still to be read.
+    pub fn len(&self) -> usize
+        ensures { result ≡ length self.now }
+    {
+        self.end.saturating_sub(self.place)
+    }
+
     /// The kind of the next token.
     pub fn kind(&self) -> Option<TokenKind>
         ensures { result ≡ first_kind self.now }

@@ -1,13 +1,14 @@
 //! Reading by recursive descent: one function for the operands that a connective joins, one for what such an operand
 //! is, one for what binds tightest. Each reads the longest text of its kind.
 //!
-//! The recursion goes as deep as parentheses and the operators `!`, `=>`, `<=>` nest, which is judged before; a long
-//! list of operands is read in a loop.
+//! The recursion goes as deep as parentheses nest, which is judged before; a long list of operands and a long row of
+//! negation signs are read in loops.
 #![tactic(auto)]
 
-ghost use Rattle.std.specs.Prelude.{◌≡◌, ℕ, ◌+◌, IfOk, option_map, ◌≤◌, length};
+ghost use Rattle.std.specs.Prelude.{◌≡◌, ◌≢◌, ℕ, ◌+◌, IfOk, Some, option_map, ◌≤◌, length};
+ghost use Rattle.lv_text.specs.declared.lexer.TokenKind.TheVariants.{Not};
 ghost use Rattle.lv_formula_text.specs.PhraseTree.{tree_of};
-ghost use Rattle.lv_formula_text.specs.Connectives.{level};
+ghost use Rattle.lv_formula_text.specs.Connectives.{level, first_kind, negations};
 ghost use Rattle.lv_formula_text.specs.Grammar.{IsUnary, IsOperand, IsJoined};
 ghost use Rattle.lv_formula_text.specs.Reading.{Finds};
 
@@ -58,18 +59,28 @@ fn operand(
     }
 }
 
-/// Reads a negation, a formula in parentheses, a truth or an equation.
+/// Reads a formula behind any number of negation signs, which take no more of the stack than one does.
 #[cycle(read)]
 fn unary(alloc: Global, cursor: &mut Cursor<'_>) -> Result<Option<PhraseNode>, AllocError>
     ensures found { IfOk result (λ found. Finds IsUnary 5 cursor.old (option_map tree_of found) cursor.new) }
     ensures left { length cursor.new ≤ length cursor.old }
 {
-    if cursor.takes(TokenKind::Not) {
-        let Some(operand) = unary(alloc, cursor)? else {
-            return Ok(None);
-        };
-        return Ok(Some(PhraseNode::Not(Box::new(alloc, operand)?)));
+    let before = cursor.len();
+    'signs: while cursor.takes(TokenKind::Not) {}
+    let signs = before - cursor.len();
+    match primary(alloc, cursor)? {
+        Some(operand) => Ok(Some(negated(alloc, operand, signs)?)),
+        None => Ok(None),
     }
+}
+
+/// Reads a formula in parentheses, a truth or an equation, where no negation stands.
+#[cycle(read)]
+fn primary(alloc: Global, cursor: &mut Cursor<'_>) -> Result<Option<PhraseNode>, AllocError>
+    requires other { first_kind cursor.old ≢ Some Not }
+    ensures found { IfOk result (λ found. Finds IsUnary 5 cursor.old (option_map tree_of found) cursor.new) }
+    ensures left { length cursor.new ≤ length cursor.old }
+{
     if cursor.takes(TokenKind::Open) {
         let Some(enclosed) = joined(alloc, cursor, Connective::Equivalence)? else {
             return Ok(None);
@@ -80,4 +91,17 @@ fn unary(alloc: Global, cursor: &mut Cursor<'_>) -> Result<Option<PhraseNode>, A
         return Ok(Some(enclosed));
     }
     atom(alloc, cursor)
+}
+
+/// So many negations of a formula.
+fn negated(alloc: Global, node: PhraseNode, signs: usize) -> Result<PhraseNode, AllocError>
+    ensures { IfOk result (λ whole. tree_of whole ≡ negations signs (tree_of node)) }
+{
+    let mut whole = node;
+    let mut left = signs;
+    'signs: while left > 0 {
+        whole = PhraseNode::Not(Box::new(alloc, whole)?);
+        left -= 1;
+    }
+    Ok(whole)
 }

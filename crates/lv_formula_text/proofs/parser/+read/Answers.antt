@@ -1,15 +1,15 @@
 -- each step of reading is one over plain lists of tokens
-use Rattle.std.proofs.Common.{arith, subst, ◌≡◌, refl, ◌+◌, [], ◌∷◌, ◌++◌, map, option_map, ap, ◌∙◌}
+use Rattle.std.proofs.Common.{arith, subst, ◌≡◌, refl, true, false, length, ap₂, sym, ◌+◌, ◌-◌, [], ◌∷◌, ◌++◌, map, option_map, ap, ◌∙◌}
 use Rattle.std.proofs.lemmas.List.{map-append}
 use Rattle.std.proofs.lemmas.Result.{IfOk-weaker}
-use Rattle.lv_formula_text.specs.declared.phrase.PhraseNode.{Not}
 use Rattle.lv_formula_text.specs.declared.connective.Connective.TheVariants.{Equivalence}
-use Rattle.lv_formula_text.specs.PhraseTree.{tree_of, negation}
-use Rattle.lv_formula_text.specs.Connectives.{level}
+use Rattle.lv_formula_text.specs.PhraseTree.{tree_of}
+use Rattle.lv_formula_text.specs.Connectives.{level, negations}
 use Rattle.lv_formula_text.specs.Grammar.{IsUnary, IsOperand, IsJoined}
+use Rattle.lv_text.specs.declared.lexer.TokenKind.TheVariants.{Not}
+use Rattle.lv_formula_text.specs.Cursors.{Takes}
 use Rattle.lv_formula_text.specs.Reading.{Reads, HasNone}
-use Rattle.lv_formula_text.proofs.TreeLemmas.{tree_of-Not}
-use Rattle.lv_formula_text.proofs.ParserLemmas.{joined_none, joining_step, joined_step, operand_of_equivalence, operand_of_implication, operand_of_disjunction, operand_of_conjunction, negation_found, negation_none, enclosed_found, enclosed_none, enclosed_open, unary_atom}
+use Rattle.lv_formula_text.proofs.ParserLemmas.{joined_none, joining_step, joined_step, operand_of_equivalence, operand_of_implication, operand_of_disjunction, operand_of_conjunction, negating_none, negating_more, enclosed_found, enclosed_none, enclosed_open, unary_atom}
 use Rattle.lv_formula_text.proofs.parser.+read.Goals as goal
 
 pub joined-returns-in_default-clause-found : goal.joined-returns-in_default-clause-found
@@ -51,34 +51,46 @@ pub operand-returns-in-Conjunction-clause-found : goal.operand-returns-in-Conjun
 operand-returns-in-Conjunction-clause-found t c =
     rw c.in-Conjunction.is (IfOk-weaker c.unary.result _ _ (λ found h. operand_of_conjunction _ (option_map tree_of found) _ h) c.unary.ensures.found)
 
-pub unary-returns-in_default-clause-found : goal.unary-returns-in_default-clause-found
-unary-returns-in_default-clause-found t c =
-    let none : HasNone IsUnary 5 c.takes.new.self = rw c.in_default.is at c.in_ok-operand.ensures.found in
-    negation_none c.args.cursor.now c.takes.new.self c.if-takes.ensures.told none
+pub unary-signs-init : goal.unary-signs-init
+unary-signs-init t c = negating_none c.args.cursor.now
 
-pub unary-returns-then-takes-clause-found : goal.unary-returns-then-takes-clause-found
-unary-returns-then-takes-clause-found t c =
-    let read : Reads IsUnary 5 c.takes.new.self (tree_of c.in-Some.operand) c.unary.new.cursor = rw c.in-Some.is at c.in_ok-operand.ensures.found in
-    let tree : tree_of (Not c.in_ok-new.field-0) ≡ negation (tree_of c.in-Some.operand) = tree_of-Not c.in_ok-new.field-0 ∙ ap (λ f. negation (tree_of f)) c.in_ok-new.ensures.ok in
-    rw tree (negation_found c.args.cursor.now c.takes.new.self c.unary.new.cursor (tree_of c.in-Some.operand) c.if-takes.ensures.told read)
+pub unary-signs-preserved : goal.unary-signs-preserved
+unary-signs-preserved t c =
+    let told : Takes Not c.signs.cursor true c.takes.new.self = rw c.signs-test.true at c.takes.ensures.told in
+    negating_more c.args.cursor.now c.signs.cursor c.takes.new.self c.signs.invariant told
 
-pub unary-returns-in_default-2-clause-found : goal.unary-returns-in_default-2-clause-found
-unary-returns-in_default-2-clause-found t c =
-    let none : HasNone (IsJoined Equivalence) 1 c.takes-2.new.self = rw c.in_default-2.is at c.in_ok-enclosed.ensures.found in
-    subst (λ ts. HasNone IsUnary 5 ts) c.if-takes.ensures.told.0 (enclosed_none c.takes.new.self c.takes-2.new.self c.if-takes-2.ensures.told none)
+pub unary-returns-in_ok-negated-in-Some-clause-found : goal.unary-returns-in_ok-negated-in-Some-clause-found
+unary-returns-in_ok-negated-in-Some-clause-found t c =
+    let told : Takes Not c.signs.cursor false c.takes.new.self = rw c.signs-test.false at c.takes.ensures.told in
+    let read : Reads IsUnary 5 c.takes.new.self (tree_of c.in-Some.operand) c.primary.new.cursor = rw c.in-Some.is at c.in_ok-operand.ensures.found in
+    let read_there : Reads IsUnary 5 c.signs.cursor (tree_of c.in-Some.operand) c.primary.new.cursor =
+    subst (λ xs. Reads IsUnary 5 xs (tree_of c.in-Some.operand) c.primary.new.cursor) told.0 read in
+    let all = c.signs.invariant.completes (tree_of c.in-Some.operand) c.primary.new.cursor read_there in
+    let signs : c.len-before.result - c.len.result ≡ length c.args.cursor.now - length c.signs.cursor =
+    ap₂ (λ a b. a - b) c.len-before.ensures (c.len.ensures ∙ ap length told.0) in
+    rw c.in_ok-negated-in-Some.ensures (subst (λ n. Reads IsUnary 5 c.args.cursor.now (negations n (tree_of c.in-Some.operand)) c.primary.new.cursor) (sym signs) all)
 
-pub unary-returns-then-not-takes-clause-found : goal.unary-returns-then-not-takes-clause-found
-unary-returns-then-not-takes-clause-found t c =
-    let read : Reads (IsJoined Equivalence) 1 c.takes-2.new.self (tree_of c.in-Some-2.enclosed) c.joined.new.cursor = rw c.in-Some-2.is at c.in_ok-enclosed.ensures.found in
-    subst (λ ts. HasNone IsUnary 5 ts) c.if-takes.ensures.told.0
-    (enclosed_open c.takes.new.self c.takes-2.new.self c.joined.new.cursor c.takes-then-takes-2.new.self (tree_of c.in-Some-2.enclosed) c.if-takes-2.ensures.told read c.if-not-takes.ensures.told)
+pub unary-returns-in-None-clause-found : goal.unary-returns-in-None-clause-found
+unary-returns-in-None-clause-found t c =
+    let told : Takes Not c.signs.cursor false c.takes.new.self = rw c.signs-test.false at c.takes.ensures.told in
+    let none : HasNone IsUnary 5 c.takes.new.self = rw c.in-None.is at c.in_ok-operand.ensures.found in
+    c.signs.invariant.none (subst (λ xs. HasNone IsUnary 5 xs) told.0 none)
 
-pub unary-returns-then-takes-2-clause-found : goal.unary-returns-then-takes-2-clause-found
-unary-returns-then-takes-2-clause-found t c =
-    let read : Reads (IsJoined Equivalence) 1 c.takes-2.new.self (tree_of c.in-Some-2.enclosed) c.joined.new.cursor = rw c.in-Some-2.is at c.in_ok-enclosed.ensures.found in
-    subst (λ ts. Reads IsUnary 5 ts (tree_of c.in-Some-2.enclosed) c.takes-then-takes-2.new.self) c.if-takes.ensures.told.0
-    (enclosed_found c.takes.new.self c.takes-2.new.self c.joined.new.cursor c.takes-then-takes-2.new.self (tree_of c.in-Some-2.enclosed) c.if-takes-2.ensures.told read c.if-not-takes.ensures.told)
+pub primary-returns-in_default-clause-found : goal.primary-returns-in_default-clause-found
+primary-returns-in_default-clause-found t c =
+    let none : HasNone (IsJoined Equivalence) 1 c.takes.new.self = rw c.in_default.is at c.in_ok-enclosed.ensures.found in
+    enclosed_none c.args.cursor.now c.takes.new.self c.if-takes.ensures.told none
 
-pub unary-returns-clause-found : goal.unary-returns-clause-found
-unary-returns-clause-found t c =
-    IfOk-weaker c.atom.result _ _ (λ found h. unary_atom c.args.cursor.now c.takes.new.self c.takes-2.new.self (option_map tree_of found) _ c.if-takes.ensures.told c.if-takes-2.ensures.told h) c.atom.ensures.found
+pub primary-returns-then-not-takes-clause-found : goal.primary-returns-then-not-takes-clause-found
+primary-returns-then-not-takes-clause-found t c =
+    let read : Reads (IsJoined Equivalence) 1 c.takes.new.self (tree_of c.in-Some.enclosed) c.joined.new.cursor = rw c.in-Some.is at c.in_ok-enclosed.ensures.found in
+    enclosed_open c.args.cursor.now c.takes.new.self c.joined.new.cursor c.takes-then-takes.new.self (tree_of c.in-Some.enclosed) c.if-takes.ensures.told read c.if-not-takes.ensures.told
+
+pub primary-returns-then-takes-clause-found : goal.primary-returns-then-takes-clause-found
+primary-returns-then-takes-clause-found t c =
+    let read : Reads (IsJoined Equivalence) 1 c.takes.new.self (tree_of c.in-Some.enclosed) c.joined.new.cursor = rw c.in-Some.is at c.in_ok-enclosed.ensures.found in
+    enclosed_found c.args.cursor.now c.takes.new.self c.joined.new.cursor c.takes-then-takes.new.self (tree_of c.in-Some.enclosed) c.if-takes.ensures.told read c.if-not-takes.ensures.told
+
+pub primary-returns-clause-found : goal.primary-returns-clause-found
+primary-returns-clause-found t c =
+    IfOk-weaker c.atom.result _ _ (λ found h. unary_atom c.args.cursor.now c.args.cursor.now c.takes.new.self (option_map tree_of found) _ (refl, c.requires.other) c.if-takes.ensures.told h) c.atom.ensures.found

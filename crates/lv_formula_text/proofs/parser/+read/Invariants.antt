@@ -2,17 +2,20 @@
 use Rattle.std.proofs.Common.{◌+◌, ◌-◌, ◌*◌, ◌≤◌, length, map}
 use Rattle.lv_formula_text.specs.PhraseTree.{tree_of}
 use Rattle.lv_formula_text.specs.Connectives.{level}
-use Rattle.lv_formula_text.proofs.ParserLemmas.{Joining}
+use Rattle.lv_formula_text.proofs.ParserLemmas.{Joining, Negating}
 use Rattle.lv_formula_text.proofs.parser.+read.Given as goal
 
 abbrev pub decreases-joined : goal.decreases-joined
-decreases-joined l = 10 * length l.cursor.now + (10 - 2 * level l.connective)
+decreases-joined l = 12 * length l.cursor.now + (12 - 2 * level l.connective)
 
 abbrev pub decreases-operand : goal.decreases-operand
-decreases-operand l = 10 * length l.cursor.now + (9 - 2 * level l.connective)
+decreases-operand l = 12 * length l.cursor.now + (11 - 2 * level l.connective)
 
 abbrev pub decreases-unary : goal.decreases-unary
-decreases-unary l = 10 * length l.cursor.now
+decreases-unary l = 12 * length l.cursor.now + 1
+
+abbrev pub decreases-primary : goal.decreases-primary
+decreases-primary l = 12 * length l.cursor.now
 
 -- the operands read so far are followed by a sign, or there are none
 abbrev pub invariant-joined-operands : goal.invariant-joined-operands
@@ -23,3 +26,9 @@ invariant-joined-operands l = record {
 
 abbrev pub decreases-joined-operands : goal.decreases-joined-operands
 decreases-joined-operands l = length l.cursor
+
+abbrev pub invariant-unary-signs : goal.invariant-unary-signs
+invariant-unary-signs l = Negating l.fn.cursor l.cursor
+
+abbrev pub decreases-unary-signs : goal.decreases-unary-signs
+decreases-unary-signs l = length l.cursor
