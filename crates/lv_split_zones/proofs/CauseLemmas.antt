@@ -15,8 +15,8 @@ use Rattle.lv_split_zones.specs.Splits.{CausesValue, parts_by_target, parts_by, 
 use Rattle.lv_split_zones.proofs.SplitLemmas.{in_front, behind, is_there, count_by_pairs}
 
 pub count_by_groups : (zone : ZoneValue) (slot : ℕ) (groups : List (List ℕ)) (choices : List ℕ) → length (parts_from zone slot groups choices) ≡ min (length groups) (length choices)
-count_by_groups zone slot [] choices = refl
-count_by_groups zone slot (numbers ∷ groups) [] = refl
+count_by_groups zone slot [] choices = omega arith
+count_by_groups zone slot (numbers ∷ groups) [] = omega arith
 count_by_groups zone slot (numbers ∷ groups) (choice ∷ choices) =
     let rest : length (parts_from (record zone { masks = masks_of_group zone.masks slot numbers (group_of numbers choice) }) (slot + 1) groups choices) ≡ min (length groups) (length choices) =
     count_by_groups (record zone { masks = masks_of_group zone.masks slot numbers (group_of numbers choice) }) (slot + 1) groups choices in
@@ -65,7 +65,7 @@ pub still_there : {X : Type 0} (xs more : List X) (i : ℕ) (x : X) → slice_ge
 still_there xs more i x e = in_front xs more i (slice_get_within xs i x e) ∙ e
 
 pub last_there : {X : Type 0} (xs : List X) (x : X) → slice_get (xs ++ x ∷ []) (length xs) ≡ Some x
-last_there xs x = behind xs (x ∷ []) 0
+last_there xs x = let same : length xs ≡ 0 + length xs = omega arith in ap (slice_get (xs ++ x ∷ [])) same ∙ behind xs (x ∷ []) 0
 
 pub kept_alike : (c : CausesValue) → IsKept c c
 kept_alike c = record { conflicts = λ j x e. e; groups = λ j x e. e; members = λ j x e. e }

@@ -1,5 +1,5 @@
 -- The way from a zone up to the first that it comes from, and down again.
-use Rattle.std.proofs.Common.{◌≡◌, ℕ, zero, suc, ◌+◌, ◌-◌, ◌<◌, ◌≤◌, List, [], ◌∷◌, ◌++◌, length, drop, get_or, Option, Some, None, option_map, refl, sym, ◌∙◌, ap, subst, arith}
+use Rattle.std.proofs.Common.{◌≡◌, ℕ, zero, suc, ◌+◌, ◌-◌, ◌<◌, ◌≤◌, List, [], ◌∷◌, ◌++◌, length, Option, Some, None, option_map, refl, sym, ◌∙◌, ap, subst, arith}
 use Rattle.std.specs.Prelude.{slice_get}
 use Rattle.lv_boxes.specs.Members.{ZoneValue}
 use Rattle.lv_split_zones.specs.declared.made.Made.{Made}
@@ -46,6 +46,15 @@ module _ (m : Made) (made : IsMade m) (at : ℕ) (here : at < m.count) (s : Spli
       by None = refl
       by (Some zone) = refl
 
+-- the part made of what was split is the zone
+pub beside : (m : Made) (made : IsMade m) (at : ℕ) (here : at < m.count) (s : Split) (last : IsLastBefore m.splits.items at s) (whole part : ZoneValue) → slice_get (zones_made m) s.zone ≡ Some whole
+    → part ≡ zone_by m.causes (record { by = s.by; part = at - s.first }) whole → Some part ≡ slice_get (zones_made m) at
+beside m made at here s last whole part is made_so =
+    ap Some made_so ∙ sym (part_is m made at here s last ∙ ap (option_map (zone_by m.causes (record { by = s.by; part = at - s.first }))) is)
+
+pub none_beside : (m : Made) (made : IsMade m) (at : ℕ) (here : at < m.count) (s : Split) (last : IsLastBefore m.splits.items at s) → slice_get (zones_made m) s.zone ≡ None → None ≡ slice_get (zones_made m) at
+none_beside m made at here s last none = sym (part_is m made at here s last ∙ ap (option_map (zone_by m.causes (record { by = s.by; part = at - s.first }))) none)
+
 -- one that no split made is one of the first
 pub first_is : (m : Made) (at : ℕ) → IsMade m → IsSplitOf m.splits.items at None → slice_get (zones_made m) at ≡ slice_get m.first.items at
 first_is m at made none = is_first m.causes m.first.items m.splits.items at made.splits none
@@ -54,10 +63,3 @@ first_is m at made none = is_first m.causes m.first.items m.splits.items at made
 pub no_step : (causes : CausesValue) (o : Option ZoneValue) → o ≡ option_map (zone_after causes []) o
 no_step causes None = refl
 no_step causes (Some zone) = refl
-
--- a step more on the way down
-pub descends : (causes : CausesValue) (path : List Step) (left : ℕ) (d : Step) (masks : List ℕ) → left < length path
-    → masks_by causes (get_or path left d).part (masks_after causes (drop (left + 1) path) masks) (get_or path left d).by ≡ masks_after causes (drop left path) masks
-descends causes [] left d masks h = absurd (omega arith)
-descends causes (s ∷ path) zero d masks h = refl
-descends causes (s ∷ path) (suc left) d masks h = descends causes path left d masks (omega arith)

@@ -1,37 +1,69 @@
--- What a split more makes.
-use Rattle.std.proofs.Common.{◌≡◌, ℕ, ◌+◌, ◌<◌, ◌≤◌, List, [], ◌∷◌, ◌++◌, length, Option, Some, None, option_map, refl, sym, ◌∙◌, ap, subst, arith}
-use Rattle.std.specs.Prelude.{slice_get}
-use Rattle.std.specs.Option.{option_map_or}
+-- What a split more makes, and what comes of keeping more that splits may be by.
+use Rattle.std.proofs.Common.{◌≡◌, ℕ, ◌+◌, ◌<◌, ◌≤◌, List, [], ◌∷◌, ◌++◌, length, Ok, Err, refl, sym, ◌∙◌, ap, ap₂, subst, arith}
+use Rattle.std.specs.Prelude.{IfOk, OnOk}
+use Rattle.std.specs.declared.result.Result.{Result}
 use Rattle.std.proofs.lemmas.List.{length-append}
-use Rattle.lv_base.specs.declared.search.Pair.{Pair}
 use Rattle.lv_boxes.specs.Members.{ZoneValue}
-use Rattle.lv_boxes.specs.Parts.{parts_of}
-use Rattle.lv_boxes.specs.GroupParts.{parts_by_groups}
+use Rattle.lv_split_zones.specs.declared.made.Made.{Made}
 use Rattle.lv_split_zones.specs.declared.split.By.{By}
-use Rattle.lv_split_zones.specs.declared.split.By.TheVariants as by
 use Rattle.lv_split_zones.specs.declared.split.Split.{Split}
-use Rattle.lv_split_zones.specs.Splits.{CausesValue, parts_by, parts_at, made, IsKept, IsKnown, IsConflict, IsTarget, IsNext, AreSplits}
-use Rattle.lv_split_zones.proofs.SplitLemmas.{is_there, made_more, splits_more, made_same, splits_still}
-
--- the splits of a list of zones, with how many zones they make
-pub record Keeps (causes : CausesValue) (first : List ZoneValue) (splits : List Split) (count : ℕ) : Type 0 where
-  pub splits : AreSplits causes first splits
-  pub count : count ≡ length (made causes first splits)
+use Rattle.lv_split_zones.specs.Made.{IsMade, zones_made}
+use Rattle.lv_split_zones.specs.Splits.{CausesValue, parts_at, made, IsKept, IsKnown, IsNext, AreSplits}
+use Rattle.lv_split_zones.proofs.SplitLemmas.{made_more, splits_more, made_same, splits_still}
 
 -- with one split more
-pub one_more : (causes : CausesValue) (first : List ZoneValue) (splits : List Split) (count parts : ℕ) (s : Split) → Keeps causes first splits count
-    → IsNext causes (made causes first splits) s → parts ≡ length (parts_at causes (made causes first splits) s) → Keeps causes first (splits ++ s ∷ []) (count + parts)
-one_more causes first splits count parts s kept next many =
-    record {
-      splits = splits_more causes first splits s kept.splits next;
-      count =
-          let whole : made causes first (splits ++ s ∷ []) ≡ made causes first splits ++ parts_at causes (made causes first splits) s = made_more causes first splits s in
-          let long : length (made causes first (splits ++ s ∷ [])) ≡ length (made causes first splits) + length (parts_at causes (made causes first splits) s) =
-          ap length whole ∙ length-append (made causes first splits) (parts_at causes (made causes first splits) s) in
-          omega (arith, kept.count, many, long);
-    }
+module _ (m new : Made) (parts : ℕ) (s : Split) (same_first : new.first.items ≡ m.first.items) (same_causes : new.causes ≡ m.causes) (with_one : new.splits.items ≡ m.splits.items ++ s ∷ []) (is : IsMade m) where
+  pub pushed_zones : zones_made new ≡ zones_made m ++ parts_at m.causes (zones_made m) s
+  pushed_zones =
+      ap (λ cs. made cs new.first.items new.splits.items) same_causes ∙ ap (λ zs. made m.causes zs new.splits.items) same_first ∙ ap (made m.causes m.first.items) with_one
+      ∙ made_more m.causes m.first.items m.splits.items s
+
+  pub pushed_made : new.count ≡ m.count + parts → IsNext m.causes (zones_made m) s → parts ≡ length (parts_at m.causes (zones_made m) s) → IsMade new
+  pushed_made counted next many =
+      record {
+        splits =
+            subst (λ cs. AreSplits cs new.first.items new.splits.items) (sym same_causes)
+            (subst (λ zs. AreSplits m.causes zs new.splits.items) (sym same_first)
+            (subst (AreSplits m.causes m.first.items) (sym with_one) (splits_more m.causes m.first.items m.splits.items s is.splits next)));
+        count =
+            let before : m.count ≡ length (zones_made m) = is.count in
+            let long : length (zones_made new) ≡ length (zones_made m) + length (parts_at m.causes (zones_made m) s) = ap length pushed_zones ∙ length-append (zones_made m) (parts_at m.causes (zones_made m) s) in
+            omega (arith, counted, before, many, long);
+      }
 
 -- with more that splits may be by
-pub more_causes : (old new : CausesValue) (first : List ZoneValue) (splits : List Split) (count : ℕ) → IsKept old new → Keeps old first splits count → Keeps new first splits count
-more_causes old new first splits count kept keeps =
-    record { splits = splits_still old new kept first splits keeps.splits; count = keeps.count ∙ ap length (made_same old new kept first splits keeps.splits) }
+module _ (m new : Made) (kept : IsKept m.causes new.causes) (same_first : new.first.items ≡ m.first.items) (same_splits : new.splits.items ≡ m.splits.items) (same_count : new.count ≡ m.count) (is : IsMade m) where
+  pub caused_zones : zones_made new ≡ zones_made m
+  caused_zones =
+      ap (λ zs. made new.causes zs new.splits.items) same_first ∙ ap (made new.causes m.first.items) same_splits ∙ sym (made_same m.causes new.causes kept m.first.items m.splits.items is.splits)
+
+  pub caused : IsMade new
+  caused =
+      record {
+        splits =
+            subst (λ zs. AreSplits new.causes zs new.splits.items) (sym same_first)
+            (subst (AreSplits new.causes m.first.items) (sym same_splits) (splits_still m.causes new.causes kept m.first.items m.splits.items is.splits));
+        count = same_count ∙ is.count ∙ sym (ap length caused_zones);
+      }
+
+  -- a split of one of the zones
+  pub next_is : (place : ℕ) (b : By) → place < m.count → IsKnown new.causes b → IsNext new.causes (zones_made new) (record { zone = place; first = m.count; by = b })
+  next_is place b here known =
+      let as_many : m.count ≡ length (zones_made new) = is.count ∙ sym (ap length caused_zones) in
+      record { zone = subst (λ n. place < n) as_many here; first = as_many; known = known }
+
+  pub zone_there : (place : ℕ) → place < m.count → place < length (zones_made new)
+  zone_there place here = subst (λ n. place < n) (is.count ∙ sym (ap length caused_zones)) here
+
+-- what holds where there is no want of memory gives what follows from it
+pub on_ok : {X E : Type 0} {P Q : Type 0} (r : Result X E) → (P → Q) → OnOk r P → OnOk r Q
+on_ok (Ok x) gives p = gives p
+on_ok (Err e) gives p = tt
+
+pub if_ok : {X E : Type 0} {P Q : X → Type 0} (r : Result X E) → ((x : X) → P x → Q x) → IfOk r P → IfOk r Q
+if_ok (Ok x) gives p = gives x p
+if_ok (Err e) gives p = tt
+
+-- the zones with parts more, in the words of what was split by
+pub parts_are : (zones others result parts own : List ZoneValue) → others ≡ zones → parts ≡ own → result ≡ others ++ parts → result ≡ zones ++ own
+parts_are zones others result parts own same is made = made ∙ ap₂ (λ (front back : List ZoneValue). front ++ back) same is

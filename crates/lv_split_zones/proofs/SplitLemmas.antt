@@ -1,8 +1,8 @@
 -- What splits make, place by place.
-use Rattle.std.proofs.Common.{◌≡◌, ℕ, zero, suc, ◌+◌, ◌-◌, ◌<◌, ◌≤◌, Bool, true, false, nat_eq, List, [], ◌∷◌, ◌++◌, length, map, Option, Some, None, option_map, append-nil, refl, sym, ◌∙◌, ap, ap₂, subst, arith}
+use Rattle.std.proofs.Common.{◌≡◌, ℕ, zero, suc, ◌+◌, ◌-◌, ◌<◌, ◌≤◌, Bool, true, false, nat_eq, List, [], ◌∷◌, ◌++◌, length, map, Option, Some, None, option_map, if◌then◌else◌, refl, sym, ◌∙◌, ap, ap₂, subst, arith}
 use Rattle.std.specs.Prelude.{slice_get, slice_set}
 use Rattle.std.specs.Option.{option_map_or, option_and_then}
-use Rattle.std.proofs.lemmas.List.{length-append, append-assoc}
+use Rattle.std.proofs.lemmas.List.{length-append}
 use Rattle.std.proofs.lemmas.Bool.{eq-eqb, eqb-true, false_from_ne_true}
 use Rattle.std.proofs.lemmas.Option.{slice_get_within}
 use Rattle.lv_base.specs.declared.search.Pair.{Pair}
@@ -25,8 +25,14 @@ in_front (x ∷ xs) ys zero h = refl
 in_front (x ∷ xs) ys (suc i) h = in_front xs ys i (omega arith)
 
 pub behind : {X : Type 0} (xs ys : List X) (k : ℕ) → slice_get (xs ++ ys) (k + length xs) ≡ slice_get ys k
-behind [] ys k = refl
-behind (x ∷ xs) ys k = behind xs ys k
+behind [] ys k = ap (slice_get ys) (more_of_none k)
+  where
+    more_of_none : (n : ℕ) → n + 0 ≡ n
+    more_of_none n = omega arith
+behind (x ∷ xs) ys k = ap (slice_get (x ∷ (xs ++ ys))) (one_less k (length xs)) ∙ behind xs ys k
+  where
+    one_less : (n m : ℕ) → n + suc m ≡ suc (n + m)
+    one_less n m = omega arith
 
 pub is_there : {X : Type 0} (xs : List X) (i : ℕ) → i < length xs → (x : X) × (slice_get xs i ≡ Some x)
 is_there [] i h = absurd (omega arith)
@@ -63,7 +69,7 @@ no_more k = omega arith
 
 pub count_by_pairs : (zone : ZoneValue) (pairs : List Pair) → length (parts_of zone pairs) ≡ length pairs
 count_by_pairs zone [] = refl
-count_by_pairs zone (p ∷ ps) = ap (λ n. n + 1) (count_by_pairs (record zone { masks = masks_with zone.masks p }) ps)
+count_by_pairs zone (p ∷ ps) = ap suc (count_by_pairs (record zone { masks = masks_with zone.masks p }) ps)
 
 module _ (causes : CausesValue) where
   part_of_conflict : (zone : ZoneValue) (o : Option (List Pair)) (k : ℕ) → k < length (option_map_or (parts_of zone) o [])
@@ -168,7 +174,7 @@ module _ (causes : CausesValue) where
   made_more zones (t ∷ ss) s = made_more (zones ++ parts_at causes zones t) ss s
 
   pub splits_more : (zones : List ZoneValue) (ss : List Split) (s : Split) → AreSplits causes zones ss → IsNext causes (made causes zones ss) s → AreSplits causes zones (ss ++ s ∷ [])
-  splits_more zones [] s all is = (is, unit)
+  splits_more zones [] s all is = (is, tt)
   splits_more zones (t ∷ ss) s all is = (all.0, splits_more (zones ++ parts_at causes zones t) ss s all.1 is)
 
 -- where what splits are by is kept, they make the same
@@ -204,7 +210,7 @@ module _ (old new : CausesValue) (kept : IsKept old new) where
       made_same (zones ++ parts_at old zones s) ss all.1 ∙ ap (λ ps. made new (zones ++ ps) ss) (same_at zones s all.0.known)
 
   pub splits_still : (zones : List ZoneValue) (ss : List Split) → AreSplits old zones ss → AreSplits new zones ss
-  splits_still zones [] all = unit
+  splits_still zones [] all = tt
   splits_still zones (s ∷ ss) all = (
     record { zone = all.0.zone; first = all.0.first; known = known_still s.by all.0.known },
     subst (λ ps. AreSplits new (zones ++ ps) ss) (same_at zones s all.0.known) (splits_still (zones ++ parts_at old zones s) ss all.1),
@@ -222,7 +228,7 @@ module _ (old new : ℕ → Bool) (place : ℕ) (others : (i : ℕ) → new i �
   marked_from : (zones : List ZoneValue) (at i : ℕ) → place ≡ i + at → without_split new at zones ≡ slice_set (without_split old at zones) i None
   marked_from [] at i e = refl
   marked_from (z ∷ zs) at zero e =
-      let same : nat_eq at place ≡ true = eq-eqb at place (sym e) in
+      let same : nat_eq at place ≡ true = eq-eqb at place (omega (arith, e)) in
       let here : new at ≡ true = others at ∙ ap (λ b. if b then true else old at) same in
       ap₂ (λ (b : Bool) rest. (if b then None else Some z) ∷ rest) here (same_from zs (at + 1) (omega (arith, e)))
   marked_from (z ∷ zs) at (suc i) e =
@@ -232,6 +238,13 @@ module _ (old new : ℕ → Bool) (place : ℕ) (others : (i : ℕ) → new i �
 
   pub marked : (zones : List ZoneValue) → without_split new 0 zones ≡ slice_set (without_split old 0 zones) place None
   marked zones = marked_from zones 0 place (omega arith)
+
+abbrev no_zone : Option ZoneValue
+no_zone = None
+
+none_either : (b : Bool) → no_zone ≡ (if b then no_zone else no_zone)
+none_either true = refl
+none_either false = refl
 
 module _ (is_split : ℕ → Bool) where
   -- of what comes behind nothing was split
@@ -243,18 +256,16 @@ module _ (is_split : ℕ → Bool) where
       ap₂ (λ (b : Bool) rest. (if b then None else Some z) ∷ rest) none (parts_from_on [] zs (at + 1) (λ i e. let below : i < at + 0 = few i e in omega (arith, below)))
   parts_from_on (z ∷ zs) parts at few =
       ap (λ rest. (if is_split at then None else Some z) ∷ rest)
-      (parts_from_on zs parts (at + 1) (λ i e. let below : i < at + (length zs + 1) = few i e in omega (arith, below)))
+      (parts_from_on zs parts (at + 1) (λ i e. let below = few i e in omega (arith, below)))
 
   pub parts_unmarked : (zones parts : List ZoneValue) → ((i : ℕ) → is_split i ≡ true → i < length zones) → without_split is_split 0 (zones ++ parts) ≡ without_split is_split 0 zones ++ map Some parts
-  parts_unmarked zones parts few = parts_from_on zones parts 0 few
+  parts_unmarked zones parts few = parts_from_on zones parts 0 (λ i e. let below = few i e in omega (arith, below))
 
   open_from : (zones : List ZoneValue) (at i : ℕ) → option_and_then (λ (zone : Option ZoneValue). zone) (slice_get (without_split is_split at zones) i) ≡ (if is_split (i + at) then None else slice_get zones i)
   open_from [] at i = none_either (is_split (i + at))
-    where
-      none_either : (b : Bool) → None ≡ (if b then None else None)
-      none_either true = refl
-      none_either false = refl
-  open_from (z ∷ zs) at zero = by (is_split at)
+  open_from (z ∷ zs) at zero =
+      let same : at ≡ zero + at = omega arith in
+      by (is_split at) ∙ ap (λ n. if is_split n then None else Some z) same
     where
       by : (b : Bool) → option_and_then (λ (zone : Option ZoneValue). zone) (Some (if b then None else Some z)) ≡ (if b then None else Some z)
       by true = refl
@@ -271,15 +282,15 @@ module _ (is_split : ℕ → Bool) where
 
   as_many_from : (zones : List ZoneValue) (at : ℕ) → length (without_split is_split at zones) ≡ length zones
   as_many_from [] at = refl
-  as_many_from (z ∷ zs) at = ap (λ n. n + 1) (as_many_from zs (at + 1))
+  as_many_from (z ∷ zs) at = ap suc (as_many_from zs (at + 1))
 
   pub as_many : (zones : List ZoneValue) → length (without_split is_split 0 zones) ≡ length zones
   as_many zones = as_many_from zones 0
 
 -- where none was split, each is there
-none_split_from : (zones : List ZoneValue) (at : ℕ) → without_split (λ i. false) at zones ≡ map Some zones
-none_split_from [] at = refl
-none_split_from (z ∷ zs) at = ap (λ rest. Some z ∷ rest) (none_split_from zs (at + 1))
+none_split_from : (is_split : ℕ → Bool) → ((i : ℕ) → is_split i ≡ false) → (zones : List ZoneValue) (at : ℕ) → without_split is_split at zones ≡ map Some zones
+none_split_from is_split none [] at = refl
+none_split_from is_split none (z ∷ zs) at = ap₂ (λ (b : Bool) rest. (if b then None else Some z) ∷ rest) (none at) (none_split_from is_split none zs (at + 1))
 
-pub none_split : (zones : List ZoneValue) → without_split (λ i. false) 0 zones ≡ map Some zones
-none_split zones = none_split_from zones 0
+pub none_split : (is_split : ℕ → Bool) (zones : List ZoneValue) → ((i : ℕ) → is_split i ≡ false) → without_split is_split 0 zones ≡ map Some zones
+none_split is_split zones none = none_split_from is_split none zones 0

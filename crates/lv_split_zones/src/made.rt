@@ -1,7 +1,7 @@
 //! All zones that were made: those that there were at first, and behind them the parts of each split.
 #![tactic(auto)]
 
-ghost use Rattle.std.specs.Prelude.{◌≡◌, ◌<◌, ◌≤◌, ◌++◌, [], Some, IfOk, OnOk, length, option_map, slice_get};
+ghost use Rattle.std.specs.Prelude.{◌≡◌, ◌<◌, ◌≤◌, ◌+◌, ◌++◌, [], Some, IfOk, OnOk, length, option_map, slice_get};
 ghost use Rattle.lv_boxes.specs.Members.{ZoneValue};
 ghost use Rattle.lv_boxes.specs.Parts.{parts_of};
 ghost use Rattle.lv_boxes.specs.GroupParts.{parts_by_groups};
@@ -64,6 +64,13 @@ fn climb(made: &Made, place: usize, path: &mut Vec<Step>) -> Result<usize, Alloc
     Ok(at)
 }
 
+/// Both together, where that is a number of zones.
+fn sum_of(count: usize, more: usize) -> Result<usize, AllocError>
+    ensures { IfOk result (λ sum. sum ≡ count + more) }
+{
+    count.checked_add(more).ok_or(AllocError)
+}
+
 /// The part of a zone that this step leads to.
 pub(crate) fn part_of(alloc: Global, causes: &Causes, zone: &Zone, step: Step) -> Result<Zone, AllocError>
     ensures { IfOk result (λ part. part ≡ record zone.now { masks = masks_by causes.now step.part zone.now.masks step.by }) }
@@ -115,7 +122,17 @@ impl Made {
         while let Some(split) = split_of(self.splits.as_slice(), at) {
             at = split.zone;
         }
-        Some(self.first.get(at)?.source())
+        self.first_source(at)
+    }
+
+    /// The source of the first zone at this place, if there is one.
+    fn first_source(&self, place: usize) -> Option<u32>
+        ensures { result ≡ option_map (λ (zone : ZoneValue). zone.source) (slice_get self.now.first.items place) }
+    {
+        match self.first.get(place) {
+            Some(zone) => Some(zone.source()),
+            None => None,
+        }
     }
 
     /// Splits the zone at this place into so many parts.
@@ -127,7 +144,7 @@ impl Made {
         ensures more { self.old.count ≤ self.new.count }
         ensures parts { OnOk result (zones_made self.new ≡ zones_made self.old ++ parts_at self.old.causes (zones_made self.old) (record { zone = place; first = self.old.count; by = by })) }
     {
-        let count = self.count.checked_add(parts).ok_or(AllocError)?;
+        let count = sum_of(self.count, parts)?;
         self.splits.push(Split {
             zone: place,
             first: self.count,

@@ -10,6 +10,7 @@ ghost use Rattle.lv_split_zones.specs.declared.walk.Held.{Held};
 
 use super::made::{Made, part_of, split_of};
 use super::split::Step;
+use super::zones::has;
 use lv_boxes::Zone;
 use std::alloc::{AllocError, Global};
 use std::collections::BTreeSet;
@@ -119,7 +120,10 @@ impl<'a> Walk<'a> {
         ensures same { self.new ≡ self.old }
         ensures zone { IfOk result (λ zone. zone ≡ open_at self.old place) }
     {
-        if self.split.contains(&place) || place >= self.made.count {
+        if place >= self.made.count {
+            return Ok(None);
+        }
+        if has(self.split, place) {
             return Ok(None);
         }
         zone_beside(alloc, self.made, &mut self.held, place)

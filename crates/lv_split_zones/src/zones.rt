@@ -37,6 +37,13 @@ impl Model for SplitZones {
     ghost invariant = { λ z. AreZones z.made z.split };
 }
 
+/// Whether the zone at this place was split.
+pub(crate) fn has(split: &BTreeSet<usize>, place: usize) -> bool
+    ensures { result ≡ is_in split.now place }
+{
+    split.contains(&place)
+}
+
 /// Tells that the zone at this place was split.
 fn mark(split: &mut BTreeSet<usize>, place: usize) -> Result<(), AllocError>
     ensures split { OnOk result ((i : ℕ) → is_in split.new i ≡ (if nat_eq i place then true else is_in split.old i)) }
@@ -73,7 +80,7 @@ impl SplitZones {
     pub fn source_at(&self, place: usize) -> Option<u32>
         ensures { result ≡ option_map (λ (zone : ZoneValue). zone.source) (open_at self.now place) }
     {
-        if self.split.contains(&place) {
+        if has(&self.split, place) {
             return None;
         }
         self.made.source_at(place)
@@ -83,7 +90,7 @@ impl SplitZones {
     pub fn zone_at(&self, alloc: Global, place: usize) -> Result<Option<Zone>, AllocError>
         ensures { IfOk result (λ zone. zone ≡ open_at self.now place) }
     {
-        if self.split.contains(&place) {
+        if has(&self.split, place) {
             return Ok(None);
         }
         self.made.zone_at(alloc, place)
