@@ -72,7 +72,12 @@ fn sum_of(count: usize, more: usize) -> Result<usize, AllocError>
 }
 
 /// The part of a zone that this step leads to.
-pub(crate) fn part_of(alloc: Global, causes: &Causes, zone: &Zone, step: Step) -> Result<Zone, AllocError>
+pub(crate) fn part_of(
+    alloc: Global,
+    causes: &Causes,
+    zone: &Zone,
+    step: Step,
+) -> Result<Zone, AllocError>
     ensures { IfOk result (λ part. part ≡ record zone.now { masks = masks_by causes.now step.part zone.now.masks step.by }) }
 {
     let mut masks = Vec::from_slice(alloc, zone.masks())?;
