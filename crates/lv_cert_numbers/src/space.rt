@@ -187,6 +187,7 @@ impl Space {
     }
 
     /// Whether each zone was split, or is empty, or its least member ranks behind the last one that counts.
+    #[tactic(auto, using(crate::proofs::PassedLemmas::one_passed, crate::proofs::PassedLemmas::one_left))]
     pub fn all_passed(&self, alloc: Global, last: Option<&Rank>) -> Result<bool, AllocError>
         ensures { IfOk result (λ passed. passed ≡ Spaces.all_passed self.now (option_copied last.entry)) }
     {
