@@ -5,3 +5,4 @@ pub mod PartLemmas
 pub mod GoalLemmas
 pub mod LeastLemmas
 pub mod PassedLemmas
+pub mod SpaceLemmas

@@ -2,7 +2,7 @@
 //! certificate splits can be followed line by line.
 #![tactic(auto)]
 
-ghost use Rattle.std.specs.Prelude.{◌≡◌, ◌≤◌, map, Some, IfOk, IfSome, OnOk, length, option_map, slice_get};
+ghost use Rattle.std.specs.Prelude.{◌≡◌, ◌≤◌, ◌-◌, map, Some, IfOk, IfSome, OnOk, length, option_map, slice_get};
 ghost use Rattle.lv_boxes.specs.Members.{ZoneValue};
 ghost use Rattle.lv_boxes.specs.GroupParts.{parts_by_groups};
 ghost use Rattle.lv_split_zones.specs.Zones.{open_at};
@@ -52,7 +52,8 @@ impl Space {
 
     /// The place of the zone of this number, if there is one, open or not.
     fn place_of(&self, n: u128) -> Option<usize>
-        ensures { option_and_then (slice_get self.now.zones) result ≡ at_number self.now.zones n }
+        ensures zone { option_and_then (slice_get self.now.zones) result ≡ at_number self.now.zones n }
+        ensures place { IfSome result (λ place. place ≡ n - 1) }
     {
         if 0 < n && n <= self.zones.len() as u128 {
             Some(n as usize - 1)
