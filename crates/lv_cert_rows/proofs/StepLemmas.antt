@@ -1,6 +1,7 @@
 -- A line that may come at a place, in the words of the tables.
 use Rattle.std.proofs.Common.{◌≡◌, ℕ, zero, suc, ◌+◌, ◌≤◌, Bool, true, false, not, nat_le, nat_lt, nat_eq, ◌&&◌, ◌||◌, List, [], ◌∷◌, length, Option, Some, None, if◌then◌else◌, refl, sym, ap, ap₂, subst, ◌∙◌, arith}
 use Rattle.std.specs.Cmp.Lexicographic.{pointwise}
+use Rattle.std.proofs.lemmas.Bool.{le-leb, leb-true}
 use Rattle.std.specs.Option.{option_map_or}
 use Rattle.lv_cert.specs.declared.line.Question.{Question}
 use Rattle.lv_cert.specs.declared.line.Question.TheVariants as question
@@ -32,7 +33,7 @@ row_at place.Asked = 2
 row_at (place.States k n) = 3
 row_at (place.Facts k n) = 5
 row_at (place.Listings l) = 7
-row_at (place.Known n) = 2
+row_at (place.Known n) = 3
 row_at (place.KnownFacts s n) = 5
 row_at (place.Goals t) = 6
 row_at (place.Good s) = 8
@@ -81,14 +82,10 @@ pub record Comes (p : Place) (l : Line) (q : Place) : Type 0 where
 -- earlier rows
 
 pub le_true : (a b : ℕ) → a ≤ b → nat_le a b ≡ true
-le_true zero b h = refl
-le_true (suc a) zero h = absurd (omega arith)
-le_true (suc a) (suc b) h = le_true a b (omega arith)
+le_true a b h = le-leb a b h
 
 pub true_le : (a b : ℕ) → nat_le a b ≡ true → a ≤ b
-true_le zero b h = omega arith
-true_le (suc a) zero h = absurd (cc h)
-true_le (suc a) (suc b) h = let rest : a ≤ b = true_le a b h in omega arith
+true_le a b h = leb-true a b h
 
 earlier_from : (row later : ℕ) (at : Option ℕ) → row ≤ later → is_from later at ≡ true → is_from row at ≡ true
 earlier_from row later None h e = refl
@@ -202,11 +199,11 @@ opens_known_facts s n (line.Goal text) q e =
     (record { leads = record { from = refl; behind = refl; follows = λ m. refl; ends = refl }; plain = refl })
 opens_known_facts s n _ q e = absurd (cc e)
 
-opens_known : (n : ℕ) (l : Line) (q : Place) → after_known n l ≡ Some q → Opens 2 l q
+opens_known : (n : ℕ) (l : Line) (q : Place) → after_known n l ≡ Some q → Opens 3 l q
 opens_known n (line.Numbers head.State ns) q e =
-    to 2 (line.Numbers head.State ns) (place.Known (n + 1)) q (chosen (nat_lt n 64) (place.Known (n + 1)) q e)
+    to 3 (line.Numbers head.State ns) (place.Known (n + 1)) q (chosen (nat_lt n 64) (place.Known (n + 1)) q e)
     (record { leads = record { from = refl; behind = refl; follows = λ m. refl; ends = refl }; plain = refl })
-opens_known n l q e = opens_earlier 2 5 l q (omega arith) (opens_known_facts n 0 l q (taken (nat_lt 0 n) (after_known_facts n 0 l) q e))
+opens_known n l q e = opens_earlier 3 5 l q (omega arith) (opens_known_facts n 0 l q (taken (nat_lt 0 n) (after_known_facts n 0 l) q e))
 
 opens_good : (s : Stage) (l : Line) (q : Place) → after_good s l ≡ Some q → Opens 8 l q
 opens_good s (line.Numbers head.Good ns) q e =
