@@ -1,5 +1,5 @@
 -- What a split by a conflict, or by the target of a member, makes.
-use Rattle.std.proofs.Common.{◌≡◌, ℕ, zero, suc, ◌+◌, ◌<◌, ◌≤◌, List, [], ◌∷◌, ◌++◌, length, min, Option, Some, None, refl, sym, ◌∙◌, ap, ap₂, subst, arith}
+use Rattle.std.proofs.Common.{◌≡◌, ℕ, ◌+◌, ◌<◌, List, [], ◌∷◌, ◌++◌, length, min, Some, sym, ◌∙◌, ap, ap₂, arith}
 use Rattle.std.specs.Prelude.{slice_get}
 use Rattle.std.specs.Option.{option_map_or}
 use Rattle.std.proofs.lemmas.Option.{slice_get_within}
@@ -11,7 +11,7 @@ use Rattle.lv_boxes.specs.lv_search_walk.Groups.{group_of}
 use Rattle.lv_split_zones.specs.declared.split.By.{By}
 use Rattle.lv_split_zones.specs.declared.split.By.TheVariants as by
 use Rattle.lv_split_zones.specs.declared.split.Split.{Split}
-use Rattle.lv_split_zones.specs.Splits.{CausesValue, parts_by_target, parts_by, parts_at, IsKept, IsKnown, IsConflict, IsTarget, IsNext}
+use Rattle.lv_split_zones.specs.Splits.{CausesValue, parts_by_target, parts_by, parts_at, IsKept, IsKnown, IsConflict, IsTarget}
 use Rattle.lv_split_zones.proofs.SplitLemmas.{in_front, behind, is_there, count_by_pairs}
 
 pub count_by_groups : (zone : ZoneValue) (slot : ℕ) (groups : List (List ℕ)) (choices : List ℕ) → length (parts_from zone slot groups choices) ≡ min (length groups) (length choices)

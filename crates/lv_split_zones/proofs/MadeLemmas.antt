@@ -1,5 +1,5 @@
 -- What a split more makes, and what comes of keeping more that splits may be by.
-use Rattle.std.proofs.Common.{◌≡◌, ℕ, ◌+◌, ◌<◌, ◌≤◌, List, [], ◌∷◌, ◌++◌, length, Ok, Err, refl, sym, ◌∙◌, ap, ap₂, subst, arith}
+use Rattle.std.proofs.Common.{◌≡◌, ℕ, ◌+◌, ◌<◌, List, [], ◌∷◌, ◌++◌, length, Ok, Err, sym, ◌∙◌, ap, ap₂, subst, arith}
 use Rattle.std.specs.Prelude.{IfOk, OnOk}
 use Rattle.std.specs.declared.result.Result.{Result}
 use Rattle.std.proofs.lemmas.List.{length-append}
@@ -8,7 +8,7 @@ use Rattle.lv_split_zones.specs.declared.made.Made.{Made}
 use Rattle.lv_split_zones.specs.declared.split.By.{By}
 use Rattle.lv_split_zones.specs.declared.split.Split.{Split}
 use Rattle.lv_split_zones.specs.Made.{IsMade, zones_made}
-use Rattle.lv_split_zones.specs.Splits.{CausesValue, parts_at, made, IsKept, IsKnown, IsNext, AreSplits}
+use Rattle.lv_split_zones.specs.Splits.{parts_at, made, IsKept, IsKnown, IsNext, AreSplits}
 use Rattle.lv_split_zones.proofs.SplitLemmas.{made_more, splits_more, made_same, splits_still}
 
 -- with one split more

@@ -1,9 +1,9 @@
 -- Which split a zone is a part of, found by halving.
-use Rattle.std.proofs.Common.{◌≡◌, ◌≢◌, ℕ, zero, suc, ◌+◌, ◌-◌, ◌<◌, ◌≤◌, List, length, get_or, Some, None, Option, refl, sym, ◌∙◌, ap, subst, arith}
+use Rattle.std.proofs.Common.{◌≡◌, ℕ, ◌+◌, ◌-◌, ◌<◌, ◌≤◌, List, length, get_or, Some, None, sym, ◌∙◌, ap, subst, arith}
 use Rattle.std.specs.Prelude.{slice_get}
 use Rattle.std.proofs.lemmas.Option.{slice_get-get_or, slice_get_within}
 use Rattle.lv_split_zones.specs.declared.split.Split.{Split}
-use Rattle.lv_split_zones.specs.Searches.{IsLastBefore, IsSplitOf}
+use Rattle.lv_split_zones.specs.Searches.{IsSplitOf}
 
 abbrev pub IsBegun : List Split → ℕ → ℕ → Type 0
 IsBegun splits place low = (i : ℕ) (t : Split) → i + 1 ≡ low → slice_get splits i ≡ Some t → t.first ≤ place

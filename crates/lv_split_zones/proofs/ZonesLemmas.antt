@@ -1,7 +1,7 @@
 -- Zones by their places, with what was split.
-use Rattle.std.proofs.Common.{◌≡◌, ℕ, zero, suc, ◌+◌, ◌<◌, ◌≤◌, Bool, true, false, nat_eq, if◌then◌else◌, List, [], ◌∷◌, ◌++◌, length, map, Option, Some, None, option_map, refl, sym, ◌∙◌, ap, ap₂, subst, arith}
+use Rattle.std.proofs.Common.{◌≡◌, ℕ, zero, suc, ◌<◌, ◌≤◌, Bool, true, false, nat_eq, if◌then◌else◌, List, [], ◌∷◌, ◌++◌, length, map, Option, Some, None, refl, sym, ◌∙◌, ap, subst, arith}
 use Rattle.std.specs.Prelude.{slice_get, slice_set}
-use Rattle.std.specs.Option.{option_and_then, option_map_or}
+use Rattle.std.specs.Option.{option_and_then}
 use Rattle.std.specs.List.{list_any}
 use Rattle.std.specs.Ordering.{nat_cmp}
 use Rattle.std.specs.BTreeMap.{is_at}
@@ -10,7 +10,7 @@ use Rattle.std.proofs.lemmas.Bool.{eqb-true}
 use Rattle.std.proofs.lemmas.Option.{slice_get_within}
 use Rattle.lv_boxes.specs.Members.{ZoneValue}
 use Rattle.lv_split_zones.specs.declared.made.Made.{Made}
-use Rattle.lv_split_zones.specs.Made.{IsMade, zones_made}
+use Rattle.lv_split_zones.specs.Made.{zones_made}
 use Rattle.lv_split_zones.specs.declared.split.Split.{Split}
 use Rattle.lv_split_zones.specs.Splits.{CausesValue, made, without_split}
 use Rattle.lv_split_zones.specs.Zones.{open_at, is_in, AreZones}

@@ -1,5 +1,5 @@
 -- each step leads one zone up
-use Rattle.std.proofs.Common.{◌≡◌, ◌++◌, ◌∷◌, [], ◌-◌, sym, ◌∙◌, ap, subst, option_map, None}
+use Rattle.std.proofs.Common.{sym, ◌∙◌, ap, subst, option_map, None}
 use Rattle.std.specs.Prelude.{slice_get}
 use Rattle.lv_split_zones.specs.Searches.{IsLastBefore, IsSplitOf}
 use Rattle.lv_split_zones.specs.Splits.{zone_after}

@@ -1,5 +1,5 @@
 -- the parts of the split before the lower end begin at the place or before it, those at the upper end behind it
-use Rattle.std.proofs.Common.{◌≡◌, ◌≤◌, ◌-◌, length}
+use Rattle.std.proofs.Common.{◌≤◌, ◌-◌, length}
 use Rattle.lv_split_zones.proofs.SearchLemmas.{IsBegun, IsAhead}
 use Rattle.lv_split_zones.proofs.made.split_of.Given as goal
 

@@ -1,5 +1,5 @@
 -- the part of what is held is the zone
-use Rattle.std.proofs.Common.{◌≡◌, sym, ◌∙◌, ap, subst}
+use Rattle.std.proofs.Common.{sym, ◌∙◌, ap, subst}
 use Rattle.lv_split_zones.specs.Searches.{IsLastBefore}
 use Rattle.lv_split_zones.specs.Walk.{zone_held}
 use Rattle.lv_split_zones.proofs.ClimbLemmas.{beside, none_beside}

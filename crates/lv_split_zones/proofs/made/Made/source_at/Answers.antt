@@ -1,5 +1,5 @@
 -- a part has the source of what was split
-use Rattle.std.proofs.Common.{◌≡◌, sym, ◌∙◌, ap, subst, option_map, None}
+use Rattle.std.proofs.Common.{sym, ◌∙◌, ap, subst, option_map, None}
 use Rattle.lv_boxes.specs.Members.{ZoneValue}
 use Rattle.lv_split_zones.specs.Searches.{IsLastBefore, IsSplitOf}
 use Rattle.lv_split_zones.proofs.ClimbLemmas.{zone_before, zone_there, source_above, first_is}

@@ -1,7 +1,6 @@
 -- what it is split by is kept, and the parts come behind the others
-use Rattle.std.proofs.Common.{◌≡◌, ℕ, List, min, length, refl, sym, ◌∙◌, ap}
+use Rattle.std.proofs.Common.{ℕ, List, min, length, refl, ◌∙◌, ap}
 use Rattle.std.specs.Prelude.{slice_get}
-use Rattle.lv_boxes.specs.Members.{ZoneValue}
 use Rattle.lv_boxes.specs.GroupParts.{parts_by_groups}
 use Rattle.lv_split_zones.specs.Made.{zones_made}
 use Rattle.lv_split_zones.specs.Splits.{parts_at}

@@ -1,5 +1,5 @@
 -- what is split is told, and its parts come behind the others
-use Rattle.std.proofs.Common.{◌≡◌, ◌<◌, ◌≤◌, List, Option, ◌∙◌, ap, arith}
+use Rattle.std.proofs.Common.{List, Option, ◌∙◌, ap, arith}
 use Rattle.std.specs.Prelude.{slice_get}
 use Rattle.lv_boxes.specs.Members.{ZoneValue}
 use Rattle.lv_boxes.specs.GroupParts.{parts_by_groups}
