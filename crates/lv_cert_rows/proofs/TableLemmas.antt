@@ -1,12 +1,12 @@
 -- Lines that lead from the start to the end are in the order of the tables.
-use Rattle.std.proofs.Common.{◌≡◌, ℕ, ◌≤◌, Bool, true, ◌&&◌, nat_le, List, [], ◌∷◌, Option, Some, None, refl, sym, ap, ◌∙◌, arith}
+use Rattle.std.proofs.Common.{◌≡◌, ℕ, ◌≤◌, true, ◌&&◌, List, [], ◌∷◌, Option, Some, None, refl, ap, ◌∙◌, arith}
 use Rattle.std.specs.Option.{option_and_then, option_map_or}
 use Rattle.std.proofs.lemmas.Bool.{and_from}
 use Rattle.lv_cert.specs.declared.line.Line.{Line}
 use Rattle.lv_cert.specs.declared.order.Place.{Place}
 use Rattle.lv_cert.specs.declared.order.Place.TheVariants as place
 use Rattle.lv_cert.specs.Order.{place_after, place_behind}
-use Rattle.lv_cert_rows.specs.Tables.{is_start, is_end, row_of, is_single, is_from, row_behind, rows_rise, may_follow, are_next, are_in_table_order, OrderIsOfTheTables}
+use Rattle.lv_cert_rows.specs.Tables.{is_start, is_end, row_of, is_single, is_from, row_behind, rows_rise, may_follow, are_next, OrderIsOfTheTables}
 use Rattle.lv_cert_rows.proofs.StepLemmas.{row_at, due, ends_at, Comes, leads_earlier, true_le, comes, begins}
 
 -- the place behind the first of some lines, and the others from there
