@@ -106,6 +106,30 @@ def certificate(**changed):
     return "\n".join(lines) + "\n"
 
 
+def row_of_valves(count):
+    """So many valves, of which what leaves one enters the next."""
+    head = VALVE.decode().split("part ")[0]
+    links = "".join(f"law v{i + 1}.inn = v{i}.out\n" for i in range(1, count))
+    return head + numbered(count + 1, "part v", " valve closed").split("\n", 1)[1] + "law v1.inn = some\n" + links
+
+
+def splitting(count, splits):
+    """A certificate over the row of so many valves that lists the candidate in which all stay closed, and splits so many zones by it,
+    one behind the other: each makes one zone more for each valve, nearly all of which have no members. It is bad at its end, since
+    the valves might have been opened."""
+    ones = " 1" * count
+    values = " 1 1 2 1" + " 1 1 1 1" * (count - 1)
+    begins = f"certificate diagnosis\nmodel valve\nk 1\nstate 0{ones}\ncontrol{ones}\nlisted 1{' 2' * count}\nnow{values}\nnext{values}\n"
+    return begins + "".join(f"split {n} listed 1\n" for n in range(1, splits + 1)) + "end\n"
+
+
+def modest():
+    """Certificates whose check may take 64 times their bytes beside what one over the same model takes that splits nothing: each with
+    its name, the model, that one, itself, and the line on the output that is due."""
+    row = row_of_valves(256)
+    yield "256 valves, 6,000 zones split", row, splitting(256, 0), splitting(256, 6000), "invalid 6009"
+
+
 def rows():
     """Each text with the words, the files behind them, and what is due: the status, the line on standard error, and the last line
     of the output or nothing, where it isn't asked for."""
@@ -199,6 +223,29 @@ def measured(words):
         return int(status), out.read(), err.read(), float(seconds), int(kilobytes) / 1024
 
 
+def written(folder, name, text):
+    """The path of a file with the text."""
+    path = os.path.join(folder, name)
+    with open(path, "wb") as file:
+        file.write(text if isinstance(text, bytes) else text.encode())
+    return path
+
+
+def certificates(program, folder):
+    """Prints a line for each certificate that has to take little memory, and answers how many there are and how many failed."""
+    failed = count = 0
+    for name, model, plain, text, due in modest():
+        model, plain, path = written(folder, "model", model), written(folder, "plain", plain), written(folder, "certificate", text)
+        least = measured([program, "check", model, plain])[4]
+        came, out, err, seconds, megabytes = measured([program, "check", model, path])
+        most = least + 64 * len(text) / 2**20
+        right = came == 9 and out.decode() == due + "\n" and err == b"" and megabytes <= most
+        print(f"| a certificate of {len(text):,} bytes: {name} | 9 {due}, at most {most:.0f} MB | {seconds:.2f} | {megabytes:.0f} |" + ("" if right else f" FAILED: {came} {out[:80]!r}"))
+        count += 1
+        failed += not right
+    return count, failed
+
+
 def main(program):
     failed = count = 0
     out = b""
@@ -207,9 +254,7 @@ def main(program):
             files = []
             for i, text in enumerate(texts):
                 text = out[out.index(b"certificate ") :] if text is WRITTEN else text
-                files.append(os.path.join(folder, f"file{i}"))
-                with open(files[-1], "wb") as file:
-                    file.write(text if isinstance(text, bytes) else text.encode())
+                files.append(written(folder, f"file{i}", text))
             came, out, err, seconds, megabytes = measured([program, word, *files])
             ends = out.decode("ascii").rstrip("\n").rsplit("\n", 1)[-1]
             right = came == status and err == (line + "\n" if line else "").encode() and (last is None or ends == last)
@@ -217,6 +262,8 @@ def main(program):
             print(f"| {name} | {due} | {seconds:.2f} | {megabytes:.0f} |" + ("" if right else f" FAILED: {came} {err!r} {ends[:80]!r}"))
             count += 1
             failed += not right
+        more, wrong = certificates(program, folder)
+    count, failed = count + more, failed + wrong
     print(f"{count - failed} passed, {failed} failed")
     return 1 if failed else 0
 

@@ -4,3 +4,5 @@ pub mod PairLemmas
 pub mod PartLemmas
 pub mod GoalLemmas
 pub mod LeastLemmas
+pub mod PassedLemmas
+pub mod SpaceLemmas

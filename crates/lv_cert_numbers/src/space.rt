@@ -2,15 +2,17 @@
 //! certificate splits can be followed line by line.
 #![tactic(auto)]
 
-ghost use Rattle.std.specs.Prelude.{◌≡◌, ◌≤◌, ◌-◌, ◌++◌, ◌∷◌, [], map, Some, None, IfOk, IfSome, OnOk, length, slice_set};
+ghost use Rattle.std.specs.Prelude.{◌≡◌, ◌≤◌, ◌-◌, map, Some, IfOk, IfSome, OnOk, length, option_map, slice_get};
 ghost use Rattle.lv_boxes.specs.Members.{ZoneValue};
 ghost use Rattle.lv_boxes.specs.GroupParts.{parts_by_groups};
+ghost use Rattle.lv_split_zones.specs.Zones.{open_at};
 ghost use Rattle.std.specs.Option.{option_copied, option_and_then};
 ghost use Rattle.lv_cert_meaning.specs.Counting.{at_number};
 ghost use Rattle.lv_cert_meaning.specs.Space as Spaces;
 
 use lv_base::{Conflict, Rank, Seq};
-use lv_boxes::{Grid, Groups, Zone, split, split_by_groups};
+use lv_boxes::{Grid, Groups, Zone};
+use lv_split_zones::{SplitZones, Walk};
 use std::alloc::{AllocError, Global};
 use std::marker::Model;
 
@@ -18,7 +20,7 @@ use std::marker::Model;
 #[derive(Drop)]
 pub struct Space {
     grid: Grid,
-    zones: Vec<Option<Zone>>,
+    zones: SplitZones,
 }
 
 impl Model for Space {
@@ -26,14 +28,7 @@ impl Model for Space {
 
     ghost Value = { Space };
 
-    ghost view = { λ s. record { slots = s.grid; zones = s.zones.items } };
-}
-
-/// The zones, each open.
-fn opened(alloc: Global, zones: Vec<Zone>) -> Result<Vec<Option<Zone>>, AllocError>
-    ensures { IfOk result (λ out. out.items ≡ map Some zones.items) }
-{
-    zones.into_iter().map(Some).collect(alloc)
+    ghost view = { λ s. record { slots = s.grid; zones = s.zones } };
 }
 
 impl Space {
@@ -43,7 +38,7 @@ impl Space {
     {
         Ok(Space {
             grid,
-            zones: opened(alloc, zones)?,
+            zones: SplitZones::new(alloc, zones),
         })
     }
 
@@ -51,28 +46,37 @@ impl Space {
     pub fn restart(&mut self, alloc: Global, zones: Vec<Zone>) -> Result<(), AllocError>
         ensures { OnOk result (self.new ≡ record self.old { zones = map Some zones.items }) }
     {
-        self.zones = opened(alloc, zones)?;
+        self.zones = SplitZones::new(alloc, zones);
         Ok(())
     }
 
-    /// What stands at this number, if something does.
-    fn slot(&self, n: u128) -> Option<&Option<Zone>>
-        ensures { option_copied result ≡ at_number self.now.zones n }
+    /// The place of the zone of this number, if there is one, open or not.
+    fn place_of(&self, n: u128) -> Option<usize>
+        ensures zone { option_and_then (slice_get self.now.zones) result ≡ at_number self.now.zones n }
+        ensures place { IfSome result (λ place. place ≡ n - 1) }
     {
         if 0 < n && n <= self.zones.len() as u128 {
-            self.zones.get(n as usize - 1)
+            Some(n as usize - 1)
         } else {
             None
         }
     }
 
-    /// The zone of this number, if it is open. Takes no memory.
-    pub fn open_zone(&self, n: u128) -> Option<&Zone>
-        ensures { option_copied result ≡ Spaces.open_zone self.now n }
+    /// The tracked state's place of the zone of this number, if it is open. Takes no memory.
+    pub fn source_of(&self, n: u128) -> Option<u32>
+        ensures { result ≡ option_map (λ (zone : ZoneValue). zone.source) (Spaces.open_zone self.now n) }
     {
-        match self.slot(n) {
-            Some(zone) => zone.as_ref(),
-            None => None,
+        let place = self.place_of(n)?;
+        self.zones.source_at(place)
+    }
+
+    /// The zone of this number, if it is open.
+    fn zone_of(&self, alloc: Global, n: u128) -> Result<Option<Zone>, AllocError>
+        ensures { IfOk result (λ zone. zone ≡ Spaces.open_zone self.now n) }
+    {
+        match self.place_of(n) {
+            Some(place) => self.zones.zone_at(alloc, place),
+            None => Ok(None),
         }
     }
 
@@ -90,8 +94,8 @@ impl Space {
         ensures few { IfOk result (λ r. IfSome r (λ rank. length rank.choices ≤ 4096)) }
     {
         let mut room = vec![in alloc; 0; self.grid.len()]?;
-        match self.open_zone(n) {
-            Some(zone) => self.least_rank(alloc, zone, room.as_mut_slice()),
+        match self.zone_of(alloc, n)? {
+            Some(zone) => self.least_rank(alloc, &zone, room.as_mut_slice()),
             None => Ok(None),
         }
     }
@@ -110,12 +114,10 @@ impl Space {
     pub fn split(&mut self, alloc: Global, n: u128, conflict: &Conflict) -> Result<(), AllocError>
         ensures { (zone : ZoneValue) → Spaces.open_zone self.old n ≡ Some zone → OnOk result (self.new ≡ Spaces.with_split self.old n zone conflict.now) }
     {
-        let parts = match self.open_zone(n) {
-            Some(zone) => split(alloc, zone, conflict)?,
-            None => Vec::new(alloc),
-        };
-        self.close(n);
-        self.open_all(parts)
+        match self.place_of(n) {
+            Some(place) => self.zones.split(alloc, place, conflict),
+            None => Ok(()),
+        }
     }
 
     /// Splits the zone of this number, which is open, by the groups of these choices.
@@ -128,38 +130,10 @@ impl Space {
     ) -> Result<(), AllocError>
         ensures { (zone : ZoneValue) → Spaces.open_zone self.old n ≡ Some zone → OnOk result (self.new ≡ Spaces.with_parts self.old n (parts_by_groups zone groups.now member.now)) }
     {
-        let parts = match self.open_zone(n) {
-            Some(zone) => split_by_groups(alloc, zone, groups, member)?,
-            None => Vec::new(alloc),
-        };
-        self.close(n);
-        self.open_all(parts)
-    }
-
-    /// Closes the zone of this number, which is open.
-    fn close(&mut self, n: u128)
-        ensures { (zone : ZoneValue) → Spaces.open_zone self.old n ≡ Some zone → self.new ≡ record self.old { zones = slice_set self.old.zones (n - 1) None } }
-    {
-        if 0 < n && n <= self.zones.len() as u128 {
-            self.zones[n as usize - 1] = None;
+        match self.place_of(n) {
+            Some(place) => self.zones.split_by_groups(alloc, place, groups, member),
+            None => Ok(()),
         }
-    }
-
-    /// Opens one more zone, with the next number.
-    fn open(&mut self, zone: Zone) -> Result<(), AllocError>
-        ensures { OnOk result (self.new ≡ record self.old { zones = self.old.zones ++ Some zone ∷ [] }) }
-    {
-        self.zones.push(Some(zone))?;
-        Ok(())
-    }
-
-    fn open_all(&mut self, zones: Vec<Zone>) -> Result<(), AllocError>
-        ensures { OnOk result (self.new ≡ record self.old { zones = self.old.zones ++ map Some zones.items }) }
-    {
-        for zone in zones {
-            self.open(zone)?;
-        }
-        Ok(())
     }
 
     /// The rank of the zone's least member, if it has members. The room has one place for each slot.
@@ -195,14 +169,32 @@ impl Space {
         }
     }
 
+    /// Whether what stands at the place was split, or is empty, or its least member ranks behind the last one that counts.
+    fn has_passed(
+        &self,
+        alloc: Global,
+        walk: &mut Walk<'_>,
+        place: usize,
+        last: Option<&Rank>,
+    ) -> Result<bool, AllocError>
+        requires { walk.old ≡ self.now.zones }
+        ensures walk { walk.new ≡ self.now.zones }
+        ensures passed { IfOk result (λ passed. passed ≡ Spaces.is_passed self.now.slots (option_copied last.entry) (open_at self.now.zones place)) }
+    {
+        match walk.zone_at(alloc, place)? {
+            Some(zone) => self.is_passed(alloc, &zone, last),
+            None => Ok(true),
+        }
+    }
+
     /// Whether each zone was split, or is empty, or its least member ranks behind the last one that counts.
+    #[tactic(auto, using(crate::proofs::PassedLemmas::one_passed, crate::proofs::PassedLemmas::one_left))]
     pub fn all_passed(&self, alloc: Global, last: Option<&Rank>) -> Result<bool, AllocError>
         ensures { IfOk result (λ passed. passed ≡ Spaces.all_passed self.now (option_copied last.entry)) }
     {
-        for zone in &self.zones {
-            if let Some(zone) = zone
-                && !self.is_passed(alloc, zone, last)?
-            {
+        let mut walk = self.zones.walk();
+        for place in 0..self.zones.len() {
+            if !self.has_passed(alloc, &mut walk, place, last)? {
                 return Ok(false);
             }
         }

@@ -700,6 +700,5 @@ fn is_next(judged: &Judged<'_>, rank: &Rank) -> bool
 fn source_of(judged: &Judged<'_>, n: u128) -> Option<u32>
     ensures { result ≡ option_map (λ (zone : ZoneValue). zone.source) (open_zone judged.now.space n) }
 {
-    let zone = judged.space.open_zone(n)?;
-    Some(zone.source())
+    judged.space.source_of(n)
 }

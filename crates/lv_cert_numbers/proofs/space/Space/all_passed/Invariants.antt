@@ -5,5 +5,9 @@ use Rattle.lv_cert_meaning.specs.Space.{is_passed, all_passed}
 use Rattle.lv_cert_numbers.proofs.space.Space.all_passed.Given as goal
 
 -- the zones that are left are passed exactly where all are
-abbrev pub invariant-loop-zone : goal.invariant-loop-zone
-invariant-loop-zone l = list_all (is_passed l.self.slots (option_copied l.last)) (drop l.zone-index l.zone-items) ≡ all_passed l.self (option_copied l.last)
+abbrev pub invariant-loop-place : goal.invariant-loop-place
+invariant-loop-place l =
+    record {
+      left : list_all (is_passed l.self.slots (option_copied l.last)) (drop l.place l.self.zones) ≡ all_passed l.self (option_copied l.last);
+      walk : l.walk ≡ l.self.zones;
+    }

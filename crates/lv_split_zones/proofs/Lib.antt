@@ -1,0 +1,6 @@
+pub mod SplitLemmas
+pub mod SearchLemmas
+pub mod MadeLemmas
+pub mod ClimbLemmas
+pub mod CauseLemmas
+pub mod ZonesLemmas

@@ -1,0 +1,34 @@
+-- what it is split by is kept, and the parts come behind the others
+use Rattle.std.proofs.Common.{ℕ, List, min, length, refl, ◌∙◌, ap}
+use Rattle.std.specs.Prelude.{slice_get}
+use Rattle.lv_boxes.specs.GroupParts.{parts_by_groups}
+use Rattle.lv_split_zones.specs.Made.{zones_made}
+use Rattle.lv_split_zones.specs.Splits.{parts_at}
+use Rattle.lv_split_zones.proofs.MadeLemmas.{caused, caused_zones, next_is, zone_there, on_ok, parts_are}
+use Rattle.lv_split_zones.proofs.CauseLemmas.{known_target, target_parts, target_count}
+use Rattle.lv_split_zones.proofs.made.Made.split_by_groups.Goals as goal
+
+pub returns-in_err-by-clause-made : goal.returns-in_err-by-clause-made
+returns-in_err-by-clause-made c = caused c.args.self.now (record { first = c.args.self.now.first; causes = c.by_target.new.self; splits = c.args.self.now.splits; count = c.args.self.now.count }) c.by_target.ensures.kept refl refl refl c.requires.made
+
+pub push-requires-clause-made : goal.push-requires-clause-made
+push-requires-clause-made c = caused c.args.self.now (record { first = c.args.self.now.first; causes = c.by_target.new.self; splits = c.args.self.now.splits; count = c.args.self.now.count }) c.by_target.ensures.kept refl refl refl c.requires.made
+
+pub push-requires-clause-split : goal.push-requires-clause-split
+push-requires-clause-split c =
+    next_is c.args.self.now (record { first = c.args.self.now.first; causes = c.by_target.new.self; splits = c.args.self.now.splits; count = c.args.self.now.count }) c.by_target.ensures.kept refl refl refl c.requires.made c.args.place c.in_ok-by.by c.requires.place (known_target c.by_target.new.self c.args.groups.now c.args.member.now c.in_ok-by.by c.in_ok-by.ensures.by)
+
+pub push-requires-clause-parts : goal.push-requires-clause-parts
+push-requires-clause-parts c =
+    c.min.ensures ∙ ap (λ (groups : List (List ℕ)). min (length groups) (length c.args.member.now)) c.slots.ensures.slots
+    ∙ target_count c.by_target.new.self (zones_made (record { first = c.args.self.now.first; causes = c.by_target.new.self; splits = c.args.self.now.splits; count = c.args.self.now.count })) (record { zone = c.args.place; first = c.args.self.now.count; by = c.in_ok-by.by }) c.args.groups.now c.args.member.now c.in_ok-by.ensures.by
+    (zone_there c.args.self.now (record { first = c.args.self.now.first; causes = c.by_target.new.self; splits = c.args.self.now.splits; count = c.args.self.now.count }) c.by_target.ensures.kept refl refl refl c.requires.made c.args.place c.requires.place)
+
+pub returns-clause-parts : goal.returns-clause-parts
+returns-clause-parts c =
+    λ zone e.
+    let same = caused_zones c.args.self.now (record { first = c.args.self.now.first; causes = c.by_target.new.self; splits = c.args.self.now.splits; count = c.args.self.now.count }) c.by_target.ensures.kept refl refl refl c.requires.made in
+    on_ok c.push.result
+    (parts_are (zones_made c.args.self.now) (zones_made (record { first = c.args.self.now.first; causes = c.by_target.new.self; splits = c.args.self.now.splits; count = c.args.self.now.count })) (zones_made c.push.new.self) (parts_at c.by_target.new.self (zones_made (record { first = c.args.self.now.first; causes = c.by_target.new.self; splits = c.args.self.now.splits; count = c.args.self.now.count })) (record { zone = c.args.place; first = c.args.self.now.count; by = c.in_ok-by.by })) (parts_by_groups zone c.args.groups.now c.args.member.now) same
+    (target_parts c.by_target.new.self (zones_made (record { first = c.args.self.now.first; causes = c.by_target.new.self; splits = c.args.self.now.splits; count = c.args.self.now.count })) (record { zone = c.args.place; first = c.args.self.now.count; by = c.in_ok-by.by }) zone c.args.groups.now c.args.member.now c.in_ok-by.ensures.by (ap (λ zones. slice_get zones c.args.place) same ∙ e)))
+    c.push.ensures.parts
