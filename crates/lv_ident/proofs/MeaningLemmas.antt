@@ -1,8 +1,7 @@
 -- What facts and choices say of truth values that encode a step, and which partial choices are possible by that.
-use Rattle.std.proofs.Common.{◌≡◌, ℕ, suc, zero, ◌<◌, Bool, true, false, nat_eq, nat_lt, ◌&&◌, List, [], ◌∷◌, length, map, get_or, refl, sym, ap, ap₂, ◌∙◌, arith, All}
+use Rattle.std.proofs.Common.{◌≡◌, ℕ, Bool, true, ◌&&◌, List, length, map, refl, sym, ap, ap₂, ◌∙◌, All}
 use Rattle.std.specs.List.{list_all}
-use Rattle.std.proofs.lemmas.Bool.{and_parts, and_from, lt-ltb, ltb-true}
-use Rattle.std.proofs.lemmas.List.Elements.{All-tail}
+use Rattle.std.proofs.lemmas.Bool.{and_parts, and_from}
 use Rattle.std.proofs.lemmas.List.Folds.{list_all-append}
 use Rattle.lv_base.specs.declared.ids.ValId.{ValId}
 use Rattle.lv_base.specs.declared.ids.MoveId.{MoveId}
@@ -13,20 +12,16 @@ use Rattle.lv_model.specs.declared.plant.Plant.{Plant}
 use Rattle.lv_model.specs.Lists.{sizes, move_counts}
 use Rattle.lv_model.specs.WellFormed.{is_well_formed}
 use Rattle.lv_model.specs.Meaning.{is_step}
-use Rattle.lv_compile.specs.Booleans.{Booleans, booleans_now, booleans_next, bool_count}
-use Rattle.lv_compile.specs.Laws.{literal_is_true, Encode, EncodeMoves, IsEncodedStep}
-use Rattle.lv_compile.proofs.BooleanLemmas.{is_there}
-use Rattle.lv_system.specs.Choices.{Choices}
+use Rattle.lv_compile.specs.Booleans.{booleans_now, booleans_next, bool_count}
+use Rattle.lv_compile.specs.Laws.{literal_is_true, Encode, IsEncodedStep}
 use Rattle.lv_system.specs.System.{SystemValue, IsSystemOf}
 use Rattle.lv_system.specs.Encoding.{truth_in, encoded}
 use Rattle.lv_system.specs.Laws.{IsWholeStep, IsModelOf}
-use Rattle.lv_system.proofs.LiteralLemmas.{value_true, choice_true}
 use Rattle.lv_system.proofs.SystemLemmas.{step_has_a_model}
-use Rattle.lv_meaning.specs.declared.facts.Observation.{Observation}
 use Rattle.lv_meaning.specs.declared.facts.Facts.{Facts}
-use Rattle.lv_meaning.specs.Facts.{meets, now_facts, meets_facts, HasValue, FactsInRange}
+use Rattle.lv_meaning.specs.Facts.{now_facts, meets_facts, FactsInRange}
 use Rattle.lv_meaning.specs.Possible.{value, move_number, extends, is_possible}
-use Rattle.lv_meaning.specs.PossibleLaws.{are_below, Witness}
+use Rattle.lv_meaning.specs.PossibleLaws.{Witness}
 use Rattle.lv_meaning.proofs.Possibility.{witnessed, possible}
 use Rattle.lv_asking.specs.Literals.{observed_literals, pair_literals, HasMove}
 pub use Rattle.lv_asking.proofs.HoldLemmas.{observed_hold, pairs_hold}
@@ -39,7 +34,7 @@ module _ (truth : ℕ → Bool) where
       → list_all (literal_is_true truth) (fact_literals plant facts) ≡ meets_facts plant facts a b
   facts_hold plant facts a b now next fit =
       list_all-append (literal_is_true truth) (observed_literals (booleans_now plant) (now_facts plant facts)) (observed_literals (booleans_next plant) facts.next)
-      ∙ ap₂ (λ (p q : Bool). p && q) (observed_hold (booleans_now plant) a now (now_facts plant facts) fit.now) (observed_hold (booleans_next plant) b next facts.next fit.next)
+      ∙ ap₂ (λ (p q : Bool). p && q) (observed_hold truth (booleans_now plant) a now (now_facts plant facts) fit.now) (observed_hold truth (booleans_next plant) b next facts.next fit.next)
 
 module _ (plant : Plant) (facts : Facts) (pairs : List Pair) (fit : FactsInRange plant facts) (have : All (HasMove (move_counts plant)) pairs) where
   -- values that encode a step and make facts and pairs true are a witness

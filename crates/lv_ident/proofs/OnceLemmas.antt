@@ -36,7 +36,7 @@ once_positive bools lits once positive h =
     held_positive bools once (and_parts (list_all (in_range bools) once) (distinct once) h.clause).0 (h.says (replicate bools true) ∙ all_hold bools lits positive)
 
 -- a literal that stands there says nothing new
-pub pub says_no_more : (values : List Bool) (ls : List Lit) (l : Lit) → list_any (is_of l.var.0) ls ≡ true → list_all is_positive ls ≡ true → l.sign ≡ true
+pub says_no_more : (values : List Bool) (ls : List Lit) (l : Lit) → list_any (is_of l.var.0) ls ≡ true → list_all is_positive ls ≡ true → l.sign ≡ true
     → list_all (lit_holds values) ls ≡ (list_all (lit_holds values) ls && lit_holds values l)
 says_no_more values [] l there positive sign = absurd (cc there)
 says_no_more values (m ∷ ms) l there positive sign =

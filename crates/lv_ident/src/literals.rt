@@ -9,7 +9,6 @@ ghost use Rattle.lv_meaning.specs.Facts.{FactsFit, FactsInRange};
 ghost use Rattle.lv_ident.specs.Literals.{fact_literals, missing};
 
 pub use lv_asking::literals::{push_observed, push_pairs};
-
 use lv_base::{BoolId, Lit};
 use lv_meaning::Facts;
 use lv_meaning::facts::before_the_step;
