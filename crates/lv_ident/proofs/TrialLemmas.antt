@@ -26,7 +26,7 @@ use Rattle.lv_meaning.specs.Possible.{is_possible}
 use Rattle.lv_meaning.proofs.Possibility.{part_possible}
 use Rattle.lv_asking.specs.Literals.{pair_literal, pair_literals, HasMove, marked_pairs, IsPositive, IsOnce}
 use Rattle.lv_asking.specs.Refutation.{HasModel, HasNoModel, Refutes}
-use Rattle.lv_asking.specs.Asking.{AskingValue, Decides, IsAsking, IsPartial as IsPartialOf}
+use Rattle.lv_asking.specs.Asking.{Decides, IsAsking, IsPartial as IsPartialOf}
 use Rattle.lv_asking.proofs.ClauseLemmas.{asked_is_clause as clause_asked}
 use Rattle.lv_asking.proofs.AnswerLemmas.{answer_possible as answered_possible, answer_core as answered_core}
 use Rattle.lv_ident.specs.Literals.{fact_literals, plant_choices}
