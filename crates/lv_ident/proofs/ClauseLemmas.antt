@@ -1,118 +1,17 @@
--- The literals of pairs and of facts are of distinct booleans.
-use Rattle.std.proofs.Common.{◌≡◌, ℕ, suc, zero, ◌+◌, ◌<◌, ◌≤◌, Bool, true, not, nat_eq, nat_lt, List, [], ◌∷◌, ◌++◌, take, get_or, refl, ◌∙◌, arith, All}
-use Rattle.std.specs.List.{list_all, sum}
-use Rattle.std.proofs.lemmas.Bool.{and_parts, and_from, lt-ltb, ltb-true}
-use Rattle.std.proofs.lemmas.Bool.Decides.{nat_tests}
+-- The literals of facts are of booleans of values.
+use Rattle.std.proofs.Common.{ℕ, ◌+◌, ◌≤◌, List, [], ◌∷◌, refl, arith, All}
+use Rattle.std.specs.List.{sum}
 use Rattle.std.proofs.lemmas.List.Elements.{All-tail, All-cons, All-append}
-use Rattle.std.proofs.lemmas.List.Folds.{list_all-append}
-use Rattle.std.proofs.lemmas.List.Sums.{sum_by-cons}
-use Rattle.lv_base.specs.declared.ids.Lit.{Lit}
-use Rattle.lv_base.specs.declared.search.Pair.{Pair}
-use Rattle.lv_base.specs.Choices.{slots_rise, slots_rise_from}
-use Rattle.lv_clauses.specs.Literals.{same_var, in_range, distinct, is_clause}
 use Rattle.lv_model.specs.declared.plant.Plant.{Plant}
-use Rattle.lv_model.specs.Lists.{move_counts}
-use Rattle.lv_compile.specs.Booleans.{Booleans, booleans_now, booleans_next, first_choice, bool_count}
+use Rattle.lv_compile.specs.Booleans.{Booleans, booleans_now, booleans_next, first_choice}
 use Rattle.lv_compile.proofs.BooleanLemmas.{is_there, among_all}
-use Rattle.lv_system.specs.Choices.{Choices}
-use Rattle.lv_system.proofs.LiteralLemmas.{choice_in_range}
 use Rattle.lv_meaning.specs.declared.facts.Observation.{Observation}
 use Rattle.lv_meaning.specs.declared.facts.Facts.{Facts}
 use Rattle.lv_meaning.specs.Facts.{now_facts, HasValue, FactsInRange}
-use Rattle.lv_ident.specs.Literals.{observed_literal, observed_literals, fact_literals, pair_literal, pair_literals, HasMove, plant_choices, IsPositive}
-
--- the booleans of an earlier part come before those of a later one
-earlier_first : (counts : List ℕ) (k j n : ℕ) → k < j → n < get_or counts k 0 → sum (take k counts) + n < sum (take j counts)
-earlier_first [] k j n less below = absurd (omega (arith, below))
-earlier_first (m ∷ ms) k zero n less below = absurd (omega (arith, less))
-earlier_first (m ∷ ms) zero (suc j) n less below = let more = sum_by-cons (λ (x : ℕ). x) m (take j ms) in omega (arith, below, more)
-earlier_first (m ∷ ms) (suc k) (suc j) n less below =
-    let rest = earlier_first ms k j n (omega (arith, less)) below in
-    let one = sum_by-cons (λ (x : ℕ). x) m (take k ms) in
-    let other = sum_by-cons (λ (x : ℕ). x) m (take j ms) in
-    omega (arith, rest, one, other)
-
-eq_isnt : (a b : ℕ) → a < b → not (nat_eq a b) ≡ true
-eq_isnt a b e = grind (arith, nat_tests)
-
-eq_isnt_back : (a b : ℕ) → b < a → not (nat_eq a b) ≡ true
-eq_isnt_back a b e = grind (arith, nat_tests)
-
--- pairs at later slots are of other booleans
-apart_from_later : (c : Choices) (p : Pair) (low : ℕ) (ps : List Pair) → p.choice < get_or c.counts p.slot 0 → p.slot < low → slots_rise_from low ps ≡ true
-    → list_all (λ (m : Lit). not (same_var (pair_literal c p) m)) (pair_literals c ps) ≡ true
-apart_from_later c p low [] has less rise = refl
-apart_from_later c p low (q ∷ ps) has less rise =
-    let two = and_parts (nat_lt low (q.slot + 1)) (slots_rise_from (q.slot + 1) ps) rise in
-    let above : low < q.slot + 1 = ltb-true low (q.slot + 1) two.0 in
-    let before : p.slot < q.slot = omega (arith, less, above) in
-    let sums = earlier_first c.counts p.slot q.slot p.choice before has in
-    let first : c.first + sum (take p.slot c.counts) + p.choice < c.first + sum (take q.slot c.counts) + q.choice = omega (arith, sums) in
-    and_from (not (same_var (pair_literal c p) (pair_literal c q))) (list_all (λ (m : Lit). not (same_var (pair_literal c p) m)) (pair_literals c ps))
-    (eq_isnt (c.first + sum (take p.slot c.counts) + p.choice) (c.first + sum (take q.slot c.counts) + q.choice) first)
-    (apart_from_later c p (q.slot + 1) ps has (omega (arith, before)) two.1)
-
--- pairs whose slots rise are of distinct booleans
-pub pairs_distinct : (c : Choices) (low : ℕ) (ps : List Pair) → slots_rise_from low ps ≡ true → All (HasMove c.counts) ps → distinct (pair_literals c ps) ≡ true
-pairs_distinct c low [] rise have = refl
-pairs_distinct c low (p ∷ ps) rise have =
-    let two = and_parts (nat_lt low (p.slot + 1)) (slots_rise_from (p.slot + 1) ps) rise in
-    and_from (list_all (λ (m : Lit). not (same_var (pair_literal c p) m)) (pair_literals c ps)) (distinct (pair_literals c ps))
-    (apart_from_later c p (p.slot + 1) ps (have 0 p (omega arith)).below (omega arith) two.1) (pairs_distinct c (p.slot + 1) ps two.1 (All-tail (HasMove c.counts) p ps have))
-
--- lists of distinct booleans, the second of which are below a number that the first aren't
-abbrev from_on : ℕ → Lit → Bool
-from_on n l = nat_lt n (l.var.0 + 1)
-
-apart_from_lower : (n : ℕ) (l : Lit) (ms : List Lit) → n ≤ l.var.0 → list_all (in_range n) ms ≡ true → list_all (λ (m : Lit). not (same_var l m)) ms ≡ true
-apart_from_lower n l [] above h = refl
-apart_from_lower n l (m ∷ ms) above h =
-    let two = and_parts (in_range n m) (list_all (in_range n) ms) h in
-    let under : m.var.0 < n = ltb-true m.var.0 n two.0 in
-    and_from (not (same_var l m)) (list_all (λ (m : Lit). not (same_var l m)) ms) (eq_isnt_back l.var.0 m.var.0 (omega (arith, under, above))) (apart_from_lower n l ms above two.1)
-
-pub distinct_behind : (n : ℕ) (ls ms : List Lit) → list_all (from_on n) ls ≡ true → list_all (in_range n) ms ≡ true → distinct ls ≡ true → distinct ms ≡ true → distinct (ls ++ ms) ≡ true
-distinct_behind n [] ms above under d e = e
-distinct_behind n (l ∷ ls) ms above under d e =
-    let two = and_parts (from_on n l) (list_all (from_on n) ls) above in
-    let less : n < l.var.0 + 1 = ltb-true n (l.var.0 + 1) two.0 in
-    let parts = and_parts (list_all (λ (m : Lit). not (same_var l m)) ls) (distinct ls) d in
-    and_from (list_all (λ (m : Lit). not (same_var l m)) (ls ++ ms)) (distinct (ls ++ ms))
-    (list_all-append (λ (m : Lit). not (same_var l m)) ls ms
-    ∙ and_from (list_all (λ (m : Lit). not (same_var l m)) ls) (list_all (λ (m : Lit). not (same_var l m)) ms) parts.0 (apart_from_lower n l ms (omega (arith, less)) under))
-    (distinct_behind n ls ms two.1 under parts.1 e)
-
-pairs_from_on : (c : Choices) (ps : List Pair) → list_all (from_on c.first) (pair_literals c ps) ≡ true
-pairs_from_on c [] = refl
-pairs_from_on c (p ∷ ps) =
-    and_from (from_on c.first (pair_literal c p)) (list_all (from_on c.first) (pair_literals c ps))
-    (lt-ltb c.first (c.first + sum (take p.slot c.counts) + p.choice + 1) (omega arith)) (pairs_from_on c ps)
-
-wider : (n m : ℕ) (ls : List Lit) → n ≤ m → list_all (in_range n) ls ≡ true → list_all (in_range m) ls ≡ true
-wider n m [] few h = refl
-wider n m (l ∷ ls) few h =
-    let two = and_parts (in_range n l) (list_all (in_range n) ls) h in
-    let under : l.var.0 < n = ltb-true l.var.0 n two.0 in
-    and_from (in_range m l) (list_all (in_range m) ls) (lt-ltb l.var.0 m (omega (arith, under, few))) (wider n m ls few two.1)
+use Rattle.lv_asking.specs.Literals.{observed_literal, observed_literals, IsPositive}
+use Rattle.lv_ident.specs.Literals.{fact_literals}
 
 module _ (plant : Plant) where
-  pairs_in_range : (ps : List Pair) → All (HasMove (move_counts plant)) ps → list_all (in_range (bool_count plant)) (pair_literals (plant_choices plant) ps) ≡ true
-  pairs_in_range [] have = refl
-  pairs_in_range (p ∷ ps) have =
-      and_from (in_range (bool_count plant) (pair_literal (plant_choices plant) p)) (list_all (in_range (bool_count plant)) (pair_literals (plant_choices plant) ps))
-      (choice_in_range plant true p.slot p.choice (have 0 p (omega arith)).below) (pairs_in_range ps (All-tail (HasMove (move_counts plant)) p ps have))
-
-  -- what pairs say, with literals of values behind it, is a clause
-  pub pairs_before_values : (ps : List Pair) (assumed : List Lit) → slots_rise ps ≡ true → All (HasMove (move_counts plant)) ps → is_clause (first_choice plant) assumed ≡ true
-      → is_clause (bool_count plant) (pair_literals (plant_choices plant) ps ++ assumed) ≡ true
-  pairs_before_values ps assumed rise have clause =
-      let c : Choices = plant_choices plant in
-      let two = and_parts (list_all (in_range (first_choice plant)) assumed) (distinct assumed) clause in
-      and_from (list_all (in_range (bool_count plant)) (pair_literals c ps ++ assumed)) (distinct (pair_literals c ps ++ assumed))
-      (list_all-append (in_range (bool_count plant)) (pair_literals c ps) assumed
-      ∙ and_from (list_all (in_range (bool_count plant)) (pair_literals c ps)) (list_all (in_range (bool_count plant)) assumed) (pairs_in_range ps have) (wider (first_choice plant) (bool_count plant) assumed (omega arith) two.0))
-      (distinct_behind (first_choice plant) (pair_literals c ps) assumed (pairs_from_on c ps) two.0 (pairs_distinct c 0 ps rise have) two.1)
-
   -- what facts say is of booleans of values
   pub observed_positive : (b : Booleans) (bound : ℕ) → b.first + sum b.sizes ≤ bound → (os : List Observation) → All (HasValue b.sizes) os → All (IsPositive bound) (observed_literals b os)
   observed_positive b bound few [] have = λ k d below. absurd (omega (arith, below))

@@ -1,7 +1,4 @@
 pub mod OnceLemmas
-pub mod OrderLemmas
-pub mod SolutionLemmas
-pub mod RefuteLemmas
 pub mod MeaningLemmas
 pub mod ClauseLemmas
 pub mod TrialLemmas

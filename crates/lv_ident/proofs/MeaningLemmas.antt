@@ -1,8 +1,7 @@
 -- What facts and choices say of truth values that encode a step, and which partial choices are possible by that.
-use Rattle.std.proofs.Common.{◌≡◌, ℕ, suc, zero, ◌<◌, Bool, true, false, nat_eq, nat_lt, ◌&&◌, List, [], ◌∷◌, length, map, get_or, refl, sym, ap, ap₂, ◌∙◌, arith, All}
+use Rattle.std.proofs.Common.{◌≡◌, ℕ, Bool, true, ◌&&◌, List, length, map, refl, sym, ap, ap₂, ◌∙◌, All}
 use Rattle.std.specs.List.{list_all}
-use Rattle.std.proofs.lemmas.Bool.{and_parts, and_from, lt-ltb, ltb-true}
-use Rattle.std.proofs.lemmas.List.Elements.{All-tail}
+use Rattle.std.proofs.lemmas.Bool.{and_parts, and_from}
 use Rattle.std.proofs.lemmas.List.Folds.{list_all-append}
 use Rattle.lv_base.specs.declared.ids.ValId.{ValId}
 use Rattle.lv_base.specs.declared.ids.MoveId.{MoveId}
@@ -13,95 +12,29 @@ use Rattle.lv_model.specs.declared.plant.Plant.{Plant}
 use Rattle.lv_model.specs.Lists.{sizes, move_counts}
 use Rattle.lv_model.specs.WellFormed.{is_well_formed}
 use Rattle.lv_model.specs.Meaning.{is_step}
-use Rattle.lv_compile.specs.Booleans.{Booleans, booleans_now, booleans_next, bool_count}
-use Rattle.lv_compile.specs.Laws.{literal_is_true, Encode, EncodeMoves, IsEncodedStep}
-use Rattle.lv_compile.proofs.BooleanLemmas.{is_there}
-use Rattle.lv_system.specs.Choices.{Choices}
+use Rattle.lv_compile.specs.Booleans.{booleans_now, booleans_next, bool_count}
+use Rattle.lv_compile.specs.Laws.{literal_is_true, Encode, IsEncodedStep}
 use Rattle.lv_system.specs.System.{SystemValue, IsSystemOf}
 use Rattle.lv_system.specs.Encoding.{truth_in, encoded}
 use Rattle.lv_system.specs.Laws.{IsWholeStep, IsModelOf}
-use Rattle.lv_system.proofs.LiteralLemmas.{value_true, choice_true}
 use Rattle.lv_system.proofs.SystemLemmas.{step_has_a_model}
-use Rattle.lv_meaning.specs.declared.facts.Observation.{Observation}
 use Rattle.lv_meaning.specs.declared.facts.Facts.{Facts}
-use Rattle.lv_meaning.specs.Facts.{meets, now_facts, meets_facts, HasValue, FactsInRange}
+use Rattle.lv_meaning.specs.Facts.{now_facts, meets_facts, FactsInRange}
 use Rattle.lv_meaning.specs.Possible.{value, move_number, extends, is_possible}
-use Rattle.lv_meaning.specs.PossibleLaws.{are_below, Witness}
+use Rattle.lv_meaning.specs.PossibleLaws.{Witness}
 use Rattle.lv_meaning.proofs.Possibility.{witnessed, possible}
-use Rattle.lv_ident.specs.Literals.{observed_literals, fact_literals, pair_literals, HasMove, plant_choices}
+use Rattle.lv_asking.specs.Literals.{observed_literals, pair_literals, HasMove}
+pub use Rattle.lv_asking.proofs.HoldLemmas.{observed_hold, pairs_hold}
+use Rattle.lv_asking.proofs.NumberLemmas.{items_back, all_below, length_below, below_at, value_number, number_of_move, no_value, no_move}
+use Rattle.lv_ident.specs.Literals.{fact_literals, plant_choices}
 
 module _ (truth : ℕ → Bool) where
-  -- what was observed is true exactly where the assignment agrees
-  pub observed_hold : (b : Booleans) (a : List ValId) → Encode truth b a → (os : List Observation) → All (HasValue b.sizes) os
-      → list_all (literal_is_true truth) (observed_literals b os) ≡ meets a os
-  observed_hold b a code [] have = refl
-  observed_hold b a code (o ∷ os) have =
-      ap₂ (λ (p q : Bool). p && q) (value_true truth b a code o.var.0 o.val.0 (have 0 o (omega arith)).below) (observed_hold b a code os (All-tail (HasValue b.sizes) o os have))
-
-  -- what pairs say is true exactly where the full choice extends them
-  pub pairs_hold : (c : Choices) (ms : List MoveId) → EncodeMoves truth c.first c.counts ms → (ps : List Pair) → All (HasMove c.counts) ps
-      → list_all (literal_is_true truth) (pair_literals c ps) ≡ extends ms ps
-  pairs_hold c ms code [] have = refl
-  pairs_hold c ms code (p ∷ ps) have =
-      let below = (have 0 p (omega arith)).below in
-      let there : p.slot < length c.counts = is_there c.counts p.slot p.choice below in
-      let each : length ms ≡ length c.counts = code.each in
-      let within : nat_lt p.slot (length ms) ≡ true = lt-ltb p.slot (length ms) (omega (arith, there, each)) in
-      ap₂ (λ (a b : Bool). a && b)
-      (choice_true truth c ms code p.slot p.choice below ∙ sym (ap (λ b. b && nat_eq (get_or ms p.slot (record { 0 = 0 })).0 p.choice) within ∙ true_first (nat_eq (get_or ms p.slot (record { 0 = 0 })).0 p.choice)))
-      (pairs_hold c ms code ps (All-tail (HasMove c.counts) p ps have))
-    where
-      true_first : (b : Bool) → (true && b) ≡ b
-      true_first true = refl
-      true_first false = refl
-
   -- the facts are true exactly where the assignments meet them
   pub facts_hold : (plant : Plant) (facts : Facts) (a b : List ValId) → Encode truth (booleans_now plant) a → Encode truth (booleans_next plant) b → FactsInRange plant facts
       → list_all (literal_is_true truth) (fact_literals plant facts) ≡ meets_facts plant facts a b
   facts_hold plant facts a b now next fit =
       list_all-append (literal_is_true truth) (observed_literals (booleans_now plant) (now_facts plant facts)) (observed_literals (booleans_next plant) facts.next)
-      ∙ ap₂ (λ (p q : Bool). p && q) (observed_hold (booleans_now plant) a now (now_facts plant facts) fit.now) (observed_hold (booleans_next plant) b next facts.next fit.next)
-
--- items and their numbers, each below its bound
-module _ {X : Type 0} (item : ℕ → X) (number : X → ℕ) (back : (x : X) → item (number x) ≡ x) (forth : (n : ℕ) → number (item n) ≡ n) (d : X) where
-  items_back : (xs : List X) → map item (map number xs) ≡ xs
-  items_back [] = refl
-  items_back (x ∷ xs) = ap₂ (λ (y : X) (ys : List X). y ∷ ys) (back x) (items_back xs)
-
-  all_below : (ns : List ℕ) (xs : List X) → length xs ≡ length ns → ((k : ℕ) → k < length ns → number (get_or xs k d) < get_or ns k 0) → are_below ns (map number xs) ≡ true
-  all_below [] [] len below = refl
-  all_below [] (x ∷ xs) len below = absurd (omega (arith, len))
-  all_below (n ∷ ns) [] len below = absurd (omega (arith, len))
-  all_below (n ∷ ns) (x ∷ xs) len below =
-      and_from (nat_lt (number x) n) (are_below ns (map number xs)) (lt-ltb (number x) n (below 0 (omega arith)))
-      (all_below ns xs (omega (arith, len)) (λ k within. below (suc k) (omega (arith, within))))
-
-  length_below : (ns vs : List ℕ) → are_below ns vs ≡ true → length (map item vs) ≡ length ns
-  length_below [] [] h = refl
-  length_below [] (v ∷ vs) h = absurd (cc h)
-  length_below (n ∷ ns) [] h = absurd (cc h)
-  length_below (n ∷ ns) (v ∷ vs) h = let rest = length_below ns vs (and_parts (nat_lt v n) (are_below ns vs) h).1 in omega (arith, rest)
-
-  below_at : (ns vs : List ℕ) → are_below ns vs ≡ true → (k : ℕ) → k < length ns → number (get_or (map item vs) k d) < get_or ns k 0
-  below_at [] vs h k within = absurd (omega (arith, within))
-  below_at (n ∷ ns) [] h k within = absurd (cc h)
-  below_at (n ∷ ns) (v ∷ vs) h zero within =
-      let less : v < n = ltb-true v n (and_parts (nat_lt v n) (are_below ns vs) h).0 in
-      let same : number (item v) ≡ v = forth v in
-      omega (arith, less, same)
-  below_at (n ∷ ns) (v ∷ vs) h (suc k) within = below_at ns vs (and_parts (nat_lt v n) (are_below ns vs) h).1 k (omega (arith, within))
-
-abbrev value_number : ValId → ℕ
-value_number v = v.0
-
-abbrev number_of_move : MoveId → ℕ
-number_of_move m = m.0
-
-abbrev no_value : ValId
-no_value = record { 0 = 0 }
-
-abbrev no_move : MoveId
-no_move = record { 0 = 0 }
+      ∙ ap₂ (λ (p q : Bool). p && q) (observed_hold truth (booleans_now plant) a now (now_facts plant facts) fit.now) (observed_hold truth (booleans_next plant) b next facts.next fit.next)
 
 module _ (plant : Plant) (facts : Facts) (pairs : List Pair) (fit : FactsInRange plant facts) (have : All (HasMove (move_counts plant)) pairs) where
   -- values that encode a step and make facts and pairs true are a witness

@@ -21,14 +21,15 @@ use Rattle.lv_meaning.specs.declared.facts.Observation.{Observation}
 use Rattle.lv_meaning.specs.declared.facts.Facts.{Facts}
 use Rattle.lv_meaning.specs.Facts.{HasValue}
 use Rattle.lv_meaning.specs.Possible.{is_possible}
-use Rattle.lv_ident.specs.Literals.{observed_literal, observed_literals, fact_literals, pair_literals, is_positive, missing, IsPositive, IsOnce}
+use Rattle.lv_asking.specs.Literals.{observed_literal, observed_literals, pair_literals, IsPositive, IsOnce}
+use Rattle.lv_asking.specs.Refutation.{HasModel, HasNoModel, marked_literals, Refutes}
+use Rattle.lv_ident.specs.Literals.{fact_literals, missing}
 use Rattle.lv_ident.specs.Probing.{with_next}
-use Rattle.lv_ident.specs.Refutation.{HasModel, HasNoModel, marked_literals, Refutes}
 use Rattle.lv_ident.specs.Trial.{IsTrialOf}
 use Rattle.lv_ident.specs.Reducing.{IsPartial}
-use Rattle.lv_ident.proofs.ClauseLemmas.{observed_positive}
-use Rattle.lv_ident.proofs.OnceLemmas.{says_no_more}
-use Rattle.lv_ident.proofs.TrialLemmas.{asked_is_clause, model_possible, all_impossible}
+use Rattle.lv_ident.proofs.ClauseLemmas.{observed_positive, facts_positive}
+use Rattle.lv_ident.proofs.OnceLemmas.{once_positive, says_no_more}
+use Rattle.lv_ident.proofs.TrialLemmas.{asked_is_clause, all_possible, all_impossible}
 
 and_true : (b : Bool) → (b && true) ≡ b
 and_true true = refl
@@ -59,8 +60,8 @@ apart_from_others l (m ∷ ms) none =
     (eq_isnt l.var.0 m.var.0 (left_false (is_of l.var.0 m) (list_any (is_of l.var.0) ms) none)) (apart_from_others l ms (right_false (is_of l.var.0 m) (list_any (is_of l.var.0) ms) none))
 
 -- one literal more, of literals each once
-once_more : (bools : ℕ) (lits once : List Lit) → IsOnce bools lits once → (l : Lit) → IsPositive bools l → IsOnce bools (lits ++ l ∷ []) (missing once l ++ once)
-once_more bools lits once h l fits = by (list_any (is_of l.var.0) once) refl
+once_more : (bools : ℕ) (lits once : List Lit) → All (IsPositive bools) lits → IsOnce bools lits once → (l : Lit) → IsPositive bools l → IsOnce bools (lits ++ l ∷ []) (missing once l ++ once)
+once_more bools lits once positive h l fits = by (list_any (is_of l.var.0) once) refl
   where
     holds : (values : List Bool) → list_all (lit_holds values) (lits ++ l ∷ []) ≡ (list_all (lit_holds values) once && lit_holds values l)
     holds values = list_all-append (lit_holds values) lits (l ∷ []) ∙ ap₂ (λ (a b : Bool). a && b) (sym (h.says values)) (and_true (lit_holds values l))
@@ -69,8 +70,7 @@ once_more bools lits once h l fits = by (list_any (is_of l.var.0) once) refl
     by true there =
         record {
           clause = h.clause;
-          positive = h.positive;
-          says = λ values. says_no_more values once l there h.positive fits.sign ∙ sym (holds values);
+          says = λ values. says_no_more values once l there (once_positive bools lits once positive h) fits.sign ∙ sym (holds values);
         }
     by false none =
         let two = and_parts (list_all (in_range bools) once) (distinct once) h.clause in
@@ -79,7 +79,6 @@ once_more bools lits once h l fits = by (list_any (is_of l.var.0) once) refl
               and_from (list_all (in_range bools) (l ∷ once)) (distinct (l ∷ once))
               (and_from (in_range bools l) (list_all (in_range bools) once) (lt-ltb l.var.0 bools fits.below) two.0)
               (and_from (list_all (λ (m : Lit). not (same_var l m)) once) (distinct once) (apart_from_others l once none) two.1);
-          positive = and_from (is_positive l) (list_all is_positive once) fits.sign h.positive;
           says = λ values. and_turned (lit_holds values l) (list_all (lit_holds values) once) ∙ sym (holds values);
         }
 
@@ -104,7 +103,7 @@ trial_with plant facts set choices after assumed solutions h o has =
       once =
           subst (λ (b : Booleans). IsOnce (first_choice plant) (fact_literals plant (with_next facts o)) (missing assumed (value_literal b o.var.0 o.val.0 true) ++ assumed)) (sym h.after_are)
           (subst (λ (ls : List Lit). IsOnce (first_choice plant) ls (missing assumed (observed_literal (booleans_next plant) o) ++ assumed)) (sym (facts_more plant facts o))
-          (once_more (first_choice plant) (fact_literals plant facts) assumed h.once (observed_literal (booleans_next plant) o) (positive 0 (observed_literal (booleans_next plant) o) (omega arith))));
+          (once_more (first_choice plant) (fact_literals plant facts) assumed (facts_positive plant facts h.facts_fit) h.once (observed_literal (booleans_next plant) o) (positive 0 (observed_literal (booleans_next plant) o) (omega arith))));
       found = All-nil (IsModel set (missing assumed (value_literal after o.var.0 o.val.0 true) ++ assumed));
     }
 
@@ -149,7 +148,7 @@ module _ (plant : Plant) (facts : Facts) (set : ClauseMap) (choices : Choices) (
   -- what a refutation says of the pairs then
   pub answer_with : (core : Option Marks) → Refutes set (pair_literals choices pairs ++ extra) assumed core → is_none core ≡ is_possible plant (with_next facts o) pairs
   answer_with None told =
-      sym (model_possible plant (with_next facts o) set choices after (extra ++ assumed) [] trial pairs partial (subst (λ (ls : List Lit). HasModel set ls) grouped told))
+      sym (all_possible plant (with_next facts o) set choices after (extra ++ assumed) [] trial pairs partial (subst (λ (ls : List Lit). HasModel set ls) grouped told))
   answer_with (Some marks) told =
       sym (all_impossible plant (with_next facts o) set choices after (extra ++ assumed) [] trial pairs partial
       (subst (λ (ls : List Lit). HasNoModel set ls) grouped (none_of_all set marks (pair_literals choices pairs ++ extra) assumed told)))

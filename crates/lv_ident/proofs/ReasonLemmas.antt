@@ -1,13 +1,13 @@
 -- The reasons of a diagnosis: of full choices, inside them, minimal.
-use Rattle.std.proofs.Common.{◌≡◌, ℕ, suc, ◌+◌, ◌<◌, Bool, true, false, not, nat_eq, nat_lt, ◌&&◌, List, [], ◌∷◌, ◌++◌, get_or, refl, sym, subst, ap, ◌∙◌, arith, All, Contains, append_assoc, inl, inr, ⊎_elim}
+use Rattle.std.proofs.Common.{◌≡◌, ℕ, Bool, true, false, not, nat_eq, ◌&&◌, List, [], ◌∷◌, ◌++◌, refl, sym, subst, ap, ◌∙◌, Contains, append_assoc, inl, inr, ⊎_elim}
 use Rattle.std.specs.List.{list_all, list_any}
-use Rattle.std.proofs.lemmas.Bool.{and_parts, and_from, or_cases, or_left, or_right, lt-ltb, ltb-true, eqb-true, eq-eqb}
-use Rattle.std.proofs.lemmas.List.Elements.{All-cons, Contains-append_left, Contains-append_right, Contains-append_cases}
+use Rattle.std.proofs.lemmas.Bool.{and_parts, and_from, or_cases, or_left, or_right, eqb-true, eq-eqb}
+use Rattle.std.proofs.lemmas.List.Elements.{Contains-append_left, Contains-append_right, Contains-append_cases}
 use Rattle.std.proofs.lemmas.List.Folds.{list_all-append}
 use Rattle.lv_base.specs.declared.rank.Rank.{Rank}
 use Rattle.lv_base.specs.declared.search.Pair.{Pair}
 use Rattle.lv_base.specs.declared.search.Candidate.{Candidate}
-use Rattle.lv_base.specs.Choices.{picks, contains_all, slots_rise_from, pairs_from, pairs_of}
+use Rattle.lv_base.specs.Choices.{picks, contains_all, pairs_of}
 use Rattle.lv_clauses.proofs.LiteralLemmas.{Contains-cases, Contains-tail, Contains-head, Contains-nil}
 use Rattle.lv_model.specs.declared.plant.Plant.{Plant}
 use Rattle.lv_model.specs.Lists.{move_counts}
@@ -24,34 +24,15 @@ use Rattle.lv_meaning.specs.Targets.{are_alike}
 use Rattle.lv_meaning.specs.PossibleLaws.{are_below}
 use Rattle.lv_meaning.proofs.Possibility.{part_possible}
 use Rattle.lv_meaning.proofs.Reasons.{is_monotone, own_pairs}
-use Rattle.lv_ident.specs.Literals.{HasMove}
+use Rattle.lv_asking.proofs.FullLemmas.{full_is_partial as full_of_counts}
 use Rattle.lv_ident.specs.Reducing.{IsPartial}
 
 reason_inside : (plant : Plant) (facts : Facts) (c : Candidate) → contains_all c.choices (reason_of plant facts c) ≡ true
 reason_inside plant facts c = part_of_all (is_possible plant facts) (picks c.choices) [] (pairs_of c.choices) refl (own_pairs [] c.choices)
 
 -- the pairs of a full choice are moves of their parts, part by part
-choices_rise : (slot : ℕ) (cs : List ℕ) → slots_rise_from slot (pairs_from slot cs) ≡ true
-choices_rise slot [] = refl
-choices_rise slot (c ∷ cs) = and_from (nat_lt slot (slot + 1)) (slots_rise_from (slot + 1) (pairs_from (slot + 1) cs)) (lt-ltb slot (slot + 1) (omega arith)) (choices_rise (slot + 1) cs)
-
-choices_have : (counts : List ℕ) (slot : ℕ) (ns cs : List ℕ) → ((k : ℕ) → get_or counts (slot + k) 0 ≡ get_or ns k 0) → are_below ns cs ≡ true → All (HasMove counts) (pairs_from slot cs)
-choices_have counts slot ns [] at below = λ k d inside. absurd (omega (arith, inside))
-choices_have counts slot [] (c ∷ cs) at below = absurd (cc below)
-choices_have counts slot (n ∷ ns) (c ∷ cs) at below =
-    let two = and_parts (nat_lt c n) (are_below ns cs) below in
-    let less : c < n = ltb-true c n two.0 in
-    let same : slot + 0 ≡ slot = omega arith in
-    let here : get_or counts slot 0 ≡ n = sym (ap (λ k. get_or counts k 0) same) ∙ at 0 in
-    All-cons (HasMove counts) (record { slot = slot; choice = c }) (pairs_from (slot + 1) cs) (record { below = omega (arith, less, here) })
-    (choices_have counts (slot + 1) ns cs (λ k. let next : slot + 1 + k ≡ slot + suc k = omega arith in ap (λ j. get_or counts j 0) next ∙ at (suc k)) two.1)
-
 pub full_is_partial : (plant : Plant) (cs : List ℕ) → are_below (move_counts plant) cs ≡ true → IsPartial plant (pairs_of cs)
-full_is_partial plant cs below =
-    record {
-      rising = choices_rise 0 cs;
-      moves = choices_have (move_counts plant) 0 (move_counts plant) cs (λ k. let same : 0 + k ≡ k = omega arith in ap (λ j. get_or (move_counts plant) j 0) same) below;
-    }
+full_is_partial plant = full_of_counts (move_counts plant)
 
 -- each pair that is needed is in every impossible list of pairs of the whole
 same_pair : (p q : Pair) → is_pair p q ≡ true → p ≡ q

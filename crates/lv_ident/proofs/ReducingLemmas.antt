@@ -13,7 +13,8 @@ use Rattle.lv_search_walk.specs.Reason.{reduced}
 use Rattle.lv_search_walk.proofs.ReasonLemmas.{pair_kept, pair_left_out}
 use Rattle.lv_meaning.specs.declared.facts.Facts.{Facts}
 use Rattle.lv_meaning.specs.Possible.{is_possible}
-use Rattle.lv_ident.specs.Literals.{pair_literal, HasMove, plant_choices, marked_pairs}
+use Rattle.lv_asking.specs.Literals.{pair_literal, HasMove, marked_pairs}
+use Rattle.lv_ident.specs.Literals.{plant_choices}
 use Rattle.lv_ident.specs.Reducing.{IsPartial, IsReducing}
 use Rattle.lv_ident.proofs.TrialLemmas.{impossible_by_part, impossible_with_more}
 

@@ -1,8 +1,8 @@
--- What an answer of the solver says of pairs, and how a deletion goes on.
-use Rattle.std.proofs.Common.{◌≡◌, ℕ, ◌+◌, Bool, true, false, List, [], ◌∷◌, ◌++◌, length, cond, Option, Some, None, is_none, refl, sym, subst, ap, ◌∙◌, All, Contains, IfSome, inl, inr}
+-- What an answer of the solver says of pairs.
+use Rattle.std.proofs.Common.{◌≡◌, ℕ, ◌+◌, Bool, true, false, List, [], ◌∷◌, ◌++◌, length, cond, Option, is_none, refl, sym, subst, ap, ◌∙◌, arith, All, Contains, IfSome, inl, inr}
 use Rattle.std.specs.List.{list_all, sum}
 use Rattle.std.proofs.lemmas.Bool.{and_parts, and_from}
-use Rattle.std.proofs.lemmas.List.Elements.{All-filter, All-nil}
+use Rattle.std.proofs.lemmas.List.Elements.{All-nil}
 use Rattle.std.proofs.lemmas.List.Folds.{list_all-append}
 use Rattle.lv_base.specs.declared.ids.Lit.{Lit}
 use Rattle.lv_base.specs.declared.search.Pair.{Pair}
@@ -21,25 +21,19 @@ use Rattle.lv_system.specs.System.{SystemValue, IsSystemOf, choices_of}
 use Rattle.lv_system.specs.Encoding.{truth_in}
 use Rattle.lv_system.proofs.SystemLemmas.{model_is_a_step}
 use Rattle.lv_meaning.specs.declared.facts.Facts.{Facts}
+use Rattle.lv_meaning.specs.Facts.{FactsInRange}
 use Rattle.lv_meaning.specs.Possible.{is_possible}
 use Rattle.lv_meaning.proofs.Possibility.{part_possible}
-use Rattle.lv_ident.specs.Literals.{fact_literals, pair_literal, pair_literals, HasMove, plant_choices, marked_pairs, IsPositive, IsOnce}
-use Rattle.lv_meaning.specs.Facts.{FactsInRange}
-use Rattle.lv_ident.specs.Refutation.{HasModel, HasNoModel, marked_literals, Refutes}
+use Rattle.lv_asking.specs.Literals.{pair_literal, pair_literals, HasMove, marked_pairs, IsPositive, IsOnce}
+use Rattle.lv_asking.specs.Refutation.{HasModel, HasNoModel, Refutes}
+use Rattle.lv_asking.specs.Asking.{Decides, IsAsking, IsPartial as IsPartialOf}
+use Rattle.lv_asking.proofs.ClauseLemmas.{asked_is_clause as clause_asked}
+use Rattle.lv_asking.proofs.AnswerLemmas.{answer_possible as answered_possible, answer_core as answered_core}
+use Rattle.lv_ident.specs.Literals.{fact_literals, plant_choices}
 use Rattle.lv_ident.specs.Trial.{IsTrialOf}
 use Rattle.lv_ident.specs.Reducing.{IsPartial}
 use Rattle.lv_ident.proofs.MeaningLemmas.{step_makes_possible, HasValues, possible_has_values}
-use Rattle.lv_ident.proofs.ClauseLemmas.{pairs_before_values, facts_positive}
-
--- the marked ones of what pairs say are what the marked pairs say
-literals_of_marked : (c : Choices) (marks : Marks) (ps : List Pair) → marked_literals marks (pair_literals c ps) ≡ pair_literals c (marked_pairs c marks ps)
-literals_of_marked c marks [] = refl
-literals_of_marked c marks (p ∷ ps) = by (is_marked marks (pair_literal c p)) (literals_of_marked c marks ps)
-  where
-    by : (b : Bool) → marked_literals marks (pair_literals c ps) ≡ pair_literals c (marked_pairs c marks ps)
-        → cond b (pair_literal c p ∷ marked_literals marks (pair_literals c ps)) (marked_literals marks (pair_literals c ps)) ≡ pair_literals c (cond b (p ∷ marked_pairs c marks ps) (marked_pairs c marks ps))
-    by true e = ap (λ (ls : List Lit). pair_literal c p ∷ ls) e
-    by false e = e
+use Rattle.lv_ident.proofs.ClauseLemmas.{facts_positive}
 
 -- a marked pair is one of all
 marked_is_one : (c : Choices) (marks : Marks) (ps : List Pair) (p : Pair) → Contains (marked_pairs c marks ps) p → Contains ps p
@@ -66,80 +60,80 @@ impossible_with_more plant facts part whole inside never = false_by (is_possible
 pub impossible_by_part : (plant : Plant) (facts : Facts) (marks : Marks) (ps : List Pair) → is_possible plant facts (marked_pairs (plant_choices plant) marks ps) ≡ false → is_possible plant facts ps ≡ false
 impossible_by_part plant facts marks ps = impossible_with_more plant facts (marked_pairs (plant_choices plant) marks ps) ps (marked_is_one (plant_choices plant) marks ps)
 
-module _ (plant : Plant) (facts : Facts) (set : ClauseMap) (choices : Choices) (after : Booleans) (assumed : List Lit) (solutions : List (List Bool)) (h : IsTrialOf plant facts set choices after assumed solutions) (pairs : List Pair) (partial : IsPartial plant pairs) where
+module _ (plant : Plant) (facts : Facts) (set : ClauseMap) (choices : Choices) (after : Booleans) (assumed : List Lit) (solutions : List (List Bool)) (h : IsTrialOf plant facts set choices after assumed solutions) where
   bools_are : set.bools ≡ bool_count plant
   bools_are = ap (λ (s : ClauseMap). s.bools) h.clauses.clauses ∙ h.clauses.of_plant.bools
 
-  -- the literals that are assumed are of distinct booleans
-  pub asked_is_clause : is_clause set.bools (pair_literals choices pairs ++ assumed) ≡ true
-  asked_is_clause =
-      (λ i. is_clause (bools_are i) (pair_literals (h.choices_are i) pairs ++ assumed))
-      ∙ pairs_before_values plant pairs assumed partial.rising partial.moves h.once.clause
+  moves_are : (pairs : List Pair) → All (HasMove choices.counts) pairs → All (HasMove (move_counts plant)) pairs
+  moves_are pairs have = subst (λ (c : Choices). All (HasMove c.counts) pairs) h.choices_are have
 
-  pub model_possible : HasModel set (pair_literals choices pairs ++ assumed) → is_possible plant facts pairs ≡ true
-  model_possible m =
+  model_possible : (pairs : List Pair) → All (HasMove choices.counts) pairs → HasModel set (pair_literals choices pairs ++ assumed) → is_possible plant facts pairs ≡ true
+  model_possible pairs have m =
       let values : List Bool = m.values in
       let len : length values ≡ h.clauses.system.set.bools = m.model.len ∙ ap (λ (s : ClauseMap). s.bools) h.clauses.clauses in
       let sat : satisfies values h.clauses.system.set.slots ≡ true = sym (ap (λ (s : ClauseMap). satisfies values s.slots) h.clauses.clauses) ∙ m.model.all_clauses in
       let both = and_parts (list_all (lit_holds values) (pair_literals choices pairs)) (list_all (lit_holds values) assumed) (sym (list_all-append (lit_holds values) (pair_literals choices pairs) assumed) ∙ m.model.all_assumptions) in
       let step : IsEncodedStep plant (truth_in values) = model_is_a_step plant h.well_formed h.clauses.system h.clauses.of_plant values sat in
-      step_makes_possible plant facts pairs h.facts_fit partial.moves values step
+      step_makes_possible plant facts pairs h.facts_fit (moves_are pairs have) values step
       (ap (λ (c : Choices). list_all (lit_holds values) (pair_literals c pairs)) (sym h.choices_are) ∙ both.0) (sym (h.once.says values) ∙ both.1)
 
-  some_marked : All (HasMove (move_counts plant)) pairs → (marks : Marks) → All (HasMove (move_counts plant)) (marked_pairs (plant_choices plant) marks pairs)
-  some_marked have marks = All-filter (λ (p : Pair). is_marked marks (pair_literal (plant_choices plant) p)) (HasMove (move_counts plant)) pairs have
+  possible_model : (pairs : List Pair) → All (HasMove choices.counts) pairs → is_possible plant facts pairs ≡ true → HasModel set (pair_literals choices pairs ++ assumed)
+  possible_model pairs have can =
+      let moves : All (HasMove (move_counts plant)) pairs = moves_are pairs have in
+      let v : HasValues plant facts pairs h.facts_fit moves h.clauses.system = possible_has_values plant facts pairs h.facts_fit moves h.well_formed h.clauses.system h.clauses.of_plant can in
+      let values : List Bool = v.values in
+      record {
+        values = values;
+        model =
+            record {
+              len = v.whole ∙ sym bools_are;
+              all_clauses = ap (λ (s : ClauseMap). satisfies values s.slots) h.clauses.clauses ∙ v.satisfied;
+              all_assumptions =
+                  list_all-append (lit_holds values) (pair_literals choices pairs) assumed
+                  ∙ and_from (list_all (lit_holds values) (pair_literals choices pairs)) (list_all (lit_holds values) assumed)
+                  (ap (λ (c : Choices). list_all (lit_holds values) (pair_literals c pairs)) h.choices_are ∙ v.chosen) (h.once.says values ∙ v.seen);
+            };
+      }
 
-  marked_impossible : (marks : Marks) → HasNoModel set (marked_literals marks (pair_literals choices pairs) ++ assumed) → is_possible plant facts (marked_pairs (plant_choices plant) marks pairs) ≡ false
-  marked_impossible marks none = by (is_possible plant facts (marked_pairs (plant_choices plant) marks pairs)) refl
-    where
-      part : List Pair
-      part = marked_pairs (plant_choices plant) marks pairs
+  -- the clauses, the numbering and what is assumed decide what is possible under the facts
+  pub decides : Decides (record { set = set; choices = choices; assumed = assumed }) (is_possible plant facts)
+  decides = record { possible_of = model_possible; model_of = possible_model; part = part_possible plant facts }
 
-      by : (b : Bool) → is_possible plant facts (marked_pairs (plant_choices plant) marks pairs) ≡ b → b ≡ false
-      by false e = refl
-      by true e =
-          let v : HasValues plant facts (marked_pairs (plant_choices plant) marks pairs) h.facts_fit (some_marked partial.moves marks) h.clauses.system =
-          possible_has_values plant facts (marked_pairs (plant_choices plant) marks pairs) h.facts_fit (some_marked partial.moves marks) h.well_formed h.clauses.system h.clauses.of_plant e
-          in
-          let values : List Bool = v.values in
-          absurd (none values
-          (record {
-            len = v.whole ∙ sym bools_are;
-            all_clauses = ap (λ (s : ClauseMap). satisfies values s.slots) h.clauses.clauses ∙ v.satisfied;
-            all_assumptions =
-                list_all-append (lit_holds values) (marked_literals marks (pair_literals choices pairs)) assumed
-                ∙ and_from (list_all (lit_holds values) (marked_literals marks (pair_literals choices pairs))) (list_all (lit_holds values) assumed)
-                (ap (list_all (lit_holds values)) (ap (λ (c : Choices). marked_literals marks (pair_literals c pairs)) h.choices_are ∙ literals_of_marked (plant_choices plant) marks pairs) ∙ v.chosen)
-                (h.once.says values ∙ v.seen);
-          }))
+  is_asking : IsAsking set choices assumed solutions
+  is_asking =
+      let first : choices.first ≡ first_choice plant = ap (λ (c : Choices). c.first) h.choices_are in
+      let counts : sum choices.counts ≡ sum (move_counts plant) = ap (λ (c : Choices). sum c.counts) h.choices_are in
+      let bools : set.bools ≡ bool_count plant = bools_are in
+      record { clause = ap (λ n. is_clause n assumed) first ∙ h.once.clause; fit = omega (arith, first, counts, bools); found = h.found }
 
-  -- without a model of all of them they aren't possible together
-  pub all_impossible : HasNoModel set (pair_literals choices pairs ++ assumed) → is_possible plant facts pairs ≡ false
-  all_impossible none = by (is_possible plant facts pairs) refl
-    where
-      by : (b : Bool) → is_possible plant facts pairs ≡ b → b ≡ false
-      by false e = refl
-      by true e =
-          let v : HasValues plant facts pairs h.facts_fit partial.moves h.clauses.system = possible_has_values plant facts pairs h.facts_fit partial.moves h.well_formed h.clauses.system h.clauses.of_plant e in
-          let values : List Bool = v.values in
-          absurd (none values
-          (record {
-            len = v.whole ∙ sym bools_are;
-            all_clauses = ap (λ (s : ClauseMap). satisfies values s.slots) h.clauses.clauses ∙ v.satisfied;
-            all_assumptions =
-                list_all-append (lit_holds values) (pair_literals choices pairs) assumed
-                ∙ and_from (list_all (lit_holds values) (pair_literals choices pairs)) (list_all (lit_holds values) assumed)
-                (ap (λ (c : Choices). list_all (lit_holds values) (pair_literals c pairs)) h.choices_are ∙ v.chosen) (h.once.says values ∙ v.seen);
-          }))
+  module _ (pairs : List Pair) (partial : IsPartial plant pairs) where
+    own_partial : IsPartialOf choices.counts pairs
+    own_partial = subst (λ (c : Choices). IsPartialOf c.counts pairs) (sym h.choices_are) partial
 
-  -- what a refutation says of the pairs
-  pub answer_possible : (core : Option Marks) → Refutes set (pair_literals choices pairs) assumed core → is_none core ≡ is_possible plant facts pairs
-  answer_possible None told = sym (model_possible told)
-  answer_possible (Some marks) told = sym (impossible_by_part plant facts marks pairs (marked_impossible marks told))
+    -- the literals that are assumed are of distinct booleans
+    pub asked_is_clause : is_clause set.bools (pair_literals choices pairs ++ assumed) ≡ true
+    asked_is_clause = clause_asked set choices assumed solutions is_asking pairs own_partial
 
-  pub answer_core : (core : Option Marks) → Refutes set (pair_literals choices pairs) assumed core → IfSome core (λ marks. is_possible plant facts (marked_pairs (plant_choices plant) marks pairs) ≡ false)
-  answer_core None told = tt
-  answer_core (Some marks) told = marked_impossible marks told
+    -- with a model of all of them they are possible together
+    pub all_possible : HasModel set (pair_literals choices pairs ++ assumed) → is_possible plant facts pairs ≡ true
+    all_possible = model_possible pairs own_partial.moves
+
+    -- without one they aren't
+    pub all_impossible : HasNoModel set (pair_literals choices pairs ++ assumed) → is_possible plant facts pairs ≡ false
+    all_impossible none = by (is_possible plant facts pairs) refl
+      where
+        by : (b : Bool) → is_possible plant facts pairs ≡ b → b ≡ false
+        by false e = refl
+        by true e = let m : HasModel set (pair_literals choices pairs ++ assumed) = possible_model pairs own_partial.moves e in absurd (none m.values m.model)
+
+    -- what a refutation says of the pairs
+    pub answer_possible : (core : Option Marks) → Refutes set (pair_literals choices pairs) assumed core → is_none core ≡ is_possible plant facts pairs
+    answer_possible = answered_possible (record { set = set; choices = choices; assumed = assumed }) (is_possible plant facts) decides pairs own_partial.moves
+
+    pub answer_core : (core : Option Marks) → Refutes set (pair_literals choices pairs) assumed core → IfSome core (λ marks. is_possible plant facts (marked_pairs (plant_choices plant) marks pairs) ≡ false)
+    answer_core core told =
+        subst (λ (c : Choices). IfSome core (λ marks. is_possible plant facts (marked_pairs c marks pairs) ≡ false)) h.choices_are
+        (answered_core (record { set = set; choices = choices; assumed = assumed }) (is_possible plant facts) decides pairs own_partial.moves core told)
 
 -- other solutions of the same may be kept
 pub other_solutions : (plant : Plant) (facts : Facts) (set : ClauseMap) (choices : Choices) (after : Booleans) (assumed : List Lit) (solutions : List (List Bool)) → IsTrialOf plant facts set choices after assumed solutions

@@ -1,64 +1,24 @@
--- Facts and choices as literals: each says of one variable, before the step or after it, that it has one value, or of one part that it
--- makes one move.
-use Rattle.std.specs.Prelude.{◌≡◌, ◌<◌, ℕ, Bool, true, List, [], ◌∷◌, ◌++◌, map, filter, slice_index_or, if◌then◌else◌}
-use Rattle.std.specs.List.{list_all, list_any}
+-- Facts as literals: each says of one variable, before the step or after it, that it has one value.
+use Rattle.std.specs.Prelude.{List, [], ◌∷◌, ◌++◌, if◌then◌else◌}
+use Rattle.std.specs.List.{list_any}
 use Rattle.lv_base.specs.declared.ids.Lit.{Lit}
-use Rattle.lv_base.specs.declared.search.Pair.{Pair}
-use Rattle.lv_clauses.specs.Literals.{is_clause, lit_holds}
-use Rattle.lv_clauses.specs.Marks.{Marks, is_marked}
 use Rattle.lv_clauses.specs.Noted.{is_of}
 use Rattle.lv_model.specs.declared.plant.Plant.{Plant}
 use Rattle.lv_model.specs.Lists.{move_counts}
-use Rattle.lv_compile.specs.Booleans.{Booleans, value_literal, booleans_now, booleans_next, first_choice}
-use Rattle.lv_system.specs.Choices.{Choices, choice_literal}
-use Rattle.lv_meaning.specs.declared.facts.Observation.{Observation}
+use Rattle.lv_compile.specs.Booleans.{booleans_now, booleans_next, first_choice}
+use Rattle.lv_system.specs.Choices.{Choices}
 use Rattle.lv_meaning.specs.declared.facts.Facts.{Facts}
 use Rattle.lv_meaning.specs.Facts.{now_facts}
-
--- the variable has the observed value
-abbrev pub observed_literal : Booleans → Observation → Lit
-observed_literal b o = value_literal b o.var.0 o.val.0 true
-
-abbrev pub observed_literals : Booleans → List Observation → List Lit
-observed_literals b os = map (observed_literal b) os
+pub use Rattle.lv_asking.specs.Literals.{observed_literal, observed_literals, pair_literal, pair_literals, HasMove, IsPositive}
 
 -- what was commanded and seen before the step, then what was seen after it
 abbrev pub fact_literals : Plant → Facts → List Lit
 fact_literals plant facts = observed_literals (booleans_now plant) (now_facts plant facts) ++ observed_literals (booleans_next plant) facts.next
 
--- the pair's part makes the pair's move
-abbrev pub pair_literal : Choices → Pair → Lit
-pair_literal c p = choice_literal c p.slot p.choice true
-
-abbrev pub pair_literals : Choices → List Pair → List Lit
-pair_literals c pairs = map (pair_literal c) pairs
-
--- the part has a move of this number
-pub record HasMove (counts : List ℕ) (p : Pair) : Type 0 where
-  pub below : p.choice < slice_index_or counts p.slot 0
-
 -- the booleans of the plant's moves
 abbrev pub plant_choices : Plant → Choices
 plant_choices plant = record { first = first_choice plant; counts = move_counts plant }
 
-abbrev pub is_positive : Lit → Bool
-is_positive l = l.sign
-
--- a boolean that is there and is to be true
-pub record IsPositive (bools : ℕ) (l : Lit) : Type 0 where
-  pub sign : l.sign ≡ true
-  pub below : l.var.0 < bools
-
--- the literals of a list, each once: they say what the list says
-pub record IsOnce (bools : ℕ) (lits once : List Lit) : Type 0 where
-  pub clause : is_clause bools once ≡ true
-  pub positive : list_all is_positive once ≡ true
-  pub says : (values : List Bool) → list_all (lit_holds values) once ≡ list_all (lit_holds values) lits
-
 -- the literal, where none of these is of its boolean
 abbrev pub missing : List Lit → Lit → List Lit
 missing lits l = if list_any (is_of l.var.0) lits then [] else l ∷ []
-
--- of the pairs those whose literals are marked
-abbrev pub marked_pairs : Choices → Marks → List Pair → List Pair
-marked_pairs c marks pairs = filter (λ (p : Pair). is_marked marks (pair_literal c p)) pairs

@@ -9,7 +9,8 @@ use Rattle.lv_sat.specs.Answers.{IsModel}
 use Rattle.lv_system.specs.Choices.{Choices}
 use Rattle.lv_system.specs.System.{SystemValue, IsSystemOf}
 use Rattle.lv_meaning.specs.declared.facts.Facts.{Facts}
-use Rattle.lv_ident.specs.Literals.{fact_literals, plant_choices, IsOnce}
+use Rattle.lv_asking.specs.Literals.{IsOnce}
+use Rattle.lv_ident.specs.Literals.{fact_literals, plant_choices}
 use Rattle.lv_meaning.specs.Facts.{FactsInRange}
 
 -- the plant, and the facts that candidates are tried under

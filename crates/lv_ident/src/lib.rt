@@ -6,15 +6,13 @@
 //! |---|---|
 //! | `query` | `identify` and `Query`: the search and its trial together |
 //! | `trial` | `IdentTrial`: whether a candidate is possible, and the reason of one that isn't |
-//! | `refutation` | the one question that a trial asks of the solver, and the solutions kept from earlier ones |
-//! | `literals` | facts and moves as literals |
+//! | `literals` | facts as literals |
 //! | `laws` | what kept conflicts are |
 #![tactic(auto)]
 
 pub mod laws;
 pub mod literals;
 pub mod query;
-pub mod refutation;
 pub mod trial;
 
 pub use query::{Query, QueryEffort, identify, identify_distinct};

@@ -13,13 +13,15 @@ ghost use Rattle.lv_meaning.specs.Facts.{FactsFit, FactsInRange, HasValue};
 ghost use Rattle.lv_meaning.specs.Possible.{is_possible};
 ghost use Rattle.lv_meaning.specs.Candidates.{is_possible_candidate};
 ghost use Rattle.lv_meaning.specs.Diagnosis.{reason_of};
-ghost use Rattle.lv_ident.specs.Literals.{HasMove, marked_pairs, pair_literal, plant_choices};
+ghost use Rattle.lv_asking.specs.Literals.{HasMove, marked_pairs, pair_literal};
+ghost use Rattle.lv_ident.specs.Literals.{plant_choices};
 ghost use Rattle.lv_ident.specs.Probing.{with_next, is_allowed};
 ghost use Rattle.lv_ident.specs.Reducing.{IsPartial, IsReducing};
 ghost use Rattle.lv_search_zones.specs.Moves.{is_full_choice};
 
-use crate::literals::{each_once, fact_literals, push_missing, push_pairs};
-use crate::refutation::{Solutions, refute};
+use crate::literals::{fact_literals, push_missing};
+use lv_asking::literals::{each_once, push_pairs};
+use lv_asking::refutation::{Solutions, refute};
 use lv_base::{Candidate, Conflict, Lit, MoveId, Pair, PartId, ValId, VarId, pairs_of};
 use lv_clauses::{Marks, is_marked};
 use lv_compile::plant_clauses::sum_of;

@@ -33,7 +33,7 @@ use Rattle.lv_meaning.specs.Recovers.{has_modes, has_controls, some_nominal_step
 use Rattle.lv_meaning.specs.RecoveryLaws.{NominalStep}
 use Rattle.lv_meaning.proofs.NominalSteps.{StepFound, step_found, found_step}
 use Rattle.lv_reconf.specs.Narrowing.{Encodes, Asks}
-use Rattle.lv_ident.specs.Refutation.{Refutes}
+use Rattle.lv_asking.specs.Refutation.{Refutes}
 use Rattle.lv_reconf.specs.Assuming.{Assumes, MarkedHold, marked_controls}
 use Rattle.lv_reconf.specs.Refuting.{RefutesSteps}
 

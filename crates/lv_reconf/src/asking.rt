@@ -15,9 +15,9 @@ ghost use Rattle.lv_reconf.specs.Refuting.{RefutesSteps};
 
 use super::assumptions::assumptions;
 use super::compiled::Compiled;
+use lv_asking::refutation::{Solutions, refute};
 use lv_base::{Pair, VarId};
 use lv_clauses::Marks;
-use lv_ident::refutation::{Solutions, refute};
 use lv_model::State;
 use lv_sat::{Answer, Solver};
 use std::alloc::{AllocError, Global};

@@ -2,7 +2,8 @@
 use Rattle.std.proofs.Common.{ap, ◌∙◌}
 use Rattle.lv_clauses.specs.Marks.{is_marked}
 use Rattle.lv_system.specs.Choices.{Choices}
-use Rattle.lv_ident.specs.Literals.{pair_literal, plant_choices}
+use Rattle.lv_asking.specs.Literals.{pair_literal}
+use Rattle.lv_ident.specs.Literals.{plant_choices}
 use Rattle.lv_ident.specs.Trial.{TrialValue}
 use Rattle.lv_ident.proofs.trial.IdentTrial.is_needed.Goals as goal
 

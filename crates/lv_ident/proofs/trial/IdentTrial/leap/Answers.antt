@@ -4,7 +4,8 @@ use Rattle.std.proofs.lemmas.List.Elements.{All-take}
 use Rattle.lv_base.specs.declared.search.Pair.{Pair}
 use Rattle.lv_meaning.specs.Possible.{is_possible}
 use Rattle.lv_model.specs.Lists.{move_counts}
-use Rattle.lv_ident.specs.Literals.{HasMove, marked_pairs, plant_choices}
+use Rattle.lv_asking.specs.Literals.{HasMove, marked_pairs}
+use Rattle.lv_ident.specs.Literals.{plant_choices}
 use Rattle.lv_ident.specs.Reducing.{IsPartial}
 use Rattle.lv_ident.proofs.ReducingLemmas.{kept_partial, left_have_moves, refuted_alone}
 use Rattle.lv_ident.proofs.trial.IdentTrial.leap.Goals as goal

@@ -2,7 +2,8 @@
 use Rattle.std.proofs.Common.{◌≡◌, ◌+◌, ◌<◌, ◌++◌, List, length, drop, arith, false, is_none, subst, sym, ap, ◌∙◌}
 use Rattle.lv_base.specs.declared.search.Pair.{Pair}
 use Rattle.lv_meaning.specs.Possible.{is_possible}
-use Rattle.lv_ident.specs.Literals.{marked_pairs, plant_choices}
+use Rattle.lv_asking.specs.Literals.{marked_pairs}
+use Rattle.lv_ident.specs.Literals.{plant_choices}
 use Rattle.lv_ident.specs.Reducing.{IsPartial, IsReducing}
 use Rattle.lv_ident.specs.Trial.{TrialValue}
 use Rattle.lv_ident.proofs.ReducingLemmas.{has_move, others_partial, unneeded, refuted_again, kept_one}

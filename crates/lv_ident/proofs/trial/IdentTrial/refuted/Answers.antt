@@ -5,8 +5,9 @@ use Rattle.lv_base.specs.declared.ids.Lit.{Lit}
 use Rattle.lv_clauses.specs.ClauseMap.{ClauseMap}
 use Rattle.lv_model.specs.declared.plant.Plant.{Plant}
 use Rattle.lv_meaning.specs.Possible.{is_possible}
-use Rattle.lv_ident.specs.Literals.{pair_literals, plant_choices, marked_pairs}
-use Rattle.lv_ident.specs.Refutation.{Refutes}
+use Rattle.lv_asking.specs.Literals.{pair_literals, marked_pairs}
+use Rattle.lv_ident.specs.Literals.{plant_choices}
+use Rattle.lv_asking.specs.Refutation.{Refutes}
 use Rattle.lv_ident.specs.Reducing.{IsPartial}
 use Rattle.lv_sat.specs.Answers.{IsModel}
 use Rattle.lv_ident.specs.Trial.{TrialValue, IsTrialOf}

@@ -10,9 +10,10 @@ use Rattle.lv_meaning.specs.declared.facts.Observation.{Observation}
 use Rattle.lv_meaning.specs.Facts.{HasValue}
 use Rattle.lv_meaning.specs.Possible.{is_possible}
 use Rattle.lv_sat.specs.Answers.{IsModel}
-use Rattle.lv_ident.specs.Literals.{pair_literals, missing}
+use Rattle.lv_asking.specs.Literals.{pair_literals}
+use Rattle.lv_ident.specs.Literals.{missing}
 use Rattle.lv_ident.specs.Probing.{with_next}
-use Rattle.lv_ident.specs.Refutation.{Refutes}
+use Rattle.lv_asking.specs.Refutation.{Refutes}
 use Rattle.lv_ident.specs.Reducing.{IsPartial}
 use Rattle.lv_ident.specs.Trial.{TrialValue, IsTrialOf}
 use Rattle.lv_ident.proofs.TrialLemmas.{other_solutions}

@@ -4,7 +4,8 @@ use Rattle.lv_base.specs.declared.search.Pair.{Pair}
 use Rattle.lv_base.specs.Choices.{slots_rise}
 use Rattle.lv_search_walk.proofs.ReasonLemmas.{still_rising}
 use Rattle.lv_meaning.specs.Possible.{is_possible}
-use Rattle.lv_ident.specs.Literals.{marked_pairs, plant_choices}
+use Rattle.lv_asking.specs.Literals.{marked_pairs}
+use Rattle.lv_ident.specs.Literals.{plant_choices}
 use Rattle.lv_ident.specs.Trial.{TrialValue}
 use Rattle.lv_ident.proofs.trial.IdentTrialTrial.attempt.Goals as goal
 

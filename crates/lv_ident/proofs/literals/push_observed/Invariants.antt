@@ -1,7 +1,0 @@
--- what was added and what the observations left say is what all say
-use Rattle.std.proofs.Common.{◌≡◌, ◌++◌, drop}
-use Rattle.lv_ident.specs.Literals.{observed_literals}
-use Rattle.lv_ident.proofs.literals.push_observed.Given as goal
-
-abbrev pub invariant-loop-o : goal.invariant-loop-o
-invariant-loop-o l = l.out.items ++ observed_literals l.bools (drop l.o-index l.observations) ≡ l.initial.out.items ++ observed_literals l.bools l.observations
