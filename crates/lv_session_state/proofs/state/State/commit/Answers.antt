@@ -25,7 +25,7 @@ pub take_over_last-requires-clause-list : goal.take_over_last-requires-clause-li
 take_over_last-requires-clause-list c =
     let well : is_well_formed c.args.model.now ≡ true = subst (λ (p : Plant). is_well_formed p ≡ true) c.plant-plant.ensures.plant c.plant-plant.ensures.well_formed in
     let query = ap (λ (s : SessionState). s.query) (sym c.self.view_is) ∙ c.in-Window.is in
-    let at = subst (λ (t : Tracing). IsTracingAt c.args.model.now c.args.self.now c.in-Window.field-0 c.in-Window.field-1 t) (sym c.deref-in-Window-Settled.ensures)
+    let at = subst (λ (t : Tracing). IsTracingAt c.args.model.now c.args.self.now c.in-Window.field-0 c.in-Window.field-1 t) (sym c.deref-in-Settled-outcome.ensures)
     (kept_window c.args.self.now.query c.args.model.now c.args.self.now c.args.running.now c.in-Window.field-0 c.in-Window.field-1 c.in-Window-running-2.run' query c.in-Window-running-2.is c.requires.running) in
-    subst (λ (rs : List Rank). IsListOf c.args.model.now c.args.self.now (map (last_step c.args.model.now) rs)) (sym c.listed-2.ensures)
-    (last_listed c.args.model.now c.args.self.now c.in-Window.field-0 c.in-Window.field-1 c.deref-in-Window-Settled.result.now at well c.requires.state)
+    subst (λ (rs : List Rank). IsListOf c.args.model.now c.args.self.now (map (last_step c.args.model.now) rs)) (sym c.listed-in-Settled-outcome.ensures)
+    (last_listed c.args.model.now c.args.self.now c.in-Window.field-0 c.in-Window.field-1 c.deref-in-Settled-outcome.result.now at well c.requires.state)

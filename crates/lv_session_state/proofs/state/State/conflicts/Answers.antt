@@ -43,6 +43,6 @@ pub window_conflicts-requires : goal.window_conflicts-requires
 window_conflicts-requires c =
     let well : is_well_formed c.args.model.now ≡ true = subst (λ (p : Plant). is_well_formed p ≡ true) c.plant-plant.ensures.plant c.plant-plant.ensures.well_formed in
     let query = ap (λ (s : SessionState). s.query) (sym c.self.view_is) ∙ c.in-Window.is in
-    let at = subst (λ (t : Tracing). IsTracingAt c.args.model.now c.args.self.now c.in-Window.field-0 c.in-Window.field-1 t) (sym c.deref-in-Window-running-4.ensures)
-    (kept_window c.args.self.now.query c.args.model.now c.args.self.now c.args.running.now c.in-Window.field-0 c.in-Window.field-1 c.in-Window-running-4.run' query c.in-Window-running-4.is c.requires.running) in
-    few_at_window c.args.model.now c.args.self.now c.in-Window.field-0 c.in-Window.field-1 c.deref-in-Window-running-4.result.now at well c.requires.state
+    let at = subst (λ (t : Tracing). IsTracingAt c.args.model.now c.args.self.now c.in-Window.steps c.in-Window.field-1 t) (sym c.deref-in-Window-running-4.ensures)
+    (kept_window c.args.self.now.query c.args.model.now c.args.self.now c.args.running.now c.in-Window.steps c.in-Window.field-1 c.in-Window-running-4.run' query c.in-Window-running-4.is c.requires.running) in
+    few_at_window c.args.model.now c.args.self.now c.in-Window.steps c.in-Window.field-1 c.deref-in-Window-running-4.result.now at well c.requires.state
