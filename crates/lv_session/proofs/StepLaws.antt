@@ -340,6 +340,10 @@ module _ (plant : Plant) (state : SessionState) where
       by true = tt
       by false = answered_due (request_of plant line)
 
+  -- the same of what a step led to
+  pub due_behind : (line : List ℕ) (next : SessionState) (reply : Reply) → record { state = next; reply = reply } ≡ stepped plant state line → IsDue plant next reply
+  due_behind line next reply is = subst (λ (s : Stepped). IsDue plant s.state s.reply) (sym is) (stepped_due line)
+
   answered_kept : (r : Result Request Refusal) → keeps (answered plant state r).reply ≡ true → (answered plant state r).state ≡ state
   answered_kept (Ok request) = (fair_request request).kept
   answered_kept (Err refusal) = λ _. refl
