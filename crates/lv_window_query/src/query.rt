@@ -18,10 +18,12 @@ use crate::joints::joints;
 use crate::trial::WindowTrial;
 use crate::zones::{window_grid, window_zones};
 use lv_base::{Conflict, Rank, Seq};
+use lv_conflicts::Store;
+use lv_guide::Guide;
 use lv_meaning::Facts;
 use lv_model::{Model, TrackedState};
 use lv_sat::Effort;
-use lv_search::{Free, Outcome, Search, Zones};
+use lv_search::{Free, Outcome, Search};
 use std::alloc::{AllocError, Global};
 use std::marker;
 
@@ -32,7 +34,7 @@ pub struct WindowQuery<'a> {
     model: &'a Model,
     steps: Seq<Facts>,
     trial: WindowTrial<'a>,
-    search: Search<Free<Zones>>,
+    search: Search<Free<Guide>>,
 }
 
 impl<'a> marker::Model for WindowQuery<'a> {
@@ -78,7 +80,7 @@ fn search_of(
     tracked: &[TrackedState],
     steps: u32,
     k: u32,
-) -> Result<Search<Free<Zones>>, AllocError>
+) -> Result<Search<Free<Guide>>, AllocError>
     requires some { 1 ≤ steps }
     requires few_steps { steps ≤ WINDOW }
     requires few { length tracked.now ≤ TRACKED }
@@ -89,7 +91,9 @@ fn search_of(
     let grid = window_grid(alloc, model, steps)?;
     let zones = window_zones(alloc, model, tracked, steps - 1)?;
     let known = joints(alloc, model, steps - 1)?;
-    Search::new_with(alloc, grid, zones, k, known)
+    let frontier = Guide::new(alloc, grid, zones)?;
+    let left = Free::new(frontier, Store::from_vec(known))?;
+    Search::new(alloc, left, k)
 }
 
 /// A query that has tried nothing: what is known is asked about, and held beside the trial.
@@ -98,7 +102,7 @@ fn started<'a>(
     model: &'a Model,
     asked: Vec<Facts>,
     held: Vec<Facts>,
-    search: Search<Free<Zones>>,
+    search: Search<Free<Guide>>,
 ) -> Result<WindowQuery<'a>, AllocError>
     requires some { 1 ≤ length asked.items }
     requires few { length asked.items ≤ WINDOW }
