@@ -26,7 +26,7 @@ use Rattle.lv_reply.specs.declared.reply.Refusal.TheVariants.{NameHeld, TooManyH
 use Rattle.lv_reply.specs.declared.reply.Reply.{Reply}
 use Rattle.lv_reply.specs.declared.reply.Reply.TheVariants.{Nothing as Silence, Refused as RefusedReply}
 use Rattle.lv_session.specs.lv_session_request.declared.request.Sighting.{Sighting}
-use Rattle.lv_session.specs.lv_session_request.declared.request.Request.TheVariants.{Observe}
+use Rattle.lv_session.specs.lv_session_request.declared.request.Request.TheVariants.{Observe, Commit}
 use Rattle.lv_session.specs.lv_session_request.declared.goals.Goal.{Goal}
 use Rattle.lv_session.specs.lv_session_request.Goals.{IsGoalIn}
 use Rattle.lv_session.specs.lv_session_request.Requests.{IsSightingIn}
@@ -54,7 +54,7 @@ use Rattle.lv_plant.specs.Findings.{GoalReads}
 use Rattle.lv_plant.specs.Standing.{Standing, Done, Committed, no_faults, with_session, unchanged, with_fault, named, asked_of, moved, observed_by, told_all, told_by, diagnosed_by, lists_some, commit_at, committed_by, told_of, after_commit, after_telling, taken, is_over, step, apply, done, done_by}
 use Rattle.lv_plant.proofs.SeeingLemmas.{modes_in_fit}
 use Rattle.lv_plant.proofs.KeptLemmas.{line_stays}
-use Rattle.lv_plant.proofs.TakenLemmas.{at_diagnosis, came, taken_is}
+use Rattle.lv_plant.proofs.TakenLemmas.{commit_ended, at_diagnosis, came, taken_is}
 
 -- where no fault is named, what is named are moves of the parts
 
@@ -185,6 +185,23 @@ observed_kept plant old new stepper modes faults s (Ok reply) is ok err =
     session_kept plant old new stepper modes faults is (ap (λ (x : RunningSession). x.plant) ok)
     (ap (λ (x : RunningSession). x.state.is_ended) ok ∙ performed_ended old.plant old.state s)
 observed_kept plant old new stepper modes faults s (Err fault) is ok err =
+    session_kept plant old new stepper modes faults is (ap (λ (x : RunningSession). x.plant) err) (ap (λ (x : RunningSession). x.state.is_ended) err)
+
+-- nor does a commit
+commit_performed_ended : (plant : Plant) (state : SessionState) → (performed plant state Commit).state.is_ended ≡ state.is_ended
+commit_performed_ended plant state = by state.is_ended
+  where
+    by : (b : Bool) → (cond b (session_unchanged state Silence) (carried_out plant state Commit)).state.is_ended ≡ state.is_ended
+    by true = refl
+    by false = commit_ended state.query plant state
+
+pub committed_kept : (plant : Plant) (old new : RunningSession) (stepper : Plant) (modes : List ValId) (faults : List (Option MoveId)) (r : Result Reply AllocError)
+    → IsPlant plant old stepper modes faults → OnOk r (new ≡ record old { state = (performed old.plant old.state Commit).state }) → OnErr r (new ≡ record old { is_out_of_memory = true })
+    → IsPlant plant new stepper modes faults
+committed_kept plant old new stepper modes faults (Ok reply) is ok err =
+    session_kept plant old new stepper modes faults is (ap (λ (x : RunningSession). x.plant) ok)
+    (ap (λ (x : RunningSession). x.state.is_ended) ok ∙ commit_performed_ended old.plant old.state)
+committed_kept plant old new stepper modes faults (Err fault) is ok err =
     session_kept plant old new stepper modes faults is (ap (λ (x : RunningSession). x.plant) err) (ap (λ (x : RunningSession). x.state.is_ended) err)
 
 -- one more observation is told

@@ -103,6 +103,32 @@ commit_keeps (Window steps sum) plant state = by (tracing plant state steps sum)
     by Settled = taking_keeps plant state (map (last_step plant) (tracing plant state steps sum).listed)
     by Unsettled = refl
 
+-- nor does it end the session
+taking_ended : (plant : Plant) (state : SessionState) (listed : List Rank) → (taken_over plant state listed).state.is_ended ≡ state.is_ended
+taking_ended plant state listed = by (nat_eq (length listed) 0) (nat_le COMMITS state.time)
+  where
+    by : (a b : Bool)
+        → (cond a (session_unchanged state (RefusedReply NothingListed)) (cond b (session_unchanged state (RefusedReply TooManyCommits))
+        (record { state = advanced_to plant state listed; reply = CommittedReply (state.time + 1) (length (advanced plant listed)) }))).state.is_ended ≡ state.is_ended
+    by true b = refl
+    by false true = refl
+    by false false = refl
+
+pub commit_ended : (q : Query) (plant : Plant) (state : SessionState) → (commit q plant state).state.is_ended ≡ state.is_ended
+commit_ended Absent plant state = refl
+commit_ended (Diagnosis sum) plant state = by (walked plant state sum).outcome
+  where
+    by : (o : Outcome) → (commit_by o plant state (walked plant state sum).listed).state.is_ended ≡ state.is_ended
+    by Settled = taking_ended plant state (walked plant state sum).listed
+    by Unsettled = refl
+commit_ended (Recovery sum) plant state = refl
+commit_ended (Test x sum) plant state = refl
+commit_ended (Window steps sum) plant state = by (tracing plant state steps sum).outcome
+  where
+    by : (o : Outcome) → (commit_by o plant state (map (last_step plant) (tracing plant state steps sum).listed)).state.is_ended ≡ state.is_ended
+    by Settled = taking_ended plant state (map (last_step plant) (tracing plant state steps sum).listed)
+    by Unsettled = refl
+
 same_walk : (plant : Plant) (state : SessionState) (q : Query) (sum : ℕ) → walked plant (record state { query = q }) sum ≡ walked plant state sum
 unfolding walked
 same_walk plant state q sum = refl
