@@ -24,7 +24,8 @@ use Rattle.lv_search.proofs.NextLemmas.{first_and_rest}
 use Rattle.lv_search.proofs.GroupLemmas.{has_own_groups}
 use Rattle.lv_search.proofs.TimesLemmas.{times_one}
 use Rattle.lv_search.proofs.LeftLemmas.{rises_filtered, filter_among, some_with}
-use Rattle.lv_guide.specs.Guide.{is_free_rank, zones_in, left_in, IsQueue, IsReady, HasRoomBy, HasMoreBy, HasSameFree, DropsAlike}
+use Rattle.lv_search.specs.Free.{is_free_rank}
+use Rattle.lv_guide.specs.Guide.{zones_in, left_in, IsQueue, IsReady, HasRoomBy, HasMoreBy, HasSameFree, DropsAlike}
 use Rattle.lv_guide.proofs.GuideLemmas.{each_slot, rest_of_queue, among_left, left_rises, first_is_key, keys_above, NoKeyBefore, same_left}
 
 abbrev Entry : Type 0

@@ -30,7 +30,8 @@ use Rattle.lv_search_walk.specs.Walk.{candidate_of, is_ruled_out}
 use Rattle.lv_search_walk.proofs.RankedLemmas.{not_before_itself, not_both_before, same_rank, is_itself, one_list, equal_by_cmp}
 use Rattle.lv_search_guide.specs.Free.{is_free_member, IsLeastFree, HasNoFree}
 use Rattle.lv_search.specs.Frontier.{FirstContains, LeavesFirst, Thins}
-use Rattle.lv_guide.specs.Guide.{is_free_rank, zones_in, left_in, IsKeyMember, IsKeyFirst, IsQueue, AreKeptBy, front_is_free, IsReady, HasRoomBy, HasMoreBy, HasSameFree, stale_in, LooksAgain, DropsFirst}
+use Rattle.lv_search.specs.Free.{is_free_rank, free_of}
+use Rattle.lv_guide.specs.Guide.{zones_in, left_in, IsKeyMember, IsKeyFirst, IsQueue, AreKeptBy, front_is_free, IsReady, HasRoomBy, HasMoreBy, HasSameFree, stale_in, LooksAgain, DropsFirst}
 use Rattle.lv_search.proofs.NextLemmas.{first_and_rest}
 use Rattle.lv_search.proofs.TimesLemmas.{times_none, times_one}
 use Rattle.lv_search.proofs.LeftLemmas.{first_of_rising, none_before_on, filter_among, rises_filtered, among_behind, choices_per_slot, stays, parts_times, some_with, sources_apart}
@@ -197,20 +198,22 @@ module _ (slots : List (List Cost)) where
         apart = λ r. let few = sources_apart slots r zones differ in omega (arith, few);
       })
 
-  pub all_are_left : (zones : List ZoneValue) (start new : List Entry) → start ≡ [] → HasMoreBy slots zones start new → left_in slots [] new ≡ ranked_members slots zones
-  all_are_left zones start new is has =
-      filter_all (is_free_rank []) (ranked_members slots (zones_in new)) (λ r. refl)
-      ∙ one_list (ranked_members slots (zones_in new)) (ranked_members slots zones) (ranked_members_rise slots (zones_in new)) (ranked_members_rise slots zones)
+  all_members : (zones : List ZoneValue) (start new : List Entry) → start ≡ [] → HasMoreBy slots zones start new → ranked_members slots (zones_in new) ≡ ranked_members slots zones
+  all_members zones start new is has =
+      one_list (ranked_members slots (zones_in new)) (ranked_members slots zones) (ranked_members_rise slots (zones_in new)) (ranked_members_rise slots zones)
       (λ r. among_ranked_members slots r (zones_in new)
       ∙ ap (nat_lt 0) (has.times r ∙ ap (λ (es : List Entry). times_in slots r (zones_in es) + times_in slots r zones) is ∙ (let same : 0 + times_in slots r zones ≡ times_in slots r zones = omega arith in same))
       ∙ sym (among_ranked_members slots r zones))
 
+  pub all_are_left : (zones : List ZoneValue) (start new : List Entry) → start ≡ [] → HasMoreBy slots zones start new → left_in slots [] new ≡ ranked_members slots zones
+  all_are_left zones start new is has = filter_all (is_free_rank []) (ranked_members slots (zones_in new)) (λ r. refl) ∙ all_members zones start new is has
+
+  -- zones that were put into an empty queue are kept by their first members, whatever is known
+  pub kept_at_start : (known : List (List Pair)) (zones : List ZoneValue) (start new : List Entry) → start ≡ [] → HasMoreBy slots zones start new → AreKeptBy slots known new
+  kept_at_start known zones start new is has = record { queue = has.queue; first = has.first known (subst (λ (es : List Entry). AllByRecursion (IsKeyFirst slots known) es) (sym is) tt) }
+
   pub ready_at_start : (zones : List ZoneValue) (start new : List Entry) → start ≡ [] → HasMoreBy slots zones start new → IsReady slots [] new
-  ready_at_start zones start new is has =
-      record {
-        kept = record { queue = has.queue; first = has.first [] (subst (λ (es : List Entry). AllByRecursion (IsKeyFirst slots []) es) (sym is) tt) };
-        front = free_of_none new;
-      }
+  ready_at_start zones start new is has = record { kept = kept_at_start [] zones start new is has; front = free_of_none new }
     where
       free_of_none : (es : List Entry) → front_is_free [] es ≡ true
       free_of_none [] = refl
@@ -294,6 +297,11 @@ module _ (slots : List (List Cost)) where
         by : (r : Rank) (b : Bool) → is_free_rank known r ≡ b → (b && nat_lt 0 (times_in slots r (zones_in new))) ≡ (b && nat_lt 0 (times_in slots r (zones_in old)))
         by r true free = ap (nat_lt 0) (has.same r free)
         by r false free = refl
+
+    -- what is left where these are known from the start
+    pub known_at_start : (zones : List ZoneValue) (start put new : List Entry) → start ≡ [] → HasMoreBy slots zones start put → HasSameFree slots known put new
+        → left_in slots known new ≡ free_of known (ranked_members slots zones)
+    known_at_start zones start put new is has same = same_left put new same ∙ ap (free_of known) (all_members zones start put is has)
 
     pub same_at_start : (entries : List Entry) → AreKeptBy slots known entries → HasSameFree slots known entries entries
     same_at_start entries kept = record { kept = kept; same = λ r free. refl }

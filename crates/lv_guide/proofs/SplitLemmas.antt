@@ -3,19 +3,23 @@
 use Rattle.std.proofs.Common.{◌≡◌, ℕ, ◌+◌, ◌≤◌, Bool, true, false, not, ◌&&◌, List, [], ◌∷◌, ◌++◌, length, refl, sym, ◌∙◌, ap, subst, cond, nat_eq, nat_lt, arith}
 use Rattle.std.specs.Prelude.{slice_index, find, Option, Some, None}
 use Rattle.std.specs.List.{AllByRecursion, list_all}
-use Rattle.std.proofs.lemmas.Bool.{and_from, and_parts, both_ways, false_from_ne_true}
+use Rattle.std.proofs.lemmas.Bool.{and_from, and_parts, both_ways, eq-eqb, false_from_ne_true}
 use Rattle.lv_base.specs.declared.ids.Cost.{Cost}
 use Rattle.lv_base.specs.declared.rank.Rank.{Rank}
 use Rattle.lv_base.specs.declared.search.Pair.{Pair}
 use Rattle.lv_base.specs.Choices.{picks, contains_all}
-use Rattle.lv_boxes.specs.Members.{ZoneValue, are_left, is_member, choices_cost}
+use Rattle.lv_boxes.specs.Members.{ZoneValue, are_left, is_member, choices_cost, rank_in}
 use Rattle.lv_boxes.specs.Parts.{parts_of}
 use Rattle.lv_boxes.specs.RankedMembers.{ranks_in, times_in, AreApart, sources_differ}
 use Rattle.lv_boxes.proofs.MemberLemmas.{length-are_left}
+use Rattle.lv_boxes.proofs.RankedMemberLemmas.{rank_of_member}
 use Rattle.lv_search_walk.specs.Walk.{candidate_of, is_ruled_out}
+use Rattle.lv_search_guide.specs.Free.{IsLeastFree}
+use Rattle.lv_search_guide.specs.After.{IsFirstBefore}
 use Rattle.lv_search_guide.proofs.BoxLemmas.{some_pass, found_itself, none_pass}
 use Rattle.lv_search.proofs.LeftLemmas.{parts_times, sources_apart}
-use Rattle.lv_guide.specs.Guide.{is_free_rank, zones_in, IsKeyFirst, AreKeptBy, front_is_free, HasRoomBy, HasMoreBy, HasSameFree, IsWhole, WholeTells, IsGuide}
+use Rattle.lv_search.specs.Free.{is_free_rank}
+use Rattle.lv_guide.specs.Guide.{zones_in, IsKeyFirst, AreKeptBy, front_is_free, IsReady, IsReadyBefore, HasRoomBy, HasMoreBy, HasSameFree, IsWhole, WholeTells, IsGuide}
 use Rattle.lv_guide.proofs.GuideLemmas.{rest_of_queue, free_before, ready_at_start}
 
 abbrev Entry : Type 0
@@ -93,6 +97,40 @@ module _ (slots : List (List Cost)) (known : List (List Pair)) (entries : List E
   pub none_found : find (contains_all k.choices) known ≡ None → front_is_free known entries ≡ false → ⊥
   none_found none stale =
       both_ways (is_free_rank known k) (sym (ap (front_is_free known) is) ∙ stale) (ap not (none_pass (contains_all k.choices) known none))
+
+-- the first zone of a queue that was ready is kept by its first member that contained no known conflict
+front_is_least : (slots : List (List Cost)) (known : List (List Pair)) (k : Rank) (zone : ZoneValue) (es : List (Rank × ZoneValue)) → IsReady slots known ((k, zone) ∷ es) → IsLeastFree slots zone known k
+front_is_least slots known k zone es ready =
+    record {
+      member = and_from (is_member slots zone (candidate_of k)) (is_free_rank known k) member ready.front;
+      is = rank_of_member slots k zone ready.kept.queue.members.0;
+      first = λ other free.
+          let parts = and_parts (is_member slots zone other) (not (is_ruled_out known other.choices)) free in
+          let left = (and_parts (nat_eq other.source zone.source) (are_left slots zone.masks other.choices) parts.0).1 in
+          ready.kept.first.0.first (rank_in slots zone other.choices)
+          (and_from (is_member slots zone (record { source = zone.source; choices = other.choices })) (nat_eq (zone.base.0 + choices_cost slots other.choices) (zone.base.0 + choices_cost slots other.choices))
+          (and_from (nat_eq zone.source zone.source) (are_left slots zone.masks other.choices) (eq-eqb zone.source zone.source refl) left)
+          (eq-eqb (zone.base.0 + choices_cost slots other.choices) (zone.base.0 + choices_cost slots other.choices) refl))
+          parts.1;
+    }
+  where
+    member : is_member slots zone (candidate_of k) ≡ true
+    member = (and_parts (is_member slots zone (candidate_of k)) (nat_eq k.cost.0 (zone.base.0 + choices_cost slots k.choices)) ready.kept.queue.members.0).0
+
+pub first_before : (slots : List (List Cost)) (known : List (List Pair)) (newest : List Pair) (entries : List (Rank × ZoneValue)) (k : Rank) (zone : ZoneValue) (es : List (Rank × ZoneValue)) → entries ≡ (k, zone) ∷ es
+    → IsReadyBefore slots known newest entries → IsFirstBefore slots zone known newest k
+first_before slots known newest entries k zone es is before =
+    record {
+      others = before.others;
+      last = before.last;
+      first = front_is_least slots before.others k zone es (subst (λ (ds : List (Rank × ZoneValue)). IsReady slots before.others ds) is before.ready);
+    }
+
+-- a queue that was ready, and one conflict more
+pub ready_before : (slots : List (List Cost)) (known asked : List (List Pair)) (conflict : List Pair) (held old : List (Rank × ZoneValue)) → old ≡ held → asked ≡ known ++ conflict ∷ [] → IsReady slots known held
+    → IsReadyBefore slots asked conflict old
+ready_before slots known asked conflict held old taken is ready =
+    record { others = known; last = is; ready = subst (λ (es : List (Rank × ZoneValue)). IsReady slots known es) (sym taken) ready }
 
 -- the queue is begun anew
 module _ (slots : List (List Cost)) where

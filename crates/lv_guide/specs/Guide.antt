@@ -1,5 +1,5 @@
 -- Zones in a queue, each kept by the rank of a member, and what is left of their members where some conflicts are known.
-use Rattle.std.specs.Prelude.{◌≡◌, ℕ, ◌+◌, ◌<◌, ◌≤◌, Bool, true, false, not, List, [], ◌∷◌, map, filter, drop, if◌then◌else◌, Option, Some, None}
+use Rattle.std.specs.Prelude.{◌≡◌, ℕ, ◌+◌, ◌<◌, ◌≤◌, Bool, true, false, List, [], ◌∷◌, ◌++◌, map, drop, if◌then◌else◌, Option, Some, None}
 use Rattle.std.specs.List.{AllByRecursion}
 use Rattle.lv_base.specs.declared.ids.Cost.{Cost}
 use Rattle.lv_base.specs.declared.rank.Rank.{Rank}
@@ -7,12 +7,8 @@ use Rattle.lv_base.specs.declared.search.Pair.{Pair}
 use Rattle.lv_base.specs.Rank.{ranks_before}
 use Rattle.lv_boxes.specs.Members.{ZoneValue}
 use Rattle.lv_boxes.specs.RankedMembers.{ranked_members, ranks_in, times_in, AreApart}
-use Rattle.lv_search_walk.specs.Walk.{is_ruled_out}
 use Rattle.lv_search.specs.Frontier.{LeavesOut}
-
--- its choices contain no known conflict
-abbrev pub is_free_rank : List (List Pair) → Rank → Bool
-is_free_rank known r = not (is_ruled_out known r.choices)
+use Rattle.lv_search.specs.Free.{is_free_rank, free_of}
 
 -- the zones in the queue
 abbrev pub zones_in : List (Rank × ZoneValue) → List ZoneValue
@@ -20,7 +16,7 @@ zones_in entries = map (λ e. e.1) entries
 
 -- their members that contain no known conflict, in the order of their ranks
 abbrev pub left_in : List (List Cost) → List (List Pair) → List (Rank × ZoneValue) → List Rank
-left_in slots known entries = filter (is_free_rank known) (ranked_members slots (zones_in entries))
+left_in slots known entries = free_of known (ranked_members slots (zones_in entries))
 
 -- a zone is kept by the rank of a member
 abbrev pub IsKeyMember : List (List Cost) → Rank × ZoneValue → Type 0
@@ -47,6 +43,12 @@ front_is_free known (e ∷ es) = is_free_rank known e.0
 pub record IsReady (slots : List (List Cost)) (known : List (List Pair)) (entries : List (Rank × ZoneValue)) : Type 0 where
   pub kept : AreKeptBy slots known entries
   pub front : front_is_free known entries ≡ true
+
+-- so it was before the newest of the known conflicts was
+pub record IsReadyBefore (slots : List (List Cost)) (known : List (List Pair)) (newest : List Pair) (entries : List (Rank × ZoneValue)) : Type 0 where
+  pub others : List (List Pair)
+  pub last : known ≡ others ++ newest ∷ []
+  pub ready : IsReady slots others entries
 
 -- there is room for these zones
 pub record HasRoomBy (slots : List (List Cost)) (more : List ZoneValue) (old : List (Rank × ZoneValue)) : Type 0 where

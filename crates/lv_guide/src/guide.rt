@@ -14,11 +14,13 @@ ghost use Rattle.lv_boxes.specs.Laws.{pairs_of};
 ghost use Rattle.lv_boxes.specs.Least.{lacks_choice};
 ghost use Rattle.lv_boxes.specs.RankedMembers.{IsLeastRank, ranked_members, sources_differ};
 ghost use Rattle.lv_search_walk.specs.Walk.{is_ruled_out};
-ghost use Rattle.lv_guide.specs.Guide.{IsQueue, AreKeptBy, IsReady, HasMoreBy, HasRoomBy, HasSameFree, LooksAgain, DropsFirst, DropsAlike, WholeTells, front_is_free};
+ghost use Rattle.lv_search.specs.Free.{free_of};
+ghost use Rattle.lv_guide.specs.Guide.{IsQueue, AreKeptBy, IsReady, IsReadyBefore, HasMoreBy, HasRoomBy, HasSameFree, LooksAgain, DropsFirst, DropsAlike, WholeTells, front_is_free};
 
 use lv_base::{Conflict, Rank, Seq, contains};
 use lv_boxes::{Grid, Groups, Zone, choices_as_conflict, split, split_by_groups};
 use lv_search::Frontier;
+use lv_search_guide::after::least_free_after;
 use lv_search_guide::least_free::least_free;
 use std::alloc::{AllocError, Global};
 use std::collections::BTreeMap;
@@ -101,6 +103,30 @@ impl Guide {
                 whole: Some(whole),
                 splits: SPLITS_AT_FIRST,
             },
+        })
+    }
+
+    /// As `new`, without the members that contain one of these conflicts. They are many from the start: no zone is split
+    /// by them, or by those that come.
+    pub fn new_with(
+        alloc: Global,
+        grid: Grid,
+        zones: Vec<Zone>,
+        known: Vec<Conflict>,
+    ) -> Result<Guide, AllocError>
+        requires { sources_differ zones.items ≡ true }
+        ensures { IfOk result (λ all. all ≡ free_of known.items (ranked_members grid zones.items)) }
+    {
+        let known = Seq::from_vec(known);
+        let mut queue = BTreeMap::new(alloc);
+        put_all(alloc, &grid, &mut queue, zones)?;
+        look_ahead(alloc, &grid, known.as_slice(), &mut queue)?;
+        Ok(Guide {
+            alloc,
+            grid,
+            known,
+            queue,
+            course: Course::over(),
         })
     }
 }
@@ -202,6 +228,53 @@ fn look_again(
         },
         None => Ok(()),
     }
+}
+
+/// As `look_again`, where the first zone is kept by its first member that contains none but the newest.
+fn look_after(
+    alloc: Global,
+    grid: &Grid,
+    known: &[Conflict],
+    newest: &Conflict,
+    queue: &mut BTreeMap<Rank, Zone>,
+) -> Result<(), AllocError>
+    requires kept { AreKeptBy grid.now known.now queue.old.entries }
+    requires before { IsReadyBefore grid.now known.now newest.now queue.old.entries }
+    requires stale { front_is_free known.now queue.old.entries ≡ false }
+    ensures { OnOk result (HasSameFree grid.now known.now queue.old.entries queue.new.entries) }
+{
+    match queue.pop_first() {
+        Some((before, zone)) => {
+            match least_free_after(alloc, grid, &zone, known, newest, &before)? {
+                Some(rank) => {
+                    queue.insert(rank, zone)?;
+                    Ok(())
+                }
+                None => Ok(()),
+            }
+        }
+        None => Ok(()),
+    }
+}
+
+/// Where no zone may be split any more and the first is kept by a member that contains the newest conflict, keeps it by its
+/// first that contains none, or no longer, where it has none.
+fn look_first(
+    alloc: Global,
+    grid: &Grid,
+    known: &[Conflict],
+    newest: &Conflict,
+    queue: &mut BTreeMap<Rank, Zone>,
+    splits: u64,
+) -> Result<(), AllocError>
+    requires kept { AreKeptBy grid.now known.now queue.old.entries }
+    requires before { IsReadyBefore grid.now known.now newest.now queue.old.entries }
+    ensures { OnOk result (HasSameFree grid.now known.now queue.old.entries queue.new.entries) }
+{
+    if splits > 0 || !is_stale(queue, known) {
+        return Ok(());
+    }
+    look_after(alloc, grid, known, newest, queue)
 }
 
 /// Looks again until the first zone is kept by a member that contains no known conflict.
@@ -402,13 +475,10 @@ impl Frontier for Guide {
         course.allow_more();
         self.known
             .push(Conflict::from_pairs(self.alloc, conflict.pairs())?)?;
-        go_ahead(
-            self.alloc,
-            &self.grid,
-            self.known.as_slice(),
-            &mut queue,
-            &mut course,
-        )?;
+        let known = self.known.as_slice();
+        let splits = course.splits;
+        look_first(self.alloc, &self.grid, known, conflict, &mut queue, splits)?;
+        go_ahead(self.alloc, &self.grid, known, &mut queue, &mut course)?;
         self.queue = queue;
         self.course = course;
         Ok(())

@@ -4,6 +4,5 @@ pub mod FollowLemmas
 pub mod TimesLemmas
 pub mod LeftLemmas
 pub mod GroupLeftLemmas
-pub mod FreeLemmas
 pub mod RunLemmas
 pub use Rattle.lv_boxes.proofs as lv_boxes

@@ -8,12 +8,10 @@
 //! | `trial` | `Trial`: what a search wants of its trial |
 //! | `turn` | one turn of a search, and the turns of one run |
 //! | `frontier` | what is left to try, as the turns see it |
-//! | `free` | what is left to try of another frontier where some conflicts are known |
 //! | `zones` | what is left to try, as zones that conflicts split |
 //! | `laws` | what the walk's entries are, and where a walk begins |
 #![tactic(auto)]
 
-pub mod free;
 pub mod frontier;
 pub mod laws;
 pub mod search;
@@ -21,7 +19,6 @@ pub mod trial;
 pub mod turn;
 pub mod zones;
 
-pub use free::Free;
 pub use frontier::Frontier;
 pub use lv_search_walk::Outcome;
 pub use search::Search;

@@ -6,17 +6,14 @@ ghost use Rattle.lv_base.specs.declared.rank.Rank.{Rank};
 ghost use Rattle.lv_search_walk.specs.declared.outcome.Outcome.TheVariants.{Settled};
 ghost use Rattle.lv_search_walk.specs.Walk.{distinct_walk, suit_all};
 ghost use Rattle.lv_search_walk.specs.Groups.{alike_by};
-ghost use Rattle.lv_boxes.specs.RankedMembers.{ranked_members, sources_differ};
-ghost use Rattle.lv_search.specs.Free.{free_of};
 ghost use Rattle.lv_search.specs.Standing.{trials_of, all_suit, first_fitting, AreSame, IsUnderWay};
 
-use super::free::Free;
 use super::frontier::Frontier;
 use super::trial::Trial;
 use super::turn::{Held, take_turns};
 use super::zones::{Split, Zones};
 use lv_base::{Conflict, Rank, Seq};
-use lv_boxes::{Grid, Groups, Zone};
+use lv_boxes::Groups;
 use lv_conflicts::Store;
 use lv_search_walk::Outcome;
 use std::alloc::{AllocError, Global};
@@ -131,33 +128,6 @@ impl<F: Frontier + Drop> Search<F> {
         ensures { result ≡ trials_of self.now.standing }
     {
         self.held.trials()
-    }
-}
-
-impl Search<Free<Zones>> {
-    /// A search that has tried nothing, for the members of these zones, of which no two have one source, that contain none
-    /// of the known conflicts. These count neither as kept nor as trials. The grid tells what choices cost.
-    pub fn new_with(
-        alloc: Global,
-        grid: Grid,
-        zones: Vec<Zone>,
-        k: u32,
-        known: Vec<Conflict>,
-    ) -> Result<Search<Free<Zones>>, AllocError>
-        requires { sources_differ zones.items ≡ true }
-        ensures { IfOk result (λ search. search.standing ≡ record { k = k; groups = None; listed = []; kept = []; left = free_of known.items (ranked_members grid zones.items) }) }
-    {
-        let zones = Zones::new(alloc, grid, zones)?;
-        let left = Free::new(zones, Store::from_vec(known))?;
-        Search::new(alloc, left, k)
-    }
-
-    /// The splits made, in order, as those of a search over zones are numbered, where the known conflicts come before the
-    /// kept ones. Takes no memory.
-    pub fn splits(&self) -> &[Split]
-        ensures { result.now ≡ self.now.frontier.frontier.splits }
-    {
-        self.frontier.frontier().splits()
     }
 }
 

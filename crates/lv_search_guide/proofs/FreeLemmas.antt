@@ -23,13 +23,13 @@ clash : (b : Bool) → b ≡ true → b ≡ false → ⊥
 clash b p q = cc
 
 -- a free member of the zone is one of its box
-free_in_box : (slots : List (List Cost)) (zone : ZoneValue) (conflicts : List (List Pair)) (candidate : Candidate) → is_free_member slots zone conflicts candidate ≡ true
+pub free_in_box : (slots : List (List Cost)) (zone : ZoneValue) (conflicts : List (List Pair)) (candidate : Candidate) → is_free_member slots zone conflicts candidate ≡ true
     → is_free slots conflicts zone.masks candidate.choices ≡ true
 free_in_box slots zone conflicts candidate h =
     let parts = and_parts (is_member slots zone candidate) (not (is_ruled_out conflicts candidate.choices)) h in
     and_from (are_left slots zone.masks candidate.choices) (not (is_ruled_out conflicts candidate.choices)) (and_parts (nat_eq candidate.source zone.source) (are_left slots zone.masks candidate.choices) parts.0).1 parts.1
 
-free_in_zone : (slots : List (List Cost)) (zone : ZoneValue) (conflicts : List (List Pair)) (choices : List ℕ) → is_free slots conflicts zone.masks choices ≡ true
+pub free_in_zone : (slots : List (List Cost)) (zone : ZoneValue) (conflicts : List (List Pair)) (choices : List ℕ) → is_free slots conflicts zone.masks choices ≡ true
     → is_free_member slots zone conflicts (record { source = zone.source; choices = choices }) ≡ true
 free_in_zone slots zone conflicts choices h =
     let parts = and_parts (are_left slots zone.masks choices) (not (is_ruled_out conflicts choices)) h in

@@ -177,7 +177,7 @@ length-only (false ∷ marks) (x ∷ xs) [] same = absurd (omega (arith, same))
 length-only (true ∷ marks) (x ∷ xs) (y ∷ ys) same = let rest = length-only marks xs ys (omega (arith, same)) in omega (arith, rest)
 length-only (false ∷ marks) (x ∷ xs) (y ∷ ys) same = length-only marks xs ys (omega (arith, same))
 
-length-put_in : (marks : List Bool) (ys xs : List ℕ) → length (put_in marks ys xs) ≡ length xs
+pub length-put_in : (marks : List Bool) (ys xs : List ℕ) → length (put_in marks ys xs) ≡ length xs
 length-put_in [] ys xs = refl
 length-put_in (true ∷ marks) [] xs = refl
 length-put_in (true ∷ marks) (y ∷ ys) [] = refl
@@ -232,7 +232,7 @@ order_both (false ∷ marks) (w ∷ ws) ys (z ∷ zs) same too long h =
     by false p false q c r k f = absurd (cc k)
 
 -- conflicts that are all inside, and all outside
-abbrev renamed : List Bool → List (List Pair) → List (List Pair)
+abbrev pub renamed : List Bool → List (List Pair) → List (List Pair)
 renamed marks conflicts = map (λ pairs. map (pair_in marks) pairs) conflicts
 
 ruled_inside : (marks : List Bool) (ys xs : List ℕ) (conflicts : List (List Pair)) → length marks ≡ length xs → length ys ≡ length (only marks xs) → list_all (is_inside marks) conflicts ≡ true
@@ -249,11 +249,13 @@ ruled_outside marks ys xs (k ∷ ks) same long each =
     let parts = and_parts (is_outside marks k) (list_all (is_outside marks) ks) each in
     (λ i. contains_outside marks ys xs k same long parts.0 i || ruled_outside marks ys xs ks same long parts.1 i)
 
--- The first of a box is the first of the part under the conflicts inside, put into the first of the whole under those outside.
-module _ (marks : List Bool) (slots : List (List Cost)) (masks : List ℕ) (inner outer all : List (List Pair)) (long : length marks ≡ length slots)
-    (inside : list_all (is_inside marks) inner ≡ true) (outside : list_all (is_outside marks) outer ≡ true)
-    (both : (xs : List ℕ) → are_left slots masks xs ≡ true → is_ruled_out all xs ≡ (is_ruled_out inner xs || is_ruled_out outer xs))
-    (one : Member) (other : Member) (y : IsLowest (only marks slots) (renamed marks inner) (only marks masks) one) (z : IsLowest slots outer masks other) where
+-- The first of a box is the first of the part under the conflicts inside, put into what was the first of the whole while some of these
+-- weren't known.
+module _ (marks : List Bool) (slots : List (List Cost)) (masks : List ℕ) (inner known outer all old : List (List Pair)) (long : length marks ≡ length slots)
+    (inside : list_all (is_inside marks) inner ≡ true) (known_inside : list_all (is_inside marks) known ≡ true) (outside : list_all (is_outside marks) outer ≡ true)
+    (both : (xs : List ℕ) → is_ruled_out all xs ≡ (is_ruled_out inner xs || is_ruled_out outer xs))
+    (both_old : (xs : List ℕ) → is_ruled_out old xs ≡ (is_ruled_out known xs || is_ruled_out outer xs))
+    (one : Member) (other : Member) (y : IsLowest (only marks slots) (renamed marks inner) (only marks masks) one) (z : IsLowest slots old masks other) where
   abbrev ys : List ℕ
   ys = one.choices
 
@@ -264,7 +266,7 @@ module _ (marks : List Bool) (slots : List (List Cost)) (masks : List ℕ) (inne
   y_left = free_is_left (only marks slots) (renamed marks inner) (only marks masks) ys y.cheapest.free
 
   z_left : are_left slots masks zs ≡ true
-  z_left = free_is_left slots outer masks zs z.cheapest.free
+  z_left = free_is_left slots old masks zs z.cheapest.free
 
   as_long : (xs : List ℕ) → are_left slots masks xs ≡ true → length marks ≡ length xs
   as_long xs h = long ∙ sym (length-left slots masks xs h)
@@ -275,17 +277,21 @@ module _ (marks : List Bool) (slots : List (List Cost)) (masks : List ℕ) (inne
   not_ruled : (xs : List ℕ) → is_free slots all masks xs ≡ true → (is_ruled_out inner xs ≡ false) × (is_ruled_out outer xs ≡ false)
   not_ruled xs free =
       let parts = and_parts (are_left slots masks xs) (not (is_ruled_out all xs)) free in
-      or_parts (is_ruled_out inner xs) (is_ruled_out outer xs) (sym (both xs parts.0) ∙ not-true (is_ruled_out all xs) parts.1)
+      or_parts (is_ruled_out inner xs) (is_ruled_out outer xs) (sym (both xs) ∙ not-true (is_ruled_out all xs) parts.1)
+
+  z_out : (is_ruled_out known zs ≡ false) × (is_ruled_out outer zs ≡ false)
+  z_out =
+      or_parts (is_ruled_out known zs) (is_ruled_out outer zs)
+      (sym (both_old zs) ∙ not-true (is_ruled_out old zs) (and_parts (are_left slots masks zs) (not (is_ruled_out old zs)) z.cheapest.free).1)
 
   put_free : is_free slots all masks (put_in marks ys zs) ≡ true
   put_free =
       let left : are_left slots masks (put_in marks ys zs) ≡ true = left_put marks slots masks ys zs long z_left y_left in
       let y_out : is_ruled_out (renamed marks inner) ys ≡ false = not-true _ (and_parts (are_left (only marks slots) (only marks masks) ys) (not (is_ruled_out (renamed marks inner) ys)) y.cheapest.free).1 in
-      let z_out : is_ruled_out outer zs ≡ false = not-true _ (and_parts (are_left slots masks zs) (not (is_ruled_out outer zs)) z.cheapest.free).1 in
       let ruled : is_ruled_out all (put_in marks ys zs) ≡ false =
-      both (put_in marks ys zs) left
+      both (put_in marks ys zs)
       ∙ (λ i. ruled_inside marks ys zs inner (as_long zs z_left) (part_long zs ys z_left y_left) inside i || ruled_outside marks ys zs outer (as_long zs z_left) (part_long zs ys z_left y_left) outside i)
-      ∙ (λ i. y_out i || z_out i)
+      ∙ (λ i. y_out i || z_out.1 i)
       in
       free_from slots all masks (put_in marks ys zs) left ruled
 
@@ -315,10 +321,16 @@ module _ (marks : List Bool) (slots : List (List Cost)) (masks : List ℕ) (inne
     z_part_left : are_left (only marks slots) (only marks masks) (only marks zs) ≡ true
     z_part_left = left_only marks slots masks zs long z_left
 
-    rest_free : is_free slots outer masks rest ≡ true
+    rest_free : is_free slots old masks rest ≡ true
     rest_free =
-        free_from slots outer masks rest (left_put marks slots masks (only marks zs) ws long w_left z_part_left)
-        (ruled_outside marks (only marks zs) ws outer (as_long ws w_left) (part_long ws (only marks zs) w_left z_part_left) outside ∙ (not_ruled ws free).1)
+        let known_out : is_ruled_out known rest ≡ false =
+        ruled_inside marks (only marks zs) ws known (as_long ws w_left) (part_long ws (only marks zs) w_left z_part_left) known_inside
+        ∙ sym (ruled_inside marks (only marks zs) zs known (as_long zs z_left) refl known_inside) ∙ ap (is_ruled_out known) (put_own marks zs (as_long zs z_left)) ∙ z_out.0
+        in
+        let outer_out : is_ruled_out outer rest ≡ false =
+        ruled_outside marks (only marks zs) ws outer (as_long ws w_left) (part_long ws (only marks zs) w_left z_part_left) outside ∙ (not_ruled ws free).1
+        in
+        free_from slots old masks rest (left_put marks slots masks (only marks zs) ws long w_left z_part_left) (both_old rest ∙ (λ i. known_out i || outer_out i))
 
     rest_cost : choices_cost slots rest + choices_cost (only marks slots) (only marks ws) ≡ choices_cost slots ws + choices_cost (only marks slots) (only marks zs)
     rest_cost = cost_put marks slots masks (only marks zs) ws long w_left z_part_left

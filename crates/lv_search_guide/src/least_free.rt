@@ -33,7 +33,7 @@ pub fn least_free(
 }
 
 /// Of the members of a box that contain no conflict the first among the cheapest.
-fn first_in(
+pub(crate) fn first_in(
     alloc: Global,
     grid: &Grid,
     conflicts: &[Conflict],
@@ -64,7 +64,7 @@ fn first_left(
 }
 
 /// What a member of a zone ranks as.
-fn rank_of(zone: &Zone, member: Member) -> Rank
+pub(crate) fn rank_of(zone: &Zone, member: Member) -> Rank
     requires { member.cost ≤ 4096 * 1000000 }
     ensures { result ≡ record { cost = record { 0 = zone.now.base.0 + member.cost }; source = zone.now.source; choices = member.choices } }
 {

@@ -14,6 +14,7 @@
 //! | file | what it holds |
 //! |---|---|
 //! | `least_free` | the member that ranks first |
+//! | `after` | the same, where it is known of all conflicts but the newest |
 //! | `parts` | the same part by part of a box |
 //! | `cheapest` | a cheapest member, by a stack of boxes |
 //! | `look` | what is to be done with one box |
@@ -27,6 +28,7 @@
 //! | `laws` | that there is one answer |
 #![tactic(auto)]
 
+pub mod after;
 mod behind;
 mod cheapest;
 mod dear;

@@ -8,7 +8,7 @@ use Rattle.std.proofs.Math.Seq.{drop-drop}
 use Rattle.lv_base.specs.declared.search.Pair.{Pair}
 use Rattle.lv_base.specs.Choices.{slots_rise, slots_rise_from}
 use Rattle.lv_boxes.specs.Masks.{only_choice}
-use Rattle.lv_search_parts.specs.Slots.{only, is_marked, place_of, pair_in, is_inside}
+use Rattle.lv_search_parts.specs.Slots.{only, put_in, is_marked, place_of, pair_in, is_inside}
 use Rattle.lv_search_parts.specs.Parts.{inner_of, ArePlaces, fixed}
 
 -- one item more of a list made
@@ -247,6 +247,54 @@ fixed_more made new marks choices masks whole i place word step mark m d within 
         ∙ ap₂ (λ (w : ℕ) (cs : List ℕ). w ∷ fixed (drop (suc i) marks) cs (drop (suc i) masks))
         (sym (word_is ∙ word_at mark (get_or masks i d) choices place))
         (drop-drop (cond mark 1 0) place choices ∙ ap (λ n. drop n choices) (ap (λ n. place + n) (sym step_is)))
+
+-- choices put in
+put_none : (marks : List Bool) (outer : List ℕ) → put_in marks [] outer ≡ outer
+put_none [] outer = refl
+put_none (true ∷ marks) outer = refl
+put_none (false ∷ marks) [] = refl
+put_none (false ∷ marks) (x ∷ outer) = ap (λ xs. x ∷ xs) (put_none marks outer)
+
+abbrev put_word : Bool → ℕ → List ℕ → ℕ
+put_word true outer (choice ∷ choices) = choice
+put_word true outer [] = outer
+put_word false outer choices = outer
+
+put_cons : (mark : Bool) (marks : List Bool) (inner : List ℕ) (x : ℕ) (outer : List ℕ)
+    → put_in (mark ∷ marks) inner (x ∷ outer) ≡ put_word mark x inner ∷ put_in marks (drop (cond mark 1 0) inner) outer
+put_cons true marks [] x outer = ap (λ xs. x ∷ xs) (sym (put_none marks outer))
+put_cons true marks (choice ∷ inner) x outer = refl
+put_cons false marks inner x outer = refl
+
+put_word_at : (mark : Bool) (outer : ℕ) (choices : List ℕ) (place : ℕ) → cond (mark && nat_lt place (length choices)) (slice_index choices place) outer ≡ put_word mark outer (drop place choices)
+put_word_at false outer choices place = by (drop place choices)
+  where
+    by : (cs : List ℕ) → outer ≡ put_word false outer cs
+    by cs = refl
+put_word_at true outer choices place = by (cases_lt place (length choices))
+  where
+    by : (place < length choices) ⊎ (length choices ≤ place) → cond (nat_lt place (length choices)) (slice_index choices place) outer ≡ put_word true outer (drop place choices)
+    by (inl here) = ap (λ b. cond b (slice_index choices place) outer) (lt-ltb place (length choices) here) ∙ ap (put_word true outer) (sym (drop-cons choices place 0 here))
+    by (inr past) =
+        ap (λ b. cond b (slice_index choices place) outer) (false_from_ne_true (nat_lt place (length choices)) (λ less. let below : place < length choices = ltb-true place (length choices) less in absurd (omega (arith, below, past))))
+        ∙ ap (put_word true outer) (sym (drop_of_length-le choices past))
+
+pub put_more : (made new : List ℕ) (marks : List Bool) (inner outer whole : List ℕ) (i place word step : ℕ) (mark : Bool) (m : Bool) (d : ℕ) → i < length marks → i < length outer → mark ≡ get_or marks i m
+    → word ≡ cond (mark && nat_lt place (length inner)) (slice_index inner place) (get_or outer i d) → step ≡ cond mark 1 0 → new ≡ made ++ word ∷ []
+    → made ++ put_in (drop i marks) (drop place inner) (drop i outer) ≡ whole
+    → new ++ put_in (drop (i + 1) marks) (drop (place + step) inner) (drop (i + 1) outer) ≡ whole
+put_more made new marks inner outer whole i place word step mark m d within within_too mark_is word_is step_is new_is e =
+    ap₂ (λ (ns : List ℕ) (n : ℕ). ns ++ put_in (drop n marks) (drop (place + step) inner) (drop n outer)) new_is (add-one i)
+    ∙ one_more made word (put_in (drop (suc i) marks) (drop (place + step) inner) (drop (suc i) outer)) whole
+    (ap (λ xs. made ++ xs) (sym here) ∙ e)
+  where
+    here : put_in (drop i marks) (drop place inner) (drop i outer) ≡ word ∷ put_in (drop (suc i) marks) (drop (place + step) inner) (drop (suc i) outer)
+    here =
+        ap₂ (λ (bs : List Bool) (ws : List ℕ). put_in bs (drop place inner) ws) (drop-cons marks i m within ∙ ap (λ b. b ∷ drop (suc i) marks) (sym mark_is)) (drop-cons outer i d within_too)
+        ∙ put_cons mark (drop (suc i) marks) (drop place inner) (get_or outer i d) (drop (suc i) outer)
+        ∙ ap₂ (λ (w : ℕ) (cs : List ℕ). w ∷ put_in (drop (suc i) marks) cs (drop (suc i) outer))
+        (sym (word_is ∙ put_word_at mark (get_or outer i d) inner place))
+        (drop-drop (cond mark 1 0) place inner ∙ ap (λ n. drop n inner) (ap (λ n. place + n) (sym step_is)))
 
 -- a mark as the code reads it
 pub mark_at : (marks : List Bool) (slot : ℕ) → get_or marks slot false ≡ is_marked marks slot

@@ -35,6 +35,11 @@ pub record IsPart (conflicts : List (List Pair)) (slots : ℕ) (marks : List Boo
   pub long : length marks ≡ slots
   pub whole : list_all (is_whole marks) conflicts ≡ true
 
+-- and these pairs are all at slots that are marked
+pub record IsPartWith (conflicts : List (List Pair)) (slots : ℕ) (pairs : List Pair) (marks : List Bool) : Type 0 where
+  pub part : IsPart conflicts slots marks
+  pub inside : is_inside marks pairs ≡ true
+
 -- the conflicts inside, as those of the part
 abbrev pub inner_of : List Bool → List (List Pair) → List (List Pair)
 inner_of marks conflicts = map (λ pairs. map (pair_in marks) pairs) (filter (is_inside marks) conflicts)

@@ -4,7 +4,7 @@
 ghost use Rattle.std.specs.Prelude.{◌≡◌, not, length, IfOk, IfSome};
 ghost use Rattle.std.specs.List.{list_all};
 ghost use Rattle.lv_search_parts.specs.Slots.{is_marked, is_inside, is_outside};
-ghost use Rattle.lv_search_parts.specs.Parts.{is_whole, IsPart};
+ghost use Rattle.lv_search_parts.specs.Parts.{is_whole, IsPart, IsPartWith};
 
 use lv_base::{Conflict, Pair};
 use std::alloc::{AllocError, Global};
@@ -28,6 +28,24 @@ pub fn joined_to(
         join(conflicts, &mut marks);
     }
     Ok(None)
+}
+
+/// As `joined_to`, of slots that these pairs are joined by; `None` where they aren't all marked, too.
+pub fn joined_with(
+    alloc: Global,
+    conflicts: &[Conflict],
+    slots: usize,
+    pairs: &[Pair],
+) -> Result<Option<Vec<bool>>, AllocError>
+    ensures { IfOk result (λ part. IfSome part (λ marks. IsPartWith conflicts.now slots pairs.now marks.items)) }
+{
+    match pairs.first() {
+        Some(pair) => match joined_to(alloc, conflicts, slots, *pair)? {
+            Some(marks) if is_inside(marks.as_slice(), pairs) => Ok(Some(marks)),
+            _ => Ok(None),
+        },
+        None => Ok(None),
+    }
 }
 
 /// Marks the slots of conflicts that have some slot marked and another not.

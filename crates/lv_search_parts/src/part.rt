@@ -6,7 +6,7 @@ ghost use Rattle.lv_boxes.specs.Masks.{only_choice};
 ghost use Rattle.lv_boxes.specs.Members.{IsSlot};
 ghost use Rattle.lv_base.specs.declared.search.Pair.{Pair};
 ghost use Rattle.lv_base.specs.Choices.{slots_rise};
-ghost use Rattle.lv_search_parts.specs.Slots.{only, is_inside, pair_in};
+ghost use Rattle.lv_search_parts.specs.Slots.{only, put_in, is_inside, pair_in};
 ghost use Rattle.lv_search_parts.specs.Parts.{inner_of, ArePlaces, fixed};
 
 use super::marks::is_inside;
@@ -165,6 +165,37 @@ fn fixed_at(mark: bool, mask: u64, choices: &[u32], place: usize) -> u64
         mask::only(mask, choices[place])
     } else {
         mask
+    }
+}
+
+/// The outer choices, with the inner ones at the slots that are marked.
+pub fn put_in(
+    alloc: Global,
+    marks: &[bool],
+    inner: &[u32],
+    outer: &[u32],
+) -> Result<Vec<u32>, AllocError>
+    requires long { length marks.now ≡ length outer.now }
+    requires few { length marks.now < 2 ^ 32 }
+    ensures { IfOk result (λ new. new.items ≡ put_in marks.now inner.now outer.now) }
+{
+    let mut new = Vec::new(alloc);
+    let mut place: u32 = 0;
+    for (slot, mark) in marks.iter().enumerate() {
+        new.push(put_at(*mark, outer[slot], inner, place as usize))?;
+        place += one_if(*mark);
+    }
+    Ok(new)
+}
+
+/// The inner choice at this place, where the slot is marked and there is one, else the outer one.
+fn put_at(mark: bool, outer: u32, inner: &[u32], place: usize) -> u32
+    ensures { result ≡ (if mark && nat_lt place (length inner.now) then slice_index inner.now place else outer) }
+{
+    if mark && place < inner.len() {
+        inner[place]
+    } else {
+        outer
     }
 }
 

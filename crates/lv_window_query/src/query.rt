@@ -18,12 +18,11 @@ use crate::joints::joints;
 use crate::trial::WindowTrial;
 use crate::zones::{window_grid, window_zones};
 use lv_base::{Conflict, Rank, Seq};
-use lv_conflicts::Store;
 use lv_guide::Guide;
 use lv_meaning::Facts;
 use lv_model::{Model, TrackedState};
 use lv_sat::Effort;
-use lv_search::{Free, Outcome, Search};
+use lv_search::{Outcome, Search};
 use std::alloc::{AllocError, Global};
 use std::marker;
 
@@ -34,7 +33,7 @@ pub struct WindowQuery<'a> {
     model: &'a Model,
     steps: Seq<Facts>,
     trial: WindowTrial<'a>,
-    search: Search<Free<Guide>>,
+    search: Search<Guide>,
 }
 
 impl<'a> marker::Model for WindowQuery<'a> {
@@ -80,7 +79,7 @@ fn search_of(
     tracked: &[TrackedState],
     steps: u32,
     k: u32,
-) -> Result<Search<Free<Guide>>, AllocError>
+) -> Result<Search<Guide>, AllocError>
     requires some { 1 ≤ steps }
     requires few_steps { steps ≤ WINDOW }
     requires few { length tracked.now ≤ TRACKED }
@@ -91,8 +90,7 @@ fn search_of(
     let grid = window_grid(alloc, model, steps)?;
     let zones = window_zones(alloc, model, tracked, steps - 1)?;
     let known = joints(alloc, model, steps - 1)?;
-    let frontier = Guide::new(alloc, grid, zones)?;
-    let left = Free::new(frontier, Store::from_vec(known))?;
+    let left = Guide::new_with(alloc, grid, zones, known)?;
     Search::new(alloc, left, k)
 }
 
@@ -102,7 +100,7 @@ fn started<'a>(
     model: &'a Model,
     asked: Vec<Facts>,
     held: Vec<Facts>,
-    search: Search<Free<Guide>>,
+    search: Search<Guide>,
 ) -> Result<WindowQuery<'a>, AllocError>
     requires some { 1 ≤ length asked.items }
     requires few { length asked.items ≤ WINDOW }
