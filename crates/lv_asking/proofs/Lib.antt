@@ -1,6 +1,7 @@
 pub mod OnceLemmas
 pub mod OrderLemmas
 pub mod SolutionLemmas
+pub mod LemmaLemmas
 pub mod RefuteLemmas
 pub mod ClauseLemmas
 pub mod AnswerLemmas

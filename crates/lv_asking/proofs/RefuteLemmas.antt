@@ -1,20 +1,17 @@
 -- What a refutation says of the literals of its core.
-use Rattle.std.proofs.Common.{◌≡◌, ℕ, suc, zero, ◌+◌, ◌-◌, ◌<◌, ◌≤◌, Bool, true, false, not, nat_eq, ◌&&◌, List, [], ◌∷◌, ◌++◌, length, map, take, get_or, slice_get, Option, Some, None, option_map, cond, refl, sym, subst, ap, ◌∙◌, arith, ◌⊎◌, inl, inr, All, Contains}
+use Rattle.std.proofs.Common.{◌≡◌, ℕ, suc, zero, ◌+◌, ◌-◌, ◌<◌, ◌≤◌, Bool, true, false, not, nat_eq, ◌&&◌, List, [], ◌∷◌, ◌++◌, length, map, take, get_or, Option, Some, None, cond, refl, sym, subst, ap, ◌∙◌, arith, ◌⊎◌, inl, inr, Contains}
 use Rattle.std.specs.List.{list_all}
 use Rattle.std.proofs.lemmas.Bool.{and_parts, and_from, ltb-true}
 use Rattle.std.proofs.lemmas.List.{get_or-set_same, get_or-set_other, length-set, take_more, take_all}
 use Rattle.std.proofs.lemmas.List.Folds.{list_all-append}
-use Rattle.std.proofs.lemmas.Option.{slice_get_within, get_or_from_slice_get}
 use Rattle.lv_base.specs.declared.ids.Lit.{Lit}
 use Rattle.lv_clauses.specs.Literals.{neg, same_truth, same_var, in_range, distinct, is_clause, lit_holds, clause_holds}
-use Rattle.lv_clauses.specs.ClauseMap.{ClauseMap, satisfies}
+use Rattle.lv_clauses.specs.ClauseMap.{ClauseMap}
 use Rattle.lv_clauses.specs.Marks.{Marks, nothing, is_marked, marked, mark_is}
 use Rattle.lv_clauses.proofs.LiteralLemmas.{any_member, all_member, lit_or_neg, Contains-cases, Contains-tail, Contains-head, Contains-nil}
-use Rattle.lv_sat.specs.lv_reflog.declared.log.Step.{Step}
-use Rattle.lv_sat.specs.lv_reflog.Following.{first_bad_step, IsImplied}
-use Rattle.lv_sat.proofs.lv_reflog.SoundLemmas.{checked}
-use Rattle.lv_sat.specs.Answers.{IsSublist, nothing as no_literals, left_out, taken, last_clause, IsRefutation}
+use Rattle.lv_sat.specs.Answers.{IsSublist, nothing as no_literals, left_out, taken}
 use Rattle.lv_asking.specs.Refutation.{HasNoModel, marked_literals}
+use Rattle.lv_asking.specs.Replies.{IsCore}
 
 -- marks of so many booleans, among which those of these literals are
 pub record AreMarked (bools : ℕ) (lits : List Lit) (marks : Marks) : Type 0 where
@@ -121,23 +118,6 @@ in_whole _ _ (taken {core = cs} {whole = ls} m s) l h = elim (Contains-cases m l
   | inr rest ↦ Contains-tail m l ls (in_whole cs ls s l rest)
 ]
 
--- the clause that a valid log ends in is true where the clauses are
-last_holds : (set : ClauseMap) (log : List Step) (clause : List Lit) → first_bad_step set log ≡ None → last_clause log ≡ Some clause → (values : List Bool) → satisfies values set.slots ≡ true → length values ≡ set.bools
-    → clause_holds values clause ≡ true
-last_holds set log clause valid ends values sat len = by (slice_get log (length log - 1)) refl ends
-  where
-    all : All (IsImplied set) log
-    all = subst (λ (steps : List Step). All (IsImplied set) steps) (take_all (length log) log (omega arith)) (checked set log None (sym valid))
-
-    by : (o : Option Step) → slice_get log (length log - 1) ≡ o → option_map (λ (s : Step). s.clause) o ≡ Some clause → clause_holds values clause ≡ true
-    by None at is = absurd (cc is)
-    by (Some s) at is =
-        let within : length log - 1 < length log = slice_get_within log (length log - 1) s at in
-        let here : get_or log (length log - 1) s ≡ s = get_or_from_slice_get log (length log - 1) s s at in
-        let implied : IsImplied set s = subst (IsImplied set) here (all (length log - 1) s within) in
-        let same : s.clause ≡ clause = cc is in
-        ap (clause_holds values) (sym same) ∙ implied.holds values sat len
-
 -- a negated literal of a list is the negation of one of them
 negated : (ls : List Lit) (m : Lit) → Contains (map neg ls) m → (l : Lit) × Contains ls l × (m ≡ neg l)
 negated [] m h = absurd (Contains-nil m h)
@@ -159,10 +139,10 @@ among_marked marks (m ∷ ms) l h mark = by (Contains-cases m l ms h) (is_marked
     by (inr rest) false e later = later rest
 
 -- no values make the marked ones of the chosen and all assumed ones true, where the core is marked and what was asked is these two
-pub none_with_core : (set : ClauseMap) (chosen assumed whole core : List Lit) (log : List Step) (marks : Marks) → ((l : Lit) → Contains whole l → Contains chosen l ⊎ Contains assumed l)
-    → IsRefutation set whole core log → list_all (is_marked marks) core ≡ true → HasNoModel set (marked_literals marks chosen ++ assumed)
-none_with_core set chosen assumed whole core log marks one_of refuted all values model =
-    let last : clause_holds values (map neg core) ≡ true = last_holds set log (map neg core) refuted.valid refuted.ends values model.all_clauses model.len in
+pub none_with_core : (set : ClauseMap) (chosen assumed whole core : List Lit) (marks : Marks) → ((l : Lit) → Contains whole l → Contains chosen l ⊎ Contains assumed l)
+    → IsCore set whole core → list_all (is_marked marks) core ≡ true → HasNoModel set (marked_literals marks chosen ++ assumed)
+none_with_core set chosen assumed whole core marks one_of refuted all values model =
+    let last : clause_holds values (map neg core) ≡ true = refuted.denied values model.all_clauses model.len in
     let found = any_member (lit_holds values) (map neg core) last in
     let own = negated core found.0 found.1 in
     let denied : lit_holds values (neg own.0) ≡ true = ap (lit_holds values) (sym own.2) ∙ found.2 in

@@ -11,11 +11,12 @@ ghost use Rattle.lv_search_walk.specs.Reason.{reduced};
 ghost use Rattle.lv_asking.specs.Literals.{HasMove, marked_pairs, pair_literal};
 ghost use Rattle.lv_asking.specs.Asking.{IsPartial, Decides, IsReducing, IsReason};
 
+use crate::lemma_solver::LemmaSolver;
 use crate::literals::push_pairs;
 use crate::refutation::{Solutions, refute};
 use lv_base::{Conflict, Lit, MoveId, Pair, PartId};
 use lv_clauses::{ClauseSet, Marks, is_marked};
-use lv_sat::{Effort, Solver};
+use lv_sat::Effort;
 use lv_system::ChoiceBools;
 use std::alloc::{AllocError, Global};
 use std::marker::Model;
@@ -28,7 +29,7 @@ pub struct Asking {
     choices: ChoiceBools,
     assumed: Vec<Lit>,
     solutions: Solutions,
-    solver: Solver,
+    solver: LemmaSolver,
 }
 
 impl Model for Asking {
@@ -75,7 +76,7 @@ impl Asking {
             choices,
             assumed,
             solutions: Solutions::new(alloc),
-            solver: Solver::new(alloc, set)?,
+            solver: LemmaSolver::new(alloc, set)?,
         })
     }
 

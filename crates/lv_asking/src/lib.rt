@@ -6,10 +6,12 @@
 //! |---|---|
 //! | `asking` | `Asking`: whether pairs are possible together, and what is left of them when each that isn't needed is left out |
 //! | `refutation` | the one question asked of the solver, and the solutions kept from earlier ones |
+//! | `lemma_solver` | a solver that keeps what its refutations derived |
 //! | `literals` | observations and choices as literals |
 #![tactic(auto)]
 
 pub mod asking;
+pub mod lemma_solver;
 pub mod literals;
 pub mod refutation;
 

@@ -10,6 +10,7 @@ ghost use Rattle.lv_clauses.specs.Marks.{is_marked};
 ghost use Rattle.lv_sat.specs.Answers.{IsModel};
 ghost use Rattle.lv_asking.specs.Refutation.{Refutes, Tells, latest};
 
+use crate::lemma_solver::{LemmaSolver, Reply};
 use lv_base::{Lit, Seq};
 use lv_clauses::{Marks, lit_holds};
 use lv_sat::{Answer, Solver};
@@ -117,7 +118,7 @@ fn assumptions(alloc: Global, chosen: &[Lit], assumed: &[Lit]) -> Result<Vec<Lit
 /// of chosen literals of which, with the assumed ones, this holds already.
 fn ask(
     alloc: Global,
-    solver: &mut Solver,
+    solver: &mut LemmaSolver,
     chosen: &[Lit],
     assumed: &[Lit],
 ) -> Result<Found, AllocError>
@@ -127,9 +128,9 @@ fn ask(
 {
     let lits = assumptions(alloc, chosen, assumed)?;
     match solver.solve(lits.as_slice())? {
-        Answer::Sat(values) => Ok(Found::Values(values)),
-        Answer::Unsat { core, log: _ } => {
-            let bools = solver.clauses().bools();
+        Reply::Values(values) => Ok(Found::Values(values)),
+        Reply::Core(core) => {
+            let bools = solver.bools();
             Ok(Found::Core(marks_of(alloc, bools, core.as_slice())?))
         }
     }
@@ -141,7 +142,7 @@ fn ask(
 /// the chosen ones true.
 pub fn refute(
     alloc: Global,
-    solver: &mut Solver,
+    solver: &mut LemmaSolver,
     solutions: &mut Solutions,
     chosen: &[Lit],
     assumed: &[Lit],
@@ -161,5 +162,26 @@ pub fn refute(
             Ok(None)
         }
         Found::Core(marks) => Ok(Some(marks)),
+    }
+}
+
+/// Whether some values satisfy the clauses of a solver that keeps no lemmas and make the literals true, which are of
+/// distinct booleans: nothing where they do, else marks of literals of which this holds of no values.
+pub fn refute_once(
+    alloc: Global,
+    solver: &mut Solver,
+    lits: &[Lit],
+) -> Result<Option<Marks>, AllocError>
+    requires { is_clause solver.old.bools (lits.now ++ []) ≡ true }
+    ensures answer { IfOk result (λ core. Refutes solver.old lits.now [] core) }
+    ensures kept { solver.new ≡ solver.old }
+{
+    let backwards = assumptions(alloc, lits, &[])?;
+    match solver.solve(backwards.as_slice())? {
+        Answer::Sat(_) => Ok(None),
+        Answer::Unsat { core, log: _ } => {
+            let bools = solver.clauses().bools();
+            Ok(Some(marks_of(alloc, bools, core.as_slice())?))
+        }
     }
 }

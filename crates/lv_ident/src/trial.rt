@@ -20,6 +20,7 @@ ghost use Rattle.lv_ident.specs.Reducing.{IsPartial, IsReducing};
 ghost use Rattle.lv_search_zones.specs.Moves.{is_full_choice};
 
 use crate::literals::{fact_literals, push_missing};
+use lv_asking::lemma_solver::LemmaSolver;
 use lv_asking::literals::{each_once, push_pairs};
 use lv_asking::refutation::{Solutions, refute};
 use lv_base::{Candidate, Conflict, Lit, MoveId, Pair, PartId, ValId, VarId, pairs_of};
@@ -28,7 +29,7 @@ use lv_compile::plant_clauses::sum_of;
 use lv_compile::value_bools::ValueBools;
 use lv_meaning::Facts;
 use lv_model::Model;
-use lv_sat::{Effort, Solver};
+use lv_sat::Effort;
 use lv_search::{Trial, Tried};
 use lv_system::{ChoiceBools, Moment, StepSystem};
 use std::alloc::{AllocError, Global};
@@ -41,7 +42,7 @@ pub struct IdentTrial<'a> {
     alloc: Global,
     model: &'a Model,
     facts: Facts,
-    solver: Solver,
+    solver: LemmaSolver,
     choices: ChoiceBools,
     after: ValueBools,
     assumed: Vec<Lit>,
@@ -106,7 +107,7 @@ impl<'a> IdentTrial<'a> {
         let choices = system.choices().copied(alloc)?;
         let after = system.bools_at(Moment::Next).copied(alloc)?;
         // What is large comes last, so that no exit lets go of it.
-        let solver = Solver::new(alloc, system.clauses())?;
+        let solver = LemmaSolver::new(alloc, system.clauses())?;
         let solutions = Solutions::new(alloc);
         Ok(IdentTrial {
             alloc,

@@ -15,7 +15,7 @@ ghost use Rattle.lv_reconf.specs.Refuting.{RefutesSteps};
 
 use super::assumptions::assumptions;
 use super::compiled::Compiled;
-use lv_asking::refutation::{Solutions, refute};
+use lv_asking::refutation::refute_once;
 use lv_base::{Pair, VarId};
 use lv_clauses::Marks;
 use lv_model::State;
@@ -66,6 +66,5 @@ pub fn refuted(
     ensures kept { solver.new ≡ solver.old }
 {
     let lits = assumptions(alloc, compiled, vars, state.modes.as_slice(), pairs)?;
-    let mut solutions = Solutions::new(alloc);
-    refute(alloc, solver, &mut solutions, lits.as_slice(), &[])
+    refute_once(alloc, solver, lits.as_slice())
 }

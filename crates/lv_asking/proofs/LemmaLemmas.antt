@@ -1,0 +1,86 @@
+-- What follows from clauses changes nothing beside them.
+use Rattle.std.proofs.Common.{◌≡◌, ◌≢◌, ◌⊎◌, ℕ, ◌-◌, Bool, true, false, List, length, map, slice_get, Option, Some, None, option_map, refl, sym, subst, ap, ◌∙◌, arith, inl, inr, All}
+use Rattle.std.proofs.lemmas.Bool.{cases_eq}
+use Rattle.std.proofs.lemmas.List.{take_all}
+use Rattle.std.proofs.lemmas.Option.{slice_get_within, get_or_from_slice_get}
+use Rattle.lv_base.specs.declared.ids.Lit.{Lit}
+use Rattle.lv_clauses.specs.Literals.{neg, clause_holds}
+use Rattle.lv_clauses.specs.ClauseMap.{ClauseMap, clause_at, Puts, satisfies}
+use Rattle.lv_clauses.proofs.LiteralLemmas.{present_holds}
+use Rattle.lv_sat.specs.lv_reflog.declared.log.Step.{Step}
+use Rattle.lv_sat.specs.lv_reflog.Following.{first_bad_step, IsImplied}
+use Rattle.lv_sat.proofs.lv_reflog.SoundLemmas.{checked}
+use Rattle.lv_sat.specs.Answers.{last_clause, IsModel, IsRefutation}
+use Rattle.lv_system.proofs.NumberingLemmas.{all_present_hold}
+use Rattle.lv_asking.specs.Lemmas.{Follows, HaveSameModels}
+use Rattle.lv_asking.specs.Replies.{IsCore}
+
+same_by : (a b : Bool) → (a ≡ true → b ≡ true) → (b ≡ true → a ≡ true) → a ≡ b
+same_by true b there back = sym (there refl)
+same_by false true there back = back refl
+same_by false false there back = refl
+
+some_same : (c d : List Lit) → Some c ≡ Some d → c ≡ d
+some_same c d e = cc (e)
+
+pub same_self : (cs : ClauseMap) → HaveSameModels cs cs
+same_self cs = record { bools = refl; same = λ values len. refl }
+
+pub same_then : (one two three : ClauseMap) → HaveSameModels one two → HaveSameModels two three → HaveSameModels one three
+same_then one two three first next = record { bools = next.bools ∙ first.bools; same = λ values len. next.same values (len ∙ sym first.bools) ∙ first.same values len }
+
+-- the clause of a step of a valid log is true where the clauses are
+pub step_holds : (set : ClauseMap) (log : List Step) (place : ℕ) (s : Step) → first_bad_step set log ≡ None → slice_get log place ≡ Some s → (values : List Bool) → satisfies values set.slots ≡ true → length values ≡ set.bools
+    → clause_holds values s.clause ≡ true
+step_holds set log place s valid at =
+    let all : All (IsImplied set) log = subst (λ (steps : List Step). All (IsImplied set) steps) (take_all (length log) log (omega arith)) (checked set log None (sym valid)) in
+    let implied : IsImplied set s = subst (IsImplied set) (get_or_from_slice_get log place s s at) (all place s (slice_get_within log place s at)) in
+    implied.holds
+
+-- and so is the one that it ends in
+last_holds : (set : ClauseMap) (log : List Step) (clause : List Lit) → first_bad_step set log ≡ None → last_clause log ≡ Some clause → (values : List Bool) → satisfies values set.slots ≡ true → length values ≡ set.bools
+    → clause_holds values clause ≡ true
+last_holds set log clause valid ends values sat len = by (slice_get log (length log - 1)) refl ends
+  where
+    by : (o : Option Step) → slice_get log (length log - 1) ≡ o → option_map (λ (s : Step). s.clause) o ≡ Some clause → clause_holds values clause ≡ true
+    by None at is = absurd (cc is)
+    by (Some s) at is = ap (clause_holds values) (sym (some_same s.clause clause is)) ∙ step_holds set log (length log - 1) s valid at values sat len
+
+-- a clause more that is true where the others are
+pub same_added : (old new : ClauseMap) (id : ℕ) (c : List Lit) → clause_at old.slots id ≡ None → Puts old new id (Some c) → Follows old c → HaveSameModels old new
+same_added old new id c vacant puts implied =
+    record {
+      bools = puts.bools;
+      same =
+          λ values len.
+          same_by (satisfies values new.slots) (satisfies values old.slots) (λ sat. all_present_hold values old.slots (λ n d at. present_holds values new.slots n d sat (kept n d at (cases_eq n id))))
+          (λ sat. all_present_hold values new.slots (λ n d at. each values len sat n d at (cases_eq n id)));
+    }
+  where
+    kept : (n : ℕ) (d : List Lit) → clause_at old.slots n ≡ Some d → (n ≡ id) ⊎ (n ≢ id) → clause_at new.slots n ≡ Some d
+    kept n d at (inl same) = let clash : None ≡ Some d = sym vacant ∙ ap (clause_at old.slots) (sym same) ∙ at in absurd (cc clash)
+    kept n d at (inr apart) = puts.others n apart ∙ at
+
+    each : (values : List Bool) → length values ≡ old.bools → satisfies values old.slots ≡ true → (n : ℕ) (d : List Lit) → clause_at new.slots n ≡ Some d → (n ≡ id) ⊎ (n ≢ id) → clause_holds values d ≡ true
+    each values len sat n d at (inl same) = ap (clause_holds values) (some_same d c (sym at ∙ ap (clause_at new.slots) same ∙ puts.changed)) ∙ implied values sat len
+    each values len sat n d at (inr apart) = present_holds values old.slots n d sat (sym (puts.others n apart) ∙ at)
+
+-- a step of a valid log follows, with whatever else follows
+pub step_follows : (old now : ClauseMap) (log : List Step) (place : ℕ) (s : Step) (c : List Lit) → first_bad_step old log ≡ None → slice_get log place ≡ Some s → c ≡ s.clause → HaveSameModels old now → Follows now c
+step_follows old now log place s c valid at is here =
+    λ values sat len.
+    let size : length values ≡ old.bools = len ∙ here.bools in
+    ap (clause_holds values) is ∙ step_holds old log place s valid at values (sym (here.same values size) ∙ sat) size
+
+-- what a solver of the lemmas too says of the clauses given
+pub core_of : (given all : ClauseMap) (assumptions core : List Lit) (log : List Step) → HaveSameModels given all → IsRefutation all assumptions core log → IsCore given assumptions core
+core_of given all assumptions core log here refuted =
+    record {
+      part = refuted.part;
+      denied = λ values sat len. last_holds all log (map neg core) refuted.valid refuted.ends values (here.same values len ∙ sat) (len ∙ sym here.bools);
+    }
+
+pub model_of : (given all : ClauseMap) (assumptions : List Lit) (values : List Bool) → HaveSameModels given all → IsModel all assumptions values → IsModel given assumptions values
+model_of given all assumptions values here model =
+    let size : length values ≡ given.bools = model.len ∙ here.bools in
+    record { len = size; all_clauses = sym (here.same values size) ∙ model.all_clauses; all_assumptions = model.all_assumptions }

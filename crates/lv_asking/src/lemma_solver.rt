@@ -1,0 +1,121 @@
+//! A solver that keeps lemmas: short clauses that its refutations derived. They follow from the clauses given, so what can
+//! be true stays the same, and later questions need not derive them again.
+#![tactic(auto)]
+
+ghost use Rattle.std.specs.Prelude.{◌≡◌, None, IsTrue, IfOk};
+ghost use Rattle.lv_clauses.specs.Literals.{is_clause};
+ghost use Rattle.lv_reflog.specs.Following.{first_bad_step};
+ghost use Rattle.lv_asking.specs.Lemmas.{Follows, HaveSameModels};
+
+use lv_base::{Lit, Seq};
+use lv_clauses::{ClauseSet, is_clause};
+use lv_reflog::Log;
+use lv_sat::{Answer, Effort, Solver};
+use std::alloc::{AllocError, Global};
+use std::marker::Model;
+
+/// A clause of more literals is no lemma.
+const LONGEST: usize = 12;
+
+/// So many lemmas are kept at most.
+const MOST: usize = 10_000;
+
+/// What the solver says.
+#[derive(Drop)]
+pub enum Reply {
+    /// Values that satisfy the clauses and make the assumptions true.
+    Values(Seq<bool>),
+    /// Assumptions that can't all be true.
+    Core(Seq<Lit>),
+}
+
+/// The clauses given, seen by contracts as the map from their numbers, and a solver of these and of lemmas.
+#[derive(Drop)]
+pub struct LemmaSolver {
+    given: ClauseSet,
+    solver: Solver,
+    lemmas: usize,
+}
+
+impl Model for LemmaSolver {
+    ghost use Rattle.lv_clauses.specs.ClauseMap.{ClauseMap};
+    ghost use Rattle.lv_asking.specs.Lemmas.{HaveSameModels};
+
+    ghost Value = { ClauseMap };
+
+    ghost view = { λ s. s.given };
+
+    ghost invariant = { λ s. HaveSameModels s.given s.solver };
+}
+
+impl LemmaSolver {
+    ghost use Rattle.lv_asking.specs.Replies.{Replies};
+
+    /// A solver of copies of a set's clauses.
+    pub fn new(alloc: Global, set: &ClauseSet) -> Result<LemmaSolver, AllocError>
+        ensures { IfOk result (λ s. s ≡ set.now) }
+    {
+        Ok(LemmaSolver {
+            given: set.copy()?,
+            lemmas: 0,
+            solver: Solver::new(alloc, set)?,
+        })
+    }
+
+    /// The number of booleans.
+    pub fn bools(&self) -> u32
+        ensures { result ≡ self.now.bools }
+    {
+        self.given.bools()
+    }
+
+    /// Whether some values satisfy the clauses and make the assumptions true, which are of distinct booleans in range. It
+    /// changes no clause.
+    pub fn solve(&mut self, assumptions: &[Lit]) -> Result<Reply, AllocError>
+        requires { IsTrue (is_clause self.old.bools assumptions.now) }
+        ensures reply { IfOk result (λ reply. Replies self.old assumptions.now reply) }
+        ensures kept { self.new ≡ self.old }
+    {
+        match self.solver.solve(assumptions)? {
+            Answer::Sat(values) => Ok(Reply::Values(values)),
+            Answer::Unsat { core, log } => {
+                self.lemmas = keep_lemmas(&mut self.solver, &log, self.lemmas)?;
+                Ok(Reply::Core(core))
+            }
+        }
+    }
+
+    /// What its searches did, all together.
+    pub fn effort(&self) -> Effort {
+        self.solver.effort()
+    }
+}
+
+/// Keeps the short clauses that a log derives, beside so many lemmas. Answers how many there are then. Where propagation alone
+/// refuted, none is kept: it does so again as quickly, and a clause more would take back what it found.
+fn keep_lemmas(solver: &mut Solver, log: &Log, lemmas: usize) -> Result<usize, AllocError>
+    requires { first_bad_step solver.old log.now ≡ None }
+    ensures { HaveSameModels solver.old solver.new }
+{
+    if log.len() < 2 {
+        return Ok(lemmas);
+    }
+    let mut count = lemmas;
+    for place in 0..log.len() {
+        count = keep_lemma(solver, log.step(place).clause.as_slice(), count)?;
+    }
+    Ok(count)
+}
+
+/// Keeps a clause that follows, where it is short and there aren't too many yet. Answers how many there are then.
+fn keep_lemma(solver: &mut Solver, clause: &[Lit], lemmas: usize) -> Result<usize, AllocError>
+    requires { Follows solver.old clause.now }
+    ensures { HaveSameModels solver.old solver.new }
+{
+    let bools = solver.clauses().bools();
+    if lemmas < MOST && clause.len() <= LONGEST && is_clause(bools, clause) {
+        solver.add(clause)?;
+        return Ok(lemmas + 1);
+    }
+    Ok(lemmas)
+}
