@@ -2,10 +2,12 @@
 """Texts of models, sessions and certificates changed at random, with lines and tokens kept in mind, and what the built
 program makes of them.
 
-    mutants.py fuzz PROGRAM SEED COUNT      runs the program over COUNT mutants; each has to end within a second, with a
-                                            status of the table and a line that goes with it, and never by a signal
-    mutants.py compare PROGRAM TABLE        runs it over the mutants of a table and compares status, line and output
-    mutants.py table REFERENCE COUNT        prints the table of the first COUNT mutants of seed 1, as another program answers
+    mutants.py fuzz PROGRAM SEED COUNT          runs the program over COUNT mutants; each has to end within a second, with a
+                                                status of the table and a line that goes with it, and never by a signal
+    mutants.py compare PROGRAM TABLE POOL       runs it over the mutants of a table and compares status, line and output
+    mutants.py table REFERENCE COUNT POOL       prints the table of the first COUNT mutants of seed 1, as another program answers
+
+A pool is what mutants are made of: `first`, or `all`, which knows windows, probes and tests too; `fuzz` takes all.
 
 A mutant is told by its seed and its number: the numbers are drawn by a generator of this file's own, so that a table stays
 true of every later Python. A line of a table: the number, the status, a digest of the output, the line on standard error."""
@@ -27,6 +29,16 @@ WORDS = {
                    b"proof counter goal 0 1 2 3 64 65 4294967296 18446744073709551616 1000000000000000000000000000000 "
                    b"1000000000000000000000000000001 -1 -0 +1 00".split(),
 }
+FOLDERS = ("random", "searches", "recoveries")
+
+# With what came to the language of sessions later. The first table's mutants know nothing of it, so that it stays true.
+LATER = dict(
+    WORDS,
+    session=b"track distinct budget command release observe next now retract at goal drop diagnose window recover more commit "
+            b"conflicts labels states probe test reset quit true false mode = . & | ! => <=> ( ) # 0 1 2 3 4 5 64 65 10000 "
+            b"1000000 1000001 9223372036854775807 18446744073709551616".split(),
+)
+POOLS = {"first": (WORDS, FOLDERS), "all": (LATER, FOLDERS + ("windows",))}
 
 
 class Draws:
@@ -50,10 +62,10 @@ def read(path):
         return file.read()
 
 
-def corpus():
+def corpus(folders):
     """Pairs of a model and a session, and pairs of a model and a certificate, in a fixed order."""
     sessions = []
-    for folder in ("random", "searches", "recoveries"):
+    for folder in folders:
         base = os.path.join(TESTS, folder)
         for name in sorted(os.listdir(base)):
             if name.endswith(".lv") and os.path.exists(os.path.join(base, name[:-3] + ".ses")):
@@ -95,7 +107,7 @@ def change_lines(lines, draws):
     return lines[:at] + [draws.one_of(lines)] + lines[at:]
 
 
-def change_tokens(lines, kind, draws):
+def change_tokens(lines, known, draws):
     at = draws.below(len(lines))
     words = lines[at].split(b" ")
     place = draws.below(len(words))
@@ -103,9 +115,9 @@ def change_tokens(lines, kind, draws):
     if how == 0:
         del words[place]
     elif how == 1:
-        words.insert(place, draws.one_of(WORDS[kind]))
+        words.insert(place, draws.one_of(known))
     elif how == 2:
-        words[place] = draws.one_of(WORDS[kind])
+        words[place] = draws.one_of(known)
     elif how == 3:
         other = draws.one_of(lines).split(b" ")
         words[place] = draws.one_of(other)
@@ -115,31 +127,37 @@ def change_tokens(lines, kind, draws):
     return lines[:at] + [b" ".join(words)] + lines[at + 1:]
 
 
-def mutate(text, kind, draws):
+def mutate(text, known, draws):
     for _ in range(1 + draws.below(3)):
         how = draws.below(8)
         if how < 2 or b"\n" not in text:
             text = change_bytes(text, draws)
         else:
             lines = text.split(b"\n")
-            lines = change_lines(lines, draws) if how < 4 else change_tokens(lines, kind, draws)
+            lines = change_lines(lines, draws) if how < 4 else change_tokens(lines, known, draws)
             text = b"\n".join(lines)
     return text
+
+
+def texts_of(pool):
+    """The words of each language, and the texts that are changed."""
+    known, folders = POOLS[pool]
+    return known, corpus(folders)
 
 
 def mutant(seed, number, texts):
     """The words of a call, and the two files that it reads."""
     draws = Draws(seed, number)
-    sessions, certificates = texts
+    known, (sessions, certificates) = texts
     kind = draws.one_of(["model", "session", "session", "certificate"] if certificates else ["model", "session"])
     model, second = draws.one_of(certificates if kind == "certificate" else sessions)
     model, second = read(model), read(second)
     if kind == "model":
-        model = mutate(model, kind, draws)
+        model = mutate(model, known[kind], draws)
         if draws.below(3) == 0:
             return ["print"], model, None
     else:
-        second = mutate(second, kind, draws)
+        second = mutate(second, known[kind], draws)
     return ["check" if kind == "certificate" else "run"], model, second
 
 
@@ -169,7 +187,7 @@ def is_told(status, out, err):
 
 
 def fuzz(program, seed, count):
-    texts = corpus()
+    texts = texts_of("all")
     failed = 0
     slow = 0
     statuses = {}
@@ -200,16 +218,16 @@ def row(number, status, out, err):
     return "%d %d %s %s" % (number, status, digest(out), err.decode("utf-8", "replace").rstrip("\n"))
 
 
-def table(reference, count):
-    texts = corpus()
+def table(reference, count, pool):
+    texts = texts_of(pool)
     with tempfile.TemporaryDirectory() as folder:
         for number in range(count):
             words, model, second = mutant(1, number, texts)
             print(row(number, *call(reference, words, model, second, folder)), flush=True)
 
 
-def compare(program, path):
-    texts = corpus()
+def compare(program, path, pool):
+    texts = texts_of(pool)
     passed = failed = 0
     with tempfile.TemporaryDirectory() as folder, open(path, encoding="utf-8") as rows:
         for wanted in rows:
@@ -229,10 +247,10 @@ def compare(program, path):
 def main(words):
     if len(words) == 4 and words[0] == "fuzz":
         return 0 if fuzz(words[1], int(words[2]), int(words[3])) else 1
-    if len(words) == 3 and words[0] == "compare":
-        return 0 if compare(words[1], words[2]) else 1
-    if len(words) == 3 and words[0] == "table":
-        table(words[1].split(" "), int(words[2]))
+    if len(words) == 4 and words[0] == "compare" and words[3] in POOLS:
+        return 0 if compare(words[1], words[2], words[3]) else 1
+    if len(words) == 4 and words[0] == "table" and words[3] in POOLS:
+        table(words[1].split(" "), int(words[2]), words[3])
         return 0
     print(__doc__, file=sys.stderr)
     return 2
