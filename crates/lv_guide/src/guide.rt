@@ -48,9 +48,9 @@ struct Course {
 }
 
 /// How often zones may be split by conflicts at first, and how often more with each conflict.
-const SPLITS_AT_FIRST: u64 = 1024;
+const SPLITS_AT_FIRST: u64 = 64;
 
-const SPLITS_BY_CONFLICT: u64 = 64;
+const SPLITS_BY_CONFLICT: u64 = 8;
 
 impl Course {
     /// That of a frontier which is only dropped.
@@ -198,8 +198,25 @@ fn is_stale(queue: &BTreeMap<Rank, Zone>, known: &[Conflict]) -> bool
     }
 }
 
-/// Whether the choices contain one of the conflicts.
+/// Whether the choices contain one of the conflicts. The last is looked at first: what was just refused contains it.
 fn contains_any(conflicts: &[Conflict], choices: &[u32]) -> bool
+    ensures { result ≡ is_ruled_out conflicts.now choices.now }
+{
+    contains_last(conflicts, choices) || contains_some(conflicts, choices)
+}
+
+/// Whether the choices contain the last of the conflicts.
+fn contains_last(conflicts: &[Conflict], choices: &[u32]) -> bool
+    ensures { result ≡ true → is_ruled_out conflicts.now choices.now ≡ true }
+{
+    match conflicts.last() {
+        Some(conflict) => contains(choices, conflict.pairs()),
+        None => false,
+    }
+}
+
+/// Whether the choices contain one of the conflicts, looked at in their order.
+fn contains_some(conflicts: &[Conflict], choices: &[u32]) -> bool
     ensures { result ≡ is_ruled_out conflicts.now choices.now }
 {
     conflicts
@@ -374,7 +391,7 @@ fn end_splits(
     ensures same { OnOk result (HasSameFree grid.now known.now queue.old.entries queue.new.entries) }
     ensures whole { OnOk result (WholeTells grid.now known.now queue.new.entries course.new.whole) }
 {
-    if !is_stale(queue, known) {
+    if course.whole.is_none() || !is_stale(queue, known) {
         return Ok(());
     }
     match mem::replace(course, Course::over()).whole {
