@@ -149,6 +149,29 @@ fn all_probed(
     Ok(out)
 }
 
+/// The same by a trial of its own.
+fn probed_in(
+    alloc: Global,
+    model: &Model,
+    system: &StepSystem,
+    facts: Facts,
+    candidates: &[Candidate],
+    values: &[usize],
+    variables: &[VarId],
+) -> Result<Vec<Probed>, AllocError>
+    requires system { IsSystemOf model.now system.now }
+    requires fit { FactsFit model.now facts }
+    requires in_range { FactsInRange model.now facts }
+    requires full { All (IsFull model.now) candidates.now }
+    requires values { values.now ≡ sizes model.now }
+    requires few { All IsFew values.now }
+    requires there { All (IsVariable (length values.now)) variables.now }
+    ensures { IfOk result (λ out. out.items ≡ map (probed model.now facts candidates.now) variables.now) }
+{
+    let mut trial = IdentTrial::new(alloc, model, system, facts)?;
+    all_probed(alloc, &mut trial, candidates, values, variables)
+}
+
 /// Adds the variable where it is an observable.
 fn push_observable(
     out: &mut Vec<VarId>,
@@ -200,10 +223,11 @@ pub fn probe(
     let values = model.sizes(alloc)?;
     let observables = observables_among(alloc, kinds, values.as_slice().len() as u32)?;
     let candidates = candidates_of(alloc, listed)?;
-    let mut trial = IdentTrial::new(alloc, model, system, facts)?;
-    all_probed(
+    probed_in(
         alloc,
-        &mut trial,
+        model,
+        system,
+        facts,
         candidates.as_slice(),
         values.as_slice(),
         observables.as_slice(),
