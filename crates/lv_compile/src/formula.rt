@@ -1,10 +1,12 @@
 //! The clauses of a formula in a sign. What `<=>` joins is wanted in both signs, so one walk makes the lists of all signs that
-//! are asked for: each part of the formula is looked at once, and no list is made that isn't used.
+//! are asked for: each part of the formula is looked at once, and no list is made that isn't used. The walk goes as deep as
+//! the formula, so what makes lists is kept out of its frames, and the lists are handed back in a box.
 #![tactic(auto)]
 
 ghost use Rattle.std.specs.Prelude.{◌≡◌, true, false, not, ◌++◌, IfOk, IsTrue, [], ◌∷◌, ◌<◌, ◌≤◌, ◌+◌, map, length};
 ghost use Rattle.lv_formula.specs.Tree.{tree_of, trees_of};
-ghost use Rattle.lv_compile.specs.FormulaClauses.{asked, when_true, product, formula_clauses, gathered_clauses, equality_clause, equality_clauses, speaks_of, each_speaks_of, size_of};
+ghost use Rattle.lv_compile.specs.Booleans.{value_literal};
+ghost use Rattle.lv_compile.specs.FormulaClauses.{asked, when_true, product, gather, formula_clauses, gathered_clauses, equality_clause, equality_clauses, speaks_of, each_speaks_of, size_of};
 
 use crate::clause_lists::{both_lists, gather, product, when_true};
 use crate::value_bools::ValueBools;
@@ -24,6 +26,14 @@ struct Signs {
 struct Lists {
     when_true: Vec<Seq<Lit>>,
     when_false: Vec<Seq<Lit>>,
+}
+
+/// Where clauses are made: variable `v` of the formula is variable `base + v` of the copy.
+#[derive(Clone, Copy)]
+struct Target<'a> {
+    alloc: Global,
+    bools: &'a ValueBools,
+    base: u32,
 }
 
 /// That two variables of a copy have one value, or, in the other sign, that they haven't.
@@ -136,31 +146,66 @@ fn products_if(
     }
 }
 
+/// The lists of both signs, in a box of their own.
+fn boxed(
+    alloc: Global,
+    when_true: Vec<Seq<Lit>>,
+    when_false: Vec<Seq<Lit>>,
+) -> Result<Box<Lists>, AllocError>
+    ensures when_true { IfOk result (λ out. out.value.when_true.items ≡ when_true.items) }
+    ensures when_false { IfOk result (λ out. out.value.when_false.items ≡ when_false.items) }
+{
+    let lists = Lists {
+        when_true,
+        when_false,
+    };
+    Ok(Box::new(alloc, lists)?)
+}
+
 /// What is true of everything or of nothing, in each sign that is asked for.
-fn truth_lists(alloc: Global, signs: Signs, is_true: bool) -> Result<Lists, AllocError>
-    ensures when_true { IfOk result (λ out. out.when_true.items ≡ asked signs.when_true (when_true is_true)) }
-    ensures when_false { IfOk result (λ out. out.when_false.items ≡ asked signs.when_false (when_true (not is_true))) }
+#[inline(never)]
+fn truth_lists(alloc: Global, signs: Signs, is_true: bool) -> Result<Box<Lists>, AllocError>
+    ensures when_true { IfOk result (λ out. out.value.when_true.items ≡ asked signs.when_true (when_true is_true)) }
+    ensures when_false { IfOk result (λ out. out.value.when_false.items ≡ asked signs.when_false (when_true (not is_true))) }
 {
     let when_true = truth_if(alloc, signs.when_true, is_true)?;
     let when_false = truth_if(alloc, signs.when_false, !is_true)?;
-    Ok(Lists {
-        when_true,
-        when_false,
-    })
+    boxed(alloc, when_true, when_false)
+}
+
+/// That a variable has the value, and that it lacks it, in each sign that is asked for.
+#[inline(never)]
+fn literal_lists(
+    alloc: Global,
+    bools: &ValueBools,
+    variable: usize,
+    value: u32,
+    signs: Signs,
+) -> Result<Box<Lists>, AllocError>
+    requires { value < size_of bools.now variable }
+    ensures when_true { IfOk result (λ out. out.value.when_true.items ≡ asked signs.when_true ((value_literal bools.now variable value true ∷ []) ∷ [])) }
+    ensures when_false { IfOk result (λ out. out.value.when_false.items ≡ asked signs.when_false ((value_literal bools.now variable value false ∷ []) ∷ [])) }
+{
+    let has = bools.literal(variable, value, true);
+    let lacks = bools.literal(variable, value, false);
+    let when_true = single_if(alloc, signs.when_true, has)?;
+    let when_false = single_if(alloc, signs.when_false, lacks)?;
+    boxed(alloc, when_true, when_false)
 }
 
 /// That two variables have one value, and that they haven't, in each sign that is asked for.
+#[inline(never)]
 fn equality_lists(
     alloc: Global,
     bools: &ValueBools,
     left: usize,
     right: usize,
     signs: Signs,
-) -> Result<Lists, AllocError>
+) -> Result<Box<Lists>, AllocError>
     requires left { left < length bools.now.sizes }
     requires right { size_of bools.now left ≤ size_of bools.now right }
-    ensures when_true { IfOk result (λ out. out.when_true.items ≡ asked signs.when_true (equality_clauses bools.now left right true)) }
-    ensures when_false { IfOk result (λ out. out.when_false.items ≡ asked signs.when_false (equality_clauses bools.now left right false)) }
+    ensures when_true { IfOk result (λ out. out.value.when_true.items ≡ asked signs.when_true (equality_clauses bools.now left right true)) }
+    ensures when_false { IfOk result (λ out. out.value.when_false.items ≡ asked signs.when_false (equality_clauses bools.now left right false)) }
 {
     let same = Equation {
         left,
@@ -174,10 +219,7 @@ fn equality_lists(
     };
     let when_true = equality_if(alloc, signs.when_true, bools, same)?;
     let when_false = equality_if(alloc, signs.when_false, bools, other)?;
-    Ok(Lists {
-        when_true,
-        when_false,
-    })
+    boxed(alloc, when_true, when_false)
 }
 
 /// Each sign for the other.
@@ -191,23 +233,67 @@ fn turned(signs: Signs) -> Signs
     }
 }
 
-/// That the one implies the other, and that it doesn't.
-fn implication_lists(alloc: Global, f: Lists, g: Lists) -> Result<Lists, AllocError>
-    ensures when_true { IfOk result (λ out. out.when_true.items ≡ product f.when_false.items g.when_true.items) }
-    ensures when_false { IfOk result (λ out. out.when_false.items ≡ f.when_true.items ++ g.when_false.items) }
+fn both_signs() -> Signs
+    ensures when_true { result.when_true ≡ true }
+    ensures when_false { result.when_false ≡ true }
 {
+    Signs {
+        when_true: true,
+        when_false: true,
+    }
+}
+
+/// The lists of each sign for those of the other.
+#[inline(never)]
+fn turned_lists(alloc: Global, lists: Box<Lists>) -> Result<Box<Lists>, AllocError>
+    ensures when_true { IfOk result (λ out. out.value.when_true.items ≡ lists.value.when_false.items) }
+    ensures when_false { IfOk result (λ out. out.value.when_false.items ≡ lists.value.when_true.items) }
+{
+    let lists = Box::into_inner(lists);
+    boxed(alloc, lists.when_false, lists.when_true)
+}
+
+/// That all that was gathered and one more hold, and that not all do, or that one of them does, and that none does.
+#[inline(never)]
+fn gathered_lists(
+    alloc: Global,
+    of_all: bool,
+    front: Box<Lists>,
+    back: Box<Lists>,
+) -> Result<Box<Lists>, AllocError>
+    ensures when_true { IfOk result (λ out. out.value.when_true.items ≡ gather of_all front.value.when_true.items back.value.when_true.items) }
+    ensures when_false { IfOk result (λ out. out.value.when_false.items ≡ gather (not of_all) front.value.when_false.items back.value.when_false.items) }
+{
+    let front = Box::into_inner(front);
+    let back = Box::into_inner(back);
+    let when_true = gather(alloc, of_all, front.when_true, back.when_true)?;
+    let when_false = gather(alloc, !of_all, front.when_false, back.when_false)?;
+    boxed(alloc, when_true, when_false)
+}
+
+/// That the one implies the other, and that it doesn't.
+#[inline(never)]
+fn implication_lists(alloc: Global, f: Box<Lists>, g: Box<Lists>) -> Result<Box<Lists>, AllocError>
+    ensures when_true { IfOk result (λ out. out.value.when_true.items ≡ product f.value.when_false.items g.value.when_true.items) }
+    ensures when_false { IfOk result (λ out. out.value.when_false.items ≡ f.value.when_true.items ++ g.value.when_false.items) }
+{
+    let f = Box::into_inner(f);
+    let g = Box::into_inner(g);
     let when_true = product(alloc, f.when_false.as_slice(), g.when_true.as_slice())?;
     let when_false = both_lists(f.when_true, g.when_false)?;
-    Ok(Lists {
-        when_true,
-        when_false,
-    })
+    boxed(alloc, when_true, when_false)
 }
 
 /// That both are true or neither is, and that one of them alone is, in each sign that is asked for.
-fn equivalence_lists(alloc: Global, signs: Signs, f: &Lists, g: &Lists) -> Result<Lists, AllocError>
-    ensures when_true { IfOk result (λ out. out.when_true.items ≡ asked signs.when_true (product f.now.when_false.items g.now.when_true.items ++ product f.now.when_true.items g.now.when_false.items)) }
-    ensures when_false { IfOk result (λ out. out.when_false.items ≡ asked signs.when_false (product f.now.when_true.items g.now.when_true.items ++ product f.now.when_false.items g.now.when_false.items)) }
+#[inline(never)]
+fn equivalence_lists(
+    alloc: Global,
+    signs: Signs,
+    f: &Lists,
+    g: &Lists,
+) -> Result<Box<Lists>, AllocError>
+    ensures when_true { IfOk result (λ out. out.value.when_true.items ≡ asked signs.when_true (product f.now.when_false.items g.now.when_true.items ++ product f.now.when_true.items g.now.when_false.items)) }
+    ensures when_false { IfOk result (λ out. out.value.when_false.items ≡ asked signs.when_false (product f.now.when_true.items g.now.when_true.items ++ product f.now.when_false.items g.now.when_false.items)) }
 {
     let f_true = f.when_true.as_slice();
     let f_false = f.when_false.as_slice();
@@ -215,10 +301,7 @@ fn equivalence_lists(alloc: Global, signs: Signs, f: &Lists, g: &Lists) -> Resul
     let g_false = g.when_false.as_slice();
     let when_true = products_if(alloc, signs.when_true, f_false, g_true, f_true, g_false)?;
     let when_false = products_if(alloc, signs.when_false, f_true, g_true, f_false, g_false)?;
-    Ok(Lists {
-        when_true,
-        when_false,
-    })
+    boxed(alloc, when_true, when_false)
 }
 
 /// The clauses of a formula in a sign: where truth values encode an assignment, they make all of them true exactly where
@@ -237,7 +320,8 @@ pub fn formula_clauses(
         when_true: sign,
         when_false: !sign,
     };
-    let lists = signed_clauses(alloc, bools, base, formula, signs)?;
+    let target = Target { alloc, bools, base };
+    let lists = Box::into_inner(signed_clauses(&target, formula, signs)?);
     if sign {
         Ok(lists.when_true)
     } else {
@@ -246,87 +330,99 @@ pub fn formula_clauses(
 }
 
 /// The clauses of a formula in each sign that is asked for.
+#[inline(never)]
 #[cycle(signed_clauses)]
 fn signed_clauses(
-    alloc: Global,
-    bools: &ValueBools,
-    base: u32,
+    target: &Target<'_>,
     formula: &Formula,
     signs: Signs,
-) -> Result<Lists, AllocError>
-    requires { IsTrue (speaks_of bools.now base (tree_of formula.now)) }
-    ensures when_true { IfOk result (λ out. out.when_true.items ≡ asked signs.when_true (formula_clauses bools.now base true (tree_of formula.now))) }
-    ensures when_false { IfOk result (λ out. out.when_false.items ≡ asked signs.when_false (formula_clauses bools.now base false (tree_of formula.now))) }
+) -> Result<Box<Lists>, AllocError>
+    requires { IsTrue (speaks_of target.now.bools.now target.now.base (tree_of formula.now)) }
+    ensures when_true { IfOk result (λ out. out.value.when_true.items ≡ asked signs.when_true (formula_clauses target.now.bools.now target.now.base true (tree_of formula.now))) }
+    ensures when_false { IfOk result (λ out. out.value.when_false.items ≡ asked signs.when_false (formula_clauses target.now.bools.now target.now.base false (tree_of formula.now))) }
 {
     match formula {
-        Formula::True => truth_lists(alloc, signs, true),
-        Formula::False => truth_lists(alloc, signs, false),
+        Formula::True => truth_lists(target.alloc, signs, true),
+        Formula::False => truth_lists(target.alloc, signs, false),
         Formula::Is(var, val) => {
-            let var = base as usize + var.0 as usize;
-            let has = bools.literal(var, val.0, true);
-            let lacks = bools.literal(var, val.0, false);
-            let when_true = single_if(alloc, signs.when_true, has)?;
-            let when_false = single_if(alloc, signs.when_false, lacks)?;
-            Ok(Lists {
-                when_true,
-                when_false,
-            })
+            let var = target.base as usize + var.0 as usize;
+            literal_lists(target.alloc, target.bools, var, val.0, signs)
         }
         Formula::Same(left, right) => {
-            let left = base as usize + left.0 as usize;
-            let right = base as usize + right.0 as usize;
-            equality_lists(alloc, bools, left, right, signs)
+            let left = target.base as usize + left.0 as usize;
+            let right = target.base as usize + right.0 as usize;
+            equality_lists(target.alloc, target.bools, left, right, signs)
         }
         Formula::Not(f) => {
-            let f = signed_clauses(alloc, bools, base, f, turned(signs))?;
-            Ok(Lists {
-                when_true: f.when_false,
-                when_false: f.when_true,
-            })
+            let f = signed_clauses(target, f, turned(signs))?;
+            turned_lists(target.alloc, f)
         }
-        Formula::And(fs) => gathered_clauses(alloc, bools, base, fs, signs, true),
-        Formula::Or(fs) => gathered_clauses(alloc, bools, base, fs, signs, false),
+        Formula::And(fs) => gathered_clauses(target, fs, signs, true),
+        Formula::Or(fs) => gathered_clauses(target, fs, signs, false),
         Formula::Implies(f, g) => {
-            let f = signed_clauses(alloc, bools, base, f, turned(signs))?;
-            let g = signed_clauses(alloc, bools, base, g, signs)?;
-            implication_lists(alloc, f, g)
+            let f = signed_clauses(target, f, turned(signs))?;
+            implication_clauses(target, f, g, signs)
         }
         Formula::Iff(f, g) => {
-            let both = Signs {
-                when_true: true,
-                when_false: true,
-            };
-            let f = signed_clauses(alloc, bools, base, f, both)?;
-            let g = signed_clauses(alloc, bools, base, g, both)?;
-            equivalence_lists(alloc, signs, &f, &g)
+            let f = signed_clauses(target, f, both_signs())?;
+            equivalence_clauses(target, f, g, signs)
         }
     }
 }
 
+/// That what has these lists implies the formula, and that it doesn't.
+#[inline(never)]
+#[cycle(signed_clauses)]
+fn implication_clauses(
+    target: &Target<'_>,
+    f: Box<Lists>,
+    g: &Formula,
+    signs: Signs,
+) -> Result<Box<Lists>, AllocError>
+    requires { IsTrue (speaks_of target.now.bools.now target.now.base (tree_of g.now)) }
+    ensures when_true { IfOk result (λ out. out.value.when_true.items ≡ product f.value.when_false.items (asked signs.when_true (formula_clauses target.now.bools.now target.now.base true (tree_of g.now)))) }
+    ensures when_false { IfOk result (λ out. out.value.when_false.items ≡ f.value.when_true.items ++ asked signs.when_false (formula_clauses target.now.bools.now target.now.base false (tree_of g.now))) }
+{
+    let g = signed_clauses(target, g, signs)?;
+    implication_lists(target.alloc, f, g)
+}
+
+/// That what has these lists and the formula are both true or neither is, and that one of them alone is, in each sign that
+/// is asked for.
+#[inline(never)]
+#[cycle(signed_clauses)]
+fn equivalence_clauses(
+    target: &Target<'_>,
+    f: Box<Lists>,
+    g: &Formula,
+    signs: Signs,
+) -> Result<Box<Lists>, AllocError>
+    requires { IsTrue (speaks_of target.now.bools.now target.now.base (tree_of g.now)) }
+    ensures when_true { IfOk result (λ out. out.value.when_true.items ≡ asked signs.when_true (product f.value.when_false.items (formula_clauses target.now.bools.now target.now.base true (tree_of g.now)) ++ product f.value.when_true.items (formula_clauses target.now.bools.now target.now.base false (tree_of g.now)))) }
+    ensures when_false { IfOk result (λ out. out.value.when_false.items ≡ asked signs.when_false (product f.value.when_true.items (formula_clauses target.now.bools.now target.now.base true (tree_of g.now)) ++ product f.value.when_false.items (formula_clauses target.now.bools.now target.now.base false (tree_of g.now)))) }
+{
+    let g = signed_clauses(target, g, both_signs())?;
+    equivalence_lists(target.alloc, signs, &f, &g)
+}
+
 /// That all the operands are true, and that not all are, where they are joined by `&`; that one is, and that none is,
 /// where they aren't.
+#[inline(never)]
 #[cycle(signed_clauses)]
 fn gathered_clauses(
-    alloc: Global,
-    bools: &ValueBools,
-    base: u32,
+    target: &Target<'_>,
     operands: &[Formula],
     signs: Signs,
     of_all: bool,
-) -> Result<Lists, AllocError>
-    requires { IsTrue (each_speaks_of bools.now base (trees_of (map tree_of operands.now))) }
-    ensures when_true { IfOk result (λ out. out.when_true.items ≡ asked signs.when_true (gathered_clauses bools.now base of_all true (trees_of (map tree_of operands.now)))) }
-    ensures when_false { IfOk result (λ out. out.when_false.items ≡ asked signs.when_false (gathered_clauses bools.now base (not of_all) false (trees_of (map tree_of operands.now)))) }
+) -> Result<Box<Lists>, AllocError>
+    requires { IsTrue (each_speaks_of target.now.bools.now target.now.base (trees_of (map tree_of operands.now))) }
+    ensures when_true { IfOk result (λ out. out.value.when_true.items ≡ asked signs.when_true (gathered_clauses target.now.bools.now target.now.base of_all true (trees_of (map tree_of operands.now)))) }
+    ensures when_false { IfOk result (λ out. out.value.when_false.items ≡ asked signs.when_false (gathered_clauses target.now.bools.now target.now.base (not of_all) false (trees_of (map tree_of operands.now)))) }
 {
-    let mut positive = truth_if(alloc, signs.when_true, of_all)?;
-    let mut negative = truth_if(alloc, signs.when_false, !of_all)?;
+    let mut whole = truth_lists(target.alloc, signs, of_all)?;
     'operands: for operand in operands {
-        let more = signed_clauses(alloc, bools, base, operand, signs)?;
-        positive = gather(alloc, of_all, positive, more.when_true)?;
-        negative = gather(alloc, !of_all, negative, more.when_false)?;
+        let more = signed_clauses(target, operand, signs)?;
+        whole = gathered_lists(target.alloc, of_all, whole, more)?;
     }
-    Ok(Lists {
-        when_true: positive,
-        when_false: negative,
-    })
+    Ok(whole)
 }

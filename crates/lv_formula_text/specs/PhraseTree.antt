@@ -1,5 +1,6 @@
 -- A formula with names as written, as clauses see it.
-use Rattle.std.specs.Prelude.{List, [], ◌∷◌}
+use Rattle.std.specs.Prelude.{List, [], ◌∷◌, Box}
+use Rattle.std.specs.declared.alloc.Global.{Global}
 use Rattle.lv_formula.specs.declared.path.Path.{Path}
 use Rattle.lv_formula_text.specs.declared.phrase.PhraseNode.{PhraseNode}
 use Rattle.lv_formula_text.specs.declared.phrase.PhraseNode.TheOpen.{PhraseNode-F, True, False, Equals, Not, And, Or, Implies, Iff}
@@ -38,3 +39,7 @@ tree_step (Iff f g) = iff f.value g.value
 -- the formula without the room of its vectors
 abbrev pub tree_of : PhraseNode → PhraseTree
 tree_of = fold-PhraseNode PhraseTree tree_step
+
+-- the formula in a box
+abbrev pub tree_in : Box PhraseNode Global → PhraseTree
+tree_in node = tree_of node.value

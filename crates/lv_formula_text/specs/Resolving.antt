@@ -1,5 +1,5 @@
 -- A formula whose names are given what they stand for.
-use Rattle.std.specs.Prelude.{ℕ, Bool, List, Option, Some, None, Result, Ok, Err, if◌then◌else◌, map, Vec}
+use Rattle.std.specs.Prelude.{ℕ, Bool, List, Option, Some, None, Result, Ok, Err, if◌then◌else◌, map, Vec, Box}
 use Rattle.std.specs.declared.alloc.Global.{Global}
 use Rattle.lv_base.specs.declared.ids.VarId.{VarId}
 use Rattle.lv_base.specs.declared.ids.ValId.{ValId}
@@ -25,6 +25,11 @@ names_of variable value share_domain scope = record { variable = variable scope;
 abbrev pub tree_result : Result Formula NameFault → Result Tree NameFault
 tree_result (Ok f) = Ok (tree_of f)
 tree_result (Err fault) = Err fault
+
+-- the same in a box
+abbrev pub boxed_result : Result (Box Formula Global) NameFault → Result Tree NameFault
+boxed_result (Ok f) = Ok (tree_of f.value)
+boxed_result (Err fault) = Err fault
 
 abbrev pub trees_result : Result (Vec Formula Global) NameFault → Result Trees NameFault
 trees_result (Ok fs) = Ok (trees_of (map tree_of fs.items))

@@ -2,7 +2,7 @@
 #![tactic(auto)]
 
 ghost use Rattle.std.specs.Prelude.{◌≡◌, IfOk, option_map, ◌≤◌, length};
-ghost use Rattle.lv_formula_text.specs.PhraseTree.{tree_of};
+ghost use Rattle.lv_formula_text.specs.PhraseTree.{tree_in};
 ghost use Rattle.lv_formula_text.specs.Grammar.{IsPath, IsEquation, IsAtom};
 ghost use Rattle.lv_formula_text.specs.Reading.{Finds};
 
@@ -14,22 +14,26 @@ use lv_text::TokenKind;
 use std::alloc::{AllocError, Global};
 
 /// Reads a truth or an equation.
-pub(crate) fn atom(alloc: Global, cursor: &mut Cursor<'_>) -> Result<Option<PhraseNode>, AllocError>
-    ensures found { IfOk result (λ found. Finds IsAtom 5 cursor.old (option_map tree_of found) cursor.new) }
+#[inline(never)]
+pub(crate) fn atom(
+    alloc: Global,
+    cursor: &mut Cursor<'_>,
+) -> Result<Option<Box<PhraseNode>>, AllocError>
+    ensures found { IfOk result (λ found. Finds IsAtom 5 cursor.old (option_map tree_in found) cursor.new) }
     ensures left { length cursor.new ≤ length cursor.old }
 {
     if cursor.takes_word(b"true") {
-        return Ok(Some(PhraseNode::True));
+        return Ok(Some(Box::new(alloc, PhraseNode::True)?));
     }
     if cursor.takes_word(b"false") {
-        return Ok(Some(PhraseNode::False));
+        return Ok(Some(Box::new(alloc, PhraseNode::False)?));
     }
     equation(alloc, cursor)
 }
 
 /// Reads an equation, where no truth stands.
-fn equation(alloc: Global, cursor: &mut Cursor<'_>) -> Result<Option<PhraseNode>, AllocError>
-    ensures found { IfOk result (λ found. Finds IsEquation 5 cursor.old (option_map tree_of found) cursor.new) }
+fn equation(alloc: Global, cursor: &mut Cursor<'_>) -> Result<Option<Box<PhraseNode>>, AllocError>
+    ensures found { IfOk result (λ found. Finds IsEquation 5 cursor.old (option_map tree_in found) cursor.new) }
     ensures left { length cursor.new ≤ length cursor.old }
 {
     let Some(left) = path(alloc, cursor)? else {
@@ -42,7 +46,7 @@ fn equation(alloc: Global, cursor: &mut Cursor<'_>) -> Result<Option<PhraseNode>
         return Ok(None);
     };
     let equation = Box::new(alloc, Equation { left, right })?;
-    Ok(Some(PhraseNode::Equals(equation)))
+    Ok(Some(Box::new(alloc, PhraseNode::Equals(equation))?))
 }
 
 /// Reads a word, or two with a dot between them.

@@ -2,10 +2,11 @@
 #![tactic(auto)]
 
 ghost use Rattle.std.specs.Prelude.{◌≡◌, ◌<◌, ◌++◌, ◌∷◌, [], length, map, IfOk};
-ghost use Rattle.lv_formula_text.specs.PhraseTree.{tree_of};
+ghost use Rattle.lv_formula_text.specs.PhraseTree.{tree_of, tree_in};
 ghost use Rattle.lv_formula_text.specs.Connectives.{sign_of, level, joined};
 ghost use Rattle.lv_formula_text.specs.declared.connective.Connective.TheVariants.{Equivalence, Implication};
 
+use crate::boxed::{boxed, push_unboxed};
 use crate::phrase::PhraseNode;
 use lv_text::TokenKind;
 use std::alloc::{AllocError, Global};
@@ -49,18 +50,28 @@ impl Connective {
     }
 
     /// The formula that operands make, in written order, the last apart; one alone is itself.
+    #[inline(never)]
     pub fn join(
         self,
         alloc: Global,
         mut operands: Vec<PhraseNode>,
-        last: PhraseNode,
-    ) -> Result<PhraseNode, AllocError>
-        ensures { IfOk result (λ node. tree_of node ≡ joined self (map tree_of operands.items ++ tree_of last ∷ [])) }
+        last: Box<PhraseNode>,
+    ) -> Result<Box<PhraseNode>, AllocError>
+        ensures { IfOk result (λ node. tree_in node ≡ joined self (map tree_of operands.items ++ tree_in last ∷ [])) }
     {
         if operands.is_empty() {
             return Ok(last);
         }
-        operands.push(last)?;
+        push_unboxed(&mut operands, last)?;
+        let whole = self.join_all(alloc, operands)?;
+        boxed(alloc, whole)
+    }
+
+    /// The formula that two operands or more make, in written order.
+    fn join_all(self, alloc: Global, operands: Vec<PhraseNode>) -> Result<PhraseNode, AllocError>
+        requires { 1 < length operands.items }
+        ensures { IfOk result (λ node. tree_of node ≡ joined self (map tree_of operands.items)) }
+    {
         match self {
             Connective::Equivalence => nest_equivalences(alloc, operands),
             Connective::Implication => nest_implications(alloc, operands),

@@ -14,6 +14,7 @@
 #![tactic(auto)]
 
 mod atom;
+mod boxed;
 mod connective;
 mod cursor;
 pub mod descent;

@@ -2,17 +2,19 @@
 //! is, one for what binds tightest. Each reads the longest text of its kind.
 //!
 //! The recursion goes as deep as parentheses nest, which is judged before; a long list of operands and a long row of
-//! negation signs are read in loops.
+//! negation signs are read in loops. What stands in parentheses is handed on in its box, and values are made in
+//! functions of their own, so that a level takes little of the stack.
 #![tactic(auto)]
 
 ghost use Rattle.std.specs.Prelude.{◌≡◌, ◌≢◌, ℕ, ◌+◌, IfOk, Some, option_map, ◌≤◌, length};
 ghost use Rattle.lv_text.specs.declared.lexer.TokenKind.TheVariants.{Not};
-ghost use Rattle.lv_formula_text.specs.PhraseTree.{tree_of};
+ghost use Rattle.lv_formula_text.specs.PhraseTree.{tree_in};
 ghost use Rattle.lv_formula_text.specs.Connectives.{level, first_kind, negations};
 ghost use Rattle.lv_formula_text.specs.Grammar.{IsUnary, IsOperand, IsJoined};
 ghost use Rattle.lv_formula_text.specs.Reading.{Finds};
 
 use crate::atom::atom;
+use crate::boxed::{boxed, push_unboxed};
 use crate::connective::Connective;
 use crate::cursor::Cursor;
 use crate::phrase::PhraseNode;
@@ -21,12 +23,13 @@ use std::alloc::{AllocError, Global};
 
 /// Reads operands with the connective's sign between them, and joins them.
 #[cycle(read)]
+#[inline(never)]
 pub(crate) fn joined(
     alloc: Global,
     cursor: &mut Cursor<'_>,
     connective: Connective,
-) -> Result<Option<PhraseNode>, AllocError>
-    ensures found { IfOk result (λ found. Finds (IsJoined connective) (level connective) cursor.old (option_map tree_of found) cursor.new) }
+) -> Result<Option<Box<PhraseNode>>, AllocError>
+    ensures found { IfOk result (λ found. Finds (IsJoined connective) (level connective) cursor.old (option_map tree_in found) cursor.new) }
     ensures left { length cursor.new ≤ length cursor.old }
 {
     let mut operands = Vec::new(alloc);
@@ -37,18 +40,19 @@ pub(crate) fn joined(
         if !cursor.takes(connective.sign()) {
             return Ok(Some(connective.join(alloc, operands, next)?));
         }
-        operands.push(next)?;
+        push_unboxed(&mut operands, next)?;
     }
 }
 
 /// Reads what stands between two signs of a connective.
 #[cycle(read)]
+#[inline(always)]
 fn operand(
     alloc: Global,
     cursor: &mut Cursor<'_>,
     connective: Connective,
-) -> Result<Option<PhraseNode>, AllocError>
-    ensures found { IfOk result (λ found. Finds (IsOperand connective) (level connective + 1) cursor.old (option_map tree_of found) cursor.new) }
+) -> Result<Option<Box<PhraseNode>>, AllocError>
+    ensures found { IfOk result (λ found. Finds (IsOperand connective) (level connective + 1) cursor.old (option_map tree_in found) cursor.new) }
     ensures left { length cursor.new ≤ length cursor.old }
 {
     match connective {
@@ -61,8 +65,9 @@ fn operand(
 
 /// Reads a formula behind any number of negation signs, which take no more of the stack than one does.
 #[cycle(read)]
-fn unary(alloc: Global, cursor: &mut Cursor<'_>) -> Result<Option<PhraseNode>, AllocError>
-    ensures found { IfOk result (λ found. Finds IsUnary 5 cursor.old (option_map tree_of found) cursor.new) }
+#[inline(never)]
+fn unary(alloc: Global, cursor: &mut Cursor<'_>) -> Result<Option<Box<PhraseNode>>, AllocError>
+    ensures found { IfOk result (λ found. Finds IsUnary 5 cursor.old (option_map tree_in found) cursor.new) }
     ensures left { length cursor.new ≤ length cursor.old }
 {
     let before = cursor.len();
@@ -76,9 +81,10 @@ fn unary(alloc: Global, cursor: &mut Cursor<'_>) -> Result<Option<PhraseNode>, A
 
 /// Reads a formula in parentheses, a truth or an equation, where no negation stands.
 #[cycle(read)]
-fn primary(alloc: Global, cursor: &mut Cursor<'_>) -> Result<Option<PhraseNode>, AllocError>
+#[inline(always)]
+fn primary(alloc: Global, cursor: &mut Cursor<'_>) -> Result<Option<Box<PhraseNode>>, AllocError>
     requires other { first_kind cursor.old ≢ Some Not }
-    ensures found { IfOk result (λ found. Finds IsUnary 5 cursor.old (option_map tree_of found) cursor.new) }
+    ensures found { IfOk result (λ found. Finds IsUnary 5 cursor.old (option_map tree_in found) cursor.new) }
     ensures left { length cursor.new ≤ length cursor.old }
 {
     if cursor.takes(TokenKind::Open) {
@@ -94,13 +100,18 @@ fn primary(alloc: Global, cursor: &mut Cursor<'_>) -> Result<Option<PhraseNode>,
 }
 
 /// So many negations of a formula.
-fn negated(alloc: Global, node: PhraseNode, signs: usize) -> Result<PhraseNode, AllocError>
-    ensures { IfOk result (λ whole. tree_of whole ≡ negations signs (tree_of node)) }
+#[inline(never)]
+fn negated(
+    alloc: Global,
+    node: Box<PhraseNode>,
+    signs: usize,
+) -> Result<Box<PhraseNode>, AllocError>
+    ensures { IfOk result (λ whole. tree_in whole ≡ negations signs (tree_in node)) }
 {
     let mut whole = node;
     let mut left = signs;
     'signs: while left > 0 {
-        whole = PhraseNode::Not(Box::new(alloc, whole)?);
+        whole = boxed(alloc, PhraseNode::Not(whole))?;
         left -= 1;
     }
     Ok(whole)

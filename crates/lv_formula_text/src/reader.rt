@@ -32,7 +32,7 @@ pub fn read_phrase(alloc: Global, line: &TokenLine<'_>, from: usize) -> Result<P
     if !cursor.is_at_end() {
         return Err(PhraseFault::Form);
     }
-    Ok(Phrase::new(root))
+    Ok(Phrase::new(Box::into_inner(root)))
 }
 
 /// Whether parentheses or operators of a line nest deeper than is allowed, whatever else the line holds. Takes no memory.

@@ -2,12 +2,13 @@
 //! nothing fitting is the fault.
 #![tactic(auto)]
 
-ghost use Rattle.std.specs.Prelude.{◌≡◌, IfOk, IfErr, map};
-ghost use Rattle.lv_formula_text.specs.PhraseTree.{tree_of, trees_of};
-ghost use Rattle.lv_formula.specs.Tree.{tree_of as formula_of};
-ghost use Rattle.lv_formula_text.specs.Resolving.{names_of, equation_of, value_named, resolved, resolved_all, tree_result, trees_result};
+ghost use Rattle.std.specs.Prelude.{◌≡◌, IfOk, IfErr, map, if◌then◌else◌};
+ghost use Rattle.lv_formula_text.specs.PhraseTree.{tree_of, trees_of, all, any};
+ghost use Rattle.lv_formula.specs.Tree.{tree_of as formula_of, always, never, implies, iff};
+ghost use Rattle.lv_formula_text.specs.Resolving.{names_of, equation_of, value_named, on_ok, resolved, resolved_all, tree_result, boxed_result, trees_result};
 ghost use Rattle.lv_formula_text.specs.ResolveFaults.{Tells};
 
+use crate::boxed::{boxed, push_unboxed};
 use crate::phrase::{Phrase, PhraseNode};
 use crate::scope::Scope;
 use lv_base::{ValId, VarId};
@@ -55,61 +56,110 @@ pub fn resolve<S: Scope>(alloc: Global, phrase: &Phrase, scope: &S) -> Result<Fo
     ensures fault { IfErr result (λ fault. Tells fault (resolved (names_of S.named_variable S.named_value S.share_domain scope.now) phrase.now)) }
 {
     match resolve_node(alloc, phrase.root(), scope)? {
-        Ok(formula) => Ok(formula),
+        Ok(formula) => Ok(Box::into_inner(formula)),
         Err(NameFault::UnknownName) => Err(ResolveFault::UnknownName),
         Err(NameFault::NoFit) => Err(ResolveFault::NoFit),
     }
 }
 
+/// The formula in a box, or the first fault: each level of a deep formula keeps no more than this on the stack.
 #[cycle(resolve)]
+#[inline(never)]
 fn resolve_node<S: Scope>(
     alloc: Global,
     node: &PhraseNode,
     scope: &S,
-) -> Result<Result<Formula, NameFault>, AllocError>
-    ensures { IfOk result (λ found. tree_result found ≡ resolved (names_of S.named_variable S.named_value S.share_domain scope.now) (tree_of node.now)) }
+) -> Result<Result<Box<Formula>, NameFault>, AllocError>
+    ensures { IfOk result (λ found. boxed_result found ≡ resolved (names_of S.named_variable S.named_value S.share_domain scope.now) (tree_of node.now)) }
 {
     match node {
-        PhraseNode::True => Ok(Ok(Formula::True)),
-        PhraseNode::False => Ok(Ok(Formula::False)),
-        PhraseNode::Equals(sides) => Ok(equation(scope, &sides.left, &sides.right)),
+        PhraseNode::True => Ok(Ok(constant(alloc, true)?)),
+        PhraseNode::False => Ok(Ok(constant(alloc, false)?)),
+        PhraseNode::Equals(sides) => resolve_equation(alloc, &sides.left, &sides.right, scope),
         PhraseNode::Not(f) => match resolve_node(alloc, f, scope)? {
-            Ok(f) => Ok(Ok(Formula::Not(Box::new(alloc, f)?))),
+            Ok(f) => Ok(Ok(boxed(alloc, Formula::Not(f))?)),
             Err(fault) => Ok(Err(fault)),
         },
-        PhraseNode::And(fs) => match resolve_all(alloc, fs, scope)? {
-            Ok(fs) => Ok(Ok(Formula::And(fs))),
+        PhraseNode::And(fs) => resolve_conjunction(alloc, fs, scope),
+        PhraseNode::Or(fs) => resolve_disjunction(alloc, fs, scope),
+        PhraseNode::Implies(f, g) => match resolve_node(alloc, f, scope)? {
+            Ok(f) => resolve_implication(alloc, f, g, scope),
             Err(fault) => Ok(Err(fault)),
         },
-        PhraseNode::Or(fs) => match resolve_all(alloc, fs, scope)? {
-            Ok(fs) => Ok(Ok(Formula::Or(fs))),
+        PhraseNode::Iff(f, g) => match resolve_node(alloc, f, scope)? {
+            Ok(f) => resolve_equivalence(alloc, f, g, scope),
             Err(fault) => Ok(Err(fault)),
         },
-        PhraseNode::Implies(f, g) => {
-            let left = match resolve_node(alloc, f, scope)? {
-                Ok(left) => Box::new(alloc, left)?,
-                Err(fault) => return Ok(Err(fault)),
-            };
-            match resolve_node(alloc, g, scope)? {
-                Ok(right) => Ok(Ok(Formula::Implies(left, Box::new(alloc, right)?))),
-                Err(fault) => Ok(Err(fault)),
-            }
-        }
-        PhraseNode::Iff(f, g) => {
-            let left = match resolve_node(alloc, f, scope)? {
-                Ok(left) => Box::new(alloc, left)?,
-                Err(fault) => return Ok(Err(fault)),
-            };
-            match resolve_node(alloc, g, scope)? {
-                Ok(right) => Ok(Ok(Formula::Iff(left, Box::new(alloc, right)?))),
-                Err(fault) => Ok(Err(fault)),
-            }
-        }
+    }
+}
+
+#[cycle(resolve)]
+#[inline(never)]
+fn resolve_conjunction<S: Scope>(
+    alloc: Global,
+    operands: &[PhraseNode],
+    scope: &S,
+) -> Result<Result<Box<Formula>, NameFault>, AllocError>
+    ensures { IfOk result (λ found. boxed_result found ≡ resolved (names_of S.named_variable S.named_value S.share_domain scope.now) (all (trees_of (map tree_of operands.now)))) }
+{
+    match resolve_all(alloc, operands, scope)? {
+        Ok(fs) => Ok(Ok(boxed(alloc, Formula::And(fs))?)),
+        Err(fault) => Ok(Err(fault)),
+    }
+}
+
+#[cycle(resolve)]
+#[inline(never)]
+fn resolve_disjunction<S: Scope>(
+    alloc: Global,
+    operands: &[PhraseNode],
+    scope: &S,
+) -> Result<Result<Box<Formula>, NameFault>, AllocError>
+    ensures { IfOk result (λ found. boxed_result found ≡ resolved (names_of S.named_variable S.named_value S.share_domain scope.now) (any (trees_of (map tree_of operands.now)))) }
+{
+    match resolve_all(alloc, operands, scope)? {
+        Ok(fs) => Ok(Ok(boxed(alloc, Formula::Or(fs))?)),
+        Err(fault) => Ok(Err(fault)),
+    }
+}
+
+/// The implication of a formula found before.
+#[cycle(resolve)]
+#[inline(never)]
+fn resolve_implication<S: Scope>(
+    alloc: Global,
+    left: Box<Formula>,
+    right: &PhraseNode,
+    scope: &S,
+) -> Result<Result<Box<Formula>, NameFault>, AllocError>
+    ensures { IfOk result (λ found. boxed_result found ≡ on_ok (resolved (names_of S.named_variable S.named_value S.share_domain scope.now) (tree_of right.now)) (λ u. Ok (implies (formula_of left.value) u))) }
+{
+    match resolve_node(alloc, right, scope)? {
+        Ok(right) => Ok(Ok(boxed(alloc, Formula::Implies(left, right))?)),
+        Err(fault) => Ok(Err(fault)),
+    }
+}
+
+/// The equivalence of a formula found before.
+#[cycle(resolve)]
+#[inline(never)]
+fn resolve_equivalence<S: Scope>(
+    alloc: Global,
+    left: Box<Formula>,
+    right: &PhraseNode,
+    scope: &S,
+) -> Result<Result<Box<Formula>, NameFault>, AllocError>
+    ensures { IfOk result (λ found. boxed_result found ≡ on_ok (resolved (names_of S.named_variable S.named_value S.share_domain scope.now) (tree_of right.now)) (λ u. Ok (iff (formula_of left.value) u))) }
+{
+    match resolve_node(alloc, right, scope)? {
+        Ok(right) => Ok(Ok(boxed(alloc, Formula::Iff(left, right))?)),
+        Err(fault) => Ok(Err(fault)),
     }
 }
 
 /// The formulas in written order, or the first fault.
 #[cycle(resolve)]
+#[inline(always)]
 fn resolve_all<S: Scope>(
     alloc: Global,
     operands: &[PhraseNode],
@@ -120,11 +170,38 @@ fn resolve_all<S: Scope>(
     let mut found = Vec::new(alloc);
     'operands: for operand in operands {
         match resolve_node(alloc, operand, scope)? {
-            Ok(formula) => found.push(formula)?,
+            Ok(formula) => push_unboxed(&mut found, formula)?,
             Err(fault) => return Ok(Err(fault)),
         }
     }
     Ok(Ok(found))
+}
+
+/// The formula that is always true, or the one that never is.
+#[inline(never)]
+fn constant(alloc: Global, truth: bool) -> Result<Box<Formula>, AllocError>
+    ensures { IfOk result (λ f. formula_of f.value ≡ (if truth then always else never)) }
+{
+    if truth {
+        Ok(Box::new(alloc, Formula::True)?)
+    } else {
+        Ok(Box::new(alloc, Formula::False)?)
+    }
+}
+
+#[inline(never)]
+fn resolve_equation<S: Scope>(
+    alloc: Global,
+    left: &Path,
+    right: &Path,
+    scope: &S,
+) -> Result<Result<Box<Formula>, NameFault>, AllocError>
+    ensures { IfOk result (λ found. boxed_result found ≡ equation_of (names_of S.named_variable S.named_value S.share_domain scope.now) left.now right.now) }
+{
+    match equation(scope, left, right) {
+        Ok(formula) => Ok(Ok(Box::new(alloc, formula)?)),
+        Err(fault) => Ok(Err(fault)),
+    }
 }
 
 /// The equation of a variable with a value, or with a variable of the same domain; a value comes first.

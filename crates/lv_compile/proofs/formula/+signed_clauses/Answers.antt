@@ -15,17 +15,17 @@ left_from b base of_all sign fs index = gathered_clauses b base of_all sign (tre
 
 pub gathered_clauses-operands-init : goal.gathered_clauses-operands-init
 gathered_clauses-operands-init t c =
-    let whole = λ (of_all sign : Bool). gathered_clauses c.args.bools.now c.args.base of_all sign (trees_of (map tree_of c.args.operands.now)) in
+    let whole = λ (of_all sign : Bool). gathered_clauses c.args.target.now.bools.now c.args.target.now.base of_all sign (trees_of (map tree_of c.args.operands.now)) in
     record {
-      positive = gathered_start c.args.signs.when_true c.args.of_all c.in_ok-positive.positive.items (whole c.args.of_all true) c.in_ok-positive.ensures;
-      negative = gathered_start c.args.signs.when_false (not c.args.of_all) c.in_ok-negative.negative.items (whole (not c.args.of_all) false) c.in_ok-negative.ensures;
+      positive = gathered_start c.args.signs.when_true c.args.of_all c.in_ok-whole.whole.value.when_true.items (whole c.args.of_all true) c.in_ok-whole.ensures.when_true;
+      negative = gathered_start c.args.signs.when_false (not c.args.of_all) c.in_ok-whole.whole.value.when_false.items (whole (not c.args.of_all) false) c.in_ok-whole.ensures.when_false;
       within = c.requires;
     }
 
 pub gathered_clauses-operands-preserved : goal.gathered_clauses-operands-preserved
 gathered_clauses-operands-preserved t c =
-    let b = c.args.bools.now in
-    let base = c.args.base in
+    let b = c.args.target.now.bools.now in
+    let base = c.args.target.now.base in
     let fs = c.args.operands.now in
     let index = c.operands.operand-index in
     let f = tree_of c.operand-item.result in
@@ -36,31 +36,31 @@ gathered_clauses-operands-preserved t c =
     (sym (ap (λ xs. each_speaks_of b base (trees_of (map tree_of xs))) left) ∙ c.operands.invariant.within) in
     record {
       positive =
-          gathered_more c.args.signs.when_true c.args.of_all c.operands.positive.items c.in_ok-positive-2.positive.items c.in_ok-more.more.when_true.items (formula_clauses b base true f)
+          gathered_more c.args.signs.when_true c.args.of_all c.operands.whole.value.when_true.items c.in_ok-whole-2.whole.value.when_true.items c.in_ok-more.more.value.when_true.items (formula_clauses b base true f)
           (left_from b base c.args.of_all true fs (index + 1)) (left_from b base c.args.of_all true fs index) (left_from b base c.args.of_all true fs 0) c.operands.invariant.positive
-          (ap (λ xs. gathered_clauses b base c.args.of_all true (trees_of (map tree_of xs))) left) c.in_ok-more.ensures.when_true c.in_ok-positive-2.ensures;
+          (ap (λ xs. gathered_clauses b base c.args.of_all true (trees_of (map tree_of xs))) left) c.in_ok-more.ensures.when_true c.in_ok-whole-2.ensures.when_true;
       negative =
-          gathered_more c.args.signs.when_false (not c.args.of_all) c.operands.negative.items c.in_ok-negative-2.negative.items c.in_ok-more.more.when_false.items (formula_clauses b base false f)
+          gathered_more c.args.signs.when_false (not c.args.of_all) c.operands.whole.value.when_false.items c.in_ok-whole-2.whole.value.when_false.items c.in_ok-more.more.value.when_false.items (formula_clauses b base false f)
           (left_from b base (not c.args.of_all) false fs (index + 1)) (left_from b base (not c.args.of_all) false fs index) (left_from b base (not c.args.of_all) false fs 0)
           c.operands.invariant.negative (ap (λ xs. gathered_clauses b base (not c.args.of_all) false (trees_of (map tree_of xs))) left) c.in_ok-more.ensures.when_false
-          c.in_ok-negative-2.ensures;
+          c.in_ok-whole-2.ensures.when_false;
       within = two.1;
     }
 
 pub gathered_clauses-returns-clause-when_true : goal.gathered_clauses-returns-clause-when_true
 gathered_clauses-returns-clause-when_true t c =
-    let b = c.args.bools.now in
+    let b = c.args.target.now.bools.now in
     let fs = c.args.operands.now in
     let past : length fs ≤ c.operands.operand-index = omega arith in
-    gathered_all c.args.signs.when_true c.args.of_all c.operands.positive.items (left_from b c.args.base c.args.of_all true fs c.operands.operand-index)
-    (left_from b c.args.base c.args.of_all true fs 0) c.operands.invariant.positive
-    (ap (λ xs. gathered_clauses b c.args.base c.args.of_all true (trees_of (map tree_of xs))) (drop_all c.operands.operand-index fs past))
+    gathered_all c.args.signs.when_true c.args.of_all c.operands.whole.value.when_true.items (left_from b c.args.target.now.base c.args.of_all true fs c.operands.operand-index)
+    (left_from b c.args.target.now.base c.args.of_all true fs 0) c.operands.invariant.positive
+    (ap (λ xs. gathered_clauses b c.args.target.now.base c.args.of_all true (trees_of (map tree_of xs))) (drop_all c.operands.operand-index fs past))
 
 pub gathered_clauses-returns-clause-when_false : goal.gathered_clauses-returns-clause-when_false
 gathered_clauses-returns-clause-when_false t c =
-    let b = c.args.bools.now in
+    let b = c.args.target.now.bools.now in
     let fs = c.args.operands.now in
     let past : length fs ≤ c.operands.operand-index = omega arith in
-    gathered_all c.args.signs.when_false (not c.args.of_all) c.operands.negative.items (left_from b c.args.base (not c.args.of_all) false fs c.operands.operand-index)
-    (left_from b c.args.base (not c.args.of_all) false fs 0) c.operands.invariant.negative
-    (ap (λ xs. gathered_clauses b c.args.base (not c.args.of_all) false (trees_of (map tree_of xs))) (drop_all c.operands.operand-index fs past))
+    gathered_all c.args.signs.when_false (not c.args.of_all) c.operands.whole.value.when_false.items (left_from b c.args.target.now.base (not c.args.of_all) false fs c.operands.operand-index)
+    (left_from b c.args.target.now.base (not c.args.of_all) false fs 0) c.operands.invariant.negative
+    (ap (λ xs. gathered_clauses b c.args.target.now.base (not c.args.of_all) false (trees_of (map tree_of xs))) (drop_all c.operands.operand-index fs past))

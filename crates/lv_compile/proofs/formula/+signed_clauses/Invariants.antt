@@ -9,13 +9,19 @@ use Rattle.lv_compile.proofs.formula.+signed_clauses.Given as goal
 abbrev pub decreases-signed_clauses : goal.decreases-signed_clauses
 decreases-signed_clauses l = 2 * goal.size-signed_clauses l
 
+abbrev pub decreases-implication_clauses : goal.decreases-implication_clauses
+decreases-implication_clauses l = 2 * goal.size-implication_clauses l + 1
+
+abbrev pub decreases-equivalence_clauses : goal.decreases-equivalence_clauses
+decreases-equivalence_clauses l = 2 * goal.size-equivalence_clauses l + 1
+
 abbrev pub decreases-gathered_clauses : goal.decreases-gathered_clauses
 decreases-gathered_clauses l = 2 * goal.size-gathered_clauses l + 1
 
 abbrev pub invariant-gathered_clauses-operands : goal.invariant-gathered_clauses-operands
 invariant-gathered_clauses-operands l =
     record {
-      positive : IsGathered l.signs.when_true l.of_all l.positive.items (gathered_clauses l.bools l.base l.of_all true (trees_of (map tree_of (drop l.operand-index l.operands)))) (gathered_clauses l.bools l.base l.of_all true (trees_of (map tree_of l.operands)));
-      negative : IsGathered l.signs.when_false (not l.of_all) l.negative.items (gathered_clauses l.bools l.base (not l.of_all) false (trees_of (map tree_of (drop l.operand-index l.operands)))) (gathered_clauses l.bools l.base (not l.of_all) false (trees_of (map tree_of l.operands)));
-      within : each_speaks_of l.bools l.base (trees_of (map tree_of (drop l.operand-index l.operands))) ≡ true;
+      positive : IsGathered l.signs.when_true l.of_all l.whole.value.when_true.items (gathered_clauses l.target.bools.now l.target.base l.of_all true (trees_of (map tree_of (drop l.operand-index l.operands)))) (gathered_clauses l.target.bools.now l.target.base l.of_all true (trees_of (map tree_of l.operands)));
+      negative : IsGathered l.signs.when_false (not l.of_all) l.whole.value.when_false.items (gathered_clauses l.target.bools.now l.target.base (not l.of_all) false (trees_of (map tree_of (drop l.operand-index l.operands)))) (gathered_clauses l.target.bools.now l.target.base (not l.of_all) false (trees_of (map tree_of l.operands)));
+      within : each_speaks_of l.target.bools.now l.target.base (trees_of (map tree_of (drop l.operand-index l.operands))) ≡ true;
     }

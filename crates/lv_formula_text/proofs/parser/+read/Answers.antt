@@ -3,7 +3,7 @@ use Rattle.std.proofs.Common.{arith, subst, ◌≡◌, refl, true, false, length
 use Rattle.std.proofs.lemmas.List.{map-append}
 use Rattle.std.proofs.lemmas.Result.{IfOk-weaker}
 use Rattle.lv_formula_text.specs.declared.connective.Connective.TheVariants.{Equivalence}
-use Rattle.lv_formula_text.specs.PhraseTree.{tree_of}
+use Rattle.lv_formula_text.specs.PhraseTree.{tree_of, tree_in}
 use Rattle.lv_formula_text.specs.Connectives.{level, negations}
 use Rattle.lv_formula_text.specs.Grammar.{IsUnary, IsOperand, IsJoined}
 use Rattle.lv_text.specs.declared.lexer.TokenKind.TheVariants.{Not}
@@ -19,37 +19,37 @@ joined-returns-in_default-clause-found t c =
 
 pub joined-returns-then-not-takes-clause-found : goal.joined-returns-then-not-takes-clause-found
 joined-returns-then-not-takes-clause-found t c =
-    let read : Reads (IsOperand c.args.connective) (level c.args.connective + 1) c.operands.cursor (tree_of c.in-Some.next) c.operand.new.cursor =
+    let read : Reads (IsOperand c.args.connective) (level c.args.connective + 1) c.operands.cursor (tree_in c.in-Some.next) c.operand.new.cursor =
     rw c.in-Some.is at c.in_ok-next.ensures.found in
     joined_step c.args.connective c.args.cursor.now c.operands.cursor c.operand.new.cursor c.takes.new.self c.sign.result (map tree_of c.operands.operands.items)
-    (map tree_of c.operands.operands.items ++ tree_of c.in-Some.next ∷ []) (tree_of c.in-Some.next) _ c.operands.invariant.reading read c.if-not-takes.ensures.told c.sign.ensures refl c.in_ok-join.ensures
+    (map tree_of c.operands.operands.items ++ tree_in c.in-Some.next ∷ []) (tree_in c.in-Some.next) _ c.operands.invariant.reading read c.if-not-takes.ensures.told c.sign.ensures refl c.in_ok-join.ensures
 
 pub joined-operands-preserved : goal.joined-operands-preserved
 joined-operands-preserved t c =
-    let read : Reads (IsOperand c.args.connective) (level c.args.connective + 1) c.operands.cursor (tree_of c.in-Some.next) c.operand.new.cursor =
+    let read : Reads (IsOperand c.args.connective) (level c.args.connective + 1) c.operands.cursor (tree_in c.in-Some.next) c.operand.new.cursor =
     rw c.in-Some.is at c.in_ok-next.ensures.found in
-    let items = ap (map tree_of) c.in_ok-push.ensures.items ∙ map-append tree_of c.operands.operands.items (c.in-Some.next ∷ []) in
+    let items = ap (map tree_of) c.in_ok-push_unboxed.ensures ∙ map-append tree_of c.operands.operands.items (c.in-Some.next.value ∷ []) in
     record {
-      reading = joining_step c.args.connective c.args.cursor.now c.operands.cursor c.operand.new.cursor c.takes.new.self c.sign.result (map tree_of c.operands.operands.items) _ (tree_of c.in-Some.next)
+      reading = joining_step c.args.connective c.args.cursor.now c.operands.cursor c.operand.new.cursor c.takes.new.self c.sign.result (map tree_of c.operands.operands.items) _ (tree_in c.in-Some.next)
           c.operands.invariant.reading read c.if-not-takes.ensures.told c.sign.ensures items;
       left = omega arith;
     }
 
 pub operand-returns-in-Equivalence-clause-found : goal.operand-returns-in-Equivalence-clause-found
 operand-returns-in-Equivalence-clause-found t c =
-    rw c.in-Equivalence.is (IfOk-weaker c.joined.result _ _ (λ found h. operand_of_equivalence _ (option_map tree_of found) _ h) c.joined.ensures.found)
+    rw c.in-Equivalence.is (IfOk-weaker c.joined.result _ _ (λ found h. operand_of_equivalence _ (option_map tree_in found) _ h) c.joined.ensures.found)
 
 pub operand-returns-in-Implication-clause-found : goal.operand-returns-in-Implication-clause-found
 operand-returns-in-Implication-clause-found t c =
-    rw c.in-Implication.is (IfOk-weaker c.joined-in-Implication.result _ _ (λ found h. operand_of_implication _ (option_map tree_of found) _ h) c.joined-in-Implication.ensures.found)
+    rw c.in-Implication.is (IfOk-weaker c.joined-in-Implication.result _ _ (λ found h. operand_of_implication _ (option_map tree_in found) _ h) c.joined-in-Implication.ensures.found)
 
 pub operand-returns-in-Disjunction-clause-found : goal.operand-returns-in-Disjunction-clause-found
 operand-returns-in-Disjunction-clause-found t c =
-    rw c.in-Disjunction.is (IfOk-weaker c.joined-in-Disjunction.result _ _ (λ found h. operand_of_disjunction _ (option_map tree_of found) _ h) c.joined-in-Disjunction.ensures.found)
+    rw c.in-Disjunction.is (IfOk-weaker c.joined-in-Disjunction.result _ _ (λ found h. operand_of_disjunction _ (option_map tree_in found) _ h) c.joined-in-Disjunction.ensures.found)
 
 pub operand-returns-in-Conjunction-clause-found : goal.operand-returns-in-Conjunction-clause-found
 operand-returns-in-Conjunction-clause-found t c =
-    rw c.in-Conjunction.is (IfOk-weaker c.unary.result _ _ (λ found h. operand_of_conjunction _ (option_map tree_of found) _ h) c.unary.ensures.found)
+    rw c.in-Conjunction.is (IfOk-weaker c.unary.result _ _ (λ found h. operand_of_conjunction _ (option_map tree_in found) _ h) c.unary.ensures.found)
 
 pub unary-signs-init : goal.unary-signs-init
 unary-signs-init t c = negating_none c.args.cursor.now
@@ -62,13 +62,13 @@ unary-signs-preserved t c =
 pub unary-returns-in_ok-negated-in-Some-clause-found : goal.unary-returns-in_ok-negated-in-Some-clause-found
 unary-returns-in_ok-negated-in-Some-clause-found t c =
     let told : Takes Not c.signs.cursor false c.takes.new.self = rw c.signs-test.false at c.takes.ensures.told in
-    let read : Reads IsUnary 5 c.takes.new.self (tree_of c.in-Some.operand) c.primary.new.cursor = rw c.in-Some.is at c.in_ok-operand.ensures.found in
-    let read_there : Reads IsUnary 5 c.signs.cursor (tree_of c.in-Some.operand) c.primary.new.cursor =
-    subst (λ xs. Reads IsUnary 5 xs (tree_of c.in-Some.operand) c.primary.new.cursor) told.0 read in
-    let all = c.signs.invariant.completes (tree_of c.in-Some.operand) c.primary.new.cursor read_there in
+    let read : Reads IsUnary 5 c.takes.new.self (tree_in c.in-Some.operand) c.primary.new.cursor = rw c.in-Some.is at c.in_ok-operand.ensures.found in
+    let read_there : Reads IsUnary 5 c.signs.cursor (tree_in c.in-Some.operand) c.primary.new.cursor =
+    subst (λ xs. Reads IsUnary 5 xs (tree_in c.in-Some.operand) c.primary.new.cursor) told.0 read in
+    let all = c.signs.invariant.completes (tree_in c.in-Some.operand) c.primary.new.cursor read_there in
     let signs : c.len-before.result - c.len.result ≡ length c.args.cursor.now - length c.signs.cursor =
     ap₂ (λ a b. a - b) c.len-before.ensures (c.len.ensures ∙ ap length told.0) in
-    rw c.in_ok-negated-in-Some.ensures (subst (λ n. Reads IsUnary 5 c.args.cursor.now (negations n (tree_of c.in-Some.operand)) c.primary.new.cursor) (sym signs) all)
+    rw c.in_ok-negated-in-Some.ensures (subst (λ n. Reads IsUnary 5 c.args.cursor.now (negations n (tree_in c.in-Some.operand)) c.primary.new.cursor) (sym signs) all)
 
 pub unary-returns-in-None-clause-found : goal.unary-returns-in-None-clause-found
 unary-returns-in-None-clause-found t c =
@@ -83,14 +83,14 @@ primary-returns-in_default-clause-found t c =
 
 pub primary-returns-then-not-takes-clause-found : goal.primary-returns-then-not-takes-clause-found
 primary-returns-then-not-takes-clause-found t c =
-    let read : Reads (IsJoined Equivalence) 1 c.takes.new.self (tree_of c.in-Some.enclosed) c.joined.new.cursor = rw c.in-Some.is at c.in_ok-enclosed.ensures.found in
-    enclosed_open c.args.cursor.now c.takes.new.self c.joined.new.cursor c.takes-then-takes.new.self (tree_of c.in-Some.enclosed) c.if-takes.ensures.told read c.if-not-takes.ensures.told
+    let read : Reads (IsJoined Equivalence) 1 c.takes.new.self (tree_in c.in-Some.enclosed) c.joined.new.cursor = rw c.in-Some.is at c.in_ok-enclosed.ensures.found in
+    enclosed_open c.args.cursor.now c.takes.new.self c.joined.new.cursor c.takes-then-takes.new.self (tree_in c.in-Some.enclosed) c.if-takes.ensures.told read c.if-not-takes.ensures.told
 
 pub primary-returns-then-takes-clause-found : goal.primary-returns-then-takes-clause-found
 primary-returns-then-takes-clause-found t c =
-    let read : Reads (IsJoined Equivalence) 1 c.takes.new.self (tree_of c.in-Some.enclosed) c.joined.new.cursor = rw c.in-Some.is at c.in_ok-enclosed.ensures.found in
-    enclosed_found c.args.cursor.now c.takes.new.self c.joined.new.cursor c.takes-then-takes.new.self (tree_of c.in-Some.enclosed) c.if-takes.ensures.told read c.if-not-takes.ensures.told
+    let read : Reads (IsJoined Equivalence) 1 c.takes.new.self (tree_in c.in-Some.enclosed) c.joined.new.cursor = rw c.in-Some.is at c.in_ok-enclosed.ensures.found in
+    enclosed_found c.args.cursor.now c.takes.new.self c.joined.new.cursor c.takes-then-takes.new.self (tree_in c.in-Some.enclosed) c.if-takes.ensures.told read c.if-not-takes.ensures.told
 
 pub primary-returns-clause-found : goal.primary-returns-clause-found
 primary-returns-clause-found t c =
-    IfOk-weaker c.atom.result _ _ (λ found h. unary_atom c.args.cursor.now c.args.cursor.now c.takes.new.self (option_map tree_of found) _ (refl, c.requires.other) c.if-takes.ensures.told h) c.atom.ensures.found
+    IfOk-weaker c.atom.result _ _ (λ found h. unary_atom c.args.cursor.now c.args.cursor.now c.takes.new.self (option_map tree_in found) _ (refl, c.requires.other) c.if-takes.ensures.told h) c.atom.ensures.found

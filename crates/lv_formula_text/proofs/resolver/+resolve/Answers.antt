@@ -13,10 +13,10 @@ resolve_all-operands-preserved g t c =
     let index = c.operands.operand-index in
     let inside : index < length c.args.operands.now = omega arith in
     let left = drop_more c.args.operands.now index c.operand-item.result inside ∙ ap (λ x. x ∷ drop (index + 1) c.args.operands.now) (sym c.operand-item.is) in
-    let found : resolved names (tree_of c.operand-item.result) ≡ Ok (formula.tree_of c.in-Ok.formula) = sym (rw c.in-Ok.is at c.in_ok-formula.ensures) in
-    let all = ap (map formula.tree_of) c.in_ok-push-in-Ok.ensures.items ∙ map-append formula.tree_of c.operands.found.items (c.in-Ok.formula ∷ []) in
-    continued_step names (map formula.tree_of c.operands.found.items) (map formula.tree_of c.push.new.self.items) (tree_of c.operand-item.result)
-    (trees_of (map tree_of (drop index c.args.operands.now))) (trees_of (map tree_of (drop (index + 1) c.args.operands.now))) (formula.tree_of c.in-Ok.formula)
+    let found : resolved names (tree_of c.operand-item.result) ≡ Ok (formula.tree_of c.in-Ok.formula.value) = sym (rw c.in-Ok.is at c.in_ok-formula.ensures) in
+    let all = ap (map formula.tree_of) c.in_ok-push_unboxed-in-Ok.ensures ∙ map-append formula.tree_of c.operands.found.items (c.in-Ok.formula.value ∷ []) in
+    continued_step names (map formula.tree_of c.operands.found.items) (map formula.tree_of c.push_unboxed.new.items.items) (tree_of c.operand-item.result)
+    (trees_of (map tree_of (drop index c.args.operands.now))) (trees_of (map tree_of (drop (index + 1) c.args.operands.now))) (formula.tree_of c.in-Ok.formula.value)
     (ap (λ xs. trees_of (map tree_of xs)) left) found all
     ∙ c.operands.invariant
 
