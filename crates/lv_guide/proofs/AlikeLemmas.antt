@@ -85,7 +85,7 @@ module _ (slots : List (List Cost)) (groups : List (List ℕ)) (shape : have_sha
     abbrev keeps : Rank → Bool
     keeps r = others r || not (out r)
 
-    module _ (known : List (List Pair)) (ready : IsReady slots known (e ∷ es)) (keys : NoKeyBefore slots known e.0 es) (new : List Entry) (has : HasMoreBy slots parts es new) where
+    module _ (known : List (List Pair)) (ready : IsReady slots known (e ∷ es)) (keys : NoKeyBefore slots known e.0 es) (new : List Entry) (has : HasMoreBy slots known parts es new) where
       abbrev old_left : List Rank
       old_left = left_in slots known (e ∷ es)
 
@@ -93,10 +93,12 @@ module _ (slots : List (List Cost)) (groups : List (List ℕ)) (shape : have_sha
       new_left = left_in slots known new
 
       among_new : (r : Rank) → is_among r new_left ≡ (is_free_rank known r && (others r || (ranks_in slots r e.1 && not (out r))))
-      among_new r =
-          among_left slots known new r
-          ∙ ap (λ b. is_free_rank known r && b)
-          (ap (nat_lt 0) (has.times r ∙ ap (λ n. times_in slots r (zones_in es) + n) (times r)) ∙ some_with slots (times_in slots r (zones_in es)) (ranks_in slots r e.1 && not (out r)))
+      among_new r = among_left slots known new r ∙ by (is_free_rank known r) refl
+        where
+          by : (b : Bool) → is_free_rank known r ≡ b → (b && nat_lt 0 (times_in slots r (zones_in new))) ≡ (b && (others r || (ranks_in slots r e.1 && not (out r))))
+          by true free =
+              ap (nat_lt 0) (has.times r free ∙ ap (λ n. times_in slots r (zones_in es) + n) (times r)) ∙ some_with slots (times_in slots r (zones_in es)) (ranks_in slots r e.1 && not (out r))
+          by false free = refl
 
       among_old : (r : Rank) → is_among r old_left ≡ (is_free_rank known r && (ranks_in slots r e.1 || others r))
       among_old r = among_left slots known (e ∷ es) r ∙ ap (λ b. is_free_rank known r && b) (some_by_first slots r e.1 (zones_in es))
@@ -140,7 +142,7 @@ module _ (slots : List (List Cost)) (groups : List (List ℕ)) (shape : have_sha
           }
 
       drops : DropsAlike slots known groups (e ∷ es) new
-      drops = record { kept = record { queue = has.queue; first = has.first known ready.kept.first.1 }; left = inr thins }
+      drops = record { kept = record { queue = has.queue; first = has.first ready.kept.first.1 }; left = inr thins }
 
   -- the first entry, taken out
   module _ (entries : List Entry) (e : Entry) (es : List Entry) (is : entries ≡ e ∷ es) (queue : IsQueue slots entries) (member : List ℕ) (own : member ≡ e.0.choices) where
@@ -150,7 +152,7 @@ module _ (slots : List (List Cost)) (groups : List (List ℕ)) (shape : have_sha
     pub room_for_alike : HasRoomBy slots (parts_by_groups e.1 groups member) es
     room_for_alike = room e es queue_so member own
 
-    pub drops_alike : (known : List (List Pair)) (new : List Entry) → All (λ q. rank_cmp e.0 q ≡ Less) (keys_of es) → HasMoreBy slots (parts_by_groups e.1 groups member) es new
+    pub drops_alike : (known : List (List Pair)) (new : List Entry) → All (λ q. rank_cmp e.0 q ≡ Less) (keys_of es) → HasMoreBy slots known (parts_by_groups e.1 groups member) es new
         → IsReady slots known entries → DropsAlike slots known groups entries new
     drops_alike known new above has ready =
         subst (λ ds. DropsAlike slots known groups ds new) (sym is)
@@ -158,7 +160,8 @@ module _ (slots : List (List Cost)) (groups : List (List ℕ)) (shape : have_sha
 
 -- what is left is that after the look ahead, and what was held is what was taken
 module _ (slots : List (List Cost)) (groups : List (List ℕ)) (known asked : List (List Pair)) (held old mid new : List Entry) (taken : old ≡ held) where
-  pub alike_is : asked ≡ known → DropsAlike slots known groups old mid → HasSameFree slots asked mid new → LeavesOut groups (left_in slots known held) (left_in slots known new)
+  pub alike_is : asked ≡ known → DropsAlike slots asked groups old mid → HasSameFree slots asked mid new → LeavesOut groups (left_in slots known held) (left_in slots known new)
   alike_is is drops same =
       subst (λ (ds : List Entry). LeavesOut groups (left_in slots known ds) (left_in slots known new)) taken
-      (subst (λ (rs : List Rank). LeavesOut groups (left_in slots known old) rs) (sym (same_left slots known mid new (subst (λ (ks : List (List Pair)). HasSameFree slots ks mid new) is same))) drops.left)
+      (subst (λ (ks : List (List Pair)). LeavesOut groups (left_in slots ks old) (left_in slots ks new)) is
+      (subst (λ (rs : List Rank). LeavesOut groups (left_in slots asked old) rs) (sym (same_left slots asked mid new same)) drops.left))

@@ -10,6 +10,7 @@ use Rattle.std.specs.declared.cmp.Ordering.{Ordering}
 use Rattle.std.specs.declared.cmp.Ordering.TheVariants.{Less, Equal, Greater}
 use Rattle.std.proofs.lemmas.Bool.{and_from, and_parts, or_left, or_right, eq-eqb, both_ways, false_from_ne_true, not-false}
 use Rattle.std.proofs.lemmas.List.Elements.{All-head, All-tail}
+use Rattle.std.proofs.lemmas.List.Folds.{list_all-append}
 use Rattle.lv_base.specs.declared.ids.Cost.{Cost}
 use Rattle.lv_base.specs.declared.rank.Rank.{Rank}
 use Rattle.lv_base.specs.declared.search.Pair.{Pair}
@@ -29,9 +30,10 @@ use Rattle.lv_search_walk.specs.Ranked.{rises, is_rank, is_among}
 use Rattle.lv_search_walk.specs.Walk.{candidate_of, is_ruled_out}
 use Rattle.lv_search_walk.proofs.RankedLemmas.{not_before_itself, not_both_before, same_rank, is_itself, one_list, equal_by_cmp}
 use Rattle.lv_search_guide.specs.Free.{is_free_member, IsLeastFree, HasNoFree}
+use Rattle.lv_search_guide.specs.Near.{AreAmong, IsFirstNear}
 use Rattle.lv_search.specs.Frontier.{FirstContains, LeavesFirst, Thins}
 use Rattle.lv_search.specs.Free.{is_free_rank, free_of}
-use Rattle.lv_guide.specs.Guide.{zones_in, left_in, IsKeyMember, IsKeyFirst, IsQueue, AreKeptBy, front_is_free, IsReady, HasRoomBy, HasMoreBy, HasSameFree, stale_in, LooksAgain, DropsFirst}
+use Rattle.lv_guide.specs.Guide.{zones_in, left_in, IsKeyMember, IsKeyFirst, IsQueue, AreKeptBy, front_is_free, IsReady, HasRoomBy, HasMoreBy, HasMore, HasSameFree, stale_in, LooksAgain, DropsFirst}
 use Rattle.lv_search.proofs.NextLemmas.{first_and_rest}
 use Rattle.lv_search.proofs.TimesLemmas.{times_none, times_one}
 use Rattle.lv_search.proofs.LeftLemmas.{first_of_rising, none_before_on, filter_among, rises_filtered, among_behind, choices_per_slot, stays, parts_times, some_with, sources_apart}
@@ -56,6 +58,22 @@ ruled_out_more (k ∷ ks) conflict choices = by (contains_all choices k) (ruled_
 pub free_before : (known : List (List Pair)) (conflict : List Pair) (r : Rank) → is_free_rank (known ++ conflict ∷ []) r ≡ true → is_free_rank known r ≡ true
 free_before known conflict r free = (and_parts (is_free_rank known r) (not (contains_all r.choices conflict)) (sym (ruled_out_more known conflict r.choices) ∙ free)).0
 
+-- what is among the known conflicts stays among them, and what contains none of these contains none of it
+among_more : (others known : List (List Pair)) (conflict : List Pair) → AreAmong others known → AreAmong others (known ++ conflict ∷ [])
+among_more others known conflict among =
+    record { each = λ test all. among.each test (and_parts (list_all test known) (list_all test (conflict ∷ [])) (sym (list_all-append test known (conflict ∷ [])) ∙ all)).0 }
+
+free_by_each : (choices : List ℕ) (known : List (List Pair)) → not (is_ruled_out known choices) ≡ list_all (λ k. not (contains_all choices k)) known
+free_by_each choices [] = refl
+free_by_each choices (k ∷ ks) = by (contains_all choices k) (free_by_each choices ks)
+  where
+    by : (b : Bool) → not (is_ruled_out ks choices) ≡ list_all (λ j. not (contains_all choices j)) ks → not (b || is_ruled_out ks choices) ≡ (not b && list_all (λ j. not (contains_all choices j)) ks)
+    by true rest = refl
+    by false rest = rest
+
+free_among : (others known : List (List Pair)) (r : Rank) → AreAmong others known → is_free_rank known r ≡ true → is_free_rank others r ≡ true
+free_among others known r among free = free_by_each r.choices others ∙ among.each (λ k. not (contains_all r.choices k)) (sym (free_by_each r.choices known) ∙ free)
+
 filter_both : (p q : Rank → Bool) (rs : List Rank) → filter (λ r. p r && q r) rs ≡ filter q (filter p rs)
 filter_both p q [] = refl
 filter_both p q (r ∷ rs) = by (p r) (filter_both p q rs)
@@ -72,6 +90,20 @@ abbrev zero_or_one : Bool → ℕ
 zero_or_one b = cond b 0 1
 
 module _ (slots : List (List Cost)) where
+  free_member : (known : List (List Pair)) (zone : ZoneValue) (r : Rank) → ranks_in slots r zone ≡ true → is_free_rank known r ≡ true → is_free_member slots zone known (candidate_of r) ≡ true
+  free_member known zone r is free =
+      and_from (is_member slots zone (candidate_of r)) (is_free_rank known r) (and_parts (is_member slots zone (candidate_of r)) (nat_eq r.cost.0 (zone.base.0 + choices_cost slots r.choices)) is).0 free
+
+  -- no member without a known conflict ranks before the key
+  pub none_first : (known : List (List Pair)) (k : Rank) (zone : ZoneValue) → IsKeyFirst slots known (k, zone) → (r : Rank) → ranks_in slots r zone ≡ true → is_free_rank known r ≡ true → ranks_before r k ≡ false
+  none_first known k zone key r is free =
+      subst (λ (q : Rank). ranks_before q k ≡ false) (sym (rank_of_member slots r zone is))
+      (key.first.first (candidate_of r) (free_member key.others zone r is (free_among key.others known r key.among free)))
+
+  -- a key's zone is near itself
+  pub near_itself : (known : List (List Pair)) (k : Rank) (zone : ZoneValue) → IsKeyFirst slots known (k, zone) → IsFirstNear slots zone known k
+  near_itself known k zone key = record { whole = zone; inside = λ choices left. left; others = key.others; among = key.among; first = key.first }
+
   -- a queue with one entry more
   members_inserted : (entries : List Entry) (k : Rank) (v : ZoneValue) → AllByRecursion (IsKeyMember slots) entries → ranks_in slots k v ≡ true → AllByRecursion (IsKeyMember slots) (insert_entry rank_cmp entries k v)
   members_inserted [] k v each is = (is, each)
@@ -124,62 +156,106 @@ module _ (slots : List (List Cost)) where
       let few = room k in
       omega (arith, here, few)
 
-  -- a zone is put in by its least member
+  -- a zone is put in by its first member by some of the known conflicts
   least_is_first : (known : List (List Pair)) (zone : ZoneValue) (k : Rank) → IsLeastRank slots zone k → IsKeyFirst slots known (k, zone)
   least_is_first known zone k least =
       record {
-        first = λ r is free.
-            let member = (and_parts (is_member slots zone (candidate_of r)) (nat_eq r.cost.0 (zone.base.0 + choices_cost slots r.choices)) is).0 in
-            subst (λ (q : Rank). ranks_before q k ≡ false) (sym (rank_of_member slots r zone is))
-            (subst (λ (q : Rank). ranks_before (rank_in slots zone r.choices) q ≡ false) (sym least.is) (least.least.first (candidate_of r) member));
+        others = [];
+        among = record { each = λ test all. refl };
+        first = record {
+          member = and_from (is_member slots zone (candidate_of k)) (not (is_ruled_out [] k.choices))
+              (and_parts (is_member slots zone (candidate_of k)) (nat_eq k.cost.0 (zone.base.0 + choices_cost slots k.choices)) (has_least_rank slots zone k least)).0 refl;
+          is = least.is;
+          first = λ other free.
+              subst (λ (q : Rank). ranks_before (rank_in slots zone other.choices) q ≡ false) (sym least.is)
+              (least.least.first other (and_parts (is_member slots zone other) (not (is_ruled_out [] other.choices)) free).0);
+        };
       }
 
-  pub put_in : (zone : ZoneValue) (k : Rank) (old new : List Entry) → HasRoomBy slots (zone ∷ []) old → IsLeastRank slots zone k → new ≡ insert_entry rank_cmp old k zone → HasMoreBy slots (zone ∷ []) old new
-  put_in zone k old new room least is =
-      let here : ranks_in slots k zone ≡ true = has_least_rank slots zone k least in
+  free_is_first : (known : List (List Pair)) (zone : ZoneValue) (k : Rank) → IsLeastFree slots zone known k → IsKeyFirst slots known (k, zone)
+  free_is_first known zone k least = record { others = known; among = record { each = λ test all. all }; first = least }
+
+  free_ranks_in : (known : List (List Pair)) (zone : ZoneValue) (k : Rank) → IsLeastFree slots zone known k → ranks_in slots k zone ≡ true
+  free_ranks_in known zone k least =
+      and_from (is_member slots zone (candidate_of k)) (nat_eq k.cost.0 (zone.base.0 + choices_cost slots k.choices))
+      (and_parts (is_member slots zone (candidate_of k)) (is_free_rank known k) least.member).0
+      (eq-eqb k.cost.0 (zone.base.0 + choices_cost slots k.choices) (ap (λ (r : Rank). r.cost.0) least.is))
+
+  none_in : (known : List (List Pair)) (zone : ZoneValue) → HasNoFree slots zone known → (r : Rank) → is_free_rank known r ≡ true → ranks_in slots r zone ≡ false
+  none_in known zone none r free =
+      false_from_ne_true (ranks_in slots r zone) (λ in_it. both_ways (is_free_member slots zone known (candidate_of r)) (none.none (candidate_of r)) (free_member known zone r in_it free))
+
+  put_in_by : (known : List (List Pair)) (zone : ZoneValue) (k : Rank) (old new : List Entry) → HasRoomBy slots (zone ∷ []) old → ranks_in slots k zone ≡ true → IsKeyFirst slots known (k, zone)
+      → new ≡ insert_entry rank_cmp old k zone → HasMoreBy slots known (zone ∷ []) old new
+  put_in_by known zone k old new room here key is =
       let none : times_in slots k (zones_in old) ≡ 0 = none_of old k zone here room.apart in
-      subst (λ (es : List Entry). HasMoreBy slots (zone ∷ []) old es) (sym is)
+      subst (λ (es : List Entry). HasMoreBy slots known (zone ∷ []) old es) (sym is)
       (record {
         queue = queue_inserted old k zone room.queue here room.apart none;
-        times = times_inserted old k zone room.queue.members none;
-        first = λ known each. first_inserted known old k zone each (least_is_first known zone k least);
+        most = λ r. let times = times_inserted old k zone room.queue.members none r in omega (arith, times);
+        times = λ r free. times_inserted old k zone room.queue.members none r;
+        first = λ each. first_inserted known old k zone each key;
       })
 
-  pub not_put_in : (zone : ZoneValue) (old : List Entry) → HasRoomBy slots (zone ∷ []) old → lacks_choice slots zone.masks ≡ true → HasMoreBy slots (zone ∷ []) old old
-  not_put_in zone old room lacks =
+  not_put_in_by : (known : List (List Pair)) (zone : ZoneValue) (old : List Entry) → HasRoomBy slots (zone ∷ []) old → ((r : Rank) → is_free_rank known r ≡ true → ranks_in slots r zone ≡ false)
+      → HasMoreBy slots known (zone ∷ []) old old
+  not_put_in_by known zone old room out =
       record {
         queue = room.queue;
-        times = λ r. let none : times_in slots r (zone ∷ []) ≡ times_in slots r [] = times_none slots r zone [] (lacking_has_none slots zone r lacks) in omega (arith, none);
-        first = λ known each. each;
+        most = λ r. omega arith;
+        times = λ r free. let none : times_in slots r (zone ∷ []) ≡ times_in slots r [] = times_none slots r zone [] (out r free) in omega (arith, none);
+        first = λ each. each;
       }
+
+  pub put_in : (zone : ZoneValue) (k : Rank) (old new : List Entry) → HasRoomBy slots (zone ∷ []) old → IsLeastRank slots zone k → new ≡ insert_entry rank_cmp old k zone → HasMore slots (zone ∷ []) old new
+  put_in zone k old new room least is known = put_in_by known zone k old new room (has_least_rank slots zone k least) (least_is_first known zone k least) is
+
+  pub not_put_in : (zone : ZoneValue) (old : List Entry) → HasRoomBy slots (zone ∷ []) old → lacks_choice slots zone.masks ≡ true → HasMore slots (zone ∷ []) old old
+  not_put_in zone old room lacks known = not_put_in_by known zone old room (λ r free. lacking_has_none slots zone r lacks)
+
+  pub put_in_near : (known : List (List Pair)) (zone : ZoneValue) (k : Rank) (old new : List Entry) → HasRoomBy slots (zone ∷ []) old → IsLeastFree slots zone known k → new ≡ insert_entry rank_cmp old k zone
+      → HasMoreBy slots known (zone ∷ []) old new
+  put_in_near known zone k old new room least is = put_in_by known zone k old new room (free_ranks_in known zone k least) (free_is_first known zone k least) is
+
+  pub not_put_in_near : (known : List (List Pair)) (zone : ZoneValue) (old : List Entry) → HasRoomBy slots (zone ∷ []) old → HasNoFree slots zone known → HasMoreBy slots known (zone ∷ []) old old
+  not_put_in_near known zone old room none = not_put_in_by known zone old room (none_in known zone none)
 
   -- room for some zones is room for the first, and with it put in for the others
   pub room_for_first : (zone : ZoneValue) (zones more : List ZoneValue) (old : List Entry) → more ≡ zone ∷ zones → HasRoomBy slots more old → HasRoomBy slots (zone ∷ []) old
   room_for_first zone zones more old is room =
       record { queue = room.queue; apart = λ r. let few : times_in slots r (zones_in old) + times_in slots r (zone ∷ zones) ≤ 1 = subst (λ zs. times_in slots r (zones_in old) + times_in slots r zs ≤ 1) is (room.apart r) in omega (arith, few) }
 
-  pub room_for_rest : (zone : ZoneValue) (zones more : List ZoneValue) (old new : List Entry) → more ≡ zone ∷ zones → HasRoomBy slots more old → HasMoreBy slots (zone ∷ []) old new → HasRoomBy slots zones new
-  room_for_rest zone zones more old new is room has =
+  pub room_for_rest : (known : List (List Pair)) (zone : ZoneValue) (zones more : List ZoneValue) (old new : List Entry) → more ≡ zone ∷ zones → HasRoomBy slots more old → HasMoreBy slots known (zone ∷ []) old new
+      → HasRoomBy slots zones new
+  room_for_rest known zone zones more old new is room has =
       record {
         queue = has.queue;
         apart = λ r.
             let few : times_in slots r (zones_in old) + times_in slots r (zone ∷ zones) ≤ 1 = subst (λ zs. times_in slots r (zones_in old) + times_in slots r zs ≤ 1) is (room.apart r) in
-            let times = has.times r in
-            omega (arith, few, times);
+            let most = has.most r in
+            omega (arith, few, most);
       }
 
-  pub times_for_rest : (zone : ZoneValue) (zones more : List ZoneValue) (old new : List Entry) (r : Rank) (n : ℕ) → more ≡ zone ∷ zones → HasMoreBy slots (zone ∷ []) old new
-      → times_in slots r (zones_in old) + times_in slots r more ≡ n → times_in slots r (zones_in new) + times_in slots r zones ≡ n
-  times_for_rest zone zones more old new r n is has all =
-      let whole : times_in slots r (zones_in old) + times_in slots r (zone ∷ zones) ≡ n = subst (λ zs. times_in slots r (zones_in old) + times_in slots r zs ≡ n) is all in
-      let times = has.times r in
-      omega (arith, whole, times)
+  -- one zone more, and then the others
+  more_then : (known : List (List Pair)) (zone : ZoneValue) (zones : List ZoneValue) (old mid new : List Entry) → HasMoreBy slots known (zone ∷ []) old mid → HasMoreBy slots known zones mid new
+      → HasMoreBy slots known (zone ∷ zones) old new
+  more_then known zone zones old mid new one others =
+      record {
+        queue = others.queue;
+        most = λ r. let a = one.most r in let b = others.most r in omega (arith, a, b);
+        times = λ r free. let a = one.times r free in let b = others.times r free in omega (arith, a, b);
+        first = λ each. others.first (one.first each);
+      }
 
-  pub all_put_in : (more left : List ZoneValue) (old new : List Entry) → length left ≡ 0 → IsQueue slots new
-      → ((r : Rank) → times_in slots r (zones_in new) + times_in slots r left ≡ times_in slots r (zones_in old) + times_in slots r more)
-      → ((known : List (List Pair)) → AllByRecursion (IsKeyFirst slots known) old → AllByRecursion (IsKeyFirst slots known) new) → HasMoreBy slots more old new
-  all_put_in more [] old new none queue times first = record { queue = queue; times = λ r. let same = times r in omega (arith, same); first = first }
-  all_put_in more (zone ∷ left) old new none queue times first = absurd (omega (arith, none))
+  pub one_more : (known : List (List Pair)) (zone : ZoneValue) (zones more : List ZoneValue) (old mid : List Entry) → more ≡ zone ∷ zones → HasMoreBy slots known (zone ∷ []) old mid
+      → (whole : List ZoneValue) (start : List Entry) → ((new : List Entry) → HasMoreBy slots known more old new → HasMoreBy slots known whole start new)
+      → (new : List Entry) → HasMoreBy slots known zones mid new → HasMoreBy slots known whole start new
+  one_more known zone zones more old mid is one whole start then new others =
+      then new (subst (λ (zs : List ZoneValue). HasMoreBy slots known zs old new) (sym is) (more_then known zone zones old mid new one others))
+
+  pub no_more : (known : List (List Pair)) (left : List ZoneValue) (old : List Entry) → length left ≡ 0 → IsQueue slots old → HasMoreBy slots known left old old
+  no_more known [] old none queue = record { queue = queue; most = λ r. omega arith; times = λ r free. omega arith; first = λ each. each }
+  no_more known (zone ∷ left) old none queue = absurd (omega (arith, none))
 
   pub each_slot : (e : Entry) → IsKeyMember slots e → length e.0.choices ≡ length slots
   each_slot e is =
@@ -198,21 +274,21 @@ module _ (slots : List (List Cost)) where
         apart = λ r. let few = sources_apart slots r zones differ in omega (arith, few);
       })
 
-  all_members : (zones : List ZoneValue) (start new : List Entry) → start ≡ [] → HasMoreBy slots zones start new → ranked_members slots (zones_in new) ≡ ranked_members slots zones
+  all_members : (zones : List ZoneValue) (start new : List Entry) → start ≡ [] → HasMore slots zones start new → ranked_members slots (zones_in new) ≡ ranked_members slots zones
   all_members zones start new is has =
       one_list (ranked_members slots (zones_in new)) (ranked_members slots zones) (ranked_members_rise slots (zones_in new)) (ranked_members_rise slots zones)
       (λ r. among_ranked_members slots r (zones_in new)
-      ∙ ap (nat_lt 0) (has.times r ∙ ap (λ (es : List Entry). times_in slots r (zones_in es) + times_in slots r zones) is ∙ (let same : 0 + times_in slots r zones ≡ times_in slots r zones = omega arith in same))
+      ∙ ap (nat_lt 0) ((has []).times r refl ∙ ap (λ (es : List Entry). times_in slots r (zones_in es) + times_in slots r zones) is ∙ (let same : 0 + times_in slots r zones ≡ times_in slots r zones = omega arith in same))
       ∙ sym (among_ranked_members slots r zones))
 
-  pub all_are_left : (zones : List ZoneValue) (start new : List Entry) → start ≡ [] → HasMoreBy slots zones start new → left_in slots [] new ≡ ranked_members slots zones
+  pub all_are_left : (zones : List ZoneValue) (start new : List Entry) → start ≡ [] → HasMore slots zones start new → left_in slots [] new ≡ ranked_members slots zones
   all_are_left zones start new is has = filter_all (is_free_rank []) (ranked_members slots (zones_in new)) (λ r. refl) ∙ all_members zones start new is has
 
   -- zones that were put into an empty queue are kept by their first members, whatever is known
-  pub kept_at_start : (known : List (List Pair)) (zones : List ZoneValue) (start new : List Entry) → start ≡ [] → HasMoreBy slots zones start new → AreKeptBy slots known new
-  kept_at_start known zones start new is has = record { queue = has.queue; first = has.first known (subst (λ (es : List Entry). AllByRecursion (IsKeyFirst slots known) es) (sym is) tt) }
+  pub kept_at_start : (known : List (List Pair)) (zones : List ZoneValue) (start new : List Entry) → start ≡ [] → HasMore slots zones start new → AreKeptBy slots known new
+  kept_at_start known zones start new is has = record { queue = (has known).queue; first = (has known).first (subst (λ (es : List Entry). AllByRecursion (IsKeyFirst slots known) es) (sym is) tt) }
 
-  pub ready_at_start : (zones : List ZoneValue) (start new : List Entry) → start ≡ [] → HasMoreBy slots zones start new → IsReady slots [] new
+  pub ready_at_start : (zones : List ZoneValue) (start new : List Entry) → start ≡ [] → HasMore slots zones start new → IsReady slots [] new
   ready_at_start zones start new is has = record { kept = kept_at_start [] zones start new is has; front = free_of_none new }
     where
       free_of_none : (es : List Entry) → front_is_free [] es ≡ true
@@ -241,7 +317,7 @@ module _ (slots : List (List Cost)) where
       where
         by : (b : Bool) → ranks_in slots r e.1 ≡ b → (ranks_in slots r e.1 || nat_lt 0 (times_in slots r (zones_in es))) ≡ true
             → (nat_lt 0 (times_in slots r (zones_in es)) ≡ true → ranks_before r m ≡ false) → ranks_before r m ≡ false
-        by true here h later = none_before_on r e.0 m (each.0.first r here free) keys.0
+        by true here h later = none_before_on r e.0 m (none_first known e.0 e.1 each.0 r here free) keys.0
         by false here h later = later (sym (ap (λ b. b || nat_lt 0 (times_in slots r (zones_in es))) here) ∙ h)
 
     -- the first entry's key is the first of what is left
@@ -299,7 +375,7 @@ module _ (slots : List (List Cost)) where
         by r false free = refl
 
     -- what is left where these are known from the start
-    pub known_at_start : (zones : List ZoneValue) (start put new : List Entry) → start ≡ [] → HasMoreBy slots zones start put → HasSameFree slots known put new
+    pub known_at_start : (zones : List ZoneValue) (start put new : List Entry) → start ≡ [] → HasMore slots zones start put → HasSameFree slots known put new
         → left_in slots known new ≡ free_of known (ranked_members slots zones)
     known_at_start zones start put new is has same = same_left put new same ∙ ap (free_of known) (all_members zones start put is has)
 
@@ -320,25 +396,8 @@ module _ (slots : List (List Cost)) where
         by Equal rest = omega arith
         by Greater rest = omega (arith, rest)
 
-    free_member : (zone : ZoneValue) (r : Rank) → ranks_in slots r zone ≡ true → is_free_rank known r ≡ true → is_free_member slots zone known (candidate_of r) ≡ true
-    free_member zone r is free =
-        and_from (is_member slots zone (candidate_of r)) (is_free_rank known r) (and_parts (is_member slots zone (candidate_of r)) (nat_eq r.cost.0 (zone.base.0 + choices_cost slots r.choices)) is).0 free
-
-    least_free_ranks_in : (zone : ZoneValue) (k : Rank) → IsLeastFree slots zone known k → ranks_in slots k zone ≡ true
-    least_free_ranks_in zone k least =
-        and_from (is_member slots zone (candidate_of k)) (nat_eq k.cost.0 (zone.base.0 + choices_cost slots k.choices))
-        (and_parts (is_member slots zone (candidate_of k)) (is_free_rank known k) least.member).0
-        (eq-eqb k.cost.0 (zone.base.0 + choices_cost slots k.choices) (ap (λ (r : Rank). r.cost.0) least.is))
-
     least_free_is_free : (zone : ZoneValue) (k : Rank) → IsLeastFree slots zone known k → is_free_rank known k ≡ true
     least_free_is_free zone k least = (and_parts (is_member slots zone (candidate_of k)) (is_free_rank known k) least.member).1
-
-    least_free_is_first : (zone : ZoneValue) (k : Rank) → IsLeastFree slots zone known k → IsKeyFirst slots known (k, zone)
-    least_free_is_first zone k least =
-        record {
-          first = λ r is free.
-              subst (λ (q : Rank). ranks_before q k ≡ false) (sym (rank_of_member slots r zone is)) (least.first (candidate_of r) (free_member zone r is free));
-        }
 
     module _ (entries : List Entry) (k : Rank) (zone : ZoneValue) (es : List Entry) (is : entries ≡ (k, zone) ∷ es) (kept : AreKeptBy slots known entries) (front : front_is_free known entries ≡ false) where
       kept_so : AreKeptBy slots known ((k, zone) ∷ es)
@@ -352,7 +411,7 @@ module _ (slots : List (List Cost)) where
 
       pub looked_again : (found : Rank) (new : List Entry) → IsLeastFree slots zone known found → new ≡ insert_entry rank_cmp es found zone → LooksAgain slots known entries new
       looked_again found new least new_is =
-          let here : ranks_in slots found zone ≡ true = least_free_ranks_in zone found least in
+          let here : ranks_in slots found zone ≡ true = free_ranks_in known zone found least in
           let queue : IsQueue slots es = rest_of_queue (k, zone) es kept_so.queue in
           let none : times_in slots found (zones_in es) ≡ 0 = none_of es found zone here room in
           let fewer : stale_in known (insert_entry rank_cmp es found zone) ≤ stale_in known es = stale_inserted es found zone (least_free_is_free zone found least) in
@@ -361,7 +420,7 @@ module _ (slots : List (List Cost)) where
             same = record {
               kept = record {
                 queue = queue_inserted es found zone queue here room none;
-                first = first_inserted known es found zone kept_so.first.1 (least_free_is_first zone found least);
+                first = first_inserted known es found zone kept_so.first.1 (free_is_first known zone found least);
               };
               same = λ r free.
                   let times = times_inserted es found zone queue.members none r in
@@ -377,9 +436,8 @@ module _ (slots : List (List Cost)) where
             same = record {
               kept = record { queue = rest_of_queue (k, zone) es kept_so.queue; first = kept_so.first.1 };
               same = λ r free.
-                  let not_in : ranks_in slots r zone ≡ false = false_from_ne_true (ranks_in slots r zone) (λ in_it. both_ways (is_free_member slots zone known (candidate_of r)) (none.none (candidate_of r)) (free_member zone r in_it free)) in
                   let old : times_in slots r (zones_in entries) ≡ times_in slots r (zones_in ((k, zone) ∷ es)) = ap (λ (ds : List Entry). times_in slots r (zones_in ds)) is in
-                  let fewer : times_in slots r (zone ∷ zones_in es) ≡ times_in slots r (zones_in es) = times_none slots r zone (zones_in es) not_in in
+                  let fewer : times_in slots r (zone ∷ zones_in es) ≡ times_in slots r (zones_in es) = times_none slots r zone (zones_in es) (none_in known zone none r free) in
                   omega (arith, old, fewer);
             };
             fewer = (let one = one_stale in omega (arith, one));
@@ -389,7 +447,7 @@ module _ (slots : List (List Cost)) where
     not_stale_if_empty entries none stale = both_ways (front_is_free known entries) stale (no_front entries none)
 
     -- the first is left out
-    module _ (e : Entry) (es new : List Entry) (ready : IsReady slots known (e ∷ es)) (keys : NoKeyBefore e.0 es) (has : HasMoreBy slots (parts_of e.1 (pairs_of e.0.choices)) es new) where
+    module _ (e : Entry) (es new : List Entry) (ready : IsReady slots known (e ∷ es)) (keys : NoKeyBefore e.0 es) (has : HasMoreBy slots known (parts_of e.1 (pairs_of e.0.choices)) es new) where
       abbrev others : Rank → Bool
       others r = nat_lt 0 (times_in slots r (zones_in es))
 
@@ -457,11 +515,13 @@ module _ (slots : List (List Cost)) where
               or_false false = refl
 
       among_new : (r : Rank) → is_among r (left_in slots known new) ≡ (is_free_rank known r && (others r || stays slots r e.1 own))
-      among_new r =
-          among_left new r
-          ∙ ap (λ b. is_free_rank known r && b)
-          (ap (nat_lt 0) (has.times r ∙ ap (λ n. times_in slots r (zones_in es) + n) (parts_times slots r (length e.1.masks) e.1 own refl loses.within))
-          ∙ some_with slots (times_in slots r (zones_in es)) (stays slots r e.1 own))
+      among_new r = among_left new r ∙ by (is_free_rank known r) refl
+        where
+          by : (b : Bool) → is_free_rank known r ≡ b → (b && nat_lt 0 (times_in slots r (zones_in new))) ≡ (b && (others r || stays slots r e.1 own))
+          by true free =
+              ap (nat_lt 0) (has.times r free ∙ ap (λ n. times_in slots r (zones_in es) + n) (parts_times slots r (length e.1.masks) e.1 own refl loses.within))
+              ∙ some_with slots (times_in slots r (zones_in es)) (stays slots r e.1 own)
+          by false free = refl
 
       swap : (f s x : Bool) → (f && (not s && x)) ≡ (not s && (f && x))
       swap true s x = refl
@@ -479,10 +539,10 @@ module _ (slots : List (List Cost)) where
           ∙ sym (ap (drop 1) split.1)
 
       drops : DropsFirst slots known (e ∷ es) new
-      drops = record { kept = record { queue = has.queue; first = has.first known ready.kept.first.1 }; left = dropped }
+      drops = record { kept = record { queue = has.queue; first = has.first ready.kept.first.1 }; left = dropped }
 
     pub drops_first : (entries : List Entry) (e : Entry) (es new : List Entry) → entries ≡ e ∷ es → All (λ q. rank_cmp e.0 q ≡ Less) (keys_of es)
-        → HasMoreBy slots (parts_of e.1 (pairs_of e.0.choices)) es new → IsReady slots known entries → DropsFirst slots known entries new
+        → HasMoreBy slots known (parts_of e.1 (pairs_of e.0.choices)) es new → IsReady slots known entries → DropsFirst slots known entries new
     drops_first entries e es new is above has ready =
         subst (λ (ds : List Entry). DropsFirst slots known ds new) (sym is) (drops e es new (subst (λ (ds : List Entry). IsReady slots known ds) is ready) (keys_above e.0 es above) has)
 
@@ -524,7 +584,7 @@ module _ (slots : List (List Cost)) where
       where
         on : (es : List Entry) → AllByRecursion (IsKeyFirst slots known) es → AllByRecursion (IsKeyFirst slots more) es
         on [] each = tt
-        on (e ∷ es) each = (record { first = λ r is free. each.0.first r is (free_before known conflict r free) }, on es each.1)
+        on (e ∷ es) each = (record { others = each.0.others; among = among_more each.0.others known conflict each.0.among; first = each.0.first }, on es each.1)
 
     abbrev lacks : Rank → Bool
     lacks r = not (contains_all r.choices conflict)
@@ -547,9 +607,12 @@ module _ (slots : List (List Cost)) where
 
   -- a call's zones are those that were held, and its conflicts those that are known
   module _ (known asked : List (List Pair)) (held old new : List Entry) (taken : old ≡ held) where
-    pub drop_is : (mid : List Entry) → asked ≡ known → DropsFirst slots known old mid → HasSameFree slots asked mid new → left_in slots known new ≡ drop 1 (left_in slots known held)
+    pub ready_is : asked ≡ known → IsReady slots known held → IsReady slots asked old
+    ready_is is ready = subst (λ (ks : List (List Pair)). IsReady slots ks old) (sym is) (subst (λ (es : List Entry). IsReady slots known es) (sym taken) ready)
+
+    pub drop_is : (mid : List Entry) → asked ≡ known → DropsFirst slots asked old mid → HasSameFree slots asked mid new → left_in slots known new ≡ drop 1 (left_in slots known held)
     drop_is mid is drops same =
-        dropped_and_looked known old mid new drops (subst (λ (ks : List (List Pair)). HasSameFree slots ks mid new) is same) ∙ ap (λ (es : List Entry). drop 1 (left_in slots known es)) taken
+        subst (λ (ks : List (List Pair)). left_in slots ks new ≡ drop 1 (left_in slots ks old)) is (dropped_and_looked asked old mid new drops same) ∙ ap (λ (es : List Entry). drop 1 (left_in slots known es)) taken
 
     pub split_keeps : (conflict : List Pair) → asked ≡ known ++ conflict ∷ [] → AreKeptBy slots known held → AreKeptBy slots asked old
     split_keeps conflict is kept =

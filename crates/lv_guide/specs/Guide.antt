@@ -1,12 +1,13 @@
 -- Zones in a queue, each kept by the rank of a member, and what is left of their members where some conflicts are known.
-use Rattle.std.specs.Prelude.{◌≡◌, ℕ, ◌+◌, ◌<◌, ◌≤◌, Bool, true, false, List, [], ◌∷◌, ◌++◌, map, drop, if◌then◌else◌, Option, Some, None}
+use Rattle.std.specs.Prelude.{◌≡◌, ℕ, ◌+◌, ◌<◌, ◌≤◌, Bool, true, List, [], ◌∷◌, map, drop, if◌then◌else◌, Option, Some, None}
 use Rattle.std.specs.List.{AllByRecursion}
 use Rattle.lv_base.specs.declared.ids.Cost.{Cost}
 use Rattle.lv_base.specs.declared.rank.Rank.{Rank}
 use Rattle.lv_base.specs.declared.search.Pair.{Pair}
-use Rattle.lv_base.specs.Rank.{ranks_before}
 use Rattle.lv_boxes.specs.Members.{ZoneValue}
 use Rattle.lv_boxes.specs.RankedMembers.{ranked_members, ranks_in, times_in, AreApart}
+use Rattle.lv_search_guide.specs.Free.{IsLeastFree}
+use Rattle.lv_search_guide.specs.Near.{AreAmong, IsFirstNear}
 use Rattle.lv_search.specs.Frontier.{LeavesOut}
 use Rattle.lv_search.specs.Free.{is_free_rank, free_of}
 
@@ -22,9 +23,11 @@ left_in slots known entries = free_of known (ranked_members slots (zones_in entr
 abbrev pub IsKeyMember : List (List Cost) → Rank × ZoneValue → Type 0
 IsKeyMember slots e = ranks_in slots e.0 e.1 ≡ true
 
--- before which no member ranks that contains no known conflict
+-- which is the first that contains none of some of the known conflicts
 pub record IsKeyFirst (slots : List (List Cost)) (known : List (List Pair)) (e : Rank × ZoneValue) : Type 0 where
-  pub first : (r : Rank) → ranks_in slots r e.1 ≡ true → is_free_rank known r ≡ true → ranks_before r e.0 ≡ false
+  pub others : List (List Pair)
+  pub among : AreAmong others known
+  pub first : IsLeastFree slots e.1 others e.0
 
 -- each zone is kept by the rank of a member, and no two share a member
 pub record IsQueue (slots : List (List Cost)) (entries : List (Rank × ZoneValue)) : Type 0 where
@@ -44,22 +47,25 @@ pub record IsReady (slots : List (List Cost)) (known : List (List Pair)) (entrie
   pub kept : AreKeptBy slots known entries
   pub front : front_is_free known entries ≡ true
 
--- so it was before the newest of the known conflicts was
-pub record IsReadyBefore (slots : List (List Cost)) (known : List (List Pair)) (newest : List Pair) (entries : List (Rank × ZoneValue)) : Type 0 where
-  pub others : List (List Pair)
-  pub last : known ≡ others ++ newest ∷ []
-  pub ready : IsReady slots others entries
+-- the rank is that of the first member without a known conflict of a zone that has all choices of these, each on its own
+abbrev pub AreNear : List (List Cost) → List (List Pair) → Rank → List ZoneValue → Type 0
+AreNear slots known rank zones = AllByRecursion (λ zone. IsFirstNear slots zone known rank) zones
 
 -- there is room for these zones
 pub record HasRoomBy (slots : List (List Cost)) (more : List ZoneValue) (old : List (Rank × ZoneValue)) : Type 0 where
   pub queue : IsQueue slots old
   pub apart : (r : Rank) → times_in slots r (zones_in old) + times_in slots r more ≤ 1
 
--- there are these zones more, each kept by a member before which no other member ranks
-pub record HasMoreBy (slots : List (List Cost)) (more : List ZoneValue) (old new : List (Rank × ZoneValue)) : Type 0 where
+-- there are these zones more, where they have members that contain no known conflict
+pub record HasMoreBy (slots : List (List Cost)) (known : List (List Pair)) (more : List ZoneValue) (old new : List (Rank × ZoneValue)) : Type 0 where
   pub queue : IsQueue slots new
-  pub times : (r : Rank) → times_in slots r (zones_in new) ≡ times_in slots r (zones_in old) + times_in slots r more
-  pub first : (known : List (List Pair)) → AllByRecursion (IsKeyFirst slots known) old → AllByRecursion (IsKeyFirst slots known) new
+  pub most : (r : Rank) → times_in slots r (zones_in new) ≤ times_in slots r (zones_in old) + times_in slots r more
+  pub times : (r : Rank) → is_free_rank known r ≡ true → times_in slots r (zones_in new) ≡ times_in slots r (zones_in old) + times_in slots r more
+  pub first : AllByRecursion (IsKeyFirst slots known) old → AllByRecursion (IsKeyFirst slots known) new
+
+-- and so whatever is known
+abbrev pub HasMore : List (List Cost) → List ZoneValue → List (Rank × ZoneValue) → List (Rank × ZoneValue) → Type 0
+HasMore slots more old new = (known : List (List Pair)) → HasMoreBy slots known more old new
 
 -- the zones have the same members that contain no known conflict
 pub record HasSameFree (slots : List (List Cost)) (known : List (List Pair)) (old new : List (Rank × ZoneValue)) : Type 0 where

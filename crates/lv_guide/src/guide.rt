@@ -1,27 +1,27 @@
-//! What is left to try as zones in a queue. A zone is kept by the rank of a member before which none of its members ranks
-//! that contains no known conflict: at first its least member, whatever that contains. When that member has come to the
-//! front and contains a known conflict, the zone is split by it, so many times in all. Once these splits are used up,
-//! there are too many zones: they are left for those that there were before any split by a conflict, and from then on the
-//! first member without a known conflict is looked for in the zone at the front, which no conflict splits.
+//! What is left to try as zones in a queue. A zone is kept by the rank of its first member that contains none of some of the
+//! known conflicts: at first its least member, whatever that contains. When that member has come to the front and contains
+//! a known conflict, the zone is split by it, so many times in all. Once these splits are used up, there are too many
+//! zones: they are left for those that there were before any split by a conflict, and from then on no conflict splits a
+//! zone: the first member without a known conflict is looked for in the zone at the front, from the member that it is
+//! kept by, and in each part of a zone of which a member was listed, from that member.
 #![tactic(auto)]
 
-ghost use Rattle.std.specs.Prelude.{◌≡◌, true, false, not, List, IfOk, IfSome, OnOk, None, find, is_none, length, [], ◌∷◌};
+ghost use Rattle.std.specs.Prelude.{◌≡◌, true, false, not, IfOk, IfSome, OnOk, None, find, is_none, length, [], ◌∷◌};
 ghost use Rattle.std.specs.Option.{option_copied};
 ghost use Rattle.lv_base.specs.Choices.{contains_all};
-ghost use Rattle.lv_base.specs.declared.search.Pair.{Pair};
 ghost use Rattle.lv_boxes.specs.GroupParts.{have_shape};
 ghost use Rattle.lv_boxes.specs.Laws.{pairs_of};
 ghost use Rattle.lv_boxes.specs.Least.{lacks_choice};
 ghost use Rattle.lv_boxes.specs.RankedMembers.{IsLeastRank, ranked_members, sources_differ};
 ghost use Rattle.lv_search_walk.specs.Walk.{is_ruled_out};
 ghost use Rattle.lv_search.specs.Free.{free_of};
-ghost use Rattle.lv_guide.specs.Guide.{IsQueue, AreKeptBy, IsReady, IsReadyBefore, HasMoreBy, HasRoomBy, HasSameFree, LooksAgain, DropsFirst, DropsAlike, WholeTells, front_is_free};
+ghost use Rattle.lv_search_guide.specs.Near.{IsFirstNear};
+ghost use Rattle.lv_guide.specs.Guide.{AreKeptBy, AreNear, IsReady, HasMore, HasMoreBy, HasRoomBy, HasSameFree, LooksAgain, DropsFirst, DropsAlike, WholeTells, front_is_free};
 
 use lv_base::{Conflict, Rank, Seq, contains};
 use lv_boxes::{Grid, Groups, Zone, choices_as_conflict, split, split_by_groups};
 use lv_search::Frontier;
-use lv_search_guide::after::least_free_after;
-use lv_search_guide::least_free::least_free;
+use lv_search_guide::near::least_free_near;
 use std::alloc::{AllocError, Global};
 use std::collections::BTreeMap;
 use std::marker::Model;
@@ -164,7 +164,7 @@ fn put(
     zone: Zone,
 ) -> Result<(), AllocError>
     requires { HasRoomBy grid.now (zone ∷ []) queue.old.entries }
-    ensures { OnOk result (HasMoreBy grid.now (zone ∷ []) queue.old.entries queue.new.entries) }
+    ensures { OnOk result (HasMore grid.now (zone ∷ []) queue.old.entries queue.new.entries) }
 {
     if let Some(rank) = least_of(alloc, grid, &zone)? {
         queue.insert(rank, zone)?;
@@ -180,10 +180,49 @@ fn put_all(
     zones: Vec<Zone>,
 ) -> Result<(), AllocError>
     requires { HasRoomBy grid.now zones.items queue.old.entries }
-    ensures { OnOk result (HasMoreBy grid.now zones.items queue.old.entries queue.new.entries) }
+    ensures { OnOk result (HasMore grid.now zones.items queue.old.entries queue.new.entries) }
 {
     for zone in zones {
         put(alloc, grid, queue, zone)?;
+    }
+    Ok(())
+}
+
+/// Puts a zone into the queue by its first member that contains no known conflict, if it has one, looked for from the
+/// first of a zone that has all its choices.
+fn put_near(
+    alloc: Global,
+    grid: &Grid,
+    known: &[Conflict],
+    queue: &mut BTreeMap<Rank, Zone>,
+    zone: Zone,
+    near: &Rank,
+) -> Result<(), AllocError>
+    requires room { HasRoomBy grid.now (zone ∷ []) queue.old.entries }
+    requires near { IsFirstNear grid.now zone known.now near.now }
+    ensures { OnOk result (HasMoreBy grid.now known.now (zone ∷ []) queue.old.entries queue.new.entries) }
+{
+    if let Some(rank) = least_free_near(alloc, grid, &zone, known, near)? {
+        queue.insert(rank, zone)?;
+    }
+    Ok(())
+}
+
+/// As `put_near`, each of these zones.
+fn put_all_near(
+    alloc: Global,
+    grid: &Grid,
+    known: &[Conflict],
+    queue: &mut BTreeMap<Rank, Zone>,
+    zones: Vec<Zone>,
+    near: &Rank,
+) -> Result<(), AllocError>
+    requires room { HasRoomBy grid.now zones.items queue.old.entries }
+    requires near { AreNear grid.now known.now near.now zones.items }
+    ensures { OnOk result (HasMoreBy grid.now known.now zones.items queue.old.entries queue.new.entries) }
+{
+    for zone in zones {
+        put_near(alloc, grid, known, queue, zone, near)?;
     }
     Ok(())
 }
@@ -236,7 +275,7 @@ fn look_again(
     ensures { OnOk result (LooksAgain grid.now known.now queue.old.entries queue.new.entries) }
 {
     match queue.pop_first() {
-        Some((_, zone)) => match least_free(alloc, grid, &zone, known)? {
+        Some((before, zone)) => match least_free_near(alloc, grid, &zone, known, &before)? {
             Some(rank) => {
                 queue.insert(rank, zone)?;
                 Ok(())
@@ -245,53 +284,6 @@ fn look_again(
         },
         None => Ok(()),
     }
-}
-
-/// As `look_again`, where the first zone is kept by its first member that contains none but the newest.
-fn look_after(
-    alloc: Global,
-    grid: &Grid,
-    known: &[Conflict],
-    newest: &Conflict,
-    queue: &mut BTreeMap<Rank, Zone>,
-) -> Result<(), AllocError>
-    requires kept { AreKeptBy grid.now known.now queue.old.entries }
-    requires before { IsReadyBefore grid.now known.now newest.now queue.old.entries }
-    requires stale { front_is_free known.now queue.old.entries ≡ false }
-    ensures { OnOk result (HasSameFree grid.now known.now queue.old.entries queue.new.entries) }
-{
-    match queue.pop_first() {
-        Some((before, zone)) => {
-            match least_free_after(alloc, grid, &zone, known, newest, &before)? {
-                Some(rank) => {
-                    queue.insert(rank, zone)?;
-                    Ok(())
-                }
-                None => Ok(()),
-            }
-        }
-        None => Ok(()),
-    }
-}
-
-/// Where no zone may be split any more and the first is kept by a member that contains the newest conflict, keeps it by its
-/// first that contains none, or no longer, where it has none.
-fn look_first(
-    alloc: Global,
-    grid: &Grid,
-    known: &[Conflict],
-    newest: &Conflict,
-    queue: &mut BTreeMap<Rank, Zone>,
-    splits: u64,
-) -> Result<(), AllocError>
-    requires kept { AreKeptBy grid.now known.now queue.old.entries }
-    requires before { IsReadyBefore grid.now known.now newest.now queue.old.entries }
-    ensures { OnOk result (HasSameFree grid.now known.now queue.old.entries queue.new.entries) }
-{
-    if splits > 0 || !is_stale(queue, known) {
-        return Ok(());
-    }
-    look_after(alloc, grid, known, newest, queue)
 }
 
 /// Looks again until the first zone is kept by a member that contains no known conflict.
@@ -425,38 +417,58 @@ fn go_ahead(
     Ok(())
 }
 
-/// Puts the parts of the first zone without the member that it is kept by into the queue.
+/// Puts the parts of the first zone without the member that it is kept by into the queue: by their least members while
+/// zones may be split, and else by the first that contain no known conflict.
 fn part_first(
     alloc: Global,
     grid: &Grid,
+    known: &[Conflict],
     queue: &mut BTreeMap<Rank, Zone>,
+    splits: u64,
 ) -> Result<(), AllocError>
-    requires { IsQueue grid.now queue.old.entries }
-    ensures { (known : List (List Pair)) → IsReady grid.now known queue.old.entries → OnOk result (DropsFirst grid.now known queue.old.entries queue.new.entries) }
+    requires { IsReady grid.now known.now queue.old.entries }
+    ensures { OnOk result (DropsFirst grid.now known.now queue.old.entries queue.new.entries) }
 {
-    if let Some((rank, zone)) = queue.pop_first() {
-        let own = own_choices(alloc, grid, &rank)?;
-        put_all(alloc, grid, queue, split(alloc, &zone, &own)?)?;
+    match queue.pop_first() {
+        Some((rank, zone)) => {
+            let own = own_choices(alloc, grid, &rank)?;
+            let parts = split(alloc, &zone, &own)?;
+            if splits > 0 {
+                put_all(alloc, grid, queue, parts)?;
+                return Ok(());
+            }
+            put_all_near(alloc, grid, known, queue, parts, &rank)?;
+            Ok(())
+        }
+        None => Ok(()),
     }
-    Ok(())
 }
 
-/// Puts the parts of the first zone without the members that have the target of the one that it is kept by into the queue.
+/// As `part_first`, without the members that have the target of the one that the first zone is kept by.
 fn part_alike(
     alloc: Global,
     grid: &Grid,
+    known: &[Conflict],
     queue: &mut BTreeMap<Rank, Zone>,
     groups: &Groups,
+    splits: u64,
 ) -> Result<(), AllocError>
-    requires queue { IsQueue grid.now queue.old.entries }
+    requires ready { IsReady grid.now known.now queue.old.entries }
     requires shape { have_shape grid.now groups.now ≡ true }
-    ensures { (known : List (List Pair)) → IsReady grid.now known queue.old.entries → OnOk result (DropsAlike grid.now known groups.now queue.old.entries queue.new.entries) }
+    ensures { OnOk result (DropsAlike grid.now known.now groups.now queue.old.entries queue.new.entries) }
 {
-    if let Some((rank, zone)) = queue.pop_first() {
-        let parts = split_by_groups(alloc, &zone, groups, rank.choices.as_slice())?;
-        put_all(alloc, grid, queue, parts)?;
+    match queue.pop_first() {
+        Some((rank, zone)) => {
+            let parts = split_by_groups(alloc, &zone, groups, rank.choices.as_slice())?;
+            if splits > 0 {
+                put_all(alloc, grid, queue, parts)?;
+                return Ok(());
+            }
+            put_all_near(alloc, grid, known, queue, parts, &rank)?;
+            Ok(())
+        }
+        None => Ok(()),
     }
-    Ok(())
 }
 
 impl Frontier for Guide {
@@ -473,14 +485,9 @@ impl Frontier for Guide {
         let mut queue = mem::replace(&mut self.queue, BTreeMap::new(self.alloc));
         let mut course = mem::replace(&mut self.course, Course::over());
         course.whole = None;
-        part_first(self.alloc, &self.grid, &mut queue)?;
-        go_ahead(
-            self.alloc,
-            &self.grid,
-            self.known.as_slice(),
-            &mut queue,
-            &mut course,
-        )?;
+        let known = self.known.as_slice();
+        part_first(self.alloc, &self.grid, known, &mut queue, course.splits)?;
+        go_ahead(self.alloc, &self.grid, known, &mut queue, &mut course)?;
         self.queue = queue;
         self.course = course;
         Ok(())
@@ -493,8 +500,6 @@ impl Frontier for Guide {
         self.known
             .push(Conflict::from_pairs(self.alloc, conflict.pairs())?)?;
         let known = self.known.as_slice();
-        let splits = course.splits;
-        look_first(self.alloc, &self.grid, known, conflict, &mut queue, splits)?;
         go_ahead(self.alloc, &self.grid, known, &mut queue, &mut course)?;
         self.queue = queue;
         self.course = course;
@@ -508,14 +513,10 @@ impl Frontier for Guide {
         let mut queue = mem::replace(&mut self.queue, BTreeMap::new(self.alloc));
         let mut course = mem::replace(&mut self.course, Course::over());
         course.whole = None;
-        part_alike(self.alloc, &self.grid, &mut queue, groups)?;
-        go_ahead(
-            self.alloc,
-            &self.grid,
-            self.known.as_slice(),
-            &mut queue,
-            &mut course,
-        )?;
+        let known = self.known.as_slice();
+        let splits = course.splits;
+        part_alike(self.alloc, &self.grid, known, &mut queue, groups, splits)?;
+        go_ahead(self.alloc, &self.grid, known, &mut queue, &mut course)?;
         self.queue = queue;
         self.course = course;
         Ok(())

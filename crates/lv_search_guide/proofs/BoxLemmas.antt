@@ -3,6 +3,7 @@ use Rattle.std.proofs.Common.{◌≡◌, ◌≢◌, ℕ, ◌+◌, ◌*◌, ◌^�
 use Rattle.std.specs.Prelude.{slice_index, slice_set, find, sum, bit_and, bit_xor}
 use Rattle.std.specs.List.{list_all, list_any}
 use Rattle.std.specs.Int.Bits.{xor_add_and, and_self}
+use Rattle.std.proofs.lemmas.Nat.Bits.{bit_at-zero}
 use Rattle.std.proofs.lemmas.Nat.{and_assoc, and_le_l}
 use Rattle.std.proofs.lemmas.Bool.{and_from, and_parts, or_left, or_right, eqb-true, eq-eqb, ltb-true, cases_eq}
 use Rattle.std.proofs.lemmas.List.{set-get_or}
@@ -11,7 +12,7 @@ use Rattle.lv_base.specs.declared.ids.Cost.{Cost}
 use Rattle.lv_base.specs.declared.search.Pair.{Pair}
 use Rattle.lv_base.specs.declared.search.Candidate.{Candidate}
 use Rattle.lv_base.specs.Choices.{picks, contains_all}
-use Rattle.lv_boxes.specs.Masks.{only_choice, without_choice}
+use Rattle.lv_boxes.specs.Masks.{has_choice, only_choice, without_choice}
 use Rattle.lv_boxes.specs.Members.{ZoneValue, are_left}
 use Rattle.lv_boxes.specs.Parts.{masks_with, masks_without}
 use Rattle.lv_boxes.proofs.PartsLemmas.{is_member-with, is_member-without}
@@ -68,6 +69,10 @@ free_is_left slots conflicts masks choices h = (and_parts (are_left slots masks 
 pub free_from : (slots : List (List Cost)) (conflicts : List (List Pair)) (masks choices : List ℕ) → are_left slots masks choices ≡ true → is_ruled_out conflicts choices ≡ false
     → is_free slots conflicts masks choices ≡ true
 free_from slots conflicts masks choices left misses = rw (left, misses) refl
+
+-- no choice is left of none
+pub none_of_zero : (choice : ℕ) → has_choice 0 choice ≡ false
+none_of_zero choice = ap (λ n. nat_eq n 1) (bit_at-zero choice)
 
 -- there is one choice for each slot
 pub length-left : (slots : List (List Cost)) (masks choices : List ℕ) → are_left slots masks choices ≡ true → length choices ≡ length slots

@@ -2,7 +2,6 @@
 use Rattle.std.proofs.Common.{◌≡◌, ◌≢◌, ℕ, zero, suc, ◌+◌, ◌<◌, ◌≤◌, Bool, true, false, not, nat_lt, nat_eq, ◌&&◌, ◌||◌, List, [], ◌∷◌, length, cond, Option, Some, None, ◌⊎◌, inl, inr, refl, sym, ◌∙◌, subst, arith}
 use Rattle.std.specs.Prelude.{slice_index, slice_index_or, slice_set, sum}
 use Rattle.std.proofs.lemmas.Bool.{and_from, and_parts, eqb-true, lt-ltb, ltb-true, false_from_ne_true, cases_eq, cases_lt}
-use Rattle.std.proofs.lemmas.Nat.Bits.{bit_at_above}
 use Rattle.std.proofs.lemmas.List.{set-get_or, get_or_past}
 use Rattle.lv_base.specs.declared.ids.Cost.{Cost}
 use Rattle.lv_base.specs.declared.search.Pair.{Pair}
@@ -16,7 +15,7 @@ use Rattle.lv_search_guide.specs.declared.look.Member.{Member}
 use Rattle.lv_search_guide.specs.Boxes.{is_free, has_left}
 use Rattle.lv_search_guide.specs.Lowest.{LowestTells}
 use Rattle.lv_search_guide.specs.First.{KeepsFirst, KeepsFirstOfLess, DropsTells, AreLoose, ranks_first, IsKeptBefore, IsKeptLoose}
-use Rattle.lv_search_guide.proofs.BoxLemmas.{free_from, length-left, smaller, without_and_only}
+use Rattle.lv_search_guide.proofs.BoxLemmas.{free_from, length-left, none_of_zero, smaller, without_and_only}
 use Rattle.lv_search_guide.proofs.PriceLemmas.{left_at}
 
 clash : (b : Bool) → b ≡ true → b ≡ false → ⊥
@@ -164,9 +163,6 @@ module _ (slots : List (List Cost)) (conflicts : List (List Pair)) (masks loose 
   abbrev put : List ℕ → List ℕ
   put choices = slice_set choices s k.first
 
-  has_none : (c : ℕ) → has_choice 0 c ≡ false
-  has_none c = rw (bit_at_above 0 0 c (omega arith) (omega arith)) refl
-
   has_loose : has_left loose (record { slot = s; choice = k.first }) ≡ true
   has_loose = and_from (nat_lt s (length loose)) (has_choice (slice_index loose s) k.first) (by (cases_lt s (length loose))) k.is.loose_too
     where
@@ -175,7 +171,7 @@ module _ (slots : List (List Cost)) (conflicts : List (List Pair)) (masks loose 
       by (inr past) =
           let none : slice_index loose s ≡ 0 = get_or_past loose s 0 past in
           let has : has_choice 0 k.first ≡ true = subst (λ (n : ℕ). has_choice n k.first ≡ true) none k.is.loose_too in
-          absurd (clash (has_choice 0 k.first) has (has_none k.first))
+          absurd (clash (has_choice 0 k.first) has (none_of_zero k.first))
 
   stands_in : (choices : List ℕ) → is_free slots conflicts masks choices ≡ true → StandsIn slots conflicts new choices
   stands_in choices free = by (has_choice kept (slice_index choices s)) refl

@@ -9,4 +9,4 @@ pub mod SlotLemmas
 pub mod FirstLemmas
 pub mod LooseLemmas
 pub mod PartLemmas
-pub mod AfterLemmas
+pub mod NearLemmas

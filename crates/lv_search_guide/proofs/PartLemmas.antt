@@ -2,7 +2,7 @@
 use Rattle.std.proofs.Common.{◌≡◌, ℕ, ◌+◌, ◌≤◌, Bool, true, false, not, nat_lt, nat_eq, ◌&&◌, ◌||◌, List, [], ◌∷◌, length, map, Option, Some, None, refl, sym, ◌∙◌, ap, subst, arith}
 use Rattle.std.specs.Prelude.{All}
 use Rattle.std.specs.List.{list_all}
-use Rattle.std.proofs.lemmas.Bool.{and_from, and_parts, or_parts, eq-eqb, false_from_ne_true, not-true}
+use Rattle.std.proofs.lemmas.Bool.{and_from, and_parts, or_right, or_parts, eq-eqb, false_from_ne_true, not-true}
 use Rattle.lv_base.specs.declared.ids.Cost.{Cost}
 use Rattle.lv_base.specs.declared.search.Pair.{Pair}
 use Rattle.lv_base.specs.Choices.{contains_all}
@@ -77,27 +77,38 @@ inner_skip marks k ks ys out = rw out refl
 outside_from : (marks : List Bool) (k : List Pair) → is_whole marks k ≡ true → is_inside marks k ≡ false → is_outside marks k ≡ true
 outside_from marks k whole out = let h : (false || is_outside marks k) ≡ true = rw out at whole in h
 
-unruled_put : (marks : List Bool) (ys xs : List ℕ) (ks : List (List Pair)) → length marks ≡ length xs → length ys ≡ length (only marks xs) → list_all (is_whole marks) ks ≡ true
-    → is_ruled_out (inner_of marks ks) ys ≡ false → is_ruled_out ks xs ≡ false → is_ruled_out ks (put_in marks ys xs) ≡ false
+-- none that isn't inside is contained
+abbrev pub clear_outside : List Bool → List ℕ → List Pair → Bool
+clear_outside marks xs k = is_inside marks k || not (contains_all xs k)
+
+pub clear_if_unruled : (marks : List Bool) (xs : List ℕ) (ks : List (List Pair)) → is_ruled_out ks xs ≡ false → list_all (clear_outside marks xs) ks ≡ true
+clear_if_unruled marks xs [] outer = refl
+clear_if_unruled marks xs (k ∷ ks) outer =
+    let parts = or_parts (contains_all xs k) (is_ruled_out ks xs) outer in
+    and_from (clear_outside marks xs k) (list_all (clear_outside marks xs) ks) (or_right (is_inside marks k) (not (contains_all xs k)) (ap not parts.0)) (clear_if_unruled marks xs ks parts.1)
+
+pub unruled_put : (marks : List Bool) (ys xs : List ℕ) (ks : List (List Pair)) → length marks ≡ length xs → length ys ≡ length (only marks xs) → list_all (is_whole marks) ks ≡ true
+    → is_ruled_out (inner_of marks ks) ys ≡ false → list_all (clear_outside marks xs) ks ≡ true → is_ruled_out ks (put_in marks ys xs) ≡ false
 unruled_put marks ys xs [] same long whole inner outer = refl
 unruled_put marks ys xs (k ∷ ks) same long whole inner outer =
-    by (is_inside marks k) refl (λ i o. unruled_put marks ys xs ks same long (and_parts (is_whole marks k) (list_all (is_whole marks) ks) whole).1 i o)
+    by (is_inside marks k) refl outers.0 (λ i. unruled_put marks ys xs ks same long wholes.1 i outers.1)
   where
     wholes : (is_whole marks k ≡ true) × (list_all (is_whole marks) ks ≡ true)
     wholes = and_parts (is_whole marks k) (list_all (is_whole marks) ks) whole
 
-    outers : (contains_all xs k ≡ false) × (is_ruled_out ks xs ≡ false)
-    outers = or_parts (contains_all xs k) (is_ruled_out ks xs) outer
+    outers : (clear_outside marks xs k ≡ true) × (list_all (clear_outside marks xs) ks ≡ true)
+    outers = and_parts (clear_outside marks xs k) (list_all (clear_outside marks xs) ks) outer
 
-    by : (b : Bool) → is_inside marks k ≡ b → (is_ruled_out (inner_of marks ks) ys ≡ false → is_ruled_out ks xs ≡ false → is_ruled_out ks (put_in marks ys xs) ≡ false)
+    by : (b : Bool) → is_inside marks k ≡ b → (is_inside marks k || not (contains_all xs k)) ≡ true → (is_ruled_out (inner_of marks ks) ys ≡ false → is_ruled_out ks (put_in marks ys xs) ≡ false)
         → is_ruled_out (k ∷ ks) (put_in marks ys xs) ≡ false
-    by true inside rest =
+    by true inside clear rest =
         let inners = or_parts (contains_all ys (map (pair_in marks) k)) (is_ruled_out (inner_of marks ks) ys) (sym (inner_cons marks k ks ys inside) ∙ inner) in
-        ruled_cons k ks (put_in marks ys xs) (contains_inside marks ys xs k same long inside ∙ inners.0) (rest inners.1 outers.1)
-    by false out rest =
-        ruled_cons k ks (put_in marks ys xs) (contains_outside marks ys xs k same long (outside_from marks k wholes.0 out) ∙ outers.0) (rest (sym (inner_skip marks k ks ys out) ∙ inner) outers.1)
+        ruled_cons k ks (put_in marks ys xs) (contains_inside marks ys xs k same long inside ∙ inners.0) (rest inners.1)
+    by false out clear rest =
+        let lacks : contains_all xs k ≡ false = not-true (contains_all xs k) (sym (ap (λ b. b || not (contains_all xs k)) out) ∙ clear) in
+        ruled_cons k ks (put_in marks ys xs) (contains_outside marks ys xs k same long (outside_from marks k wholes.0 out) ∙ lacks) (rest (sym (inner_skip marks k ks ys out) ∙ inner))
 
-unruled_only : (marks : List Bool) (xs : List ℕ) (ks : List (List Pair)) → length marks ≡ length xs → is_ruled_out ks xs ≡ false → is_ruled_out (inner_of marks ks) (only marks xs) ≡ false
+pub unruled_only : (marks : List Bool) (xs : List ℕ) (ks : List (List Pair)) → length marks ≡ length xs → is_ruled_out ks xs ≡ false → is_ruled_out (inner_of marks ks) (only marks xs) ≡ false
 unruled_only marks xs [] same outer = refl
 unruled_only marks xs (k ∷ ks) same outer = by (is_inside marks k) refl (unruled_only marks xs ks same (or_parts (contains_all xs k) (is_ruled_out ks xs) outer).1)
   where
@@ -116,7 +127,7 @@ module _ (slots : List (List Cost)) (live : List (List Pair)) (masks : List ℕ)
   as_long : (xs : List ℕ) → are_left slots masks xs ≡ true → length marks ≡ length xs
   as_long xs h = part.long ∙ sym (length-left slots masks xs h)
 
-  only_free : (xs : List ℕ) → is_free slots live masks xs ≡ true → is_free (only marks slots) (inner_of marks live) (only marks masks) (only marks xs) ≡ true
+  pub only_free : (xs : List ℕ) → is_free slots live masks xs ≡ true → is_free (only marks slots) (inner_of marks live) (only marks masks) (only marks xs) ≡ true
   only_free xs free =
       let parts = and_parts (are_left slots masks xs) (not (is_ruled_out live xs)) free in
       free_from (only marks slots) (inner_of marks live) (only marks masks) (only marks xs) (left_only marks slots masks xs part.long parts.0)
@@ -142,7 +153,7 @@ module _ (slots : List (List Cost)) (live : List (List Pair)) (masks : List ℕ)
           record {
             other = put_in marks ys xs;
             free = free_from slots live (fixed marks ys masks) (put_in marks ys xs) (fixed_put marks slots masks ys xs part.long x_left y_left)
-                (unruled_put marks ys xs live (as_long xs x_left) long part.whole y_free (not-true (is_ruled_out live xs) parts.1));
+                (unruled_put marks ys xs live (as_long xs x_left) long part.whole y_free (clear_if_unruled marks xs live (not-true (is_ruled_out live xs) parts.1)));
             cheap = omega (arith, sums, low);
             order = λ same. false_from_ne_true (comes_before xs (put_in marks ys xs)) (λ h.
                 clash (comes_before (only marks xs) ys)

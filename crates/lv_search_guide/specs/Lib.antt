@@ -1,5 +1,5 @@
 pub mod Free
-pub mod After
+pub mod Near
 pub mod Boxes
 pub mod Cheapest
 pub mod Lowest

@@ -14,7 +14,7 @@
 //! | file | what it holds |
 //! |---|---|
 //! | `least_free` | the member that ranks first |
-//! | `after` | the same, where it is known of all conflicts but the newest |
+//! | `near` | the same, where it is known of a zone that has all its choices, by some of the conflicts |
 //! | `parts` | the same part by part of a box |
 //! | `cheapest` | a cheapest member, by a stack of boxes |
 //! | `look` | what is to be done with one box |
@@ -28,7 +28,6 @@
 //! | `laws` | that there is one answer |
 #![tactic(auto)]
 
-pub mod after;
 mod behind;
 mod cheapest;
 mod dear;
@@ -39,6 +38,7 @@ mod loose;
 mod lowest;
 mod masks;
 mod narrow;
+pub mod near;
 mod parts;
 mod prices;
 

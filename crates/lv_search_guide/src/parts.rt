@@ -15,7 +15,7 @@ use super::masks::Masks;
 use super::prices::low_of;
 use lv_base::{Conflict, Pair};
 use lv_boxes::Grid;
-use lv_search_parts::marks::joined_to;
+use lv_search_parts::marks::joined_with;
 use lv_search_parts::part::{fixed, part_conflicts, part_grid, part_masks};
 use std::alloc::{AllocError, Global};
 
@@ -55,7 +55,7 @@ fn settled(
 ) -> Result<Option<Masks>, AllocError>
     ensures { IfOk result (λ less. SettlesTells grid.now conflicts.now masks.now less) }
 {
-    match joined_to(alloc, conflicts, grid.len(), pair)? {
+    match joined_with(alloc, conflicts, grid.len(), &[pair])? {
         Some(marks) if marks.len() == masks.as_slice().len() => {
             settled_part(alloc, grid, conflicts, masks, marks.as_slice())
         }

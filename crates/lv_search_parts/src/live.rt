@@ -75,7 +75,7 @@ pub fn are_there(masks: &[u64], pairs: &[Pair]) -> bool
 }
 
 /// Whether the box has the pair's choice.
-fn is_there(masks: &[u64], pair: Pair) -> bool
+pub fn is_there(masks: &[u64], pair: Pair) -> bool
     ensures { result ≡ is_there masks.now pair }
 {
     let slot = pair.slot as usize;

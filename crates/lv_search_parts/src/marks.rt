@@ -1,36 +1,16 @@
-//! Which slots conflicts join: they are marked, from one slot on.
+//! Which slots conflicts join: they are marked, from some slots on.
 #![tactic(auto)]
 
 ghost use Rattle.std.specs.Prelude.{◌≡◌, not, length, IfOk, IfSome};
 ghost use Rattle.std.specs.List.{list_all};
 ghost use Rattle.lv_search_parts.specs.Slots.{is_marked, is_inside, is_outside};
-ghost use Rattle.lv_search_parts.specs.Parts.{is_whole, IsPart, IsPartWith};
+ghost use Rattle.lv_search_parts.specs.Parts.{is_whole, IsPartWith};
 
 use lv_base::{Conflict, Pair};
 use std::alloc::{AllocError, Global};
 
-/// Of so many slots those that conflicts join to this pair's, and no others; `None` where a conflict speaks of a slot that
-/// there isn't.
-pub fn joined_to(
-    alloc: Global,
-    conflicts: &[Conflict],
-    slots: usize,
-    pair: Pair,
-) -> Result<Option<Vec<bool>>, AllocError>
-    ensures { IfOk result (λ part. IfSome part (λ marks. IsPart conflicts.now slots marks.items)) }
-{
-    let mut marks = vec![in alloc; false; slots]?;
-    mark(pair, &mut marks);
-    for _round in 0..slots {
-        if are_whole(conflicts, &marks) {
-            return Ok(Some(marks));
-        }
-        join(conflicts, &mut marks);
-    }
-    Ok(None)
-}
-
-/// As `joined_to`, of slots that these pairs are joined by; `None` where they aren't all marked, too.
+/// Of so many slots those that conflicts join to these pairs', and no others; `None` where a conflict or a pair speaks of a
+/// slot that there isn't.
 pub fn joined_with(
     alloc: Global,
     conflicts: &[Conflict],
@@ -39,13 +19,15 @@ pub fn joined_with(
 ) -> Result<Option<Vec<bool>>, AllocError>
     ensures { IfOk result (λ part. IfSome part (λ marks. IsPartWith conflicts.now slots pairs.now marks.items)) }
 {
-    match pairs.first() {
-        Some(pair) => match joined_to(alloc, conflicts, slots, *pair)? {
-            Some(marks) if is_inside(marks.as_slice(), pairs) => Ok(Some(marks)),
-            _ => Ok(None),
-        },
-        None => Ok(None),
+    let mut marks = vec![in alloc; false; slots]?;
+    mark_all(pairs, &mut marks);
+    for _round in 0..slots {
+        if are_whole(conflicts, &marks) && is_inside(&marks, pairs) {
+            return Ok(Some(marks));
+        }
+        join(conflicts, &mut marks);
     }
+    Ok(None)
 }
 
 /// Marks the slots of conflicts that have some slot marked and another not.

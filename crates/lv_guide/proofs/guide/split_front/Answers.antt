@@ -18,7 +18,8 @@ returns-in-Some-first_contained c =
     split_same c.args.grid.now c.args.known.now c.args.queue.now.entries c.in-Some.rank c.in-Some.zone c.pop_first.new.self.entries c.in-Some.ensures.removal c.requires.kept c.in-Some-first_contained.conflict.now
     (subst (λ cs. find (contains_all cs) c.args.known.now ≡ Some c.in-Some-first_contained.conflict.now) c.as_slice.ensures (sym (rw c.in-Some-first_contained.is at c.first_contained.ensures)))
     c.put_all.new.queue.entries
-    (subst (λ (zones : List ZoneValue). HasMoreBy c.args.grid.now zones c.pop_first.new.self.entries c.put_all.new.queue.entries) c.in_ok-split-in-Some-first_contained.ensures.parts c.in_ok-put_all-in-Some-first_contained.ensures)
+    (subst (λ (zones : List ZoneValue). HasMoreBy c.args.grid.now c.args.known.now zones c.pop_first.new.self.entries c.put_all.new.queue.entries) c.in_ok-split-in-Some-first_contained.ensures.parts
+    (c.in_ok-put_all-in-Some-first_contained.ensures c.args.known.now))
 
 pub returns-in-Some : goal.returns-in-Some
 returns-in-Some c =

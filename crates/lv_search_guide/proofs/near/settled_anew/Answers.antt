@@ -4,13 +4,13 @@ use Rattle.lv_base.specs.declared.ids.Cost.{Cost}
 use Rattle.lv_boxes.specs.Members.{choices_cost}
 use Rattle.lv_search_parts.specs.Slots.{put_in}
 use Rattle.lv_search_guide.proofs.SlotLemmas.{length-put_in}
-use Rattle.lv_search_guide.proofs.AfterLemmas.{long_before, none_anew, first_anew}
-use Rattle.lv_search_guide.proofs.after.settled_anew.Goals as goal
+use Rattle.lv_search_guide.proofs.NearLemmas.{long_near, none_anew, first_anew}
+use Rattle.lv_search_guide.proofs.near.settled_anew.Goals as goal
 
 pub put_in-requires-clause-long : goal.put_in-requires-clause-long
 put_in-requires-clause-long c =
     c.requires.part.part.long
-    ∙ sym (long_before c.args.grid.now c.args.zone.now c.args.conflicts.now c.args.newest.now c.args.before.now c.args.marks.now c.requires.first c.requires.part)
+    ∙ sym (long_near c.args.grid.now c.args.zone.now c.args.conflicts.now c.args.near.now c.requires.first)
     ∙ sym (ap (λ (xs : List ℕ). length xs) c.as_slice.ensures)
 
 pub cost_of-cost-requires-clause-long : goal.cost_of-cost-requires-clause-long
@@ -18,12 +18,12 @@ cost_of-cost-requires-clause-long c =
     ap (λ (xs : List ℕ). length xs) (c.as_slice-in-Some.ensures.value ∙ c.in_ok-choices-in-Some.ensures)
     ∙ length-put_in c.args.marks.now c.as_slice-inner.result.now c.as_slice.result.now
     ∙ ap (λ (xs : List ℕ). length xs) c.as_slice.ensures
-    ∙ long_before c.args.grid.now c.args.zone.now c.args.conflicts.now c.args.newest.now c.args.before.now c.args.marks.now c.requires.first c.requires.part
+    ∙ long_near c.args.grid.now c.args.zone.now c.args.conflicts.now c.args.near.now c.requires.first
     ∙ sym (ap (λ (rows : List (List Cost)). length rows) c.slots-slots.ensures.slots)
 
 pub returns-in_ok-choices-in-Some : goal.returns-in_ok-choices-in-Some
 returns-in_ok-choices-in-Some c =
-    first_anew c.args.grid.now c.args.zone.now c.args.conflicts.now c.args.newest.now c.args.before.now c.args.marks.now c.requires.first c.requires.part c.in-Some.member
+    first_anew c.args.grid.now c.args.zone.now c.args.conflicts.now c.args.near.now c.args.marks.now c.requires.first c.requires.part c.requires.long c.in-Some.member
     (rw c.in-Some.is at c.in_ok-member.ensures) c.in_ok-choices-in-Some.choices.items
     (c.in_ok-choices-in-Some.ensures ∙ (λ i. put_in c.args.marks.now (c.as_slice-inner.ensures i) (c.as_slice.ensures i)))
     (record { cost = c.cost_of-cost.result; choices = c.from_vec-choices.result })
@@ -35,5 +35,5 @@ returns-in_ok-choices-in-Some c =
 
 pub returns-in-None : goal.returns-in-None
 returns-in-None c =
-    none_anew c.args.grid.now c.args.zone.now c.args.conflicts.now c.args.newest.now c.args.before.now c.args.marks.now c.requires.first c.requires.part
+    none_anew c.args.grid.now c.args.zone.now c.args.conflicts.now c.args.near.now c.args.marks.now c.requires.first c.requires.part c.requires.long
     (rw c.in-None.is at c.in_ok-member.ensures)

@@ -1,7 +1,7 @@
 -- what is summed up and what is to come is all
 use Rattle.std.proofs.Common.{◌≡◌, ◌+◌, ◌*◌, ◌≤◌, drop}
 use Rattle.lv_boxes.specs.Members.{choices_cost}
-use Rattle.lv_search_guide.proofs.after.cost_of.Given as goal
+use Rattle.lv_search_guide.proofs.near.cost_of.Given as goal
 
 abbrev pub invariant-loop-slot : goal.invariant-loop-slot
 invariant-loop-slot l =
