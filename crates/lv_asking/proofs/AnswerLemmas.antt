@@ -38,7 +38,7 @@ false_by true c never follows = sym (follows refl) ∙ never
 false_by false c never follows = refl
 
 -- what would be absurd is false
-false_so : (b : Bool) → (b ≡ true → ⊥) → b ≡ false
+pub false_so : (b : Bool) → (b ≡ true → ⊥) → b ≡ false
 false_so true never = absurd (never refl)
 false_so false never = refl
 

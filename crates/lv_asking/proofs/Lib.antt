@@ -5,6 +5,7 @@ pub mod LemmaLemmas
 pub mod RefuteLemmas
 pub mod ClauseLemmas
 pub mod AnswerLemmas
+pub mod BesideLemmas
 pub mod ReducingLemmas
 pub mod HoldLemmas
 pub mod NumberLemmas

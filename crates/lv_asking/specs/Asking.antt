@@ -1,12 +1,13 @@
 -- What is asked of a solver: which choices can be made together, by its clauses and literals that are assumed each time.
-use Rattle.std.specs.Prelude.{◌≡◌, ◌+◌, ◌≤◌, ℕ, Bool, true, false, List, [], ◌++◌, drop, All, Contains, Option, Some, None}
-use Rattle.std.specs.List.{sum}
+use Rattle.std.specs.Prelude.{◌≡◌, ◌+◌, ◌<◌, ◌≤◌, ℕ, Bool, true, false, List, [], ◌∷◌, ◌++◌, drop, All, Contains, Option, Some, None}
+use Rattle.std.specs.List.{find, sum}
 use Rattle.lv_base.specs.declared.ids.Lit.{Lit}
 use Rattle.lv_base.specs.declared.search.Pair.{Pair}
 use Rattle.lv_base.specs.Choices.{slots_rise}
 use Rattle.lv_clauses.specs.ClauseMap.{ClauseMap}
 use Rattle.lv_clauses.specs.Literals.{is_clause}
 use Rattle.lv_clauses.specs.Marks.{Marks}
+use Rattle.lv_clauses.specs.Noted.{is_of}
 use Rattle.lv_sat.specs.Answers.{IsModel}
 use Rattle.lv_search_walk.specs.Reason.{reduced}
 use Rattle.lv_system.specs.Choices.{Choices}
@@ -29,6 +30,15 @@ pub record Decides (a : AskingValue) (possible : List Pair → Bool) : Type 0 wh
   pub possible_of : (pairs : List Pair) → All (HasMove a.choices.counts) pairs → HasModel a.set (pair_literals a.choices pairs ++ a.assumed) → possible pairs ≡ true
   pub model_of : (pairs : List Pair) → All (HasMove a.choices.counts) pairs → possible pairs ≡ true → HasModel a.set (pair_literals a.choices pairs ++ a.assumed)
   pub part : (part whole : List Pair) → ((p : Pair) → Contains part p → Contains whole p) → possible whole ≡ true → possible part ≡ true
+
+-- the same, where this literal is assumed too
+abbrev pub beside : Lit → AskingValue → AskingValue
+beside l a = record a { assumed = l ∷ a.assumed }
+
+-- the literal is of a boolean before those of the choices, of which nothing is assumed
+pub record IsFresh (a : AskingValue) (l : Lit) : Type 0 where
+  pub below : l.var.0 < a.choices.first
+  pub unassumed : find (is_of l.var.0) a.assumed ≡ None
 
 -- what is assumed is of distinct booleans before those of the choices, which are all there; the solutions are of the clauses and what is
 -- assumed

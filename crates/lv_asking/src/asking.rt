@@ -5,14 +5,15 @@
 ghost use Rattle.std.specs.Prelude.{◌≡◌, ◌+◌, ◌<◌, ◌≤◌, ◌++◌, [], Bool, true, false, List, All, drop, length, IfOk, IfSome, is_none};
 ghost use Rattle.std.specs.List.{sum};
 ghost use Rattle.lv_base.specs.declared.search.Pair.{Pair};
-ghost use Rattle.lv_clauses.specs.Literals.{is_clause};
+ghost use Rattle.lv_clauses.specs.Literals.{distinct, is_clause};
 ghost use Rattle.lv_clauses.specs.Marks.{is_marked};
 ghost use Rattle.lv_search_walk.specs.Reason.{reduced};
-ghost use Rattle.lv_asking.specs.Literals.{HasMove, marked_pairs, pair_literal};
-ghost use Rattle.lv_asking.specs.Asking.{IsPartial, Decides, IsReducing, IsReason};
+ghost use Rattle.lv_asking.specs.Literals.{HasMove, marked_pairs, pair_literal, pair_literals};
+ghost use Rattle.lv_asking.specs.Refutation.{Refutes};
+ghost use Rattle.lv_asking.specs.Asking.{IsPartial, Decides, beside, IsFresh, IsReducing, IsReason};
 
 use crate::lemma_solver::LemmaSolver;
-use crate::literals::push_pairs;
+use crate::literals::{first_of, push_pairs};
 use crate::refutation::{Solutions, refute};
 use lv_base::{Conflict, Lit, MoveId, Pair, PartId};
 use lv_clauses::{ClauseSet, Marks, is_marked};
@@ -80,6 +81,27 @@ impl Asking {
         })
     }
 
+    /// Asks for the pairs and more literals, beside what is assumed: nothing where they can be true together, else marks of
+    /// those of them that already can't.
+    fn ask(&mut self, pairs: &[Pair], more: &[Lit]) -> Result<Option<Marks>, AllocError>
+        requires partial { IsPartial self.old.choices.counts pairs.now }
+        requires more { All (IsFresh self.old) more.now }
+        requires distinct { distinct more.now ≡ true }
+        ensures answer { IfOk result (λ core. Refutes self.old.set (pair_literals self.old.choices pairs.now ++ more.now) self.old.assumed core) }
+        ensures same { self.new ≡ self.old }
+    {
+        let mut chosen = Vec::new(self.alloc);
+        push_pairs(&mut chosen, &self.choices, pairs)?;
+        chosen.extend_from_slice(more)?;
+        refute(
+            self.alloc,
+            &mut self.solver,
+            &mut self.solutions,
+            chosen.as_slice(),
+            self.assumed.as_slice(),
+        )
+    }
+
     /// Asks whether the pairs are possible together: nothing where they are, else marks of those of them that already
     /// aren't.
     pub fn refuted(&mut self, pairs: &[Pair]) -> Result<Option<Marks>, AllocError>
@@ -88,15 +110,36 @@ impl Asking {
         ensures core { (possible : List Pair → Bool) → Decides self.old possible → IfOk result (λ core. IfSome core (λ marks. possible (marked_pairs self.old.choices marks pairs.now) ≡ false)) }
         ensures same { self.new ≡ self.old }
     {
-        let mut chosen = Vec::new(self.alloc);
-        push_pairs(&mut chosen, &self.choices, pairs)?;
-        refute(
-            self.alloc,
-            &mut self.solver,
-            &mut self.solutions,
-            chosen.as_slice(),
-            self.assumed.as_slice(),
-        )
+        self.ask(pairs, &[])
+    }
+
+    /// Whether the pairs are possible together.
+    pub fn possible(&mut self, pairs: &[Pair]) -> Result<bool, AllocError>
+        requires { IsPartial self.old.choices.counts pairs.now }
+        ensures answer { (possible : List Pair → Bool) → Decides self.old possible → IfOk result (λ answer. answer ≡ possible pairs.now) }
+        ensures same { self.new ≡ self.old }
+    {
+        Ok(self.refuted(pairs)?.is_none())
+    }
+
+    /// Whether the pairs are possible together where this literal is true too, of a boolean before those of the choices.
+    /// What is assumed may say it already, or contradict it.
+    pub fn possible_beside(&mut self, pairs: &[Pair], lit: Lit) -> Result<bool, AllocError>
+        requires partial { IsPartial self.old.choices.counts pairs.now }
+        requires below { lit.var.0 < self.old.choices.first }
+        ensures answer { (possible : List Pair → Bool) → Decides (beside lit self.old) possible → IfOk result (λ answer. answer ≡ possible pairs.now) }
+        ensures same { self.new ≡ self.old }
+    {
+        match first_of(self.assumed.as_slice(), lit.var).copied() {
+            None => Ok(self.ask(pairs, &[lit])?.is_none()),
+            Some(assumed) => {
+                if assumed.sign == lit.sign {
+                    self.possible(pairs)
+                } else {
+                    Ok(false)
+                }
+            }
+        }
     }
 
     /// What its solver did so far. Takes no memory.

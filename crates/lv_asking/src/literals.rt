@@ -1,13 +1,14 @@
 //! What observations and choices say as literals, and literals with repeats left out.
 #![tactic(auto)]
 
-ghost use Rattle.std.specs.Prelude.{◌≡◌, ◌++◌, [], ◌∷◌, true, All, IfOk, if◌then◌else◌};
+ghost use Rattle.std.specs.Prelude.{◌≡◌, ◌++◌, [], ◌∷◌, true, All, IfOk, if◌then◌else◌, option_copied};
+ghost use Rattle.std.specs.List.{find};
 ghost use Rattle.lv_clauses.specs.Marks.{marked};
-ghost use Rattle.lv_clauses.specs.Noted.{is_open};
+ghost use Rattle.lv_clauses.specs.Noted.{is_of, is_open};
 ghost use Rattle.lv_meaning.specs.Facts.{HasValue};
 ghost use Rattle.lv_asking.specs.Literals.{observed_literals, pair_literals, HasMove, IsPositive, IsOnce};
 
-use lv_base::{Lit, MoveId, Pair, PartId};
+use lv_base::{BoolId, Lit, MoveId, Pair, PartId};
 use lv_clauses::Marks;
 use lv_compile::value_bools::ValueBools;
 use lv_meaning::Observation;
@@ -67,4 +68,11 @@ pub fn each_once(alloc: Global, bools: u32, lits: &[Lit]) -> Result<Vec<Lit>, Al
         push_new(&mut out, &mut seen, *lit)?;
     }
     Ok(out)
+}
+
+/// The first of the literals that is of this boolean.
+pub fn first_of(lits: &[Lit], boolean: BoolId) -> Option<&Lit>
+    ensures { option_copied result ≡ find (is_of boolean.0) lits.now }
+{
+    lits.iter().find(|lit| lit.var.0 == boolean.0)
 }

@@ -25,7 +25,7 @@ use Rattle.lv_meaning.specs.PossibleLaws.{are_below}
 use Rattle.lv_meaning.proofs.Possibility.{part_possible}
 use Rattle.lv_meaning.proofs.Reasons.{is_monotone, own_pairs}
 use Rattle.lv_asking.proofs.FullLemmas.{full_is_partial as full_of_counts}
-use Rattle.lv_ident.specs.Reducing.{IsPartial}
+use Rattle.lv_ident.specs.Literals.{IsPartial}
 
 reason_inside : (plant : Plant) (facts : Facts) (c : Candidate) → contains_all c.choices (reason_of plant facts c) ≡ true
 reason_inside plant facts c = part_of_all (is_possible plant facts) (picks c.choices) [] (pairs_of c.choices) refl (own_pairs [] c.choices)

@@ -1,8 +1,7 @@
 pub mod Literals
-pub mod Reducing
+pub mod Probing
 pub mod Trial
 pub mod Query
-pub mod Probing
 pub mod Laws
 pub use Rattle.lv_search.specs as lv_search
 pub use Rattle.lv_asking.specs as lv_asking

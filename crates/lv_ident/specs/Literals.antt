@@ -1,14 +1,14 @@
 -- Facts as literals: each says of one variable, before the step or after it, that it has one value.
-use Rattle.std.specs.Prelude.{List, [], ◌∷◌, ◌++◌, if◌then◌else◌}
-use Rattle.std.specs.List.{list_any}
+use Rattle.std.specs.Prelude.{List, ◌++◌}
 use Rattle.lv_base.specs.declared.ids.Lit.{Lit}
-use Rattle.lv_clauses.specs.Noted.{is_of}
+use Rattle.lv_base.specs.declared.search.Pair.{Pair}
 use Rattle.lv_model.specs.declared.plant.Plant.{Plant}
 use Rattle.lv_model.specs.Lists.{move_counts}
 use Rattle.lv_compile.specs.Booleans.{booleans_now, booleans_next, first_choice}
 use Rattle.lv_system.specs.Choices.{Choices}
 use Rattle.lv_meaning.specs.declared.facts.Facts.{Facts}
 use Rattle.lv_meaning.specs.Facts.{now_facts}
+use Rattle.lv_asking.specs.Asking.{IsPartial as IsPartialOf}
 pub use Rattle.lv_asking.specs.Literals.{observed_literal, observed_literals, pair_literal, pair_literals, HasMove, IsPositive}
 
 -- what was commanded and seen before the step, then what was seen after it
@@ -19,6 +19,6 @@ fact_literals plant facts = observed_literals (booleans_now plant) (now_facts pl
 abbrev pub plant_choices : Plant → Choices
 plant_choices plant = record { first = first_choice plant; counts = move_counts plant }
 
--- the literal, where none of these is of its boolean
-abbrev pub missing : List Lit → Lit → List Lit
-missing lits l = if list_any (is_of l.var.0) lits then [] else l ∷ []
+-- pairs that can be asked for together: at most one for each part, in the order of the parts, each a move that the part has
+abbrev pub IsPartial : Plant → List Pair → Type 0
+IsPartial plant pairs = IsPartialOf (move_counts plant) pairs

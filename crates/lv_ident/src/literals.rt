@@ -2,14 +2,12 @@
 #![tactic(auto)]
 
 ghost use Rattle.std.specs.Prelude.{◌≡◌, ◌++◌, IfOk};
-ghost use Rattle.std.specs.List.{list_any};
-ghost use Rattle.lv_clauses.specs.Noted.{is_of};
 ghost use Rattle.lv_system.specs.System.{IsSystemOf};
 ghost use Rattle.lv_meaning.specs.Facts.{FactsFit, FactsInRange};
-ghost use Rattle.lv_ident.specs.Literals.{fact_literals, missing};
+ghost use Rattle.lv_ident.specs.Literals.{fact_literals};
 
 pub use lv_asking::literals::{push_observed, push_pairs};
-use lv_base::{BoolId, Lit};
+use lv_base::Lit;
 use lv_meaning::Facts;
 use lv_meaning::facts::before_the_step;
 use lv_model::Model;
@@ -37,21 +35,4 @@ pub fn fact_literals(
         facts.next.as_slice(),
     )?;
     Ok(out)
-}
-
-/// Whether one of the literals is of this boolean.
-fn has_boolean(lits: &[Lit], of: BoolId) -> bool
-    ensures { result ≡ list_any (is_of of.0) lits.now }
-{
-    lits.iter().any(|lit| lit.var.0 == of.0)
-}
-
-/// Adds the literal where none of these is of its boolean.
-pub fn push_missing(out: &mut Vec<Lit>, lits: &[Lit], lit: Lit) -> Result<(), AllocError>
-    ensures { IfOk result (λ _. out.new.items ≡ out.old.items ++ missing lits.now lit) }
-{
-    if !has_boolean(lits, lit.var) {
-        out.push(lit)?;
-    }
-    Ok(())
 }

@@ -3,7 +3,7 @@ use Rattle.std.proofs.Common.{List, subst, sym, ap, ◌∙◌}
 use Rattle.std.proofs.lemmas.Result.{IfOk-weaker}
 use Rattle.lv_base.specs.declared.search.Pair.{Pair}
 use Rattle.lv_base.specs.Choices.{pairs_of}
-use Rattle.lv_ident.specs.Reducing.{IsPartial}
+use Rattle.lv_ident.specs.Literals.{IsPartial}
 use Rattle.lv_ident.proofs.ReasonLemmas.{full_is_partial}
 use Rattle.lv_ident.proofs.trial.IdentTrial.moves_of.Goals as goal
 
