@@ -13,7 +13,7 @@ use Rattle.lv_model_verdict.proofs.ReadingLemmas.{exists as model_verdict}
 use Rattle.lv_model_verdict.proofs.SeriesLemmas.{series_accepted as series_are_accepted}
 use Rattle.lv_certcheck.proofs.ProvingLemmas.{exists as certificate_verdict}
 use Rattle.lv_gen.specs.Series.{model_text}
-use Rattle.lv_run_drive.specs.Drives.{drive_text}
+use Rattle.lv_run.specs.Drives.{drive_text}
 use Rattle.lv_run_words.specs.Words.{Said, runs, checks, prints, generates, drives}
 use Rattle.lv_run_words.specs.declared.commands.Kind.{Kind}
 use Rattle.lv_run_words.specs.declared.commands.Service.{Service}

@@ -9,7 +9,7 @@ use Rattle.lv_run.specs.Services.{fits}
 use Rattle.lv_run_words.specs.declared.commands.Service.{Service}
 use Rattle.lv_run.proofs.ServiceLemmas.{no_replies}
 use Rattle.lv_gen.specs.Series.{model_text}
-use Rattle.lv_run_drive.specs.Drives.{drive_text}
+use Rattle.lv_run.specs.Drives.{drive_text}
 use Rattle.lv_run_words.specs.declared.commands.Kind.{Kind}
 use Rattle.lv_serve.proofs.Writing.{no_front}
 use Rattle.lv_reader.specs.declared.code.ModelCode.{ModelCode}

@@ -10,3 +10,7 @@ pub mod PrintedLemmas
 pub mod WholeLemmas
 pub mod ServiceLemmas
 pub mod ServedLemmas
+pub mod Tallying
+pub mod AskingLemmas
+pub mod CalmTexts
+pub mod FrontLemmas

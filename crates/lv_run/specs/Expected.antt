@@ -14,7 +14,7 @@ use Rattle.lv_serve.specs.Served.{within_limit}
 use Rattle.lv_run.specs.Services.{quits, fits, AddsReplies, AddsFrontOfReplies}
 use Rattle.lv_run_words.specs.declared.commands.Service.{Service}
 use Rattle.lv_gen.specs.Series.{model_text}
-use Rattle.lv_run_drive.specs.Drives.{drive_text}
+use Rattle.lv_run.specs.Drives.{drive_text}
 use Rattle.lv_run_words.specs.Words.{Said, runs, checks, prints, generates, drives}
 use Rattle.lv_run_words.specs.declared.commands.Kind.{Kind}
 use Rattle.lv_run.specs.Inputs.{model_told, made_text, IsCanonical}

@@ -8,7 +8,7 @@ use Rattle.lv_reader.specs.declared.statement.ModelText.{ModelText}
 use Rattle.lv_reader.specs.Texts.{ReadsAs}
 use Rattle.lv_checker.specs.Verdicts.{IsVerdict, accepted}
 use Rattle.lv_reader.specs.CanonicalTexts.{canonical_model}
-use Rattle.lv_run_drive.specs.Drives.{drive_text}
+use Rattle.lv_run.specs.Drives.{drive_text}
 use Rattle.lv_gen.specs.Series.{model_text}
 use Rattle.lv_gen.specs.Session.{session_text}
 use Rattle.lv_run_words.specs.Words.{Said, runs, checks, prints, generates, drives}

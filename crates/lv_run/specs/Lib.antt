@@ -11,3 +11,6 @@ pub mod Statuses
 pub mod Telling
 pub mod Top
 pub mod Ends
+pub mod Tallies
+pub mod Drives
+pub mod Fronts

@@ -11,7 +11,7 @@ use Rattle.lv_certcheck.specs.Verdicts.{IsVerdictOn, ProvesItsAnswer}
 use Rattle.lv_certcheck.specs.declared.check.Verdict.{Verdict}
 use Rattle.lv_certcheck.specs.declared.check.Verdict.TheVariants.{Valid as IsValid}
 use Rattle.lv_gen.specs.Series.{model_text}
-use Rattle.lv_run_drive.specs.Drives.{drive_text}
+use Rattle.lv_run.specs.Drives.{drive_text}
 use Rattle.lv_run_words.specs.Words.{Said, runs, checks, prints, generates, drives, command_of}
 use Rattle.lv_run_words.specs.declared.commands.Kind.{Kind}
 use Rattle.lv_run_words.specs.declared.commands.Service.{Service}

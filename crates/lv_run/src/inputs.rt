@@ -12,13 +12,13 @@ ghost use Rattle.lv_run.specs.Inputs.{IsCanonical, IsPrinted, IsDriven, model_op
 ghost use Rattle.lv_run.specs.Faults.{EndsModel, RefusesBy};
 
 use crate::fault::RunFault;
+use crate::summary::drive;
 use lv_base::limits::MODEL_BYTES;
 use lv_checker::model_of;
 use lv_gen::{make_model, make_session};
 use lv_io::{ReadFault, Role, Shelf, read_file};
 use lv_model::Model;
 use lv_reader::{ModelCode, ModelFault, print_model, read_model};
-use lv_run_drive::drive;
 use lv_run_words::Kind;
 use std::alloc::{AllocError, Global};
 

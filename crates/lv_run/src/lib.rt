@@ -4,6 +4,8 @@
 //!   summed up.
 //! - `inputs`: the model, opened and read or made, and texts that are made.
 //! - `session`: the session's file, opened and served.
+//! - `tally`: what the replies of a made session come to, counted one by one.
+//! - `summary`: the lines that tell it.
 //! - `certificate`: the certificate's file, opened, read and judged, and the verdict told.
 //! - `writing`: a whole text written and flushed.
 //! - `fault`: what ends a run before it is done, and its line on standard error.
@@ -20,6 +22,8 @@ mod inputs;
 pub mod laws;
 mod session;
 pub mod status;
+pub mod summary;
+pub mod tally;
 pub mod telling;
 pub mod top;
 mod writing;

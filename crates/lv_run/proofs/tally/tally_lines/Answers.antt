@@ -1,7 +1,7 @@
 -- One more reply is counted, and at the end all are.
 use Rattle.std.proofs.Common.{rules}
-use Rattle.lv_run_drive.proofs.Tallying.{tallied_at_start, tallied_more, tallied_all}
-use Rattle.lv_run_drive.proofs.tally.tally_lines.Goals as goal
+use Rattle.lv_run.proofs.Tallying.{tallied_at_start, tallied_more, tallied_all}
+use Rattle.lv_run.proofs.tally.tally_lines.Goals as goal
 
 pub loop-line-init : goal.loop-line-init
 loop-line-init c = record { tallied = tallied_at_start _ _ _ _ c.requires c.none-tally.ensures }

@@ -18,10 +18,10 @@ use Rattle.lv_gen.specs.Draws.{draw_of, state_after}
 use Rattle.lv_gen.specs.Series.{valves}
 use Rattle.lv_gen.specs.Session.{order_line, command_line, command_lines, observation_line, questions, round_text, round_start, round_texts, session_text}
 use Rattle.lv_model.specs.declared.plant.Plant.{Plant}
-use Rattle.lv_session.specs.lv_session_state.State.{SessionState, start}
-use Rattle.lv_session.specs.Session.{stepped}
-use Rattle.lv_session.specs.Laws.{is_certificate, replies_to, tells_certificate}
-use Rattle.lv_run_drive.proofs.AskingLemmas.{IsOther, none_in_reply}
+use Rattle.lv_plant.specs.lv_session.lv_session_state.State.{SessionState, start}
+use Rattle.lv_plant.specs.lv_session.Session.{stepped}
+use Rattle.lv_plant.specs.lv_session.Laws.{is_certificate, replies_to, tells_certificate}
+use Rattle.lv_run.proofs.AskingLemmas.{IsOther, none_in_reply}
 
 -- behind a `c` or not, no `c` stands before an `e`
 abbrev calm : Bool → List ℕ → Bool

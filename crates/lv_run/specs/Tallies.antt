@@ -2,7 +2,7 @@
 use Rattle.std.specs.Prelude.{ℕ, ◌+◌, ◌-◌, ◌*◌, ◌^◌, ◌≤◌, length}
 use Rattle.lv_reply.specs.declared.reply.Reply.{Reply}
 use Rattle.lv_reply.specs.declared.reply.Reply.TheVariants.{Nothing, Refused, Settled, Unsettled, Undecided, Conflicts, CommandConflicts, Committed, States, SettledWindow, UnsettledWindow, WindowConflicts}
-use Rattle.lv_run_drive.specs.declared.tally.Tally.{Tally}
+use Rattle.lv_run.specs.declared.tally.Tally.{Tally}
 
 -- before any reply
 abbrev pub none_counted : Tally

@@ -1,21 +1,21 @@
 -- Replies counted one by one.
 use Rattle.std.proofs.Common.{◌≡◌, false, ℕ, ◌+◌, ◌-◌, ◌≤◌, List, [], ◌∷◌, ◌++◌, length, take, drop, map, fold, refl, sym, ◌∙◌, ap, ap₂, subst, arith, length-drop}
 use Rattle.std.specs.List.{concat}
-use Rattle.lv_session.proofs.lv_io.Pieces.{rest_of_bytes}
+use Rattle.lv_plant.proofs.lv_session.lv_io.Pieces.{rest_of_bytes}
 use Rattle.lv_text.specs.Lines.{lines_of, BeginsWithLine}
 use Rattle.lv_gen.specs.Session.{session_text}
 use Rattle.lv_model.specs.declared.plant.Plant.{Plant}
 use Rattle.lv_reply.specs.declared.reply.Reply.{Reply}
 use Rattle.lv_reply.specs.Texts.{reply_text}
-use Rattle.lv_session.specs.lv_session_state.State.{SessionState, start}
-use Rattle.lv_session.specs.Session.{RunningSession, stepped}
-use Rattle.lv_session.specs.Transcript.{IsTranscriptFrom}
-use Rattle.lv_session.specs.Laws.{replies_to, replies}
-use Rattle.lv_session.proofs.Transcripts.{some_transcript}
-use Rattle.lv_run_drive.specs.declared.tally.Tally.{Tally}
-use Rattle.lv_run_drive.specs.Tallies.{none_counted, counted, IsSmall}
-use Rattle.lv_run_drive.specs.Drives.{tally_of, summary_text, drive_text, RepliesAreTranscript}
-use Rattle.lv_run_drive.proofs.CalmTexts.{none_told}
+use Rattle.lv_plant.specs.lv_session.lv_session_state.State.{SessionState, start}
+use Rattle.lv_plant.specs.lv_session.Session.{RunningSession, stepped}
+use Rattle.lv_plant.specs.lv_session.Transcript.{IsTranscriptFrom}
+use Rattle.lv_plant.specs.lv_session.Laws.{replies_to, replies}
+use Rattle.lv_plant.proofs.lv_session.Transcripts.{some_transcript}
+use Rattle.lv_run.specs.declared.tally.Tally.{Tally}
+use Rattle.lv_run.specs.Tallies.{none_counted, counted, IsSmall}
+use Rattle.lv_run.specs.Drives.{tally_of, summary_text, drive_text, RepliesAreTranscript}
+use Rattle.lv_run.proofs.CalmTexts.{none_told}
 
 texts_are : (plant : Plant) (state : SessionState) (lines : List (List ℕ))
     → concat (map (reply_text plant) (replies_to plant state lines)) ≡ replies plant state lines

@@ -3,8 +3,8 @@ use Rattle.std.specs.Prelude.{◌≡◌, ◌≢◌, ℕ, ◌+◌, Bool, true, fa
 use Rattle.lv_model.specs.declared.plant.Plant.{Plant}
 use Rattle.lv_reply.specs.declared.reply.Reply.{Reply}
 use Rattle.lv_reply.specs.Texts.{reply_text}
-use Rattle.lv_run_drive.specs.declared.tally.Tally.{Tally}
-use Rattle.lv_run_drive.specs.Tallies.{counted}
+use Rattle.lv_run.specs.declared.tally.Tally.{Tally}
+use Rattle.lv_run.specs.Tallies.{counted}
 
 -- the text begins with the word
 abbrev pub begins_with : List ℕ → List ℕ → Bool

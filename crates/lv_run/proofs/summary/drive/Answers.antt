@@ -1,7 +1,7 @@
 -- The summary of the session that was made.
 use Rattle.std.proofs.lemmas.Result.{IfOk-weaker}
-use Rattle.lv_run_drive.proofs.Tallying.{summed_up}
-use Rattle.lv_run_drive.proofs.summary.drive.Goals as goal
+use Rattle.lv_run.proofs.Tallying.{summed_up}
+use Rattle.lv_run.proofs.summary.drive.Goals as goal
 
 pub returns : goal.returns
 returns c =

@@ -4,10 +4,10 @@ use Rattle.std.specs.List.{concat}
 use Rattle.lv_gen.specs.Session.{session_text}
 use Rattle.lv_model.specs.declared.plant.Plant.{Plant}
 use Rattle.lv_reply.specs.Texts.{reply_text}
-use Rattle.lv_session.specs.Transcript.{IsTranscript}
-use Rattle.lv_session.specs.Laws.{session_replies, tells_certificate}
-use Rattle.lv_run_drive.specs.declared.tally.Tally.{Tally}
-use Rattle.lv_run_drive.specs.Tallies.{none_counted, counted}
+use Rattle.lv_plant.specs.lv_session.Transcript.{IsTranscript}
+use Rattle.lv_plant.specs.lv_session.Laws.{session_replies, tells_certificate}
+use Rattle.lv_run.specs.declared.tally.Tally.{Tally}
+use Rattle.lv_run.specs.Tallies.{none_counted, counted}
 
 -- what the replies to a session come to
 abbrev pub tally_of : Plant → List ℕ → Tally

@@ -9,8 +9,8 @@ use Rattle.lv_reply.specs.Recovery.{recovery_text, test_text, undecided_text}
 use Rattle.lv_reply.specs.Labels.{labels_text}
 use Rattle.lv_reply.specs.Probes.{probe_text}
 use Rattle.lv_reply.specs.States.{committed_text, states_text}
-use Rattle.lv_run_drive.specs.declared.tally.Tally.{Tally}
-use Rattle.lv_run_drive.specs.Fronts.{CountsFront, CountsAreOfFronts}
+use Rattle.lv_run.specs.declared.tally.Tally.{Tally}
+use Rattle.lv_run.specs.Fronts.{CountsFront, CountsAreOfFronts}
 
 module _ (plant : Plant) (t : Tally) where
   counts_front : (reply : Reply) → CountsFront plant t reply

@@ -3,25 +3,25 @@ use Rattle.std.proofs.Common.{◌≡◌, ℕ, Bool, true, false, cond, nat_eq, L
 use Rattle.lv_text.specs.Lexemes.{Lexeme, Reading, reads, has_bad_byte, is_too_long, line_reading, says}
 use Rattle.lv_text.specs.lv_base.declared.limits.TheConstants.{TRACKED, BUDGET}
 use Rattle.lv_model.specs.declared.plant.Plant.{Plant}
-use Rattle.lv_session.specs.lv_formula_text.Nesting.{is_too_deep}
-use Rattle.lv_session.specs.lv_model_names.declared.lists.Lists.{Lists}
-use Rattle.lv_session.specs.lv_model_names.Lists.{lists_of}
+use Rattle.lv_plant.specs.lv_session.lv_formula_text.Nesting.{is_too_deep}
+use Rattle.lv_plant.specs.lv_session.lv_model_names.declared.lists.Lists.{Lists}
+use Rattle.lv_plant.specs.lv_session.lv_model_names.Lists.{lists_of}
 use Rattle.lv_reply.specs.declared.reply.Refusal.{Refusal}
 use Rattle.lv_reply.specs.declared.reply.Refusal.TheVariants.{Form, TooComplex}
 use Rattle.lv_reply.specs.declared.reply.Reply.TheVariants.{Nothing as Silence}
-use Rattle.lv_session.specs.lv_session_request.declared.words.Word.{Word}
-use Rattle.lv_session.specs.lv_session_request.declared.words.Word.TheVariants as word
-use Rattle.lv_session.specs.lv_session_request.declared.request.Request.{Request}
-use Rattle.lv_session.specs.lv_session_request.declared.request.Request.TheVariants.{Nothing, Track, TrackDistinct, SetBudget, SetControl, Release, Observe, Retract, RetractAt, SetGoal, DropGoal, Diagnose, Recover, More, Commit, Conflicts, Labels, LabelsFrom, States, Reset, Quit, Probe, Test, Window}
-use Rattle.lv_session.specs.lv_session_request.declared.request.TheConstants.{WINDOW}
-use Rattle.lv_session.specs.lv_session_request.Chain.{and_then}
-use Rattle.lv_session.specs.lv_session_request.Forms.{first_word, has_distinct_form, has_at_form, limited, number_to}
-use Rattle.lv_session.specs.lv_session_request.Goals.{goal_of}
-use Rattle.lv_session.specs.lv_session_request.Requests.{alone, command_of, release_of, tested_of, sighting_of, retracted_of, retraction_of, request_by, asked_by_first, asked, asked_by, request_of}
-use Rattle.lv_session.specs.lv_session_state.State.{SessionState, unchanged}
-use Rattle.lv_session.specs.Session.{answered, stepped}
-use Rattle.lv_session.specs.Laws.{is_certificate}
-use Rattle.lv_session.proofs.StepLaws.{asks_certificate, request_told}
+use Rattle.lv_plant.specs.lv_session.lv_session_request.declared.words.Word.{Word}
+use Rattle.lv_plant.specs.lv_session.lv_session_request.declared.words.Word.TheVariants as word
+use Rattle.lv_plant.specs.lv_session.lv_session_request.declared.request.Request.{Request}
+use Rattle.lv_plant.specs.lv_session.lv_session_request.declared.request.Request.TheVariants.{Nothing, Track, TrackDistinct, SetBudget, SetControl, Release, Observe, Retract, RetractAt, SetGoal, DropGoal, Diagnose, Recover, More, Commit, Conflicts, Labels, LabelsFrom, States, Reset, Quit, Probe, Test, Window}
+use Rattle.lv_plant.specs.lv_session.lv_session_request.declared.request.TheConstants.{WINDOW}
+use Rattle.lv_plant.specs.lv_session.lv_session_request.Chain.{and_then}
+use Rattle.lv_plant.specs.lv_session.lv_session_request.Forms.{first_word, has_distinct_form, has_at_form, limited, number_to}
+use Rattle.lv_plant.specs.lv_session.lv_session_request.Goals.{goal_of}
+use Rattle.lv_plant.specs.lv_session.lv_session_request.Requests.{alone, command_of, release_of, tested_of, sighting_of, retracted_of, retraction_of, request_by, asked_by_first, asked, asked_by, request_of}
+use Rattle.lv_plant.specs.lv_session.lv_session_state.State.{SessionState, unchanged}
+use Rattle.lv_plant.specs.lv_session.Session.{answered, stepped}
+use Rattle.lv_plant.specs.lv_session.Laws.{is_certificate}
+use Rattle.lv_plant.proofs.lv_session.StepLaws.{asks_certificate, request_told}
 
 -- a certificate is asked for
 abbrev asks : Result Request Refusal → Bool

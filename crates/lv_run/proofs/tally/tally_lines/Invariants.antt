@@ -1,7 +1,7 @@
 -- What was counted, with the replies to the lines that are left, comes to what all replies do.
 use Rattle.std.proofs.Common.{length}
-use Rattle.lv_run_drive.proofs.Tallying.{Tallied}
-use Rattle.lv_run_drive.proofs.tally.tally_lines.Given as goal
+use Rattle.lv_run.proofs.Tallying.{Tallied}
+use Rattle.lv_run.proofs.tally.tally_lines.Given as goal
 
 abbrev pub invariant-loop-line : goal.invariant-loop-line
 invariant-loop-line l = record {

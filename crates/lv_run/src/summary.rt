@@ -2,7 +2,7 @@
 #![tactic(auto)]
 
 ghost use Rattle.std.specs.Prelude.{◌≡◌, ◌++◌, decimal, IfOk};
-ghost use Rattle.lv_run_drive.specs.Drives.{summary_line, summary_text, drive_text};
+ghost use Rattle.lv_run.specs.Drives.{summary_line, summary_text, drive_text};
 
 use crate::tally::{Tally, tally_session};
 use itoa::Buffer;

@@ -2,13 +2,13 @@
 #![tactic(auto)]
 
 ghost use Rattle.std.specs.Prelude.{◌≡◌, ◌<◌, ◌≤◌, ◌^◌, ◌-◌, ◌+◌, false, IfOk};
-ghost use Rattle.lv_run_drive.specs.Tallies.{none_counted, replied, counted, IsSmall};
-ghost use Rattle.lv_session.specs.Answering.{begun};
-ghost use Rattle.lv_run_drive.specs.Drives.{tally_of};
+ghost use Rattle.lv_run.specs.Tallies.{none_counted, replied, counted, IsSmall};
+ghost use Rattle.lv_plant.specs.lv_session.Answering.{begun};
+ghost use Rattle.lv_run.specs.Drives.{tally_of};
 
 use lv_model::Model;
+use lv_plant::{CompiledModel, Session};
 use lv_reply::Reply;
-use lv_session::{CompiledModel, Session};
 use lv_text::lines::next_line;
 use std::alloc::{AllocError, Global};
 

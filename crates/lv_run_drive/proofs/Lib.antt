@@ -1,4 +1,0 @@
-pub mod Tallying
-pub mod AskingLemmas
-pub mod CalmTexts
-pub mod FrontLemmas

@@ -1,6 +1,0 @@
--- The law, by its lemma.
-use Rattle.lv_run_drive.proofs.Tallying.{are_transcript}
-use Rattle.lv_run_drive.proofs.laws.replies_are_transcript.Goals as goal
-
-pub returns : goal.returns
-returns c = are_transcript
