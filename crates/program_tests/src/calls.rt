@@ -249,3 +249,89 @@ pub struct Case {
 pub fn is_met(alloc: Global, case: &Case, pieces: Pieces) -> Result<bool, AllocError> {
     ends_so(alloc, &case.call, pieces, case.wanted)
 }
+
+/// A case of a table: its name, the words, and the second file's text; behind `;` which call fails, on the shelf, the output or
+/// standard error; behind `=>` the status and the texts on the output and on standard error, or how many lines are written.
+#[macro_export]
+macro_rules! case {
+    ($name:expr, $words:expr, $second:expr; shelf fails at $at:literal => $status:ident, $out:expr, $err:expr) => {
+        case!(failing, $name, $words, $second, [$at], [], [] => $status, $out, $err)
+    };
+    ($name:expr, $words:expr, $second:expr; out fails at $at:literal => $status:ident, $out:expr, $err:expr) => {
+        case!(failing, $name, $words, $second, [], [$at], [] => $status, $out, $err)
+    };
+    ($name:expr, $words:expr, $second:expr; err fails at $at:literal => $status:ident, $out:expr, $err:expr) => {
+        case!(failing, $name, $words, $second, [], [], [$at] => $status, $out, $err)
+    };
+    (failing, $name:expr, $words:expr, $second:expr, $shelf_at:expr, $out_at:expr, $err_at:expr => $status:ident, $out:expr, $err:expr) => {
+        Case {
+            name: $name,
+            call: Call {
+                words: $words,
+                second: $second,
+                fails: Fails {
+                    shelf: &$shelf_at,
+                    out: &$out_at,
+                    err: &$err_at,
+                },
+            },
+            wanted: Wanted::Just(End {
+                status: Status::$status,
+                out: $out,
+                err: $err,
+            }),
+        }
+    };
+    ($name:expr, $words:expr, $second:expr => $count:literal lines) => {
+        Case {
+            name: $name,
+            call: Call {
+                words: $words,
+                second: $second,
+                fails: NOTHING,
+            },
+            wanted: Wanted::Lines($count),
+        }
+    };
+    ($name:expr, $words:expr, $second:expr => $status:ident, $out:expr, $err:expr) => {
+        case!(failing, $name, $words, $second, [], [], [] => $status, $out, $err)
+    };
+}
+
+/// Whether a call with a text as its second file is done, and writes these replies.
+pub fn replies_so(
+    alloc: Global,
+    words: &[&str],
+    second: &[u8],
+    replies: &[u8],
+    pieces: Pieces,
+) -> Result<bool, AllocError> {
+    let call = Call {
+        words,
+        second,
+        fails: NOTHING,
+    };
+    let end = End {
+        status: Status::Done,
+        out: replies,
+        err: b"",
+    };
+    ends_so(alloc, &call, pieces, Wanted::Just(end))
+}
+
+/// Lines over the valve, and what is replied to them.
+pub struct Script {
+    pub name: &'static str,
+    pub lines: &'static [u8],
+    pub replies: &'static [u8],
+}
+
+/// Whether the lines get their replies, with these words.
+pub fn are_replied(
+    alloc: Global,
+    words: &[&str],
+    script: &Script,
+    pieces: Pieces,
+) -> Result<bool, AllocError> {
+    replies_so(alloc, words, script.lines, script.replies, pieces)
+}

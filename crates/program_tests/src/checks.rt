@@ -1,7 +1,8 @@
 //! Checks of certificates as whole calls: each status once.
 #![tactic(auto)]
 
-use crate::calls::{BYTES, Call, Case, End, Fails, NOTHING, USAGE, WHOLE, Wanted, is_met};
+use crate::calls::{BYTES, Call, Case, End, Fails, USAGE, WHOLE, Wanted, is_met};
+use crate::case;
 use lv_run::Status;
 use std::alloc::AllocError;
 use test_texts::STUCK_CLOSED;
@@ -79,167 +80,38 @@ end
 pub const UNREAD: &[u8] = b"cannot read certificate\n";
 
 const CERTIFICATES: &[Case] = &[
-    Case {
-        name: "a valid certificate",
-        call: Call {
-            words: CHECK,
-            second: STUCK_CLOSED,
-            fails: NOTHING,
-        },
-        wanted: Wanted::Just(End {
-            status: Status::Done,
-            out: b"valid\n",
-            err: b"",
-        }),
-    },
-    Case {
-        name: "a split by a target",
-        call: Call {
-            words: CHECK,
-            second: DISTINCT,
-            fails: NOTHING,
-        },
-        wanted: Wanted::Just(End {
-            status: Status::Done,
-            out: b"valid\n",
-            err: b"",
-        }),
-    },
-    Case {
-        name: "a split by a target that is not asked for",
-        call: Call {
-            words: CHECK,
-            second: UNASKED,
-            fails: NOTHING,
-        },
-        wanted: Wanted::Just(End {
-            status: Status::Invalid,
-            out: b"invalid 18\n",
-            err: b"",
-        }),
-    },
-    Case {
-        name: "an invalid certificate",
-        call: Call {
-            words: CHECK,
-            second: UNSPLIT,
-            fails: NOTHING,
-        },
-        wanted: Wanted::Just(End {
-            status: Status::Invalid,
-            out: b"invalid 19\n",
-            err: b"",
-        }),
-    },
+    case!("a valid certificate", CHECK, STUCK_CLOSED => Done, b"valid\n", b""),
+    case!("a split by a target", CHECK, DISTINCT => Done, b"valid\n", b""),
+    case!(
+        "a split by a target that is not asked for", CHECK, UNASKED
+        => Invalid, b"invalid 18\n", b""
+    ),
+    case!("an invalid certificate", CHECK, UNSPLIT => Invalid, b"invalid 19\n", b""),
 ];
 
 const CALLS: &[Case] = &[
-    Case {
-        name: "a text out of form",
-        call: Call {
-            words: CHECK,
-            second: b"",
-            fails: NOTHING,
-        },
-        wanted: Wanted::Just(End {
-            status: Status::Invalid,
-            out: b"invalid 1\n",
-            err: b"",
-        }),
-    },
-    Case {
-        name: "too few words",
-        call: Call {
-            words: &["livingstone", "check", "valve.lv"],
-            second: STUCK_CLOSED,
-            fails: NOTHING,
-        },
-        wanted: Wanted::Just(End {
-            status: Status::WordsRefused,
-            out: b"",
-            err: USAGE,
-        }),
-    },
-    Case {
-        name: "a refused model",
-        call: Call {
-            words: &["livingstone", "check", "bad.lv", "absent"],
-            second: STUCK_CLOSED,
-            fails: NOTHING,
-        },
-        wanted: Wanted::Just(End {
-            status: Status::ModelRefused,
-            out: b"",
-            err: b"model 1 M04\n",
-        }),
-    },
-    Case {
-        name: "a certificate that is not there",
-        call: Call {
-            words: &["livingstone", "check", "valve.lv", "absent"],
-            second: STUCK_CLOSED,
-            fails: NOTHING,
-        },
-        wanted: Wanted::Just(End {
-            status: Status::SecondUnread,
-            out: b"",
-            err: UNREAD,
-        }),
-    },
+    case!("a text out of form", CHECK, b"" => Invalid, b"invalid 1\n", b""),
+    case!(
+        "too few words", &["livingstone", "check", "valve.lv"], STUCK_CLOSED
+        => WordsRefused, b"", USAGE
+    ),
+    case!(
+        "a refused model", &["livingstone", "check", "bad.lv", "absent"], STUCK_CLOSED
+        => ModelRefused, b"", b"model 1 M04\n"
+    ),
+    case!(
+        "a certificate that is not there", &["livingstone", "check", "valve.lv", "absent"], STUCK_CLOSED
+        => SecondUnread, b"", UNREAD
+    ),
 ];
 
 const WRITES: &[Case] = &[
-    Case {
-        name: "the write fails",
-        call: Call {
-            words: CHECK,
-            second: STUCK_CLOSED,
-            fails: Fails {
-                shelf: &[],
-                out: &[1],
-                err: &[],
-            },
-        },
-        wanted: Wanted::Just(End {
-            status: Status::OutputFailed,
-            out: b"",
-            err: b"",
-        }),
-    },
-    Case {
-        name: "the flush fails",
-        call: Call {
-            words: CHECK,
-            second: UNSPLIT,
-            fails: Fails {
-                shelf: &[],
-                out: &[2],
-                err: &[],
-            },
-        },
-        wanted: Wanted::Just(End {
-            status: Status::OutputFailed,
-            out: b"invalid 19\n",
-            err: b"",
-        }),
-    },
-    Case {
-        name: "the line on standard error fails",
-        call: Call {
-            words: &["livingstone", "check", "bad.lv", "a.ses"],
-            second: STUCK_CLOSED,
-            fails: Fails {
-                shelf: &[],
-                out: &[],
-                err: &[1],
-            },
-        },
-        wanted: Wanted::Just(End {
-            status: Status::OutputFailed,
-            out: b"",
-            err: b"",
-        }),
-    },
+    case!("the write fails", CHECK, STUCK_CLOSED; out fails at 1 => OutputFailed, b"", b""),
+    case!("the flush fails", CHECK, UNSPLIT; out fails at 2 => OutputFailed, b"invalid 19\n", b""),
+    case!(
+        "the line on standard error fails", &["livingstone", "check", "bad.lv", "a.ses"], STUCK_CLOSED; err fails at 1
+        => OutputFailed, b"", b""
+    ),
 ];
 
 #[test]

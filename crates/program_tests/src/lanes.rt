@@ -2,21 +2,13 @@
 //! memory. The replies are those of an independent program.
 #![tactic(auto)]
 
-use crate::calls::{BYTES, Call, End, NOTHING, Pieces, WHOLE, Wanted, ends_so};
-use lv_run::Status;
-use std::alloc::{AllocError, Global};
+use crate::calls::{BYTES, Script, WHOLE, are_replied};
+use std::alloc::AllocError;
 
 const LANES: &[&str] = &["livingstone", "lanes", "valve.lv", "a.ses"];
 
-/// Lines for lanes over the valve, and what is replied to them.
-struct Case {
-    name: &'static str,
-    lines: &'static [u8],
-    replies: &'static [u8],
-}
-
-const CASES: &[Case] = &[
-    Case {
+const SCRIPTS: &[Script] = &[
+    Script {
         name: "lanes interleaved, and turns",
         lines: b"@a budget 2
 @a command v.cmd = open
@@ -39,12 +31,12 @@ turn 1
 @a 1 cost 3 from 1: v closed>stuck_closed #3
 ",
     },
-    Case {
+    Script {
         name: "lines of neither form, and a lane with nothing said",
         lines: b"turn\nturn 0\n@ x\n@c\n",
         replies: b"error L01\nerror L03\nerror L01\n",
     },
-    Case {
+    Script {
         name: "refusals",
         lines: b"@a#x
 @a.b x
@@ -69,7 +61,7 @@ error L01
 error L01
 ",
     },
-    Case {
+    Script {
         name: "names of 64 bytes and of 65",
         lines: b"@nnnnnnnnnnnnnnnnnnnnnnnnnnnnnnnnnnnnnnnnnnnnnnnnnnnnnnnnnnnnnnnn track 1
 @nnnnnnnnnnnnnnnnnnnnnnnnnnnnnnnnnnnnnnnnnnnnnnnnnnnnnnnnnnnnnnnnn track 1
@@ -78,17 +70,17 @@ error L01
 error L02
 ",
     },
-    Case {
+    Script {
         name: "lines with no reply",
         lines: b"# x\n\n \t# turn 1\n@a # x\n@a\r\nturn 5\n",
         replies: b"",
     },
-    Case {
+    Script {
         name: "bytes of a lane's own line",
         lines: b"@a $\n@a track 0\n@a\ttrack 1 # one\n@a track 1\r\r\n",
         replies: b"@a error S16\n@a error S09\n@a ok\n@a error S16\n",
     },
-    Case {
+    Script {
         name: "a lane that has quit",
         lines: b"@a budget 1
 @a observe o v.out = zero
@@ -112,36 +104,25 @@ turn 3
 @b 2 cost 3 from 1: v closed>stuck_closed #3
 ",
     },
-    Case {
+    Script {
         name: "a last line without its end",
         lines: b"@a track 1\n@a states",
         replies: b"@a ok\n@a time 0 tracked 1\n@a 1 cost 0: v=closed\n",
     },
 ];
 
-/// Whether the lines of a case get its replies.
-fn are_replied(alloc: Global, case: &Case, pieces: Pieces) -> Result<bool, AllocError> {
-    let call = Call {
-        words: LANES,
-        second: case.lines,
-        fails: NOTHING,
-    };
-    let wanted = Wanted::Just(End {
-        status: Status::Done,
-        out: case.replies,
-        err: b"",
-    });
-    ends_so(alloc, &call, pieces, wanted)
-}
-
 #[test]
 fn lanes(rt: HostRuntime) -> Result<(), AllocError> {
-    for case in CASES {
-        assert!(rt; are_replied(rt.alloc(), case, WHOLE)?, "{}", case.name);
+    for script in SCRIPTS {
         assert!(rt;
-            are_replied(rt.alloc(), case, BYTES)?,
+            are_replied(rt.alloc(), LANES, script, WHOLE)?,
+            "{}",
+            script.name
+        );
+        assert!(rt;
+            are_replied(rt.alloc(), LANES, script, BYTES)?,
             "{}, byte by byte",
-            case.name
+            script.name
         );
     }
     Ok(())

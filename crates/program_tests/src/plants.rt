@@ -2,21 +2,13 @@
 //! memory. The replies are those of an independent program.
 #![tactic(auto)]
 
-use crate::calls::{BYTES, Call, End, NOTHING, Pieces, WHOLE, Wanted, ends_so};
-use lv_run::Status;
-use std::alloc::{AllocError, Global};
+use crate::calls::{BYTES, Script, WHOLE, are_replied};
+use std::alloc::AllocError;
 
 const PLANT: &[&str] = &["livingstone", "plant", "valve.lv", "a.ses"];
 
-/// A script over the valve, and what is replied to its lines.
-struct Case {
-    name: &'static str,
-    lines: &'static [u8],
-    replies: &'static [u8],
-}
-
-const CASES: &[Case] = &[
-    Case {
+const SCRIPTS: &[Script] = &[
+    Script {
         name: "a fault that is named, and a step",
         lines: b"fault v 3\ncommand v.cmd = open\nstep\n",
         replies: b"ok
@@ -29,7 +21,7 @@ held yes
 goals none
 ",
     },
-    Case {
+    Script {
         name: "a recovery applied, and the step that meets its goal",
         lines: b"goal g v.out = some
 recover
@@ -48,12 +40,12 @@ held yes
 goals met
 ",
     },
-    Case {
+    Script {
         name: "no such fault, no recovery, no such line",
         lines: b"fault v 4\napply\nobserve o v.out = zero\n",
         replies: b"error P02\nerror P05\nerror P01\n",
     },
-    Case {
+    Script {
         name: "refusals of form",
         lines: b"fault
 fault v
@@ -98,12 +90,12 @@ error P01
 error S16
 ",
     },
-    Case {
+    Script {
         name: "lines with no reply",
         lines: b"# step\n\n \t# fault v 3\n",
         replies: b"",
     },
-    Case {
+    Script {
         name: "a recovery that isn't current any more, and none found",
         lines: b"goal g v.out = some
 apply
@@ -126,7 +118,7 @@ no recovery
 error P05
 ",
     },
-    Case {
+    Script {
         name: "an unsettled recovery",
         lines: b"goal g v.out = some
 budget 1
@@ -139,7 +131,7 @@ unsettled trials 1
 error P05
 ",
     },
-    Case {
+    Script {
         name: "an unsettled diagnosis halts the plant",
         lines: b"budget 1
 fault v 3
@@ -161,7 +153,7 @@ time 0 tracked 1
 1 cost 0: v=closed
 ",
     },
-    Case {
+    Script {
         name: "a later fault for a part replaces the one before",
         lines: b"fault v 3
 fault v 6
@@ -189,7 +181,7 @@ time 2 tracked 1
 1 cost 8: v=stuck_open
 ",
     },
-    Case {
+    Script {
         name: "a tracked list that lacks the plant's mode",
         lines: b"track 1
 fault v 3
@@ -220,7 +212,7 @@ time 2 tracked 1
 1 cost 3: v=stuck_closed
 ",
     },
-    Case {
+    Script {
         name: "the goal is open",
         lines: b"goal g v.out = some\nstep\n",
         replies: b"ok
@@ -233,7 +225,7 @@ held yes
 goals open
 ",
     },
-    Case {
+    Script {
         name: "a last line without its end",
         lines: b"track 1\nstep",
         replies: b"ok
@@ -245,7 +237,7 @@ held yes
 goals none
 ",
     },
-    Case {
+    Script {
         name: "the session's refusals",
         lines: b"track 0
 command w.cmd = open
@@ -272,29 +264,18 @@ error S02
     },
 ];
 
-/// Whether the lines of a case get its replies.
-fn are_replied(alloc: Global, case: &Case, pieces: Pieces) -> Result<bool, AllocError> {
-    let call = Call {
-        words: PLANT,
-        second: case.lines,
-        fails: NOTHING,
-    };
-    let wanted = Wanted::Just(End {
-        status: Status::Done,
-        out: case.replies,
-        err: b"",
-    });
-    ends_so(alloc, &call, pieces, wanted)
-}
-
 #[test]
 fn plants(rt: HostRuntime) -> Result<(), AllocError> {
-    for case in CASES {
-        assert!(rt; are_replied(rt.alloc(), case, WHOLE)?, "{}", case.name);
+    for script in SCRIPTS {
         assert!(rt;
-            are_replied(rt.alloc(), case, BYTES)?,
+            are_replied(rt.alloc(), PLANT, script, WHOLE)?,
+            "{}",
+            script.name
+        );
+        assert!(rt;
+            are_replied(rt.alloc(), PLANT, script, BYTES)?,
             "{}, byte by byte",
-            case.name
+            script.name
         );
     }
     Ok(())

@@ -3,9 +3,10 @@
 #![tactic(auto)]
 
 use crate::calls::{
-    BYTES, Call, Case, End, Fails, MODEL_UNREAD, NOTHING, Pieces, USAGE, WHOLE, Wanted, ends_so,
-    is_met,
+    BYTES, Call, Case, End, Fails, MODEL_UNREAD, NOTHING, Pieces, USAGE, WHOLE, Wanted, is_met,
+    replies_so,
 };
+use crate::case;
 use lv_run::Status;
 use std::alloc::{AllocError, Global};
 
@@ -134,434 +135,104 @@ const RUN: &[&str] = &["livingstone", "run", "valve.lv", "a.ses"];
 const FIRST: &[u8] = b"command v.cmd = open\ndiagnose\n";
 
 const SESSIONS: &[Case] = &[
-    Case {
-        name: "a command and a diagnosis",
-        call: Call {
-            words: RUN,
-            second: FIRST,
-            fails: NOTHING,
-        },
-        wanted: Wanted::Just(End {
-            status: Status::Done,
-            out: COMMANDED,
-            err: b"",
-        }),
-    },
-    Case {
-        name: "a last line without its end",
-        call: Call {
-            words: RUN,
-            second: b"diagnose",
-            fails: NOTHING,
-        },
-        wanted: Wanted::Just(End {
-            status: Status::Done,
-            out: AT_REST,
-            err: b"",
-        }),
-    },
-    Case {
-        name: "an empty session",
-        call: Call {
-            words: RUN,
-            second: b"",
-            fails: NOTHING,
-        },
-        wanted: Wanted::Just(End {
-            status: Status::Done,
-            out: b"",
-            err: b"",
-        }),
-    },
-    Case {
-        name: "a refused model",
-        call: Call {
-            words: &["livingstone", "run", "bad.lv", "a.ses"],
-            second: FIRST,
-            fails: NOTHING,
-        },
-        wanted: Wanted::Just(End {
-            status: Status::ModelRefused,
-            out: b"",
-            err: b"model 1 M04\n",
-        }),
-    },
+    case!("an empty session", RUN, b"" => Done, b"", b""),
+    case!(
+        "a refused model", &["livingstone", "run", "bad.lv", "a.ses"], FIRST
+        => ModelRefused, b"", b"model 1 M04\n"
+    ),
 ];
 
 const WORDS: &[Case] = &[
-    Case {
-        name: "too few words",
-        call: Call {
-            words: &["livingstone", "run", "valve.lv"],
-            second: FIRST,
-            fails: NOTHING,
-        },
-        wanted: Wanted::Just(End {
-            status: Status::WordsRefused,
-            out: b"",
-            err: USAGE,
-        }),
-    },
-    Case {
-        name: "a file word of a dash",
-        call: Call {
-            words: &["livingstone", "run", "-", "a.ses"],
-            second: FIRST,
-            fails: NOTHING,
-        },
-        wanted: Wanted::Just(End {
-            status: Status::WordsRefused,
-            out: b"",
-            err: USAGE,
-        }),
-    },
+    case!("too few words", &["livingstone", "run", "valve.lv"], FIRST => WordsRefused, b"", USAGE),
+    case!(
+        "a file word of a dash", &["livingstone", "run", "-", "a.ses"], FIRST
+        => WordsRefused, b"", USAGE
+    ),
     // Behind `--` a word that begins with `-` is the name of a file.
-    Case {
-        name: "names behind dashes",
-        call: Call {
-            words: &["livingstone", "run", "valve.lv", "--", "-a.ses"],
-            second: FIRST,
-            fails: NOTHING,
-        },
-        wanted: Wanted::Just(End {
-            status: Status::SecondUnread,
-            out: b"",
-            err: b"cannot read session\n",
-        }),
-    },
-    Case {
-        name: "a model that is not there",
-        call: Call {
-            words: &["livingstone", "run", "no.lv", "a.ses"],
-            second: FIRST,
-            fails: NOTHING,
-        },
-        wanted: Wanted::Just(End {
-            status: Status::ModelUnread,
-            out: b"",
-            err: MODEL_UNREAD,
-        }),
-    },
-    Case {
-        name: "a session that is not there",
-        call: Call {
-            words: &["livingstone", "run", "valve.lv", ""],
-            second: FIRST,
-            fails: NOTHING,
-        },
-        wanted: Wanted::Just(End {
-            status: Status::SecondUnread,
-            out: b"",
-            err: b"cannot read session\n",
-        }),
-    },
-    Case {
-        name: "no model has the number 0",
-        call: Call {
-            words: &["livingstone", "generate", "model", "0"],
-            second: b"",
-            fails: NOTHING,
-        },
-        wanted: Wanted::Just(End {
-            status: Status::WordsRefused,
-            out: b"",
-            err: USAGE,
-        }),
-    },
+    case!(
+        "names behind dashes", &["livingstone", "run", "valve.lv", "--", "-a.ses"], FIRST
+        => SecondUnread, b"", b"cannot read session\n"
+    ),
+    case!(
+        "a model that is not there", &["livingstone", "run", "no.lv", "a.ses"], FIRST
+        => ModelUnread, b"", MODEL_UNREAD
+    ),
+    case!(
+        "a session that is not there", &["livingstone", "run", "valve.lv", ""], FIRST
+        => SecondUnread, b"", b"cannot read session\n"
+    ),
+    case!(
+        "no model has the number 0", &["livingstone", "generate", "model", "0"], b""
+        => WordsRefused, b"", USAGE
+    ),
 ];
 
 const PRINTS: &[Case] = &[
-    Case {
-        name: "a printed model",
-        call: Call {
-            words: &["livingstone", "print", "valve.lv"],
-            second: b"",
-            fails: NOTHING,
-        },
-        wanted: Wanted::Just(End {
-            status: Status::Done,
-            out: CANONICAL,
-            err: b"",
-        }),
-    },
-    Case {
-        name: "a printed model of the second version",
-        call: Call {
-            words: &["livingstone", "print", "a.ses"],
-            second: SHORT,
-            fails: NOTHING,
-        },
-        wanted: Wanted::Just(End {
-            status: Status::Done,
-            out: SHORT_CANONICAL,
-            err: b"",
-        }),
-    },
-    Case {
-        name: "a form of the second version in a text of the first",
-        call: Call {
-            words: &["livingstone", "print", "a.ses"],
-            second: SHORT_IN_ONE,
-            fails: NOTHING,
-        },
-        wanted: Wanted::Just(End {
-            status: Status::ModelRefused,
-            out: b"",
-            err: b"model 12 M05\n",
-        }),
-    },
-    Case {
-        name: "a version that is none",
-        call: Call {
-            words: &["livingstone", "print", "a.ses"],
-            second: b"version 3",
-            fails: NOTHING,
-        },
-        wanted: Wanted::Just(End {
-            status: Status::ModelRefused,
-            out: b"",
-            err: b"model 1 M06\n",
-        }),
-    },
-    Case {
-        name: "a printed model that is not there",
-        call: Call {
-            words: &["livingstone", "print", "absent"],
-            second: b"",
-            fails: NOTHING,
-        },
-        wanted: Wanted::Just(End {
-            status: Status::ModelUnread,
-            out: b"",
-            err: MODEL_UNREAD,
-        }),
-    },
-    Case {
-        name: "a refused model is not printed",
-        call: Call {
-            words: &["livingstone", "print", "bad.lv"],
-            second: b"",
-            fails: NOTHING,
-        },
-        wanted: Wanted::Just(End {
-            status: Status::ModelRefused,
-            out: b"",
-            err: b"model 1 M04\n",
-        }),
-    },
+    case!("a printed model", &["livingstone", "print", "valve.lv"], b"" => Done, CANONICAL, b""),
+    case!(
+        "a printed model of the second version", &["livingstone", "print", "a.ses"], SHORT
+        => Done, SHORT_CANONICAL, b""
+    ),
+    case!(
+        "a form of the second version in a text of the first", &["livingstone", "print", "a.ses"], SHORT_IN_ONE
+        => ModelRefused, b"", b"model 12 M05\n"
+    ),
+    case!(
+        "a version that is none", &["livingstone", "print", "a.ses"], b"version 3"
+        => ModelRefused, b"", b"model 1 M06\n"
+    ),
+    case!(
+        "a printed model that is not there", &["livingstone", "print", "absent"], b""
+        => ModelUnread, b"", MODEL_UNREAD
+    ),
+    case!(
+        "a refused model is not printed", &["livingstone", "print", "bad.lv"], b""
+        => ModelRefused, b"", b"model 1 M04\n"
+    ),
 ];
 
 /// The model is opened and read in two calls, and the session in one more each; then nothing more comes.
 const READS: &[Case] = &[
-    Case {
-        name: "a failed read of the model",
-        call: Call {
-            words: RUN,
-            second: FIRST,
-            fails: Fails {
-                shelf: &[3],
-                out: &[],
-                err: &[],
-            },
-        },
-        wanted: Wanted::Just(End {
-            status: Status::ModelUnread,
-            out: b"",
-            err: MODEL_UNREAD,
-        }),
-    },
-    Case {
-        name: "a failed read of the session",
-        call: Call {
-            words: RUN,
-            second: b"diagnose",
-            fails: Fails {
-                shelf: &[5],
-                out: &[],
-                err: &[],
-            },
-        },
-        wanted: Wanted::Just(End {
-            status: Status::SecondUnread,
-            out: b"",
-            err: b"cannot read session\n",
-        }),
-    },
-    Case {
-        name: "a failed read at the end",
-        call: Call {
-            words: RUN,
-            second: FIRST,
-            fails: Fails {
-                shelf: &[6],
-                out: &[],
-                err: &[],
-            },
-        },
-        wanted: Wanted::Just(End {
-            status: Status::SecondUnread,
-            out: COMMANDED,
-            err: b"cannot read session\n",
-        }),
-    },
-    Case {
-        name: "a line torn by it",
-        call: Call {
-            words: RUN,
-            second: b"command v.cmd = open\ndiagnose",
-            fails: Fails {
-                shelf: &[6],
-                out: &[],
-                err: &[],
-            },
-        },
-        wanted: Wanted::Just(End {
-            status: Status::SecondUnread,
-            out: b"ok\n",
-            err: b"cannot read session\n",
-        }),
-    },
+    case!(
+        "a failed read of the model", RUN, FIRST; shelf fails at 3
+        => ModelUnread, b"", MODEL_UNREAD
+    ),
+    case!(
+        "a failed read of the session", RUN, b"diagnose"; shelf fails at 5
+        => SecondUnread, b"", b"cannot read session\n"
+    ),
+    case!(
+        "a failed read at the end", RUN, FIRST; shelf fails at 6
+        => SecondUnread, COMMANDED, b"cannot read session\n"
+    ),
+    case!(
+        "a line torn by it", RUN, b"command v.cmd = open\ndiagnose"; shelf fails at 6
+        => SecondUnread, b"ok\n", b"cannot read session\n"
+    ),
 ];
 
 const WRITES: &[Case] = &[
-    Case {
-        name: "a failed write",
-        call: Call {
-            words: RUN,
-            second: b"diagnose",
-            fails: Fails {
-                shelf: &[],
-                out: &[1],
-                err: &[],
-            },
-        },
-        wanted: Wanted::Just(End {
-            status: Status::OutputFailed,
-            out: b"",
-            err: b"",
-        }),
-    },
+    case!("a failed write", RUN, b"diagnose"; out fails at 1 => OutputFailed, b"", b""),
     // Both replies of a piece are one write; the flush behind it fails.
-    Case {
-        name: "a failed flush",
-        call: Call {
-            words: RUN,
-            second: FIRST,
-            fails: Fails {
-                shelf: &[],
-                out: &[2],
-                err: &[],
-            },
-        },
-        wanted: Wanted::Just(End {
-            status: Status::OutputFailed,
-            out: COMMANDED,
-            err: b"",
-        }),
-    },
+    case!("a failed flush", RUN, FIRST; out fails at 2 => OutputFailed, COMMANDED, b""),
     // The second write of the line on standard error, which takes seven bytes at a time, fails.
-    Case {
-        name: "a failed write of a line",
-        call: Call {
-            words: &["livingstone", "run", "bad.lv", "a.ses"],
-            second: FIRST,
-            fails: Fails {
-                shelf: &[],
-                out: &[],
-                err: &[2],
-            },
-        },
-        wanted: Wanted::Just(End {
-            status: Status::OutputFailed,
-            out: b"",
-            err: b"model 1",
-        }),
-    },
+    case!(
+        "a failed write of a line", &["livingstone", "run", "bad.lv", "a.ses"], FIRST; err fails at 2
+        => OutputFailed, b"", b"model 1"
+    ),
 ];
 
 const LINES: &[Case] = &[
-    Case {
-        name: "a command and a diagnosis",
-        call: Call {
-            words: RUN,
-            second: FIRST,
-            fails: NOTHING,
-        },
-        wanted: Wanted::Just(End {
-            status: Status::Done,
-            out: COMMANDED,
-            err: b"",
-        }),
-    },
-    Case {
-        name: "a last line without its end",
-        call: Call {
-            words: RUN,
-            second: b"diagnose",
-            fails: NOTHING,
-        },
-        wanted: Wanted::Just(End {
-            status: Status::Done,
-            out: AT_REST,
-            err: b"",
-        }),
-    },
-    Case {
-        name: "a comment and a quit",
-        call: Call {
-            words: RUN,
-            second: b"# x\nquit\njump\n",
-            fails: NOTHING,
-        },
-        wanted: Wanted::Just(End {
-            status: Status::Done,
-            out: b"ok\n",
-            err: b"",
-        }),
-    },
-    Case {
-        name: "carriage returns",
-        call: Call {
-            words: RUN,
-            second: b"jump\r\n\njump\r",
-            fails: NOTHING,
-        },
-        wanted: Wanted::Just(End {
-            status: Status::Done,
-            out: b"error S01\nerror S01\n",
-            err: b"",
-        }),
-    },
+    case!("a command and a diagnosis", RUN, FIRST => Done, COMMANDED, b""),
+    case!("a last line without its end", RUN, b"diagnose" => Done, AT_REST, b""),
+    case!("a comment and a quit", RUN, b"# x\nquit\njump\n" => Done, b"ok\n", b""),
+    case!("carriage returns", RUN, b"jump\r\n\njump\r" => Done, b"error S01\nerror S01\n", b""),
 ];
 
 const GENERATED: &[Case] = &[
-    Case {
-        name: "the model of 1",
-        call: Call {
-            words: &["livingstone", "generate", "model", "1"],
-            second: b"",
-            fails: NOTHING,
-        },
-        wanted: Wanted::Lines(28),
-    },
-    Case {
-        name: "the model of 30",
-        call: Call {
-            words: &["livingstone", "generate", "model", "30"],
-            second: b"",
-            fails: NOTHING,
-        },
-        wanted: Wanted::Lines(86),
-    },
-    Case {
-        name: "the model of 31",
-        call: Call {
-            words: &["livingstone", "generate", "model", "0031"],
-            second: b"",
-            fails: NOTHING,
-        },
-        wanted: Wanted::Lines(26),
-    },
+    case!("the model of 1", &["livingstone", "generate", "model", "1"], b"" => 28 lines),
+    case!("the model of 30", &["livingstone", "generate", "model", "30"], b"" => 86 lines),
+    case!("the model of 31", &["livingstone", "generate", "model", "0031"], b"" => 26 lines),
 ];
 
 /// The session of 31 as an independent reference program runs it.
@@ -574,19 +245,9 @@ trials 55
 tracked 1
 ";
 
-const DRIVES: &[Case] = &[Case {
-    name: "a driven session",
-    call: Call {
-        words: &["livingstone", "drive", "31"],
-        second: b"",
-        fails: NOTHING,
-    },
-    wanted: Wanted::Just(End {
-        status: Status::Done,
-        out: DRIVEN,
-        err: b"",
-    }),
-}];
+const DRIVES: &[Case] = &[
+    case!("a driven session", &["livingstone", "drive", "31"], b"" => Done, DRIVEN, b""),
+];
 
 #[test]
 fn sessions(rt: HostRuntime) -> Result<(), AllocError> {
@@ -696,29 +357,10 @@ fn session_of(alloc: Global, line: &LongLine) -> Result<Vec<u8>, AllocError> {
     Ok(session)
 }
 
-fn is_replied(
-    alloc: Global,
-    session: &[u8],
-    replies: &[u8],
-    pieces: Pieces,
-) -> Result<bool, AllocError> {
-    let call = Call {
-        words: RUN,
-        second: session,
-        fails: NOTHING,
-    };
-    let end = End {
-        status: Status::Done,
-        out: replies,
-        err: b"",
-    };
-    ends_so(alloc, &call, pieces, Wanted::Just(end))
-}
-
 /// Whether a session with the line is replied to so where so much comes at a time.
 fn is_limited(alloc: Global, line: &LongLine, pieces: Pieces) -> Result<bool, AllocError> {
     let session = session_of(alloc, line)?;
-    is_replied(alloc, session.as_slice(), line.replies, pieces)
+    replies_so(alloc, RUN, session.as_slice(), line.replies, pieces)
 }
 
 #[test]
