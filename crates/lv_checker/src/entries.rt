@@ -9,7 +9,7 @@ ghost use Rattle.lv_checker.specs.declared.draft.Entry.TheVariants.{NewMoves};
 ghost use Rattle.lv_model.specs.Lists.{is_control};
 ghost use Rattle.lv_model.specs.declared.plant.Variable.{Variable};
 
-use crate::copies::{condition_copied, guard_copied};
+use crate::copies::guard_copied;
 use crate::draft::{CheckFault, Draft, Entry, TypeDraft};
 use crate::places::{
     domain_place, mode_of_type, mode_place, part_of_name, placed, type_place, variable_numbered,
@@ -110,7 +110,7 @@ fn laws_in(alloc: Global, law: &Condition, modes: &[ValId]) -> Result<Seq<ModeFo
 {
     let mut laws = Vec::new(alloc);
     'modes: for mode in modes {
-        let condition = condition_copied(alloc, law)?;
+        let condition = law.copied(alloc)?;
         laws.push(ModeFormula {
             mode: *mode,
             condition,

@@ -12,6 +12,8 @@ ghost use Rattle.lv_formula.specs.Fits.{fits};
 ghost use Rattle.lv_formula.specs.Counts.{clause_count};
 ghost use Rattle.lv_formula.specs.Fold.{is_true_in, reads_in, fits_in};
 
+pub mod boxed;
+mod copies;
 pub mod counts;
 pub mod laws;
 pub mod path;

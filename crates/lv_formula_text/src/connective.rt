@@ -6,8 +6,8 @@ ghost use Rattle.lv_formula_text.specs.PhraseTree.{tree_of, tree_in};
 ghost use Rattle.lv_formula_text.specs.Connectives.{sign_of, level, joined};
 ghost use Rattle.lv_formula_text.specs.declared.connective.Connective.TheVariants.{Equivalence, Implication};
 
-use crate::boxed::{boxed, push_unboxed};
 use crate::phrase::PhraseNode;
+use lv_formula::boxed::{boxed, push_unboxed};
 use lv_text::TokenKind;
 use std::alloc::{AllocError, Global};
 

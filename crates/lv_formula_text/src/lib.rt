@@ -14,7 +14,6 @@
 #![tactic(auto)]
 
 mod atom;
-mod boxed;
 mod connective;
 mod cursor;
 pub mod descent;

@@ -14,10 +14,10 @@ ghost use Rattle.lv_formula_text.specs.Grammar.{IsUnary, IsOperand, IsJoined};
 ghost use Rattle.lv_formula_text.specs.Reading.{Finds};
 
 use crate::atom::atom;
-use crate::boxed::{boxed, push_unboxed};
 use crate::connective::Connective;
 use crate::cursor::Cursor;
 use crate::phrase::PhraseNode;
+use lv_formula::boxed::{boxed, push_unboxed};
 use lv_text::TokenKind;
 use std::alloc::{AllocError, Global};
 

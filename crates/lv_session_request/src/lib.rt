@@ -8,7 +8,6 @@
 //! | `forms` | how many tokens and which signs it has, its numbers and names |
 //! | `names` | which controls, observables and values names stand for |
 //! | `goals` | the goal that a line names |
-//! | `copying` | copies of formulas |
 //! | `unread` | why a line asks for nothing: a refusal, or want of memory |
 //! | `held` | `Held`: observations found by their names; `facts`: control values and what was observed, as facts |
 //!
@@ -16,7 +15,6 @@
 //! word's, and then what the line names, from left to right. That a line nests too deep comes before its form.
 #![tactic(auto)]
 
-pub mod copying;
 pub mod forms;
 pub mod goals;
 pub mod held;

@@ -11,7 +11,6 @@ use lv_base::{Seq, has_name};
 use lv_formula::Condition;
 use lv_reply::{Refusal, Reply};
 use lv_session_request::Goal;
-use lv_session_request::copying::copied;
 use std::alloc::{AllocError, Global};
 
 /// Whether one of the goals has this name.
@@ -34,7 +33,7 @@ pub(crate) fn formulas_of(alloc: Global, goals: &[Goal]) -> Result<Vec<Condition
 {
     let mut out = Vec::new(alloc);
     for goal in goals {
-        out.push(copied(alloc, &goal.formula)?)?;
+        out.push(goal.formula.copied(alloc)?)?;
     }
     Ok(out)
 }

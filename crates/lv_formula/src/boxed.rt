@@ -8,7 +8,7 @@ use std::alloc::{AllocError, Global};
 
 /// The value in a box.
 #[inline(never)]
-pub(crate) fn boxed<T: Drop>(alloc: Global, value: T) -> Result<Box<T>, AllocError>
+pub fn boxed<T: Drop>(alloc: Global, value: T) -> Result<Box<T>, AllocError>
     ensures { IfOk result (λ whole. whole.value ≡ value) }
 {
     Ok(Box::new(alloc, value)?)
@@ -16,7 +16,7 @@ pub(crate) fn boxed<T: Drop>(alloc: Global, value: T) -> Result<Box<T>, AllocErr
 
 /// Puts what is in a box behind the items of a list.
 #[inline(never)]
-pub(crate) fn push_unboxed<T: Drop>(items: &mut Vec<T>, last: Box<T>) -> Result<(), AllocError>
+pub fn push_unboxed<T: Drop>(items: &mut Vec<T>, last: Box<T>) -> Result<(), AllocError>
     ensures { OnOk result (items.new.items ≡ items.old.items ++ last.value ∷ []) }
 {
     Ok(items.push(Box::into_inner(last))?)
