@@ -1,10 +1,12 @@
-//! With ample memory each call answers.
+//! With ample memory each call answers. A test's search has one owner, whose steps take it by reference; what it has come
+//! to is written down as a plain value, and the test looks at that alone.
 
-ghost use Rattle.std.specs.Prelude.{◌≡◌, ◌+◌, ◌≤◌, ◌<◌, ◌^◌, length, IfOk};
+ghost use Rattle.std.specs.Prelude.{◌≡◌, ◌+◌, ◌≤◌, ◌<◌, ◌^◌, true, length, IfOk};
+ghost use Rattle.lv_boxes.specs.RankedMembers.{sources_differ};
 ghost use Rattle.lv_search.specs.Standing.{trials_of};
 
 use crate::avoids::Avoids;
-use lv_base::{Cost, Pair};
+use lv_base::{Cost, Pair, Rank};
 use lv_boxes::{Grid, Groups, Zone};
 use lv_search::{By, Outcome, Search, Split, Zones};
 use std::alloc::{AllocError, Global};
@@ -41,15 +43,23 @@ fn small_groups(alloc: Global) -> Result<Groups, AllocError>
     Ok(groups)
 }
 
+/// The zones of two tracked states that cost 10, with all choices.
+fn two_zones(alloc: Global) -> Result<Vec<Zone>, AllocError>
+    ensures { IfOk result (λ zones. sources_differ zones.items ≡ true) }
+{
+    let mut zones = Vec::new(alloc);
+    zones.push(Zone::new(alloc, 0, Cost(10), &[0b111, 0b11])?)?;
+    zones.push(Zone::new(alloc, 1, Cost(10), &[0b111, 0b11])?)?;
+    Ok(zones)
+}
+
 /// All candidates of two tracked states that cost 10, of which three of different targets are to be listed.
 fn distinct_search(alloc: Global) -> Result<Search<Zones>, AllocError>
     ensures { IfOk result (λ search. trials_of search.standing ≡ 0) }
 {
     let groups = small_groups(alloc)?;
     let grid = small_grid(alloc)?;
-    let mut zones = Vec::new(alloc);
-    zones.push(Zone::new(alloc, 0, Cost(10), &[0b111, 0b11])?)?;
-    zones.push(Zone::new(alloc, 1, Cost(10), &[0b111, 0b11])?)?;
+    let zones = two_zones(alloc)?;
     Search::new_distinct(alloc, Zones::new(alloc, grid, zones)?, 3, groups)
 }
 
@@ -61,85 +71,151 @@ fn go_on(search: &mut Search<Zones>, trial: &mut Avoids, more: u64) -> Result<Ou
     search.run(trial, more)
 }
 
+/// What a run of a search has come to. Each row ends with the first place that is to be empty.
+#[derive(Clone, Copy)]
+struct Reached {
+    outcome: Outcome,
+    trials: u64,
+    listed: usize,
+    conflicts: usize,
+    /// Of each listed candidate its cost, and the tracked state that it is of.
+    costs_and_sources: [Option<(Cost, u32)>; 4],
+    splits: [Option<Split>; 5],
+}
+
+/// The cost and the source of the rank at this place.
+fn cost_and_source_at(ranks: &[Rank], place: usize) -> Option<(Cost, u32)> {
+    let rank = ranks.get(place)?;
+    Some((rank.cost, rank.source))
+}
+
+/// The costs and the sources of the ranks at the first four places.
+fn costs_and_sources(ranks: &[Rank]) -> [Option<(Cost, u32)>; 4] {
+    [
+        cost_and_source_at(ranks, 0),
+        cost_and_source_at(ranks, 1),
+        cost_and_source_at(ranks, 2),
+        cost_and_source_at(ranks, 3),
+    ]
+}
+
+/// The splits at the first five places.
+fn first_splits(splits: &[Split]) -> [Option<Split>; 5] {
+    [
+        splits.get(0).copied(),
+        splits.get(1).copied(),
+        splits.get(2).copied(),
+        splits.get(3).copied(),
+        splits.get(4).copied(),
+    ]
+}
+
+fn look_at(search: &Search<Zones>, outcome: Outcome) -> Reached {
+    Reached {
+        outcome,
+        trials: search.trials(),
+        listed: search.listed().len(),
+        conflicts: search.conflicts().len(),
+        costs_and_sources: costs_and_sources(search.listed()),
+        splits: first_splits(search.splits()),
+    }
+}
+
+/// What the search has come to after a trial at most, and after five more at most.
+#[derive(Clone, Copy)]
+struct TwoRuns {
+    first: Reached,
+    second: Reached,
+}
+
+fn run_twice(search: &mut Search<Zones>, trial: &mut Avoids) -> Result<TwoRuns, AllocError>
+    requires { trials_of search.old.standing ≡ 0 }
+{
+    let outcome = go_on(search, trial, 1)?;
+    let first = look_at(search, outcome);
+    let outcome = go_on(search, trial, 5)?;
+    let second = look_at(search, outcome);
+    Ok(TwoRuns { first, second })
+}
+
+fn small_search_run_twice(alloc: Global, pair: Pair) -> Result<TwoRuns, AllocError> {
+    let mut search = small_search(alloc)?;
+    run_twice(&mut search, &mut Avoids { alloc, pair })
+}
+
+fn run_once(
+    search: &mut Search<Zones>,
+    trial: &mut Avoids,
+    most: u64,
+) -> Result<Reached, AllocError>
+    requires { trials_of search.old.standing + most < 2 ^ 64 }
+{
+    let outcome = go_on(search, trial, most)?;
+    Ok(look_at(search, outcome))
+}
+
+fn distinct_search_run(alloc: Global, pair: Pair) -> Result<Reached, AllocError> {
+    let mut search = distinct_search(alloc)?;
+    run_once(&mut search, &mut Avoids { alloc, pair }, 2)
+}
+
+fn split_by(zone: usize, by: By) -> Option<Split> {
+    Some(Split { zone, by })
+}
+
 #[test]
 fn first_three_without_a_choice(rt: HostRuntime) -> Result<(), Fail> {
-    let mut trial = Avoids {
-        alloc: rt.alloc(),
-        pair: Pair { slot: 0, choice: 1 },
-    };
-    let mut search = small_search(rt.alloc())?;
+    let runs = small_search_run_twice(rt.alloc(), Pair { slot: 0, choice: 1 })?;
 
     // The candidates in order are 00, 10, 20 and 01. The first fits, and for the second no trial is left.
-    assert!(rt; go_on(&mut search, &mut trial, 1)? == Outcome::Unsettled);
-    assert_eq!(rt; search.trials(), 1);
-    assert_eq!(rt; search.listed().len(), 1);
+    assert!(rt; runs.first.outcome == Outcome::Unsettled);
+    assert_eq!(rt; runs.first.trials, 1);
+    assert_eq!(rt; runs.first.listed, 1);
 
     // 10 is refused, 20 and 01 are listed.
-    assert!(rt; go_on(&mut search, &mut trial, 5)? == Outcome::Settled);
-    assert_eq!(rt; search.trials(), 4);
-    assert_eq!(rt; search.conflicts().len(), 1);
-    let costs = [Cost(10), Cost(11), Cost(12)];
-    assert!(rt; search.listed().iter().map(|rank| rank.cost).eq(costs));
+    assert!(rt; runs.second.outcome == Outcome::Settled);
+    assert_eq!(rt; runs.second.trials, 4);
+    assert_eq!(rt; runs.second.conflicts, 1);
+    let listed = [
+        Some((Cost(10), 0)),
+        Some((Cost(11), 0)),
+        Some((Cost(12), 0)),
+        None,
+    ];
+    assert!(rt; runs.second.costs_and_sources == listed);
 
     // The zone of all is split by 00 into 1 and 2, 1 by the conflict into 3, 3 by 20, and 2 by 01.
     let splits = [
-        Split {
-            zone: 0,
-            by: By::Listed(0),
-        },
-        Split {
-            zone: 1,
-            by: By::Conflict(0),
-        },
-        Split {
-            zone: 3,
-            by: By::Listed(1),
-        },
-        Split {
-            zone: 2,
-            by: By::Listed(2),
-        },
+        split_by(0, By::Listed(0)),
+        split_by(1, By::Conflict(0)),
+        split_by(3, By::Listed(1)),
+        split_by(2, By::Listed(2)),
+        None,
     ];
-    assert!(rt; search.splits() == splits.as_slice());
+    assert!(rt; runs.second.splits == splits);
     Ok(())
 }
 
 #[test]
 fn one_of_each_target(rt: HostRuntime) -> Result<(), Fail> {
-    let mut trial = Avoids {
-        alloc: rt.alloc(),
-        pair: Pair { slot: 1, choice: 2 },
-    };
-    let mut search = distinct_search(rt.alloc())?;
+    let run = distinct_search_run(rt.alloc(), Pair { slot: 1, choice: 2 })?;
 
     // There are two targets. 00 and 20 of the first state have them, and all others are passed over without a trial.
-    assert!(rt; go_on(&mut search, &mut trial, 2)? == Outcome::Settled);
-    assert_eq!(rt; search.trials(), 2);
-    assert_eq!(rt; search.conflicts().len(), 0);
-    let costs = [Cost(10), Cost(11)];
-    assert!(rt; search.listed().iter().map(|rank| rank.cost).eq(costs));
-    assert!(rt; search.listed().iter().all(|rank| rank.source == 0));
+    assert!(rt; run.outcome == Outcome::Settled);
+    assert_eq!(rt; run.trials, 2);
+    assert_eq!(rt; run.conflicts, 0);
+    let listed = [Some((Cost(10), 0)), Some((Cost(11), 0)), None, None];
+    assert!(rt; run.costs_and_sources == listed);
 
     // The first state's zone is split by 00 into 2 and 3, and by it the second's into 4 and 5; 2 is split by 20, and by
     // it 4. The others are empty.
     let splits = [
-        Split {
-            zone: 0,
-            by: By::Listed(0),
-        },
-        Split {
-            zone: 1,
-            by: By::Listed(0),
-        },
-        Split {
-            zone: 2,
-            by: By::Listed(1),
-        },
-        Split {
-            zone: 4,
-            by: By::Listed(1),
-        },
+        split_by(0, By::Listed(0)),
+        split_by(1, By::Listed(0)),
+        split_by(2, By::Listed(1)),
+        split_by(4, By::Listed(1)),
+        None,
     ];
-    assert!(rt; search.splits() == splits.as_slice());
+    assert!(rt; run.splits == splits);
     Ok(())
 }
