@@ -30,7 +30,9 @@ use Rattle.lv_search_walk.specs.Ranked.{rises, is_rank, is_among}
 use Rattle.lv_search_walk.specs.Walk.{candidate_of, is_ruled_out}
 use Rattle.lv_search_walk.proofs.RankedLemmas.{not_before_itself, not_both_before, same_rank, is_itself, one_list, equal_by_cmp}
 use Rattle.lv_search_guide.specs.Free.{is_free_member, IsLeastFree, HasNoFree}
+use Rattle.lv_search_guide.specs.Narrowed.{IsNarrowed}
 use Rattle.lv_search_guide.specs.Near.{AreAmong, IsFirstNear}
+use Rattle.lv_search_guide.specs.Beside.{IsBeside}
 use Rattle.lv_search.specs.Frontier.{FirstContains, LeavesFirst, Thins}
 use Rattle.lv_search.specs.Free.{is_free_rank, free_of}
 use Rattle.lv_guide.specs.Guide.{zones_in, left_in, IsKeyMember, IsKeyFirst, IsQueue, AreKeptBy, front_is_free, IsReady, HasRoomBy, HasMoreBy, HasMore, HasSameFree, stale_in, LooksAgain, DropsFirst}
@@ -73,6 +75,13 @@ free_by_each choices (k ∷ ks) = by (contains_all choices k) (free_by_each choi
 
 free_among : (others known : List (List Pair)) (r : Rank) → AreAmong others known → is_free_rank known r ≡ true → is_free_rank others r ≡ true
 free_among others known r among free = free_by_each r.choices others ∙ among.each (λ k. not (contains_all r.choices k)) (sym (free_by_each r.choices known) ∙ free)
+
+pub ruled_if_free : (known : List (List Pair)) (r : Rank) → is_free_rank known r ≡ true → is_ruled_out known r.choices ≡ false
+ruled_if_free known r free = by (is_ruled_out known r.choices) free
+  where
+    by : (b : Bool) → not b ≡ true → b ≡ false
+    by true h = absurd (cc h)
+    by false h = refl
 
 filter_both : (p q : Rank → Bool) (rs : List Rank) → filter (λ r. p r && q r) rs ≡ filter q (filter p rs)
 filter_both p q [] = refl
@@ -213,12 +222,76 @@ module _ (slots : List (List Cost)) where
   pub not_put_in : (zone : ZoneValue) (old : List Entry) → HasRoomBy slots (zone ∷ []) old → lacks_choice slots zone.masks ≡ true → HasMore slots (zone ∷ []) old old
   not_put_in zone old room lacks known = not_put_in_by known zone old room (λ r free. lacking_has_none slots zone r lacks)
 
-  pub put_in_near : (known : List (List Pair)) (zone : ZoneValue) (k : Rank) (old new : List Entry) → HasRoomBy slots (zone ∷ []) old → IsLeastFree slots zone known k → new ≡ insert_entry rank_cmp old k zone
-      → HasMoreBy slots known (zone ∷ []) old new
-  put_in_near known zone k old new room least is = put_in_by known zone k old new room (free_ranks_in known zone k least) (free_is_first known zone k least) is
+  -- a zone is put in with fewer choices, but with all its members that contain no known conflict
+  module _ (known : List (List Pair)) (zone less : ZoneValue) (narrowed : IsNarrowed zone known less) where
+    abbrev shown : ZoneValue
+    shown = record { source = zone.source; base = zone.base; masks = less.masks }
 
-  pub not_put_in_near : (known : List (List Pair)) (zone : ZoneValue) (old : List Entry) → HasRoomBy slots (zone ∷ []) old → HasNoFree slots zone known → HasMoreBy slots known (zone ∷ []) old old
-  not_put_in_near known zone old room none = not_put_in_by known zone old room (none_in known zone none)
+    is_shown : less ≡ shown
+    is_shown = λ i. record { source = narrowed.source i; base = narrowed.base i; masks = less.masks }
+
+    stays_in : (r : Rank) → ranks_in slots r less ≡ true → ranks_in slots r zone ≡ true
+    stays_in r here =
+        let parts = and_parts (is_member slots shown (candidate_of r)) (nat_eq r.cost.0 (zone.base.0 + choices_cost slots r.choices)) (ap (ranks_in slots r) (sym is_shown) ∙ here) in
+        let own = and_parts (nat_eq r.source zone.source) (are_left slots less.masks r.choices) parts.0 in
+        and_from (is_member slots zone (candidate_of r)) (nat_eq r.cost.0 (zone.base.0 + choices_cost slots r.choices))
+        (and_from (nat_eq r.source zone.source) (are_left slots zone.masks r.choices) own.0 (narrowed.masks.inside slots r.choices own.1)) parts.1
+
+    same_if_free : (r : Rank) → is_free_rank known r ≡ true → ranks_in slots r less ≡ ranks_in slots r zone
+    same_if_free r free =
+        ap (ranks_in slots r) is_shown
+        ∙ ap (λ b. (nat_eq r.source zone.source && b) && nat_eq r.cost.0 (zone.base.0 + choices_cost slots r.choices))
+        (same_and (are_left slots less.masks r.choices) (are_left slots zone.masks r.choices) (is_free_rank known r) free (narrowed.masks.same slots r.choices))
+      where
+        same_and : (a b n : Bool) → n ≡ true → (a && n) ≡ (b && n) → a ≡ b
+        same_and true true n t e = refl
+        same_and false false n t e = refl
+        same_and true false true t e = absurd (cc e)
+        same_and true false false t e = absurd (cc t)
+        same_and false true true t e = absurd (cc e)
+        same_and false true false t e = absurd (cc t)
+
+    no_more_times : (r : Rank) → times_in slots r (less ∷ []) ≤ times_in slots r (zone ∷ [])
+    no_more_times r = by (ranks_in slots r less) refl
+      where
+        by : (b : Bool) → ranks_in slots r less ≡ b → times_in slots r (less ∷ []) ≤ times_in slots r (zone ∷ [])
+        by true here =
+            let one : times_in slots r (less ∷ []) ≡ 1 + times_in slots r [] = times_one slots r less [] here in
+            let as_many : times_in slots r (zone ∷ []) ≡ 1 + times_in slots r [] = times_one slots r zone [] (stays_in r here) in
+            omega (arith, one, as_many)
+        by false out = let none : times_in slots r (less ∷ []) ≡ times_in slots r [] = times_none slots r less [] out in omega (arith, none)
+
+    as_many_times : (r : Rank) → is_free_rank known r ≡ true → times_in slots r (less ∷ []) ≡ times_in slots r (zone ∷ [])
+    as_many_times r free = by (ranks_in slots r zone) refl
+      where
+        by : (b : Bool) → ranks_in slots r zone ≡ b → times_in slots r (less ∷ []) ≡ times_in slots r (zone ∷ [])
+        by true here = times_one slots r less [] (same_if_free r free ∙ here) ∙ sym (times_one slots r zone [] here)
+        by false out = times_none slots r less [] (same_if_free r free ∙ out) ∙ sym (times_none slots r zone [] out)
+
+    less_room : (old : List Entry) → HasRoomBy slots (zone ∷ []) old → HasRoomBy slots (less ∷ []) old
+    less_room old room =
+        record {
+          queue = room.queue;
+          apart = λ r. let few : times_in slots r (zones_in old) + times_in slots r (zone ∷ []) ≤ 1 = room.apart r in let no_more = no_more_times r in omega (arith, few, no_more);
+        }
+
+    as_put_in : (old new : List Entry) → HasMoreBy slots known (less ∷ []) old new → HasMoreBy slots known (zone ∷ []) old new
+    as_put_in old new has =
+        record {
+          queue = has.queue;
+          most = λ r. let most : times_in slots r (zones_in new) ≤ times_in slots r (zones_in old) + times_in slots r (less ∷ []) = has.most r in let no_more = no_more_times r in omega (arith, most, no_more);
+          times = λ r free. has.times r free ∙ ap (λ n. times_in slots r (zones_in old) + n) (as_many_times r free);
+          first = has.first;
+        }
+
+  pub put_in_beside : (known : List (List Pair)) (zone : ZoneValue) (k : Rank) (less : ZoneValue) (old new : List Entry) → HasRoomBy slots (zone ∷ []) old → IsBeside slots zone known (k, less)
+      → new ≡ insert_entry rank_cmp old k less → HasMoreBy slots known (zone ∷ []) old new
+  put_in_beside known zone k less old new room beside is =
+      as_put_in known zone less beside.narrowed old new
+      (put_in_by known less k old new (less_room known zone less beside.narrowed old room) (free_ranks_in beside.first.others less k beside.first.first) beside.first is)
+
+  pub not_put_in_beside : (known : List (List Pair)) (zone : ZoneValue) (old : List Entry) → HasRoomBy slots (zone ∷ []) old → HasNoFree slots zone known → HasMoreBy slots known (zone ∷ []) old old
+  not_put_in_beside known zone old room none = not_put_in_by known zone old room (none_in known zone none)
 
   -- room for some zones is room for the first, and with it put in for the others
   pub room_for_first : (zone : ZoneValue) (zones more : List ZoneValue) (old : List Entry) → more ≡ zone ∷ zones → HasRoomBy slots more old → HasRoomBy slots (zone ∷ []) old

@@ -160,6 +160,9 @@ module _ (slots : List (List Cost)) (known : List (List Pair)) (entries : List E
   ready_so : IsReady slots known ((k, zone) ∷ es)
   ready_so = subst (λ (ds : List Entry). IsReady slots known ds) is ready
 
+  pub first_free : is_free_rank known k ≡ true
+  first_free = ready_so.front
+
   pub own_parts_near : AreNear slots known k (parts_of zone (pairs_of k.choices))
   own_parts_near = parts_near slots known k zone es ready_so
 

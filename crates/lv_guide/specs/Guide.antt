@@ -6,8 +6,8 @@ use Rattle.lv_base.specs.declared.rank.Rank.{Rank}
 use Rattle.lv_base.specs.declared.search.Pair.{Pair}
 use Rattle.lv_boxes.specs.Members.{ZoneValue}
 use Rattle.lv_boxes.specs.RankedMembers.{ranked_members, ranks_in, times_in, AreApart}
-use Rattle.lv_search_guide.specs.Free.{IsLeastFree}
-use Rattle.lv_search_guide.specs.Near.{AreAmong, IsFirstNear}
+use Rattle.lv_search_guide.specs.Near.{IsFirstNear}
+use Rattle.lv_search_guide.specs.Beside.{IsFirstBySome}
 use Rattle.lv_search.specs.Frontier.{LeavesOut}
 use Rattle.lv_search.specs.Free.{is_free_rank, free_of}
 
@@ -24,10 +24,8 @@ abbrev pub IsKeyMember : List (List Cost) → Rank × ZoneValue → Type 0
 IsKeyMember slots e = ranks_in slots e.0 e.1 ≡ true
 
 -- which is the first that contains none of some of the known conflicts
-pub record IsKeyFirst (slots : List (List Cost)) (known : List (List Pair)) (e : Rank × ZoneValue) : Type 0 where
-  pub others : List (List Pair)
-  pub among : AreAmong others known
-  pub first : IsLeastFree slots e.1 others e.0
+abbrev pub IsKeyFirst : List (List Cost) → List (List Pair) → Rank × ZoneValue → Type 0
+IsKeyFirst slots known e = IsFirstBySome slots e.1 known e.0
 
 -- each zone is kept by the rank of a member, and no two share a member
 pub record IsQueue (slots : List (List Cost)) (entries : List (Rank × ZoneValue)) : Type 0 where

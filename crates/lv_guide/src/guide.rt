@@ -3,7 +3,8 @@
 //! a known conflict, the zone is split by it, so many times in all. Once these splits are used up, there are too many
 //! zones: they are left for those that there were before any split by a conflict, and from then on no conflict splits a
 //! zone: the first member without a known conflict is looked for in the zone at the front, from the member that it is
-//! kept by, and in each part of a zone of which a member was listed, from that member.
+//! kept by. The parts of a zone of which a member was listed are put in by what few steps tell of them, since most of
+//! them come to the front late.
 #![tactic(auto)]
 
 ghost use Rattle.std.specs.Prelude.{◌≡◌, true, false, not, IfOk, IfSome, OnOk, None, find, is_none, length, [], ◌∷◌};
@@ -14,13 +15,16 @@ ghost use Rattle.lv_boxes.specs.Laws.{pairs_of};
 ghost use Rattle.lv_boxes.specs.Least.{lacks_choice};
 ghost use Rattle.lv_boxes.specs.RankedMembers.{IsLeastRank, ranked_members, sources_differ};
 ghost use Rattle.lv_search_walk.specs.Walk.{is_ruled_out};
-ghost use Rattle.lv_search.specs.Free.{free_of};
+ghost use Rattle.lv_search.specs.Free.{is_free_rank, free_of};
+ghost use Rattle.lv_search_guide.specs.Beside.{AreJoined};
 ghost use Rattle.lv_search_guide.specs.Near.{IsFirstNear};
 ghost use Rattle.lv_guide.specs.Guide.{AreKeptBy, AreNear, IsReady, HasMore, HasMoreBy, HasRoomBy, HasSameFree, LooksAgain, DropsFirst, DropsAlike, WholeTells, front_is_free};
 
 use lv_base::{Conflict, Rank, Seq, contains};
 use lv_boxes::{Grid, Groups, Zone, choices_as_conflict, split, split_by_groups};
 use lv_search::Frontier;
+use lv_search_guide::beside::first_beside;
+use lv_search_guide::joined::Joined;
 use lv_search_guide::near::least_free_near;
 use std::alloc::{AllocError, Global};
 use std::collections::BTreeMap;
@@ -188,43 +192,78 @@ fn put_all(
     Ok(())
 }
 
-/// Puts a zone into the queue by its first member that contains no known conflict, if it has one, looked for from the
-/// first of a zone that has all its choices.
-fn put_near(
+/// Puts a part of a zone into the queue, of which a member was listed that contains no known conflict: without what few
+/// steps rule out, and by its first member by some of the known conflicts, if it has one.
+fn put_part(
     alloc: Global,
     grid: &Grid,
     known: &[Conflict],
+    joined: &Joined,
     queue: &mut BTreeMap<Rank, Zone>,
-    zone: Zone,
-    near: &Rank,
+    part: Zone,
+    listed: &Rank,
 ) -> Result<(), AllocError>
-    requires room { HasRoomBy grid.now (zone ∷ []) queue.old.entries }
-    requires near { IsFirstNear grid.now zone known.now near.now }
-    ensures { OnOk result (HasMoreBy grid.now known.now (zone ∷ []) queue.old.entries queue.new.entries) }
+    requires room { HasRoomBy grid.now (part ∷ []) queue.old.entries }
+    requires near { IsFirstNear grid.now part known.now listed.now }
+    requires free { is_free_rank known.now listed.now ≡ true }
+    requires labels { AreJoined known.now (length grid.now) joined.now }
+    ensures { OnOk result (HasMoreBy grid.now known.now (part ∷ []) queue.old.entries queue.new.entries) }
 {
-    if let Some(rank) = least_free_near(alloc, grid, &zone, known, near)? {
-        queue.insert(rank, zone)?;
+    match first_beside(alloc, grid, &part, known, joined, listed)? {
+        Some(found) => {
+            queue.insert(found.0, found.1)?;
+            Ok(())
+        }
+        None => Ok(()),
+    }
+}
+
+/// As `put_part`, each of these parts.
+fn put_each_part(
+    alloc: Global,
+    grid: &Grid,
+    known: &[Conflict],
+    joined: &Joined,
+    queue: &mut BTreeMap<Rank, Zone>,
+    parts: Vec<Zone>,
+    listed: &Rank,
+) -> Result<(), AllocError>
+    requires room { HasRoomBy grid.now parts.items queue.old.entries }
+    requires near { AreNear grid.now known.now listed.now parts.items }
+    requires free { is_free_rank known.now listed.now ≡ true }
+    requires labels { AreJoined known.now (length grid.now) joined.now }
+    ensures { OnOk result (HasMoreBy grid.now known.now parts.items queue.old.entries queue.new.entries) }
+{
+    for part in parts {
+        put_part(alloc, grid, known, joined, queue, part, listed)?;
     }
     Ok(())
 }
 
-/// As `put_near`, each of these zones.
-fn put_all_near(
+/// Puts the parts of a zone into the queue, of which a member was listed that contains no known conflict.
+fn put_parts(
     alloc: Global,
     grid: &Grid,
     known: &[Conflict],
     queue: &mut BTreeMap<Rank, Zone>,
-    zones: Vec<Zone>,
-    near: &Rank,
+    parts: Vec<Zone>,
+    listed: &Rank,
 ) -> Result<(), AllocError>
-    requires room { HasRoomBy grid.now zones.items queue.old.entries }
-    requires near { AreNear grid.now known.now near.now zones.items }
-    ensures { OnOk result (HasMoreBy grid.now known.now zones.items queue.old.entries queue.new.entries) }
+    requires room { HasRoomBy grid.now parts.items queue.old.entries }
+    requires near { AreNear grid.now known.now listed.now parts.items }
+    requires free { is_free_rank known.now listed.now ≡ true }
+    ensures { OnOk result (HasMoreBy grid.now known.now parts.items queue.old.entries queue.new.entries) }
 {
-    for zone in zones {
-        put_near(alloc, grid, known, queue, zone, near)?;
+    match Joined::new(alloc, known, grid.len())? {
+        Some(joined) => {
+            put_each_part(alloc, grid, known, &joined, queue, parts, listed)?;
+            Ok(())
+        }
+        None => {
+            put_all(alloc, grid, queue, parts)?;
+            Ok(())
+        }
     }
-    Ok(())
 }
 
 /// Whether the first zone is kept by a member that contains a known conflict.
@@ -417,14 +456,12 @@ fn go_ahead(
     Ok(())
 }
 
-/// Puts the parts of the first zone without the member that it is kept by into the queue: by their least members while
-/// zones may be split, and else by the first that contain no known conflict.
+/// Puts the parts of the first zone without the member that it is kept by into the queue.
 fn part_first(
     alloc: Global,
     grid: &Grid,
     known: &[Conflict],
     queue: &mut BTreeMap<Rank, Zone>,
-    splits: u64,
 ) -> Result<(), AllocError>
     requires { IsReady grid.now known.now queue.old.entries }
     ensures { OnOk result (DropsFirst grid.now known.now queue.old.entries queue.new.entries) }
@@ -433,11 +470,7 @@ fn part_first(
         Some((rank, zone)) => {
             let own = own_choices(alloc, grid, &rank)?;
             let parts = split(alloc, &zone, &own)?;
-            if splits > 0 {
-                put_all(alloc, grid, queue, parts)?;
-                return Ok(());
-            }
-            put_all_near(alloc, grid, known, queue, parts, &rank)?;
+            put_parts(alloc, grid, known, queue, parts, &rank)?;
             Ok(())
         }
         None => Ok(()),
@@ -451,7 +484,6 @@ fn part_alike(
     known: &[Conflict],
     queue: &mut BTreeMap<Rank, Zone>,
     groups: &Groups,
-    splits: u64,
 ) -> Result<(), AllocError>
     requires ready { IsReady grid.now known.now queue.old.entries }
     requires shape { have_shape grid.now groups.now ≡ true }
@@ -460,11 +492,7 @@ fn part_alike(
     match queue.pop_first() {
         Some((rank, zone)) => {
             let parts = split_by_groups(alloc, &zone, groups, rank.choices.as_slice())?;
-            if splits > 0 {
-                put_all(alloc, grid, queue, parts)?;
-                return Ok(());
-            }
-            put_all_near(alloc, grid, known, queue, parts, &rank)?;
+            put_parts(alloc, grid, known, queue, parts, &rank)?;
             Ok(())
         }
         None => Ok(()),
@@ -486,7 +514,7 @@ impl Frontier for Guide {
         let mut course = mem::replace(&mut self.course, Course::over());
         course.whole = None;
         let known = self.known.as_slice();
-        part_first(self.alloc, &self.grid, known, &mut queue, course.splits)?;
+        part_first(self.alloc, &self.grid, known, &mut queue)?;
         go_ahead(self.alloc, &self.grid, known, &mut queue, &mut course)?;
         self.queue = queue;
         self.course = course;
@@ -514,8 +542,7 @@ impl Frontier for Guide {
         let mut course = mem::replace(&mut self.course, Course::over());
         course.whole = None;
         let known = self.known.as_slice();
-        let splits = course.splits;
-        part_alike(self.alloc, &self.grid, known, &mut queue, groups, splits)?;
+        part_alike(self.alloc, &self.grid, known, &mut queue, groups)?;
         go_ahead(self.alloc, &self.grid, known, &mut queue, &mut course)?;
         self.queue = queue;
         self.course = course;

@@ -10,3 +10,4 @@ pub mod FirstLemmas
 pub mod LooseLemmas
 pub mod PartLemmas
 pub mod NearLemmas
+pub mod BesideLemmas

@@ -5,7 +5,7 @@ use Rattle.std.specs.Int.{bit_at}
 use Rattle.std.proofs.Math.ListN.{drop_of_length-le}
 use Rattle.std.proofs.lemmas.Nat.{pow_pos}
 use Rattle.std.proofs.lemmas.Nat.Bits.{and_pow}
-use Rattle.std.proofs.lemmas.Bool.{and_parts, or_left, eqb-true, false_from_ne_true}
+use Rattle.std.proofs.lemmas.Bool.{and_from, and_parts, or_left, eqb-true, false_from_ne_true}
 use Rattle.std.proofs.lemmas.List.Folds.{list_any_at}
 use Rattle.lv_base.specs.declared.ids.Cost.{Cost}
 use Rattle.lv_base.specs.declared.search.Pair.{Pair}
@@ -77,11 +77,24 @@ one_leaves_none masks pairs l = record { none = λ slots. record { none = λ cho
         let not_ruled : not true ≡ true = rw ruled at parts.1 in
         cc not_ruled
 
+-- a box without a choice has no new member
+left_without : (slots : List (List Cost)) (masks choices : List ℕ) (p : Pair) → p.slot < length masks → are_left slots (masks_without masks p) choices ≡ true → are_left slots masks choices ≡ true
+left_without slots masks choices p within left =
+    (and_parts (are_left slots masks choices) (not (is_ruled_out [] choices))
+    (and_parts (is_free slots [] masks choices) (not (picks choices p))
+    (sym (free_without slots [] masks choices p within) ∙ and_from (are_left slots (masks_without masks p) choices) (not (is_ruled_out [] choices)) left refl)).0).0
+
 -- the choice of the last open pair is taken out
 pub one_takes_out : (masks new : List ℕ) (pairs : List Pair) (p : Pair) → LeavesOne masks pairs p → new ≡ masks_without masks p → IsLessBy (pairs ∷ []) masks new
 one_takes_out masks new pairs p l is =
     subst (IsLessBy (pairs ∷ []) masks) (sym is)
-    (record { free = record { same = λ slots choices. free_without slots (pairs ∷ []) masks choices p l.there.within ∙ stays slots choices }; less = less })
+    (record {
+      free = record {
+        same = λ slots choices. free_without slots (pairs ∷ []) masks choices p l.there.within ∙ stays slots choices;
+        inside = λ slots choices left. left_without slots masks choices p l.there.within left;
+      };
+      less = less;
+    })
   where
     stays : (slots : List (List Cost)) (choices : List ℕ) → (is_free slots (pairs ∷ []) masks choices && not (picks choices p)) ≡ is_free slots (pairs ∷ []) masks choices
     stays slots choices = by (is_free slots (pairs ∷ []) masks choices) (picks choices p) refl refl
@@ -111,7 +124,7 @@ one_takes_out masks new pairs p l is =
 
 -- what one of the conflicts takes out all take out
 pub less_by_all : (conflicts : List (List Pair)) (i : ℕ) (d : List Pair) (old new : List ℕ) → i < length conflicts → IsLessBy (get_or conflicts i d ∷ []) old new → IsLessBy conflicts old new
-less_by_all conflicts i d old new within l = record { free = record { same = same }; less = l.less }
+less_by_all conflicts i d old new within l = record { free = record { same = same; inside = l.free.inside }; less = l.less }
   where
     same : (slots : List (List Cost)) (choices : List ℕ) → is_free slots conflicts new choices ≡ is_free slots conflicts old choices
     same slots choices = by (is_ruled_out conflicts choices) (contains_all choices (get_or conflicts i d)) (list_any_at (contains_all choices) conflicts i d within) (l.free.same slots choices)
@@ -149,7 +162,10 @@ none_by_all conflicts i d masks within n = record { none = λ slots. record { no
 pub less_after : (conflicts : List (List Pair)) (old mid new : List ℕ) (changed : Bool) → ChangedTells conflicts old mid changed → IsLessBy conflicts mid new → IsLessBy conflicts old new
 less_after conflicts old mid new true t l =
     record {
-      free = record { same = λ slots choices. l.free.same slots choices ∙ t.free.same slots choices };
+      free = record {
+        same = λ slots choices. l.free.same slots choices ∙ t.free.same slots choices;
+        inside = λ slots choices left. t.free.inside slots choices (l.free.inside slots choices left);
+      };
       less = let one : sum new < sum mid = l.less in let two : sum mid < sum old = t.less in omega (arith, one, two);
     }
 less_after conflicts old mid new false t l = subst (λ ms. IsLessBy conflicts ms new) t l
@@ -159,13 +175,26 @@ none_after conflicts old mid true t n = record { none = λ slots. record { none 
 none_after conflicts old mid false t n = subst (HasNoneBy conflicts) t n
 
 pub no_more_itself : (conflicts : List (List Pair)) (masks : List ℕ) → IsNoMoreBy conflicts masks masks
-no_more_itself conflicts masks = record { free = record { same = λ slots choices. refl }; less = omega arith }
+no_more_itself conflicts masks = record { free = record { same = λ slots choices. refl; inside = λ slots choices left. left }; less = omega arith }
 
 pub no_more_after : (conflicts : List (List Pair)) (old mid new : List ℕ) → IsNoMoreBy conflicts old mid → IsLessBy conflicts mid new → IsNoMoreBy conflicts old new
 no_more_after conflicts old mid new t l =
     record {
-      free = record { same = λ slots choices. l.free.same slots choices ∙ t.free.same slots choices };
+      free = record {
+        same = λ slots choices. l.free.same slots choices ∙ t.free.same slots choices;
+        inside = λ slots choices left. t.free.inside slots choices (l.free.inside slots choices left);
+      };
       less = let one : sum new < sum mid = l.less in let two : sum mid ≤ sum old = t.less in omega (arith, one, two);
+    }
+
+pub no_more_on : (conflicts : List (List Pair)) (old mid new : List ℕ) → IsNoMoreBy conflicts old mid → IsNoMoreBy conflicts mid new → IsNoMoreBy conflicts old new
+no_more_on conflicts old mid new t l =
+    record {
+      free = record {
+        same = λ slots choices. l.free.same slots choices ∙ t.free.same slots choices;
+        inside = λ slots choices left. t.free.inside slots choices (l.free.inside slots choices left);
+      };
+      less = let one : sum new ≤ sum mid = l.less in let two : sum mid ≤ sum old = t.less in omega (arith, one, two);
     }
 
 pub none_after_all : (conflicts : List (List Pair)) (old mid : List ℕ) → IsNoMoreBy conflicts old mid → HasNoneBy conflicts mid → HasNoneBy conflicts old

@@ -122,7 +122,7 @@ clear_if_inside marks xs (k ∷ ks) inside = by (contains_all xs k) refl inside 
     by false lacks h rest = and_from (clear_outside marks xs k) (list_all (clear_outside marks xs) ks) (or_right (is_inside marks k) (not (contains_all xs k)) (ap not lacks)) (rest h)
 
 -- the member of least rank among the free is the lowest of the box
-least_is_lowest : (slots : List (List Cost)) (zone : ZoneValue) (conflicts : List (List Pair)) (rank : Rank) → IsLeastFree slots zone conflicts rank
+pub least_is_lowest : (slots : List (List Cost)) (zone : ZoneValue) (conflicts : List (List Pair)) (rank : Rank) → IsLeastFree slots zone conflicts rank
     → IsLowest slots conflicts zone.masks (record { cost = choices_cost slots rank.choices; choices = rank.choices })
 least_is_lowest slots zone conflicts rank l =
     record {
@@ -153,8 +153,30 @@ pub long_near : (slots : List (List Cost)) (zone : ZoneValue) (conflicts : List 
 long_near slots zone conflicts near was =
     length-left slots was.whole.masks near.choices (free_is_left slots was.others was.whole.masks near.choices (free_in_box slots was.whole was.others (candidate_of near) was.first.member))
 
+-- a zone that has all choices of this one, with its first member by conflicts that don't join slots which are marked to others; outside, a member that
+-- contains none of these conflicts contains none of those
+pub record IsApart (slots : List (List Cost)) (zone : ZoneValue) (conflicts : List (List Pair)) (marks : List Bool) (near : Rank) : Type 0 where
+  pub whole : ZoneValue
+  pub inside : (choices : List ℕ) → are_left slots zone.masks choices ≡ true → are_left slots whole.masks choices ≡ true
+  pub others : List (List Pair)
+  pub first : IsLeastFree slots whole others near
+  pub wholes : list_all (is_whole marks) others ≡ true
+  pub clear : (choices : List ℕ) → is_ruled_out conflicts choices ≡ false → list_all (clear_outside marks choices) others ≡ true
+
+pub apart_near : (slots : List (List Cost)) (zone : ZoneValue) (conflicts : List (List Pair)) (near : Rank) (marks : List Bool) → IsFirstNear slots zone conflicts near → list_all (is_whole marks) conflicts ≡ true
+    → IsApart slots zone conflicts marks near
+apart_near slots zone conflicts near marks was wholes =
+    record {
+      whole = was.whole;
+      inside = was.inside;
+      others = was.others;
+      first = was.first;
+      wholes = was.among.each (is_whole marks) wholes;
+      clear = λ choices out. was.among.each (clear_outside marks choices) (clear_if_unruled marks choices conflicts out);
+    }
+
 -- the part settled anew, put into what was the first
-module _ (slots : List (List Cost)) (zone : ZoneValue) (conflicts : List (List Pair)) (near : Rank) (marks : List Bool) (was : IsFirstNear slots zone conflicts near)
+module _ (slots : List (List Cost)) (zone : ZoneValue) (conflicts : List (List Pair)) (near : Rank) (marks : List Bool) (was : IsApart slots zone conflicts marks near)
     (part : IsPartWith conflicts (length slots) (unsettled zone.masks conflicts near.choices) marks) (long : length marks ≡ length zone.masks) where
   abbrev zs : List ℕ
   zs = near.choices
@@ -254,8 +276,8 @@ module _ (slots : List (List Cost)) (zone : ZoneValue) (conflicts : List (List P
       rest_free =
           free_from slots was.others wide rest
           (left_put marks slots wide wide (only marks zs) ws same (sym length-wide ∙ length-left slots wide zs z_left) (length-left slots wide ws w_wide) w_wide (kept_if_left marks slots wide ws w_wide) z_part)
-          (unruled_put marks (only marks zs) ws was.others (as_long wide ws w_wide) (part_long wide ws w_wide wide (only marks zs) z_part) (was.among.each (is_whole marks) part.part.whole)
-          (unruled_only marks zs was.others (as_long wide zs z_left) z_out) (was.among.each (clear_outside marks ws) (clear_if_unruled marks ws conflicts w_out)))
+          (unruled_put marks (only marks zs) ws was.others (as_long wide ws w_wide) (part_long wide ws w_wide wide (only marks zs) z_part) was.wholes
+          (unruled_only marks zs was.others (as_long wide zs z_left) z_out) (was.clear ws w_out))
         where
           length-wide : length zs ≡ length wide
           length-wide = length-are_left slots wide zs z_left

@@ -178,6 +178,22 @@ order_put (false ∷ marks) ys zs (x ∷ xs) same long too h =
     by false true c out h = h
     by false false c out h = absurd (cc h)
 
+pub before_put : (marks : List Bool) (ys xs : List ℕ) → length marks ≡ length xs → length ys ≡ length (only marks xs) → comes_before ys (only marks xs) ≡ true → comes_before (put_in marks ys xs) xs ≡ true
+before_put [] [] xs same long h = absurd (cc h)
+before_put [] (y ∷ ys) xs same long h = absurd (omega (arith, long))
+before_put (mark ∷ marks) ys [] same long h = absurd (omega (arith, same))
+before_put (true ∷ marks) [] (x ∷ xs) same long h = absurd (omega (arith, long))
+before_put (true ∷ marks) (y ∷ ys) (x ∷ xs) same long h =
+    by (nat_lt y x) (nat_eq y x) (comes_before ys (only marks xs)) (comes_before (put_in marks ys xs) xs) h (before_put marks ys xs (omega (arith, same)) (omega (arith, long)))
+  where
+    by : (a b c d : Bool) → (a || (b && c)) ≡ true → (c ≡ true → d ≡ true) → (a || (b && d)) ≡ true
+    by true b c d h f = refl
+    by false true c d h f = f h
+    by false false c d h f = absurd (cc h)
+before_put (false ∷ marks) ys (x ∷ xs) same long h =
+    or_right (nat_lt x x) (nat_eq x x && comes_before (put_in marks ys xs) xs)
+    (and_from (nat_eq x x) (comes_before (put_in marks ys xs) xs) (eq-eqb x x refl) (before_put marks ys xs (omega (arith, same)) long h))
+
 -- a list and its own part put in
 pub put_own : (marks : List Bool) (xs : List ℕ) → length marks ≡ length xs → put_in marks (only marks xs) xs ≡ xs
 put_own [] xs same = refl

@@ -46,9 +46,10 @@ LeftTells masks pairs Broken = LeavesLast masks pairs None
 LeftTells masks pairs (Last p) = LeavesOne masks pairs p
 LeftTells masks pairs Other = Unit {0}
 
--- the members without conflict are the same ones in both boxes
+-- the members without conflict are the same ones in both boxes, and no member is new
 pub record HasSameFree (conflicts : List (List Pair)) (old new : List ℕ) : Type 0 where
   pub same : (slots : List (List Cost)) (choices : List ℕ) → is_free slots conflicts new choices ≡ is_free slots conflicts old choices
+  pub inside : (slots : List (List Cost)) (choices : List ℕ) → are_left slots new choices ≡ true → are_left slots old choices ≡ true
 
 -- with fewer choices
 pub record IsLessBy (conflicts : List (List Pair)) (old new : List ℕ) : Type 0 where

@@ -15,6 +15,8 @@
 //! |---|---|
 //! | `least_free` | the member that ranks first |
 //! | `near` | the same, where it is known of a zone that has all its choices, by some of the conflicts |
+//! | `beside` | the first by some of the conflicts, where it is known of a zone that has all its choices |
+//! | `joined` | conflicts by the slots that they speak of |
 //! | `parts` | the same part by part of a box |
 //! | `cheapest` | a cheapest member, by a stack of boxes |
 //! | `look` | what is to be done with one box |
@@ -23,14 +25,17 @@
 //! | `lowest` | of the cheapest members the first in the order of slots |
 //! | `masks` | a box: of each slot the choices left |
 //! | `narrow` | what conflicts leave of a box |
+//! | `narrowed` | a zone with what they leave of its box |
 //! | `prices` | what a member of a box costs at least |
 //! | `dear` | choices that are too dear |
 //! | `laws` | that there is one answer |
 #![tactic(auto)]
 
 mod behind;
+pub mod beside;
 mod cheapest;
 mod dear;
+pub mod joined;
 pub mod laws;
 pub mod least_free;
 mod look;
@@ -38,6 +43,7 @@ mod loose;
 mod lowest;
 mod masks;
 mod narrow;
+mod narrowed;
 pub mod near;
 mod parts;
 mod prices;

@@ -76,7 +76,7 @@ fn narrow_once(conflicts: &[Conflict], masks: &mut Masks) -> Narrowing
 }
 
 /// Takes out of a box what only members have that contain this conflict.
-fn narrow_by(pairs: &[Pair], masks: &mut Masks) -> Narrowing
+pub(crate) fn narrow_by(pairs: &[Pair], masks: &mut Masks) -> Narrowing
     ensures { NarrowsTells (pairs.now ∷ []) masks.old masks.new result }
 {
     match left_of(masks.as_slice(), pairs) {

@@ -72,7 +72,11 @@ fn unsettled(
 }
 
 /// The choices, as pairs, that the box lacks.
-fn lost_pairs(alloc: Global, masks: &[u64], choices: &[u32]) -> Result<Vec<Pair>, AllocError>
+pub(crate) fn lost_pairs(
+    alloc: Global,
+    masks: &[u64],
+    choices: &[u32],
+) -> Result<Vec<Pair>, AllocError>
     requires { length choices.now ≤ 4096 }
     ensures { IfOk result (λ lost. lost.items ≡ lost_pairs masks.now choices.now) }
 {
@@ -155,7 +159,7 @@ fn first_of_marked(
 }
 
 /// What a choice at each slot costs together.
-fn cost_of(slots: &[Seq<Cost>], choices: &[u32]) -> u64
+pub(crate) fn cost_of(slots: &[Seq<Cost>], choices: &[u32]) -> u64
     requires few { length slots.now ≤ 4096 }
     requires slots { All IsSlot slots.now }
     requires long { length choices.now ≡ length slots.now }

@@ -5,10 +5,12 @@
 //! | file | what it holds |
 //! |---|---|
 //! | `live` | what a box leaves of conflicts |
-//! | `marks` | which slots conflicts join |
+//! | `marks` | which slots conflicts join to some |
+//! | `labels` | a label for each slot, one for those that conflicts join |
 //! | `part` | the smaller box of slots that are marked |
 #![tactic(auto)]
 
+pub mod labels;
 pub mod live;
 pub mod marks;
 pub mod part;

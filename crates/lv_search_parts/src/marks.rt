@@ -77,7 +77,7 @@ fn is_whole(marks: &[bool], pairs: &[Pair]) -> bool
 }
 
 /// Whether all slots of the pairs are marked.
-pub(crate) fn is_inside(marks: &[bool], pairs: &[Pair]) -> bool
+pub fn is_inside(marks: &[bool], pairs: &[Pair]) -> bool
     ensures { result ≡ is_inside marks.now pairs.now }
 {
     pairs.iter().all(|pair| is_marked(marks, *pair))

@@ -4,7 +4,7 @@ use Rattle.lv_base.specs.declared.ids.Cost.{Cost}
 use Rattle.lv_boxes.specs.Members.{choices_cost}
 use Rattle.lv_search_parts.specs.Slots.{put_in}
 use Rattle.lv_search_guide.proofs.SlotLemmas.{length-put_in}
-use Rattle.lv_search_guide.proofs.NearLemmas.{long_near, none_anew, first_anew}
+use Rattle.lv_search_guide.proofs.NearLemmas.{long_near, apart_near, none_anew, first_anew}
 use Rattle.lv_search_guide.proofs.near.settled_anew.Goals as goal
 
 pub put_in-requires-clause-long : goal.put_in-requires-clause-long
@@ -23,7 +23,8 @@ cost_of-cost-requires-clause-long c =
 
 pub returns-in_ok-choices-in-Some : goal.returns-in_ok-choices-in-Some
 returns-in_ok-choices-in-Some c =
-    first_anew c.args.grid.now c.args.zone.now c.args.conflicts.now c.args.near.now c.args.marks.now c.requires.first c.requires.part c.requires.long c.in-Some.member
+    first_anew c.args.grid.now c.args.zone.now c.args.conflicts.now c.args.near.now c.args.marks.now
+    (apart_near c.args.grid.now c.args.zone.now c.args.conflicts.now c.args.near.now c.args.marks.now c.requires.first c.requires.part.part.whole) c.requires.part c.requires.long c.in-Some.member
     (rw c.in-Some.is at c.in_ok-member.ensures) c.in_ok-choices-in-Some.choices.items
     (c.in_ok-choices-in-Some.ensures ∙ (λ i. put_in c.args.marks.now (c.as_slice-inner.ensures i) (c.as_slice.ensures i)))
     (record { cost = c.cost_of-cost.result; choices = c.from_vec-choices.result })
@@ -35,5 +36,6 @@ returns-in_ok-choices-in-Some c =
 
 pub returns-in-None : goal.returns-in-None
 returns-in-None c =
-    none_anew c.args.grid.now c.args.zone.now c.args.conflicts.now c.args.near.now c.args.marks.now c.requires.first c.requires.part c.requires.long
+    none_anew c.args.grid.now c.args.zone.now c.args.conflicts.now c.args.near.now c.args.marks.now
+    (apart_near c.args.grid.now c.args.zone.now c.args.conflicts.now c.args.near.now c.args.marks.now c.requires.first c.requires.part.part.whole) c.requires.part c.requires.long
     (rw c.in-None.is at c.in_ok-member.ensures)
