@@ -299,11 +299,11 @@ macro_rules! case {
 }
 
 /// Whether a call with a text as its second file is done, and writes these replies.
-pub fn replies_so(
+pub fn replies_so<'a>(
     alloc: Global,
-    words: &[&str],
-    second: &[u8],
-    replies: &[u8],
+    words: &'a [&'a str],
+    second: &'a [u8],
+    replies: &'a [u8],
     pieces: Pieces,
 ) -> Result<bool, AllocError> {
     let call = Call {
@@ -327,10 +327,10 @@ pub struct Script {
 }
 
 /// Whether the lines get their replies, with these words.
-pub fn are_replied(
+pub fn are_replied<'a>(
     alloc: Global,
-    words: &[&str],
-    script: &Script,
+    words: &'a [&'a str],
+    script: &'a Script,
     pieces: Pieces,
 ) -> Result<bool, AllocError> {
     replies_so(alloc, words, script.lines, script.replies, pieces)
