@@ -17,14 +17,10 @@ shown_settings plant [] values = []
 shown_settings plant (c ∷ cs) [] = []
 shown_settings plant (c ∷ cs) (v ∷ vs) = shown_setting plant c v ++ shown_settings plant cs vs
 
--- `recovery cost C: SETS`
-unfoldable pub recovery_text : Plant → Rank → List ℕ
-recovery_text plant r =
-    codes "recovery cost " ++ decimal r.cost.0 ++ codes ": " ++ joined (shown_settings plant (controls plant) r.choices) ++ codes "\n"
-
--- `test cost C: SETS`
-unfoldable pub test_text : Plant → Rank → List ℕ
-test_text plant r = codes "test cost " ++ decimal r.cost.0 ++ codes ": " ++ joined (shown_settings plant (controls plant) r.choices) ++ codes "\n"
+-- `recovery cost C: SETS`, or `test cost C: SETS`
+unfoldable pub commands_text : List ℕ → Plant → Rank → List ℕ
+commands_text answer plant r =
+    answer ++ codes " cost " ++ decimal r.cost.0 ++ codes ": " ++ joined (shown_settings plant (controls plant) r.choices) ++ codes "\n"
 
 -- `unsettled trials T`
 unfoldable pub undecided_text : ℕ → List ℕ

@@ -7,7 +7,7 @@ use Rattle.lv_reply.specs.declared.reply.Reply.{Reply}
 use Rattle.lv_reply.specs.declared.reply.Reply.TheVariants.{Nothing, Accepted, Refused, Settled, Unsettled, Conflicts, Committed, States, Recovered, NoRecovery, Undecided, CommandConflicts, Labels, Contradiction, Certificate, Probed, Tested, NoTest, SettledWindow, UnsettledWindow, WindowConflicts}
 use Rattle.lv_reply.specs.Diagnosis.{settled_text, unsettled_text}
 use Rattle.lv_reply.specs.Conflicts.{conflicts_text, window_conflicts_text, command_conflicts_text}
-use Rattle.lv_reply.specs.Recovery.{recovery_text, test_text, undecided_text}
+use Rattle.lv_reply.specs.Recovery.{commands_text, undecided_text}
 use Rattle.lv_reply.specs.Labels.{labels_text}
 use Rattle.lv_reply.specs.Probes.{probe_text}
 use Rattle.lv_reply.specs.States.{committed_text, states_text}
@@ -47,7 +47,7 @@ reply_text plant (Unsettled listed trials) = unsettled_text plant 1 listed trial
 reply_text plant (Conflicts kept trials) = conflicts_text plant kept trials
 reply_text plant (Committed time tracked) = committed_text time tracked
 reply_text plant (States time tracked) = states_text plant time tracked
-reply_text plant (Recovered rank) = recovery_text plant rank
+reply_text plant (Recovered rank) = commands_text (codes "recovery") plant rank
 reply_text plant NoRecovery = codes "no recovery\n"
 reply_text plant (Undecided trials) = undecided_text trials
 reply_text plant (CommandConflicts kept trials) = command_conflicts_text plant kept trials
@@ -55,7 +55,7 @@ reply_text plant (Labels labels) = labels_text plant labels
 reply_text plant Contradiction = codes "contradiction\n"
 reply_text plant Certificate = []
 reply_text plant (Probed listed observables best) = probe_text plant listed observables best
-reply_text plant (Tested rank) = test_text plant rank
+reply_text plant (Tested rank) = commands_text (codes "test") plant rank
 reply_text plant NoTest = codes "no test\n"
 reply_text plant (SettledWindow steps listed) = settled_text plant steps listed
 reply_text plant (UnsettledWindow steps listed trials) = unsettled_text plant steps listed trials

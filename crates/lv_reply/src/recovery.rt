@@ -4,7 +4,7 @@
 ghost use Rattle.std.specs.Prelude.{◌≡◌, ◌+◌, ◌++◌, [], ◌∷◌, IfOk, drop, decimal, codes};
 ghost use Rattle.lv_model.specs.Lists.{controls};
 ghost use Rattle.lv_reply.specs.Variables.{setting_text};
-ghost use Rattle.lv_reply.specs.Recovery.{shown_setting, shown_settings, recovery_text, test_text, undecided_text};
+ghost use Rattle.lv_reply.specs.Recovery.{shown_setting, shown_settings, commands_text, undecided_text};
 
 use crate::pieces::{push_joined, push_number};
 use crate::variables::push_equation;
@@ -61,10 +61,16 @@ fn shown_settings(
     Ok(out)
 }
 
-/// The text of a recovery by the controls' values that are the choices of the rank.
-#[tactic(auto, unfolding(crate::specs::Recovery::recovery_text))]
-pub fn recovery_text(alloc: Global, model: &Model, rank: &Rank) -> Result<Vec<u8>, AllocError>
-    ensures { IfOk result (λ out. out.items ≡ recovery_text model.now rank.now) }
+/// The text of an answer that is a setting of the controls: the rank's choices are the controls' values. The answer is
+/// `recovery` or `test`.
+#[tactic(auto, unfolding(crate::specs::Recovery::commands_text))]
+pub fn commands_text(
+    alloc: Global,
+    answer: &[u8],
+    model: &Model,
+    rank: &Rank,
+) -> Result<Vec<u8>, AllocError>
+    ensures { IfOk result (λ out. out.items ≡ commands_text answer.now model.now rank.now) }
 {
     let controls = model.controls(alloc)?;
     let settings = shown_settings(
@@ -73,27 +79,8 @@ pub fn recovery_text(alloc: Global, model: &Model, rank: &Rank) -> Result<Vec<u8
         controls.as_slice(),
         rank.choices.as_slice(),
     )?;
-    let mut out = Vec::from_slice(alloc, b"recovery cost ")?;
-    push_number(&mut out, rank.cost.0)?;
-    out.extend_from_slice(b": ")?;
-    push_joined(&mut out, settings.as_slice())?;
-    out.extend_from_slice(b"\n")?;
-    Ok(out)
-}
-
-/// The text of a test by the controls' values that are the choices of the rank.
-#[tactic(auto, unfolding(crate::specs::Recovery::test_text))]
-pub fn test_text(alloc: Global, model: &Model, rank: &Rank) -> Result<Vec<u8>, AllocError>
-    ensures { IfOk result (λ out. out.items ≡ test_text model.now rank.now) }
-{
-    let controls = model.controls(alloc)?;
-    let settings = shown_settings(
-        alloc,
-        model.plant(),
-        controls.as_slice(),
-        rank.choices.as_slice(),
-    )?;
-    let mut out = Vec::from_slice(alloc, b"test cost ")?;
+    let mut out = Vec::from_slice(alloc, answer)?;
+    out.extend_from_slice(b" cost ")?;
     push_number(&mut out, rank.cost.0)?;
     out.extend_from_slice(b": ")?;
     push_joined(&mut out, settings.as_slice())?;

@@ -8,7 +8,7 @@ use crate::conflicts::{command_conflicts_text, conflicts_text, window_conflicts_
 use crate::diagnosis::{settled_text, unsettled_text};
 use crate::labels::labels_text;
 use crate::probes::probe_text;
-use crate::recovery::{recovery_text, test_text, undecided_text};
+use crate::recovery::{commands_text, undecided_text};
 use crate::reply::{Refusal, Reply};
 use crate::states::{committed_text, states_text};
 use lv_model::Model;
@@ -40,7 +40,7 @@ pub fn reply_text(alloc: Global, model: &Model, reply: &Reply) -> Result<Vec<u8>
         Reply::Conflicts(kept, trials) => conflicts_text(alloc, plant, kept.as_slice(), *trials),
         Reply::Committed(time, tracked) => committed_text(alloc, *time, *tracked),
         Reply::States(time, tracked) => states_text(alloc, plant, *time, tracked.as_slice()),
-        Reply::Recovered(rank) => recovery_text(alloc, model, rank),
+        Reply::Recovered(rank) => commands_text(alloc, b"recovery", model, rank),
         Reply::NoRecovery => Vec::from_slice(alloc, b"no recovery\n"),
         Reply::Undecided(trials) => undecided_text(alloc, *trials),
         Reply::CommandConflicts(kept, trials) => {
@@ -52,7 +52,7 @@ pub fn reply_text(alloc: Global, model: &Model, reply: &Reply) -> Result<Vec<u8>
         Reply::Probed(listed, observables, best) => {
             probe_text(alloc, plant, *listed, observables.as_slice(), *best)
         }
-        Reply::Tested(rank) => test_text(alloc, model, rank),
+        Reply::Tested(rank) => commands_text(alloc, b"test", model, rank),
         Reply::NoTest => Vec::from_slice(alloc, b"no test\n"),
         Reply::SettledWindow(steps, listed) => {
             settled_text(alloc, plant, *steps, listed.as_slice())

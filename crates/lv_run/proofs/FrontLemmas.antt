@@ -5,7 +5,7 @@ use Rattle.lv_reply.specs.declared.reply.Reply.{Reply}
 use Rattle.lv_reply.specs.declared.reply.Reply.TheVariants.{Nothing, Accepted, Refused, Settled, Unsettled, Conflicts, Committed, States, Recovered, NoRecovery, Undecided, CommandConflicts, Labels, Contradiction, Certificate, Probed, Tested, NoTest, SettledWindow, UnsettledWindow, WindowConflicts}
 use Rattle.lv_reply.specs.Diagnosis.{settled_text, unsettled_text}
 use Rattle.lv_reply.specs.Conflicts.{conflicts_text, window_conflicts_text, command_conflicts_text}
-use Rattle.lv_reply.specs.Recovery.{recovery_text, test_text, undecided_text}
+use Rattle.lv_reply.specs.Recovery.{commands_text, undecided_text}
 use Rattle.lv_reply.specs.Labels.{labels_text}
 use Rattle.lv_reply.specs.Probes.{probe_text}
 use Rattle.lv_reply.specs.States.{committed_text, states_text}
@@ -14,7 +14,7 @@ use Rattle.lv_run.specs.Fronts.{CountsFront, CountsAreOfFronts}
 
 module _ (plant : Plant) (t : Tally) where
   counts_front : (reply : Reply) → CountsFront plant t reply
-  unfolding settled_text unsettled_text conflicts_text window_conflicts_text command_conflicts_text recovery_text test_text undecided_text labels_text probe_text committed_text states_text
+  unfolding settled_text unsettled_text conflicts_text window_conflicts_text command_conflicts_text commands_text undecided_text labels_text probe_text committed_text states_text
   counts_front Nothing = record { errors = refl; settled = refl; unsettled = refl; trials = λ h. refl; replies = λ h. absurd (h refl) }
   counts_front Accepted = record { errors = refl; settled = refl; unsettled = refl; trials = λ h. refl; replies = λ h. refl }
   counts_front (Refused refusal) = record { errors = refl; settled = refl; unsettled = refl; trials = λ h. refl; replies = λ h. refl }

@@ -18,7 +18,7 @@ use Rattle.lv_plant.specs.lv_session.lv_reply.Pieces.{joined}
 use Rattle.lv_plant.specs.lv_session.lv_reply.Variables.{equation}
 use Rattle.lv_plant.specs.lv_session.lv_reply.Diagnosis.{moves_text, later_moves, listed_head, listed_lines, settled_text, unsettled_text}
 use Rattle.lv_plant.specs.lv_session.lv_reply.Conflicts.{pair_text, timed_pair_text, command_text, conflict_lines, conflicts_by, conflicts_text, window_conflicts_text, command_conflicts_text}
-use Rattle.lv_plant.specs.lv_session.lv_reply.Recovery.{shown_settings, recovery_text, test_text, undecided_text}
+use Rattle.lv_plant.specs.lv_session.lv_reply.Recovery.{shown_settings, commands_text, undecided_text}
 use Rattle.lv_plant.specs.lv_session.lv_reply.declared.probes.Probed.{Probed as ProbedNumbers}
 use Rattle.lv_plant.specs.lv_session.lv_reply.Probes.{probed_line, best_text, probe_text}
 use Rattle.lv_plant.specs.lv_session.lv_reply.Labels.{moment_word, label_line, labels_text}
@@ -101,13 +101,10 @@ unfolding states_text
 states_whole plant time tracked =
     whole_behind true (committed_text time (length tracked)) (state_lines plant 1 tracked) (committed_whole time (length tracked)) (state_lines_whole plant 1 tracked)
 
-recovery_whole : (plant : Plant) (r : Rank) → is_whole (recovery_text plant r) ≡ true
-unfolding recovery_text
-recovery_whole plant r = line_whole (codes "recovery cost " ++ decimal r.cost.0 ++ codes ": " ++ joined (shown_settings plant (controls plant) r.choices))
-
-test_whole : (plant : Plant) (r : Rank) → is_whole (test_text plant r) ≡ true
-unfolding test_text
-test_whole plant r = line_whole (codes "test cost " ++ decimal r.cost.0 ++ codes ": " ++ joined (shown_settings plant (controls plant) r.choices))
+commands_whole : (answer : List ℕ) (plant : Plant) (r : Rank) → is_whole (commands_text answer plant r) ≡ true
+unfolding commands_text
+commands_whole answer plant r =
+    line_whole (answer ++ codes " cost " ++ decimal r.cost.0 ++ codes ": " ++ joined (shown_settings plant (controls plant) r.choices))
 
 probe_whole : (plant : Plant) (listed : ℕ) (observables : List ProbedNumbers) (best : Option VarId) → is_whole (probe_text plant listed observables best) ≡ true
 unfolding probe_text
@@ -135,7 +132,7 @@ reply_whole plant (Unsettled listed trials) = unsettled_whole plant 1 listed tri
 reply_whole plant (Conflicts kept trials) = conflicts_of_moves plant kept trials
 reply_whole plant (Committed time tracked) = committed_whole time tracked
 reply_whole plant (States time tracked) = states_whole plant time tracked
-reply_whole plant (Recovered rank) = recovery_whole plant rank
+reply_whole plant (Recovered rank) = commands_whole (codes "recovery") plant rank
 reply_whole plant NoRecovery = refl
 reply_whole plant (Undecided trials) = undecided_whole trials
 reply_whole plant (CommandConflicts kept trials) = conflicts_of_commands plant kept trials
@@ -143,7 +140,7 @@ reply_whole plant (Labels labels) = labels_whole plant labels
 reply_whole plant Contradiction = refl
 reply_whole plant Certificate = refl
 reply_whole plant (Probed listed observables best) = probe_whole plant listed observables best
-reply_whole plant (Tested rank) = test_whole plant rank
+reply_whole plant (Tested rank) = commands_whole (codes "test") plant rank
 reply_whole plant NoTest = refl
 reply_whole plant (SettledWindow steps listed) = settled_whole plant steps listed
 reply_whole plant (UnsettledWindow steps listed trials) = unsettled_whole plant steps listed trials
