@@ -16,7 +16,6 @@ ghost use Rattle.lv_boxes.specs.Least.{lacks_choice};
 ghost use Rattle.lv_boxes.specs.RankedMembers.{IsLeastRank, ranked_members, sources_differ};
 ghost use Rattle.lv_search_walk.specs.Walk.{is_ruled_out};
 ghost use Rattle.lv_search.specs.Free.{is_free_rank, free_of};
-ghost use Rattle.lv_search_guide.specs.Beside.{AreJoined};
 ghost use Rattle.lv_search_guide.specs.Near.{IsFirstNear};
 ghost use Rattle.lv_guide.specs.Guide.{AreKeptBy, AreNear, IsReady, HasMore, HasMoreBy, HasRoomBy, HasSameFree, LooksAgain, DropsFirst, DropsAlike, WholeTells, front_is_free};
 
@@ -24,7 +23,7 @@ use lv_base::{Conflict, Rank, Seq, contains};
 use lv_boxes::{Grid, Groups, Zone, choices_as_conflict, split, split_by_groups};
 use lv_search::Frontier;
 use lv_search_guide::beside::first_beside;
-use lv_search_guide::joined::Joined;
+use lv_search_guide::known::Known;
 use lv_search_guide::near::least_free_near;
 use std::alloc::{AllocError, Global};
 use std::collections::BTreeMap;
@@ -37,7 +36,7 @@ use std::mem;
 pub struct Guide {
     alloc: Global,
     grid: Grid,
-    known: Seq<Conflict>,
+    known: Known,
     queue: BTreeMap<Rank, Zone>,
     course: Course,
 }
@@ -96,12 +95,13 @@ impl Guide {
         ensures { IfOk result (λ all. all ≡ ranked_members grid zones.items) }
     {
         let whole = copied(alloc, zones.as_slice())?;
+        let known = Known::new(alloc, grid.len(), Vec::new(alloc))?;
         let mut queue = BTreeMap::new(alloc);
         put_all(alloc, &grid, &mut queue, zones)?;
         Ok(Guide {
             alloc,
             grid,
-            known: Seq::new(alloc),
+            known,
             queue,
             course: Course {
                 whole: Some(whole),
@@ -121,10 +121,10 @@ impl Guide {
         requires { sources_differ zones.items ≡ true }
         ensures { IfOk result (λ all. all ≡ free_of known.items (ranked_members grid zones.items)) }
     {
-        let known = Seq::from_vec(known);
+        let known = Known::new(alloc, grid.len(), known)?;
         let mut queue = BTreeMap::new(alloc);
         put_all(alloc, &grid, &mut queue, zones)?;
-        look_ahead(alloc, &grid, known.as_slice(), &mut queue)?;
+        look_ahead(alloc, &grid, &known, &mut queue)?;
         Ok(Guide {
             alloc,
             grid,
@@ -197,8 +197,7 @@ fn put_all(
 fn put_part(
     alloc: Global,
     grid: &Grid,
-    known: &[Conflict],
-    joined: &Joined,
+    known: &Known,
     queue: &mut BTreeMap<Rank, Zone>,
     part: Zone,
     listed: &Rank,
@@ -206,10 +205,9 @@ fn put_part(
     requires room { HasRoomBy grid.now (part ∷ []) queue.old.entries }
     requires near { IsFirstNear grid.now part known.now listed.now }
     requires free { is_free_rank known.now listed.now ≡ true }
-    requires labels { AreJoined known.now (length grid.now) joined.now }
     ensures { OnOk result (HasMoreBy grid.now known.now (part ∷ []) queue.old.entries queue.new.entries) }
 {
-    match first_beside(alloc, grid, &part, known, joined, listed)? {
+    match first_beside(alloc, grid, &part, known, listed)? {
         Some(found) => {
             queue.insert(found.0, found.1)?;
             Ok(())
@@ -218,33 +216,11 @@ fn put_part(
     }
 }
 
-/// As `put_part`, each of these parts.
-fn put_each_part(
-    alloc: Global,
-    grid: &Grid,
-    known: &[Conflict],
-    joined: &Joined,
-    queue: &mut BTreeMap<Rank, Zone>,
-    parts: Vec<Zone>,
-    listed: &Rank,
-) -> Result<(), AllocError>
-    requires room { HasRoomBy grid.now parts.items queue.old.entries }
-    requires near { AreNear grid.now known.now listed.now parts.items }
-    requires free { is_free_rank known.now listed.now ≡ true }
-    requires labels { AreJoined known.now (length grid.now) joined.now }
-    ensures { OnOk result (HasMoreBy grid.now known.now parts.items queue.old.entries queue.new.entries) }
-{
-    for part in parts {
-        put_part(alloc, grid, known, joined, queue, part, listed)?;
-    }
-    Ok(())
-}
-
 /// Puts the parts of a zone into the queue, of which a member was listed that contains no known conflict.
 fn put_parts(
     alloc: Global,
     grid: &Grid,
-    known: &[Conflict],
+    known: &Known,
     queue: &mut BTreeMap<Rank, Zone>,
     parts: Vec<Zone>,
     listed: &Rank,
@@ -254,16 +230,10 @@ fn put_parts(
     requires free { is_free_rank known.now listed.now ≡ true }
     ensures { OnOk result (HasMoreBy grid.now known.now parts.items queue.old.entries queue.new.entries) }
 {
-    match Joined::new(alloc, known, grid.len())? {
-        Some(joined) => {
-            put_each_part(alloc, grid, known, &joined, queue, parts, listed)?;
-            Ok(())
-        }
-        None => {
-            put_all(alloc, grid, queue, parts)?;
-            Ok(())
-        }
+    for part in parts {
+        put_part(alloc, grid, known, queue, part, listed)?;
     }
+    Ok(())
 }
 
 /// Whether the first zone is kept by a member that contains a known conflict.
@@ -306,7 +276,7 @@ fn contains_some(conflicts: &[Conflict], choices: &[u32]) -> bool
 fn look_again(
     alloc: Global,
     grid: &Grid,
-    known: &[Conflict],
+    known: &Known,
     queue: &mut BTreeMap<Rank, Zone>,
 ) -> Result<(), AllocError>
     requires kept { AreKeptBy grid.now known.now queue.old.entries }
@@ -329,14 +299,14 @@ fn look_again(
 fn look_ahead(
     alloc: Global,
     grid: &Grid,
-    known: &[Conflict],
+    known: &Known,
     queue: &mut BTreeMap<Rank, Zone>,
 ) -> Result<(), AllocError>
     requires { AreKeptBy grid.now known.now queue.old.entries }
     ensures same { OnOk result (HasSameFree grid.now known.now queue.old.entries queue.new.entries) }
     ensures front { OnOk result (front_is_free known.now queue.new.entries ≡ true) }
 {
-    while is_stale(queue, known) {
+    while is_stale(queue, known.as_slice()) {
         look_again(alloc, grid, known, queue)?;
     }
     Ok(())
@@ -366,7 +336,7 @@ fn first_contained<'a>(known: &'a [Conflict], choices: &[u32]) -> Option<&'a Con
 fn split_front(
     alloc: Global,
     grid: &Grid,
-    known: &[Conflict],
+    known: &Known,
     queue: &mut BTreeMap<Rank, Zone>,
 ) -> Result<(), AllocError>
     requires kept { AreKeptBy grid.now known.now queue.old.entries }
@@ -374,7 +344,7 @@ fn split_front(
     ensures { OnOk result (HasSameFree grid.now known.now queue.old.entries queue.new.entries) }
 {
     match queue.pop_first() {
-        Some((rank, zone)) => match first_contained(known, rank.choices.as_slice()) {
+        Some((rank, zone)) => match first_contained(known.as_slice(), rank.choices.as_slice()) {
             Some(conflict) => {
                 put_all(alloc, grid, queue, split(alloc, &zone, conflict)?)?;
                 Ok(())
@@ -390,7 +360,7 @@ fn split_front(
 fn split_ahead(
     alloc: Global,
     grid: &Grid,
-    known: &[Conflict],
+    known: &Known,
     queue: &mut BTreeMap<Rank, Zone>,
     most: u64,
 ) -> Result<u64, AllocError>
@@ -399,7 +369,7 @@ fn split_ahead(
 {
     let mut left = most;
     'splits: while left > 0 {
-        if !is_stale(queue, known) {
+        if !is_stale(queue, known.as_slice()) {
             return Ok(left);
         }
         split_front(alloc, grid, known, queue)?;
@@ -413,7 +383,7 @@ fn split_ahead(
 fn end_splits(
     alloc: Global,
     grid: &Grid,
-    known: &[Conflict],
+    known: &Known,
     queue: &mut BTreeMap<Rank, Zone>,
     course: &mut Course,
 ) -> Result<(), AllocError>
@@ -422,7 +392,7 @@ fn end_splits(
     ensures same { OnOk result (HasSameFree grid.now known.now queue.old.entries queue.new.entries) }
     ensures whole { OnOk result (WholeTells grid.now known.now queue.new.entries course.new.whole) }
 {
-    if course.whole.is_none() || !is_stale(queue, known) {
+    if course.whole.is_none() || !is_stale(queue, known.as_slice()) {
         return Ok(());
     }
     match mem::replace(course, Course::over()).whole {
@@ -440,7 +410,7 @@ fn end_splits(
 fn go_ahead(
     alloc: Global,
     grid: &Grid,
-    known: &[Conflict],
+    known: &Known,
     queue: &mut BTreeMap<Rank, Zone>,
     course: &mut Course,
 ) -> Result<(), AllocError>
@@ -460,7 +430,7 @@ fn go_ahead(
 fn part_first(
     alloc: Global,
     grid: &Grid,
-    known: &[Conflict],
+    known: &Known,
     queue: &mut BTreeMap<Rank, Zone>,
 ) -> Result<(), AllocError>
     requires { IsReady grid.now known.now queue.old.entries }
@@ -481,7 +451,7 @@ fn part_first(
 fn part_alike(
     alloc: Global,
     grid: &Grid,
-    known: &[Conflict],
+    known: &Known,
     queue: &mut BTreeMap<Rank, Zone>,
     groups: &Groups,
 ) -> Result<(), AllocError>
@@ -513,7 +483,7 @@ impl Frontier for Guide {
         let mut queue = mem::replace(&mut self.queue, BTreeMap::new(self.alloc));
         let mut course = mem::replace(&mut self.course, Course::over());
         course.whole = None;
-        let known = self.known.as_slice();
+        let known = &self.known;
         part_first(self.alloc, &self.grid, known, &mut queue)?;
         go_ahead(self.alloc, &self.grid, known, &mut queue, &mut course)?;
         self.queue = queue;
@@ -527,8 +497,7 @@ impl Frontier for Guide {
         course.allow_more();
         self.known
             .push(Conflict::from_pairs(self.alloc, conflict.pairs())?)?;
-        let known = self.known.as_slice();
-        go_ahead(self.alloc, &self.grid, known, &mut queue, &mut course)?;
+        go_ahead(self.alloc, &self.grid, &self.known, &mut queue, &mut course)?;
         self.queue = queue;
         self.course = course;
         Ok(())
@@ -541,7 +510,7 @@ impl Frontier for Guide {
         let mut queue = mem::replace(&mut self.queue, BTreeMap::new(self.alloc));
         let mut course = mem::replace(&mut self.course, Course::over());
         course.whole = None;
-        let known = self.known.as_slice();
+        let known = &self.known;
         part_alike(self.alloc, &self.grid, known, &mut queue, groups)?;
         go_ahead(self.alloc, &self.grid, known, &mut queue, &mut course)?;
         self.queue = queue;

@@ -18,8 +18,6 @@ use Rattle.lv_boxes.proofs.MemberLemmas.{length-are_left}
 use Rattle.lv_search_walk.specs.Walk.{is_ruled_out}
 use Rattle.lv_search_parts.specs.Slots.{only, put_in, is_marked, pair_in, is_inside}
 use Rattle.lv_search_parts.specs.Parts.{is_whole, inner_of, IsPart, IsPartWith}
-use Rattle.lv_search_parts.specs.Labels.{first_label, label_marks}
-use Rattle.lv_search_parts.proofs.LabelLemmas.{part_of_label}
 use Rattle.lv_search_guide.specs.declared.look.Member.{Member}
 use Rattle.lv_search_guide.specs.Boxes.{is_free}
 use Rattle.lv_search_guide.specs.Lowest.{IsLowest}
@@ -27,7 +25,7 @@ use Rattle.lv_search_guide.specs.Free.{IsLeastFree, HasNoFree, LeastFreeTells}
 use Rattle.lv_search_guide.specs.Narrow.{HasNoneBy}
 use Rattle.lv_search_guide.specs.Narrowed.{IsNarrowed}
 use Rattle.lv_search_guide.specs.Near.{AreAmong, IsFirstNear, contained_pairs, lost_pairs, unsettled}
-use Rattle.lv_search_guide.specs.Beside.{AreJoined, IsFirstBySome, FirstBySomeTells, mixed, IsLeastInside, LeastInsideTells}
+use Rattle.lv_search_guide.specs.Beside.{IsFirstBySome, FirstBySomeTells, mixed, IsLeastInside, LeastInsideTells}
 use Rattle.lv_search_guide.proofs.BoxLemmas.{free_is_left, free_from, length-left}
 use Rattle.lv_search_guide.proofs.FreeLemmas.{free_in_box, free_in_zone, none_free}
 use Rattle.lv_search_guide.proofs.PartLemmas.{clear_outside}
@@ -229,22 +227,18 @@ lacking_none slots zone conflicts lacks =
     none_free slots zone conflicts (record { none = λ xs. ap (λ b. b && not (is_ruled_out conflicts xs)) (lacks_choice-none slots zone.masks xs lacks) })
 
 -- what is told where the least choices of the part are taken
-pub settled_beside : (slots : List (List Cost)) (zone : ZoneValue) (known : List (List Pair)) (near : Rank) (labels : List ℕ) (pairs : List Pair) (marks : List Bool) (masks choices : List ℕ) (answer : Option Rank)
-    → masks ≡ zone.masks → choices ≡ near.choices → pairs ≡ lost_pairs masks choices → marks ≡ label_marks labels (first_label labels pairs)
-    → IsFirstNear slots zone known near → is_ruled_out known near.choices ≡ false → AreJoined known (length slots) labels → is_inside marks pairs ≡ true → LeastInsideTells slots zone marks choices answer
-    → FirstBySomeTells slots zone known answer
-settled_beside slots zone known near labels pairs marks masks choices answer masks_are choices_are pairs_are marks_are was free joined inside told =
+pub settled_beside : (slots : List (List Cost)) (zone : ZoneValue) (known : List (List Pair)) (near : Rank) (pairs : List Pair) (marks : List Bool) (masks choices : List ℕ) (answer : Option Rank)
+    → masks ≡ zone.masks → choices ≡ near.choices → pairs ≡ lost_pairs masks choices
+    → IsFirstNear slots zone known near → is_ruled_out known near.choices ≡ false → IsPartWith known (length slots) pairs marks → LeastInsideTells slots zone marks choices answer → FirstBySomeTells slots zone known answer
+settled_beside slots zone known near pairs marks masks choices answer masks_are choices_are pairs_are was free part told =
     by answer (subst (λ (xs : List ℕ). LeastInsideTells slots zone marks xs answer) choices_are told)
   where
-    part : IsPart known (length slots) marks
-    part = subst (λ (ms : List Bool). IsPart known (length slots) ms) (sym marks_are) (part_of_label known (length slots) labels (first_label labels pairs) joined)
-
     lost : is_inside marks (lost_pairs zone.masks near.choices) ≡ true
-    lost = ap (is_inside marks) (sym (pairs_are ∙ (λ i. lost_pairs (masks_are i) (choices_are i)))) ∙ inside
+    lost = ap (is_inside marks) (sym (pairs_are ∙ (λ i. lost_pairs (masks_are i) (choices_are i)))) ∙ part.inside
 
     by : (answer : Option Rank) → LeastInsideTells slots zone marks near.choices answer → FirstBySomeTells slots zone known answer
     by None lacks = lacking_none slots zone known lacks
-    by (Some rank) least = beside_first slots zone known near marks rank was free part lost least
+    by (Some rank) least = beside_first slots zone known near marks rank was free part.part lost least
 
 -- what is first by all is first by some
 pub some_of_all : (slots : List (List Cost)) (zone : ZoneValue) (known : List (List Pair)) (answer : Option Rank) → LeastFreeTells slots zone known answer → FirstBySomeTells slots zone known answer

@@ -207,6 +207,12 @@ pub live_lowest_of : (slots : List (List Cost)) (conflicts live then : List (Lis
 live_lowest_of slots conflicts live then masks read answer read_is then_is l t =
     live_lowest slots conflicts live masks answer (subst (λ (ms : List ℕ). IsLiveOf conflicts ms live) read_is l) (subst (λ (ks : List (List Pair)). LowestTells slots ks masks answer) then_is t)
 
+pub part_lowest : (slots part : List (List Cost)) (conflicts live then : List (List Pair)) (marks : List Bool) (masks words read : List ℕ) (answer : Option Member) → part ≡ only marks slots → words ≡ only marks masks
+    → read ≡ only marks masks → then ≡ live → IsLiveOf (inner_of marks conflicts) words live → LowestTells part then read answer → LowestTells (only marks slots) (inner_of marks conflicts) (only marks masks) answer
+part_lowest slots part conflicts live then marks masks words read answer part_is words_are read_is then_is l t =
+    live_lowest_of (only marks slots) (inner_of marks conflicts) live then (only marks masks) words answer words_are then_is l
+    (subst (λ (ms : List ℕ). LowestTells (only marks slots) then ms answer) read_is (subst (λ (rows : List (List Cost)). LowestTells rows then read answer) part_is t))
+
 -- a part settled
 pub settles_fixed : (slots : List (List Cost)) (live : List (List Pair)) (masks : List ℕ) (marks : List Bool) (member : Member) (read ys new : List ℕ) → IsPart live (length slots) marks
     → IsLowest (only marks slots) (inner_of marks live) (only marks masks) member → read ≡ masks → ys ≡ member.choices → new ≡ fixed marks ys read → KeepsFirst slots live masks new

@@ -1,43 +1,40 @@
 //! A zone near one whose first member without a conflict is known, with what few steps tell of its own first. The first
 //! slot at which it lacks that one's choice loses what conflicts rule out that end there; then the slots that conflicts
-//! join to it have their least choices, and the others keep theirs.
+//! join to those at which it lacks one have their least choices, and the others keep theirs.
 #![tactic(auto)]
 
 ghost use Rattle.std.specs.Prelude.{◌≡◌, ◌≤◌, ◌∷◌, [], false, length, IfOk, if◌then◌else◌};
 ghost use Rattle.lv_search_walk.specs.Walk.{is_ruled_out};
 ghost use Rattle.lv_search_guide.specs.Narrowed.{NarrowedTells};
 ghost use Rattle.lv_search_guide.specs.Near.{IsFirstNear};
-ghost use Rattle.lv_search_guide.specs.Beside.{AreJoined, mixed, LeastInsideTells, FirstBySomeTells, BesideTells};
+ghost use Rattle.lv_search_guide.specs.Beside.{mixed, LeastInsideTells, FirstBySomeTells, BesideTells};
 
-use super::joined::Joined;
+use super::known::Known;
 use super::least_free::rank_of;
 use super::look::Member;
 use super::narrowed::narrowed;
 use super::near::{cost_of, least_free_near, lost_pairs};
 use lv_base::{Conflict, Rank, Seq};
 use lv_boxes::{Grid, Zone};
-use lv_search_parts::marks::is_inside;
 use std::alloc::{AllocError, Global};
 
 /// The zone, with fewer choices but all its members that contain no conflict, and the first of its members by some of the
-/// conflicts; `None` where each contains one. `near` contains none, and is what ranks first in a zone that has all
-/// choices of this one, by some of the conflicts.
+/// known conflicts; `None` where each contains one. `near` contains none, and is what ranks first in a zone that has all
+/// choices of this one, by some of them.
 pub fn first_beside(
     alloc: Global,
     grid: &Grid,
     zone: &Zone,
-    conflicts: &[Conflict],
-    joined: &Joined,
+    known: &Known,
     near: &Rank,
 ) -> Result<Option<(Rank, Zone)>, AllocError>
-    requires near { IsFirstNear grid.now zone.now conflicts.now near.now }
-    requires free { is_ruled_out conflicts.now near.now.choices ≡ false }
-    requires labels { AreJoined conflicts.now (length grid.now) joined.now }
-    ensures { IfOk result (λ first. BesideTells grid.now zone.now conflicts.now first) }
+    requires near { IsFirstNear grid.now zone.now known.now near.now }
+    requires free { is_ruled_out known.now near.now.choices ≡ false }
+    ensures { IfOk result (λ first. BesideTells grid.now zone.now known.now first) }
 {
     let _slots = grid.slots();
-    match without_ends(alloc, zone, conflicts, joined, near)? {
-        Some(less) => match first_by_some(alloc, grid, &less, conflicts, joined, near)? {
+    match without_ends(alloc, zone, known, near)? {
+        Some(less) => match first_by_some(alloc, grid, &less, known, near)? {
             Some(rank) => Ok(Some((rank, less))),
             None => Ok(None),
         },
@@ -49,45 +46,41 @@ pub fn first_beside(
 fn without_ends(
     alloc: Global,
     zone: &Zone,
-    conflicts: &[Conflict],
-    joined: &Joined,
+    known: &Known,
     near: &Rank,
 ) -> Result<Option<Zone>, AllocError>
     requires { length near.now.choices ≤ 4096 }
-    ensures { IfOk result (λ less. NarrowedTells zone.now conflicts.now less) }
+    ensures { IfOk result (λ less. NarrowedTells zone.now known.now less) }
 {
     let lost = lost_pairs(alloc, zone.masks(), near.choices.as_slice())?;
-    match lost.first() {
-        Some(pair) => narrowed(alloc, zone, conflicts, joined.ends_at(*pair)),
-        None => narrowed(alloc, zone, conflicts, &[]),
-    }
+    narrowed(
+        alloc,
+        zone,
+        known.as_slice(),
+        known.ends_at_first(lost.as_slice()),
+    )
 }
 
-/// The zone's first member by those conflicts that speak of no slot which conflicts join to the first at which it lacks
-/// the choice; by all of them, where it lacks one at another slot too.
+/// The zone's first member by those conflicts that speak of no slot which conflicts join to one at which it lacks the
+/// choice; by all of them, where it isn't known what they join.
 fn first_by_some(
     alloc: Global,
     grid: &Grid,
     zone: &Zone,
-    conflicts: &[Conflict],
-    joined: &Joined,
+    known: &Known,
     near: &Rank,
 ) -> Result<Option<Rank>, AllocError>
-    requires near { IsFirstNear grid.now zone.now conflicts.now near.now }
-    requires free { is_ruled_out conflicts.now near.now.choices ≡ false }
-    requires labels { AreJoined conflicts.now (length grid.now) joined.now }
-    ensures { IfOk result (λ first. FirstBySomeTells grid.now zone.now conflicts.now first) }
+    requires near { IsFirstNear grid.now zone.now known.now near.now }
+    requires free { is_ruled_out known.now near.now.choices ≡ false }
+    ensures { IfOk result (λ first. FirstBySomeTells grid.now zone.now known.now first) }
 {
     let _slots = grid.slots();
     let choices = near.choices.as_slice();
     let lost = lost_pairs(alloc, zone.masks(), choices)?;
-    let pairs = lost.as_slice();
-    let part = joined.marks_of_first(alloc, pairs)?;
-    let marks = part.as_slice();
-    if is_inside(marks, pairs) {
-        return least_inside(alloc, grid, zone, marks, choices);
+    match known.part_with(alloc, grid.len(), lost.as_slice())? {
+        Some(part) => least_inside(alloc, grid, zone, part.as_slice(), choices),
+        None => least_free_near(alloc, grid, zone, known, near),
     }
-    least_free_near(alloc, grid, zone, conflicts, near)
 }
 
 /// The zone's least choices at the slots that are marked, and the others of these choices, as a rank.

@@ -25,7 +25,7 @@ pub(crate) fn drop_dear(
 ) -> Result<(), AllocError>
     ensures { IfOk result (λ _. KeepsUnder grid.now conflicts.now under masks.old masks.new) }
 {
-    let priced = priced_in(alloc, grid, conflicts, masks.as_slice())?;
+    let priced = priced_in(alloc, grid, conflicts, masks.as_slice(), under)?;
     drop_priced(priced.rows.as_slice(), priced.low, under, masks);
     Ok(())
 }

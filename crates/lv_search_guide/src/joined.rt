@@ -1,18 +1,19 @@
 //! Conflicts by the slots that they speak of.
 #![tactic(auto)]
 
-ghost use Rattle.std.specs.Prelude.{◌≡◌, IfOk, IfSome};
-ghost use Rattle.lv_search_parts.specs.Labels.{first_label, label_marks};
+ghost use Rattle.std.specs.Prelude.{◌≡◌, ℕ, List, IfOk, IfSome};
+ghost use Rattle.lv_base.specs.declared.search.Pair.{Pair};
+ghost use Rattle.lv_search_parts.specs.Parts.{IsPartWith};
 ghost use Rattle.lv_search_guide.specs.Beside.{AreJoined};
 
 use lv_base::{Conflict, Pair};
-use lv_search_parts::labels::{first_label, labels_of, marks_of};
+use lv_search_parts::labels::{are_labels, join, labels_of, part_with};
 use std::alloc::{AllocError, Global};
 use std::marker::Model;
 
 /// Conflicts by the slots that they speak of. Contracts see the labels.
 #[derive(Drop)]
-pub struct Joined {
+pub(crate) struct Joined {
     /// Of each slot a label, one for those that conflicts join.
     labels: Vec<usize>,
     /// Of each slot the places of the conflicts of which it is the last.
@@ -29,7 +30,7 @@ impl Model for Joined {
 
 impl Joined {
     /// The conflicts by so many slots; `None` where one speaks of a slot that there isn't.
-    pub fn new(
+    pub(crate) fn new(
         alloc: Global,
         conflicts: &[Conflict],
         slots: usize,
@@ -45,16 +46,36 @@ impl Joined {
         }
     }
 
-    /// The slots that conflicts join to that of the first of these pairs.
-    pub(crate) fn marks_of_first(
+    /// As `new`, where these are all conflicts but the last. `None` also where they aren't.
+    pub(crate) fn with_last(
+        self,
+        conflicts: &[Conflict],
+        slots: usize,
+    ) -> Result<Option<Joined>, AllocError>
+        ensures { IfOk result (λ found. IfSome found (λ labels. AreJoined conflicts.now slots labels)) }
+    {
+        let mut labels = self.labels;
+        let mut ends = self.ends;
+        if let Some(conflict) = conflicts.last() {
+            join(conflict.pairs(), &mut labels);
+            push_end(conflict, conflicts.len() - 1, &mut ends)?;
+        }
+        if are_labels(conflicts, slots, &labels) {
+            Ok(Some(Joined { labels, ends }))
+        } else {
+            Ok(None)
+        }
+    }
+
+    /// The slots that conflicts join to those of these pairs; `None` where a pair speaks of a slot that there isn't.
+    pub(crate) fn part_with(
         &self,
         alloc: Global,
         pairs: &[Pair],
-    ) -> Result<Vec<bool>, AllocError>
-        ensures { IfOk result (λ marks. marks.items ≡ label_marks self.now (first_label self.now pairs.now)) }
+    ) -> Result<Option<Vec<bool>>, AllocError>
+        ensures { (conflicts : List (List Pair)) (slots : ℕ) → AreJoined conflicts slots self.now → IfOk result (λ part. IfSome part (λ marks. IsPartWith conflicts slots pairs.now marks.items)) }
     {
-        let labels = self.labels.as_slice();
-        marks_of(alloc, labels, first_label(labels, pairs))
+        part_with(alloc, self.labels.as_slice(), pairs)
     }
 
     /// The places of the conflicts of which the pair's slot is the last.

@@ -16,6 +16,7 @@
 //! | `least_free` | the member that ranks first |
 //! | `near` | the same, where it is known of a zone that has all its choices, by some of the conflicts |
 //! | `beside` | the first by some of the conflicts, where it is known of a zone that has all its choices |
+//! | `known` | the known conflicts |
 //! | `joined` | conflicts by the slots that they speak of |
 //! | `parts` | the same part by part of a box |
 //! | `cheapest` | a cheapest member, by a stack of boxes |
@@ -35,7 +36,8 @@ mod behind;
 pub mod beside;
 mod cheapest;
 mod dear;
-pub mod joined;
+mod joined;
+pub mod known;
 pub mod laws;
 pub mod least_free;
 mod look;

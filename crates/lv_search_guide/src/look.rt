@@ -71,7 +71,7 @@ fn is_too_dear(
     if under >= ABOVE_ALL {
         return Ok(false);
     }
-    Ok(low_of(alloc, grid, conflicts, masks)? >= under)
+    Ok(low_of(alloc, grid, conflicts, masks, under)? >= under)
 }
 
 /// A cheapest member of a box, whatever the conflicts.

@@ -13,33 +13,35 @@ ghost use Rattle.lv_search_guide.specs.Free.{LeastFreeTells};
 ghost use Rattle.lv_search_guide.specs.Lowest.{LowestTells};
 ghost use Rattle.lv_search_guide.specs.Near.{IsFirstNear, lost_pairs, unsettled};
 
+use super::known::Known;
 use super::least_free::{first_in, least_free, rank_of};
 use super::look::Member;
 use super::masks::Masks;
 use lv_base::{Conflict, Cost, Pair, Rank, Seq, contains};
 use lv_boxes::{Grid, Zone, choices_as_conflict};
 use lv_search_parts::live::is_there;
-use lv_search_parts::marks::joined_with;
 use lv_search_parts::part::{part_conflicts, part_grid, part_masks, put_in};
 use std::alloc::{AllocError, Global};
 
-/// As `least_free`, where `near` is what ranked first in a zone that has all choices of this one, by some of the conflicts.
+/// As `least_free`, where `near` is what ranked first in a zone that has all choices of this one, by some of the known
+/// conflicts.
 pub fn least_free_near(
     alloc: Global,
     grid: &Grid,
     zone: &Zone,
-    conflicts: &[Conflict],
+    known: &Known,
     near: &Rank,
 ) -> Result<Option<Rank>, AllocError>
-    requires { IsFirstNear grid.now zone.now conflicts.now near.now }
-    ensures { IfOk result (λ least. LeastFreeTells grid.now zone.now conflicts.now least) }
+    requires { IsFirstNear grid.now zone.now known.now near.now }
+    ensures { IfOk result (λ least. LeastFreeTells grid.now zone.now known.now least) }
 {
     if has_empty(zone.masks()) {
         return Ok(None);
     }
     let _slots = grid.slots();
+    let conflicts = known.as_slice();
     let pairs = unsettled(alloc, zone.masks(), conflicts, near.choices.as_slice())?;
-    match joined_with(alloc, conflicts, grid.len(), pairs.as_slice())? {
+    match known.part_with(alloc, grid.len(), pairs.as_slice())? {
         Some(marks) if marks.len() == zone.masks().len() => {
             settled_anew(alloc, grid, zone, conflicts, near, marks.as_slice())
         }
@@ -153,9 +155,9 @@ fn first_of_marked(
 {
     let _slots = grid.slots();
     let part = part_grid(alloc, grid, marks)?;
-    let masks = Masks::from_vec(part_masks(alloc, zone.masks(), marks)?);
-    let inner = part_conflicts(alloc, conflicts, marks)?;
-    first_in(alloc, &part, inner.as_slice(), masks)
+    let masks = part_masks(alloc, zone.masks(), marks)?;
+    let inner = part_conflicts(alloc, conflicts, marks, masks.as_slice())?;
+    first_in(alloc, &part, inner.as_slice(), Masks::from_vec(masks))
 }
 
 /// What a choice at each slot costs together.

@@ -15,7 +15,7 @@ use super::masks::Masks;
 use super::prices::low_of;
 use lv_base::{Conflict, Pair};
 use lv_boxes::Grid;
-use lv_search_parts::marks::joined_with;
+use lv_search_parts::labels::joined_with;
 use lv_search_parts::part::{fixed, part_conflicts, part_grid, part_masks};
 use std::alloc::{AllocError, Global};
 
@@ -99,9 +99,9 @@ fn first_of_part(
 {
     let _slots = grid.slots();
     let part = part_grid(alloc, grid, marks)?;
-    let words = Masks::from_vec(part_masks(alloc, masks.as_slice(), marks)?);
-    let inner = part_conflicts(alloc, conflicts, marks)?;
-    first_found(alloc, &part, inner.as_slice(), &words)
+    let words = part_masks(alloc, masks.as_slice(), marks)?;
+    let inner = part_conflicts(alloc, conflicts, marks, words.as_slice())?;
+    first_found(alloc, &part, inner.as_slice(), &Masks::from_vec(words))
 }
 
 /// As `first_by_parts`, searched for in the whole box.
@@ -115,7 +115,7 @@ fn first_found(
     ensures bound { IfOk result (λ first. IfSome first (λ member. member.cost ≤ 4096 * 1000000)) }
 {
     let _slots = grid.slots();
-    let low = low_of(alloc, grid, conflicts, masks)?;
+    let low = low_of(alloc, grid, conflicts, masks, ABOVE_ALL)?;
     match cheapest(alloc, grid, conflicts, masks, low, ABOVE_ALL)? {
         Some(member) => Ok(Some(lowest(alloc, grid, conflicts, masks, member)?)),
         None => Ok(None),

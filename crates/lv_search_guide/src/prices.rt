@@ -26,6 +26,9 @@ const NO_CHOICE: u32 = 64;
 #[derive(Debug, Drop)]
 pub(crate) struct Row {
     prices: Vec<Cost>,
+    /// The least priced of the choices left, and the next, as far as there are some.
+    least: u32,
+    second: u32,
 }
 
 /// A bound of what members cost, and of each slot what its choices are still priced at.
@@ -45,11 +48,14 @@ impl Model for Row {
 }
 
 impl Row {
-    fn from_slice(alloc: Global, costs: &[Cost]) -> Result<Row, AllocError>
+    fn new(alloc: Global, costs: &[Cost], mask: u64) -> Result<Row, AllocError>
         ensures { IfOk result (λ row. row ≡ costs.now) }
     {
+        let least = least_choice(costs, mask, NO_CHOICE);
         Ok(Row {
             prices: Vec::from_slice(alloc, costs)?,
+            least,
+            second: least_choice(costs, mask, least),
         })
     }
 
@@ -64,7 +70,37 @@ impl Row {
         ensures { self.new ≡ lowered_from 0 mask except by self.old }
     {
         lower_each(&mut self.prices, mask, except, by);
+        self.least = least_choice(self.prices.as_slice(), mask, NO_CHOICE);
+        self.second = least_choice(self.prices.as_slice(), mask, self.least);
     }
+
+    /// Whether a choice that the mask has beside this one is free, as far as the least priced tell.
+    fn has_free_beside(&self, mask: u64, except: u32) -> bool {
+        let prices = self.prices.as_slice();
+        is_free_beside(prices, mask, except, self.least as usize)
+            || is_free_beside(prices, mask, except, self.second as usize)
+    }
+}
+
+/// The first of the least priced choices that the mask has beside this one, if there is one.
+fn least_choice(prices: &[Cost], mask: u64, except: u32) -> u32 {
+    let mut least = NO_CHOICE;
+    for choice in 0..prices.len().min(64) {
+        if is_beside(mask, choice, except) && is_less(prices, choice, least as usize) {
+            least = choice as u32;
+        }
+    }
+    least
+}
+
+/// Whether a choice is priced less than another, or there isn't that one.
+fn is_less(prices: &[Cost], choice: usize, other: usize) -> bool {
+    other >= prices.len() || (choice < prices.len() && prices[choice].0 < prices[other].0)
+}
+
+/// Whether there is this choice, the mask has it beside the other one, and it is free.
+fn is_free_beside(prices: &[Cost], mask: u64, except: u32, choice: usize) -> bool {
+    choice < prices.len() && is_beside(mask, choice, except) && prices[choice].0 == 0
 }
 
 /// Prices each choice that the mask has at so much less, except this one.
@@ -154,6 +190,9 @@ fn least_at(masks: &[u64], pair: Pair, rows: &[Row], before: Option<u64>) -> Opt
     ensures { BesideTells (slice_index_or rows.now pair.slot []) (slice_index masks.now pair.slot) pair.choice (length (slice_index_or rows.now pair.slot [])) before result }
 {
     let slot = pair.slot as usize;
+    if rows[slot].has_free_beside(masks[slot], pair.choice) {
+        return Some(0);
+    }
     least_beside(rows[slot].as_slice(), masks[slot], pair.choice, before)
 }
 
@@ -222,56 +261,69 @@ fn raise_by_slots(masks: &[u64], rows: &mut Vec<Row>) -> u64
     low
 }
 
-/// Raises a bound by each conflict in turn.
-fn raise_by_conflicts(masks: &[u64], conflicts: &[Conflict], low: u64, rows: &mut Vec<Row>) -> u64
+/// Raises a bound by each conflict in turn, until it is enough.
+fn raise_by_conflicts(
+    masks: &[u64],
+    conflicts: &[Conflict],
+    low: u64,
+    enough: u64,
+    rows: &mut Vec<Row>,
+) -> u64
     requires long { length masks.now ≡ length rows.old.items }
     ensures { (slots : List (List Cost)) → IsBound slots conflicts.now masks.now low rows.old.items → IsBound slots conflicts.now masks.now result rows.new.items }
 {
     let mut bound = low;
     for conflict in conflicts {
+        if bound >= enough {
+            return bound;
+        }
         bound = raise_bound(masks, conflict.pairs(), bound, rows);
     }
     bound
 }
 
 /// The prices that each slot's choices begin at: what they cost.
-fn rows_of(alloc: Global, slots: &[Seq<Cost>]) -> Result<Vec<Row>, AllocError>
+fn rows_of(alloc: Global, slots: &[Seq<Cost>], masks: &[u64]) -> Result<Vec<Row>, AllocError>
     ensures { IfOk result (λ rows. rows.items ≡ slots.now) }
 {
     let mut rows = Vec::new(alloc);
-    for costs in slots {
-        rows.push(Row::from_slice(alloc, costs.as_slice())?)?;
+    for (slot, costs) in slots.iter().enumerate() {
+        let mask = masks.get(slot).copied().unwrap_or(0);
+        rows.push(Row::new(alloc, costs.as_slice(), mask)?)?;
     }
     Ok(rows)
 }
 
-/// What a member of a box that contains no conflict costs at least.
+/// What a member of a box that contains no conflict costs at least; no more is found out once that is enough.
 pub(crate) fn low_of(
     alloc: Global,
     grid: &Grid,
     conflicts: &[Conflict],
     masks: &Masks,
+    enough: u64,
 ) -> Result<u64, AllocError>
     ensures { IfOk result (λ low. CostsAtLeast grid.now conflicts.now masks.now low) }
 {
-    let priced = priced_in(alloc, grid, conflicts, masks.as_slice())?;
+    let priced = priced_in(alloc, grid, conflicts, masks.as_slice(), enough)?;
     Ok(priced.low)
 }
 
-/// What a member of a box that contains no conflict costs at least, and what its choices cost beside that.
+/// What a member of a box that contains no conflict costs at least, and what its choices cost beside that; no more is
+/// found out once that is enough.
 pub(crate) fn priced_in(
     alloc: Global,
     grid: &Grid,
     conflicts: &[Conflict],
     masks: &[u64],
+    enough: u64,
 ) -> Result<Priced, AllocError>
     ensures { IfOk result (λ priced. IsBound grid.now conflicts.now masks.now priced.low priced.rows.items) }
 {
-    let mut rows = rows_of(alloc, grid.slots())?;
+    let mut rows = rows_of(alloc, grid.slots(), masks)?;
     if masks.len() != rows.len() {
         return Ok(Priced { low: 0, rows });
     }
     let by_slots = raise_by_slots(masks, &mut rows);
-    let low = raise_by_conflicts(masks, conflicts, by_slots, &mut rows);
+    let low = raise_by_conflicts(masks, conflicts, by_slots, enough, &mut rows);
     Ok(Priced { low, rows })
 }

@@ -7,9 +7,6 @@ use Rattle.lv_search_parts.specs.Slots.{is_marked, is_inside, is_outside}
 use Rattle.lv_search_parts.specs.Parts.{is_whole, IsPart}
 use Rattle.lv_search_parts.specs.Labels.{first_label, label_marks, has_one_label, AreLabels}
 
-clash : (b : Bool) → b ≡ true → b ≡ false → ⊥
-clash b p q = cc
-
 -- a label as the code reads it
 pub label_here : (labels : List ℕ) (slot label d : ℕ) → slot < length labels → nat_eq (get_or labels slot d) label ≡ is_marked (label_marks labels label) slot
 label_here [] slot label d within = absurd (omega (arith, within))
@@ -26,37 +23,41 @@ label_past labels slot label past =
     false_from_ne_true (nat_lt slot (length labels)) (λ less. let below : slot < length labels = ltb-true slot (length labels) less in absurd (omega (arith, below, past)))
     ∙ sym (past_marks labels slot label past)
 
--- a slot has one label
-other_label : (labels : List ℕ) (one other slot : ℕ) → nat_eq one other ≡ false → is_marked (label_marks labels one) slot ≡ true → not (is_marked (label_marks labels other) slot) ≡ true
-other_label [] one other slot apart has = refl
-other_label (own ∷ labels) one other zero apart has = let same : own ≡ one = eqb-true own one has in ap (λ n. not (nat_eq n other)) same ∙ ap not apart
-other_label (own ∷ labels) one other (suc slot) apart has = other_label labels one other slot apart has
+-- where all slots of the pairs have one label, marks by labels are all that label's
+marked_by : (f : ℕ → Bool) (labels : List ℕ) (label slot : ℕ) → is_marked (label_marks labels label) slot ≡ true → is_marked (map f labels) slot ≡ f label
+marked_by f [] label slot has = absurd (cc has)
+marked_by f (own ∷ labels) label zero has = ap f (eqb-true own label has)
+marked_by f (own ∷ labels) label (suc slot) has = marked_by f labels label slot has
 
-all_other : (labels : List ℕ) (one other : ℕ) (pairs : List Pair) → nat_eq one other ≡ false → is_inside (label_marks labels one) pairs ≡ true → is_outside (label_marks labels other) pairs ≡ true
-all_other labels one other [] apart has = refl
-all_other labels one other (p ∷ ps) apart has =
-    let parts = and_parts (is_marked (label_marks labels one) p.slot) (is_inside (label_marks labels one) ps) has in
-    and_from (not (is_marked (label_marks labels other) p.slot)) (is_outside (label_marks labels other) ps) (other_label labels one other p.slot apart parts.0) (all_other labels one other ps apart parts.1)
+inside_by : (f : ℕ → Bool) (labels : List ℕ) (label : ℕ) (pairs : List Pair) → f label ≡ true → is_inside (label_marks labels label) pairs ≡ true → is_inside (map f labels) pairs ≡ true
+inside_by f labels label [] is has = refl
+inside_by f labels label (p ∷ ps) is has =
+    let parts = and_parts (is_marked (label_marks labels label) p.slot) (is_inside (label_marks labels label) ps) has in
+    and_from (is_marked (map f labels) p.slot) (is_inside (map f labels) ps) (marked_by f labels label p.slot parts.0 ∙ is) (inside_by f labels label ps is parts.1)
 
-whole_by_label : (labels : List ℕ) (label : ℕ) (pairs : List Pair) → has_one_label labels pairs ≡ true → is_whole (label_marks labels label) pairs ≡ true
-whole_by_label labels label pairs has = by (nat_eq (first_label labels pairs) label) refl
+outside_by : (f : ℕ → Bool) (labels : List ℕ) (label : ℕ) (pairs : List Pair) → f label ≡ false → is_inside (label_marks labels label) pairs ≡ true → is_outside (map f labels) pairs ≡ true
+outside_by f labels label [] is has = refl
+outside_by f labels label (p ∷ ps) is has =
+    let parts = and_parts (is_marked (label_marks labels label) p.slot) (is_inside (label_marks labels label) ps) has in
+    and_from (not (is_marked (map f labels) p.slot)) (is_outside (map f labels) ps) (ap not (marked_by f labels label p.slot parts.0 ∙ is)) (outside_by f labels label ps is parts.1)
+
+whole_by : (f : ℕ → Bool) (labels : List ℕ) (pairs : List Pair) → has_one_label labels pairs ≡ true → is_whole (map f labels) pairs ≡ true
+whole_by f labels pairs has = by (f (first_label labels pairs)) refl
   where
-    by : (b : Bool) → nat_eq (first_label labels pairs) label ≡ b → is_whole (label_marks labels label) pairs ≡ true
-    by true same =
-        or_left (is_inside (label_marks labels label) pairs) (is_outside (label_marks labels label) pairs)
-        (ap (λ n. is_inside (label_marks labels n) pairs) (sym (eqb-true (first_label labels pairs) label same)) ∙ has)
-    by false apart = or_right (is_inside (label_marks labels label) pairs) (is_outside (label_marks labels label) pairs) (all_other labels (first_label labels pairs) label pairs apart has)
+    by : (b : Bool) → f (first_label labels pairs) ≡ b → is_whole (map f labels) pairs ≡ true
+    by true is = or_left (is_inside (map f labels) pairs) (is_outside (map f labels) pairs) (inside_by f labels (first_label labels pairs) pairs is has)
+    by false is = or_right (is_inside (map f labels) pairs) (is_outside (map f labels) pairs) (outside_by f labels (first_label labels pairs) pairs is has)
 
-all_whole : (labels : List ℕ) (label : ℕ) (conflicts : List (List Pair)) → list_all (has_one_label labels) conflicts ≡ true → list_all (is_whole (label_marks labels label)) conflicts ≡ true
-all_whole labels label [] all = refl
-all_whole labels label (k ∷ ks) all =
+all_whole : (f : ℕ → Bool) (labels : List ℕ) (conflicts : List (List Pair)) → list_all (has_one_label labels) conflicts ≡ true → list_all (is_whole (map f labels)) conflicts ≡ true
+all_whole f labels [] all = refl
+all_whole f labels (k ∷ ks) all =
     let parts = and_parts (has_one_label labels k) (list_all (has_one_label labels) ks) all in
-    and_from (is_whole (label_marks labels label) k) (list_all (is_whole (label_marks labels label)) ks) (whole_by_label labels label k parts.0) (all_whole labels label ks parts.1)
+    and_from (is_whole (map f labels) k) (list_all (is_whole (map f labels)) ks) (whole_by f labels k parts.0) (all_whole f labels ks parts.1)
 
-length_marks : (labels : List ℕ) (label : ℕ) → length (label_marks labels label) ≡ length labels
-length_marks [] label = refl
-length_marks (own ∷ labels) label = ap suc (length_marks labels label)
+length_marks : (f : ℕ → Bool) (labels : List ℕ) → length (map f labels) ≡ length labels
+length_marks f [] = refl
+length_marks f (own ∷ labels) = ap suc (length_marks f labels)
 
--- the slots with one label are a part
-pub part_of_label : (conflicts : List (List Pair)) (slots : ℕ) (labels : List ℕ) (label : ℕ) → AreLabels conflicts slots labels → IsPart conflicts slots (label_marks labels label)
-part_of_label conflicts slots labels label are = record { long = length_marks labels label ∙ are.long; whole = all_whole labels label conflicts are.one }
+-- the slots with some labels are a part
+pub part_by_labels : (f : ℕ → Bool) (conflicts : List (List Pair)) (slots : ℕ) (labels : List ℕ) → AreLabels conflicts slots labels → IsPart conflicts slots (map f labels)
+part_by_labels f conflicts slots labels are = record { long = length_marks f labels ∙ are.long; whole = all_whole f labels conflicts are.one }

@@ -1,3 +1,4 @@
 pub mod LiveLemmas
 pub mod PartLemmas
 pub mod LabelLemmas
+pub mod InnerLemmas

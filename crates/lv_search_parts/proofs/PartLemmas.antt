@@ -72,28 +72,11 @@ only_next made new marks xs whole i m x within same x_is is e = by (get_or marks
     by false out made_is = ap (λ ns. ns ++ only (drop (i + 1) marks) (drop (i + 1) xs)) made_is ∙ only_no made marks xs whole i m x within within_too out e
 
 -- the conflicts inside
-inner_at : (marks : List Bool) (ks : List (List Pair)) (i : ℕ) (d : List Pair) → i < length ks → inner_of marks (drop i ks) ≡ inner_of marks (get_or ks i d ∷ drop (suc i) ks)
-inner_at marks ks i d within = ap (inner_of marks) (drop-cons ks i d within)
-
-inner_in : (marks : List Bool) (k : List Pair) (ks : List (List Pair)) → is_inside marks k ≡ true → inner_of marks (k ∷ ks) ≡ map (pair_in marks) k ∷ inner_of marks ks
+pub inner_in : (marks : List Bool) (k : List Pair) (ks : List (List Pair)) → is_inside marks k ≡ true → inner_of marks (k ∷ ks) ≡ map (pair_in marks) k ∷ inner_of marks ks
 inner_in marks k ks inside = rw inside refl
 
-inner_out : (marks : List Bool) (k : List Pair) (ks : List (List Pair)) → is_inside marks k ≡ false → inner_of marks (k ∷ ks) ≡ inner_of marks ks
+pub inner_out : (marks : List Bool) (k : List Pair) (ks : List (List Pair)) → is_inside marks k ≡ false → inner_of marks (k ∷ ks) ≡ inner_of marks ks
 inner_out marks k ks outside = rw outside refl
-
-pub inner_yes : (made : List (List Pair)) (marks : List Bool) (ks whole : List (List Pair)) (i : ℕ) (d pairs placed : List Pair) → i < length ks → pairs ≡ get_or ks i d → is_inside marks pairs ≡ true
-    → placed ≡ map (pair_in marks) pairs → made ++ inner_of marks (drop i ks) ≡ whole → (made ++ placed ∷ []) ++ inner_of marks (drop (i + 1) ks) ≡ whole
-inner_yes made marks ks whole i d pairs placed within is inside made_so e =
-    ap (λ n. (made ++ placed ∷ []) ++ inner_of marks (drop n ks)) (add-one i)
-    ∙ one_more made placed (inner_of marks (drop (suc i) ks)) whole
-    (ap (λ k. made ++ k ∷ inner_of marks (drop (suc i) ks)) made_so
-    ∙ sym (ap (λ rest. made ++ rest) (inner_at marks ks i d within ∙ ap (λ k. inner_of marks (k ∷ drop (suc i) ks)) (sym is) ∙ inner_in marks pairs (drop (suc i) ks) inside)) ∙ e)
-
-pub inner_no : (made : List (List Pair)) (marks : List Bool) (ks whole : List (List Pair)) (i : ℕ) (d pairs : List Pair) → i < length ks → pairs ≡ get_or ks i d → is_inside marks pairs ≡ false
-    → made ++ inner_of marks (drop i ks) ≡ whole → made ++ inner_of marks (drop (i + 1) ks) ≡ whole
-inner_no made marks ks whole i d pairs within is outside e =
-    ap (λ n. made ++ inner_of marks (drop n ks)) (add-one i)
-    ∙ (sym (ap (λ rest. made ++ rest) (inner_at marks ks i d within ∙ ap (λ k. inner_of marks (k ∷ drop (suc i) ks)) (sym is) ∙ inner_out marks pairs (drop (suc i) ks) outside)) ∙ e)
 
 -- how many marked slots come before each
 pub place_more : (marks : List Bool) (i : ℕ) (m : Bool) → i < length marks → place_of marks (i + 1) ≡ place_of marks i + cond (get_or marks i m) 1 0

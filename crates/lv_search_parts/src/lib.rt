@@ -5,8 +5,8 @@
 //! | file | what it holds |
 //! |---|---|
 //! | `live` | what a box leaves of conflicts |
-//! | `marks` | which slots conflicts join to some |
-//! | `labels` | a label for each slot, one for those that conflicts join |
+//! | `marks` | slots that are marked |
+//! | `labels` | which slots conflicts join: a label for each, one for those that are joined |
 //! | `part` | the smaller box of slots that are marked |
 #![tactic(auto)]
 

@@ -27,7 +27,7 @@ pub fn live_in(
 }
 
 /// Adds what a box leaves of one more conflict.
-fn push_live(
+pub(crate) fn push_live(
     alloc: Global,
     pairs: &[Pair],
     masks: &[u64],

@@ -6,11 +6,11 @@ use Rattle.lv_search_guide.proofs.near.least_free_near.Goals as goal
 
 pub returns-then-has_empty : goal.returns-then-has_empty
 returns-then-has_empty c =
-    none_if_empty c.args.grid.now c.args.zone.now c.args.conflicts.now
+    none_if_empty c.args.grid.now c.args.zone.now c.args.known.now
     (ap (λ (masks : List ℕ). list_any (λ mask. nat_eq mask 0) masks) (sym c.masks.ensures) ∙ sym (rw c.if-has_empty.true at c.has_empty.ensures))
 
 pub unsettled-requires : goal.unsettled-requires
 unsettled-requires c =
     subst (λ (n : ℕ). n ≤ 4096)
-    (sym (ap (λ (xs : List ℕ). length xs) c.as_slice.ensures ∙ long_near c.args.grid.now c.args.zone.now c.args.conflicts.now c.args.near.now c.requires))
+    (sym (ap (λ (xs : List ℕ). length xs) c.as_slice.ensures ∙ long_near c.args.grid.now c.args.zone.now c.args.known.now c.args.near.now c.requires))
     c.slots-slots.ensures.few

@@ -2,5 +2,5 @@
 use Rattle.std.proofs.Common.{◌≡◌, ◌++◌, drop}
 use Rattle.lv_search_guide.proofs.prices.rows_of.Given as goal
 
-abbrev pub invariant-loop-costs : goal.invariant-loop-costs
-invariant-loop-costs l = l.rows.items ++ drop l.costs-index l.slots ≡ l.slots
+abbrev pub invariant-loop-slot : goal.invariant-loop-slot
+invariant-loop-slot l = l.rows.items ++ drop l.slot l.slots ≡ l.slots

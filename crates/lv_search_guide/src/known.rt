@@ -1,0 +1,99 @@
+//! The conflicts that a search knows of, with the slots that they join.
+#![tactic(auto)]
+
+ghost use Rattle.std.specs.Prelude.{◌≡◌, ◌++◌, ◌∷◌, [], IfOk, IfSome, OnOk};
+ghost use Rattle.lv_search_parts.specs.Parts.{IsPartWith};
+ghost use Rattle.lv_search_guide.specs.Beside.{AreJoined};
+
+use super::joined::Joined;
+use lv_base::{Conflict, Pair, Seq};
+use std::alloc::{AllocError, Global};
+use std::marker::Model;
+use std::mem;
+
+/// The known conflicts over the choices of so many slots. Contracts see the list of them.
+#[derive(Drop)]
+pub struct Known {
+    conflicts: Seq<Conflict>,
+    slots: usize,
+    /// The slots that they join, where each speaks of slots that there are.
+    joined: Option<Joined>,
+}
+
+impl Model for Known {
+    ghost use Rattle.std.specs.Prelude.{List, IfSome};
+    ghost use Rattle.lv_base.specs.declared.search.Pair.{Pair};
+    ghost use Rattle.lv_search_guide.specs.Beside.{AreJoined};
+
+    ghost Value = { List (List Pair) };
+
+    ghost view = { λ known. known.conflicts };
+
+    ghost invariant = { λ known. IfSome known.joined (λ labels. AreJoined known.conflicts known.slots labels) };
+}
+
+impl Known {
+    /// These conflicts, over so many slots.
+    pub fn new(alloc: Global, slots: usize, conflicts: Vec<Conflict>) -> Result<Known, AllocError>
+        ensures { IfOk result (λ known. known ≡ conflicts.items) }
+    {
+        let joined = Joined::new(alloc, conflicts.as_slice(), slots)?;
+        Ok(Known {
+            conflicts: Seq::from_vec(conflicts),
+            slots,
+            joined,
+        })
+    }
+
+    /// One conflict more.
+    pub fn push(&mut self, conflict: Conflict) -> Result<(), AllocError>
+        ensures { OnOk result (self.new ≡ self.old ++ conflict ∷ []) }
+    {
+        let before = mem::replace(&mut self.joined, None);
+        self.conflicts.push(conflict)?;
+        if let Some(joined) = before {
+            self.joined = joined.with_last(self.conflicts.as_slice(), self.slots)?;
+        }
+        Ok(())
+    }
+
+    pub fn as_slice(&self) -> &[Conflict]
+        ensures { result.now ≡ self.now }
+    {
+        self.conflicts.as_slice()
+    }
+
+    /// The places of those that end at the slot of the first of these pairs, as far as they are known.
+    pub(crate) fn ends_at_first(&self, pairs: &[Pair]) -> &[usize] {
+        match (pairs.first(), self.joined.as_ref()) {
+            (Some(pair), Some(joined)) => joined.ends_at(*pair),
+            _ => &[],
+        }
+    }
+
+    /// What they join of so many slots, if it is known.
+    fn joined(&self, slots: usize) -> Option<&Joined>
+        ensures { IfSome result (λ joined. AreJoined self.now slots joined.now) }
+    {
+        if slots == self.slots {
+            self.joined.as_ref()
+        } else {
+            None
+        }
+    }
+
+    /// Of so many slots those that they join to these pairs', and no others; `None` where that isn't known.
+    pub(crate) fn part_with(
+        &self,
+        alloc: Global,
+        slots: usize,
+        pairs: &[Pair],
+    ) -> Result<Option<Vec<bool>>, AllocError>
+        ensures { IfOk result (λ part. IfSome part (λ marks. IsPartWith self.now slots pairs.now marks.items)) }
+    {
+        match self.joined(slots) {
+            Some(joined) => joined.part_with(alloc, pairs),
+            None => Ok(None),
+        }
+    }
+}
