@@ -12,11 +12,11 @@ put_all-requires c = room_in_empty c.args.grid c.args.zones.items c.new-queue.re
 
 pub invariant_of-result : goal.invariant_of-result
 invariant_of-result c =
-    rw c.new.ensures (
+    rw (c.in_ok-known.ensures ∙ c.new.ensures.items) (
     subst (λ (zones : List ZoneValue). IsGuide c.args.grid [] c.put_all.new.queue.entries (Some zones)) (sym (c.in_ok-whole.ensures ∙ c.as_slice.ensures.value))
     (guide_at_start c.args.grid c.args.zones.items c.new-queue.result.entries c.put_all.new.queue.entries c.new-queue.ensures.empty c.in_ok-put_all.ensures c.requires))
 
 pub returns : goal.returns
 returns c =
-    ap (λ known. left_in c.args.grid known c.put_all.new.queue.entries) c.new.ensures
+    ap (λ known. left_in c.args.grid known c.put_all.new.queue.entries) (c.in_ok-known.ensures ∙ c.new.ensures.items)
     ∙ all_are_left c.args.grid c.args.zones.items c.new-queue.result.entries c.put_all.new.queue.entries c.new-queue.ensures.empty c.in_ok-put_all.ensures

@@ -10,22 +10,22 @@ use Rattle.lv_guide.proofs.guide.GuideFrontier.split_first.Goals as goal
 
 pub go_ahead-requires-clause-kept : goal.go_ahead-requires-clause-kept
 go_ahead-requires-clause-kept c =
-    split_keeps c.self.inside.grid c.self.inside.known c.as_slice-known.result.now c.self.inside.queue.entries c.replace-queue.result.entries c.replace-queue.result.entries
+    split_keeps c.self.inside.grid c.self.inside.known c.push.new.self c.self.inside.queue.entries c.replace-queue.result.entries c.replace-queue.result.entries
     (ap (λ queue. queue.entries) c.replace-queue.ensures.value) c.args.conflict.now
-    (c.as_slice-known.ensures ∙ c.in_ok-push.ensures.ok ∙ ap (λ (pairs : List Pair). c.self.inside.known ++ pairs ∷ []) (c.in_ok-from_pairs.ensures ∙ c.pairs.ensures.pairs)) c.self.invariant.ready.kept
+    (c.in_ok-push.ensures ∙ ap (λ (pairs : List Pair). c.self.inside.known ++ pairs ∷ []) (c.in_ok-from_pairs.ensures ∙ c.pairs.ensures.pairs)) c.self.invariant.ready.kept
 
 pub go_ahead-requires-clause-whole : goal.go_ahead-requires-clause-whole
 go_ahead-requires-clause-whole c =
-    split_whole c.self.inside.grid c.self.inside.known c.as_slice-known.result.now c.args.conflict.now c.self.inside.queue.entries c.replace-queue.result.entries c.self.inside.course.whole c.allow_more.new.self.whole
+    split_whole c.self.inside.grid c.self.inside.known c.push.new.self c.args.conflict.now c.self.inside.queue.entries c.replace-queue.result.entries c.self.inside.course.whole c.allow_more.new.self.whole
     (ap (λ queue. queue.entries) c.replace-queue.ensures.value)
-    (c.as_slice-known.ensures ∙ c.in_ok-push.ensures.ok ∙ ap (λ (pairs : List Pair). c.self.inside.known ++ pairs ∷ []) (c.in_ok-from_pairs.ensures ∙ c.pairs.ensures.pairs))
+    (c.in_ok-push.ensures ∙ ap (λ (pairs : List Pair). c.self.inside.known ++ pairs ∷ []) (c.in_ok-from_pairs.ensures ∙ c.pairs.ensures.pairs))
     (c.allow_more.ensures ∙ ap (λ course. course.whole) c.replace-course.ensures.value)
     c.self.invariant.whole_is
 
 pub returns : goal.returns
 returns c =
-    let known_now = c.in_ok-push.ensures.ok ∙ ap (λ (pairs : List Pair). c.self.inside.known ++ pairs ∷ []) (c.in_ok-from_pairs.ensures ∙ c.pairs.ensures.pairs) in
+    let known_now = c.in_ok-push.ensures ∙ ap (λ (pairs : List Pair). c.self.inside.known ++ pairs ∷ []) (c.in_ok-from_pairs.ensures ∙ c.pairs.ensures.pairs) in
     subst (λ (left : List Rank). Thins c.args.conflict.now left (left_in c.self.inside.grid c.push.new.self c.go_ahead.new.queue.entries)) c.self.view_is
-    (split_is c.self.inside.grid c.self.inside.known c.as_slice-known.result.now c.self.inside.queue.entries c.replace-queue.result.entries c.go_ahead.new.queue.entries
-    (ap (λ queue. queue.entries) c.replace-queue.ensures.value) c.args.conflict.now c.push.new.self (c.as_slice-known.ensures ∙ known_now) known_now c.in_ok-go_ahead.ensures.same
+    (split_is c.self.inside.grid c.self.inside.known c.push.new.self c.self.inside.queue.entries c.replace-queue.result.entries c.go_ahead.new.queue.entries
+    (ap (λ queue. queue.entries) c.replace-queue.ensures.value) c.args.conflict.now c.push.new.self (known_now) known_now c.in_ok-go_ahead.ensures.same
     (subst (λ (left : List Rank). FirstContains c.args.conflict.now left) (sym c.self.view_is) c.requires))

@@ -4,7 +4,7 @@ use Rattle.std.specs.Vec.Iter.{into_iter_items}
 use Rattle.lv_base.specs.declared.rank.Rank.{Rank}
 use Rattle.lv_boxes.specs.Members.{ZoneValue}
 use Rattle.lv_guide.specs.Guide.{AreNear, HasRoomBy, HasMoreBy}
-use Rattle.lv_guide.proofs.guide.put_each_part.Given as goal
+use Rattle.lv_guide.proofs.guide.put_parts.Given as goal
 
 abbrev pub invariant-loop-part : goal.invariant-loop-part
 invariant-loop-part l =
