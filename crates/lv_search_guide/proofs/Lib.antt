@@ -11,3 +11,4 @@ pub mod LooseLemmas
 pub mod PartLemmas
 pub mod NearLemmas
 pub mod BesideLemmas
+pub mod LeftLemmas

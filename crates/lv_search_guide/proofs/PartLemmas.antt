@@ -180,15 +180,18 @@ module _ (slots : List (List Cost)) (live : List (List Pair)) (masks : List ℕ)
           low = let least : member.cost ≤ choices_cost (only marks slots) (only marks xs) = y.cheapest.least.least (only marks xs) (only_free xs free) in omega (arith, least, costs)
 
 -- the same members are free under what is left of the conflicts
+pub live_free : (slots : List (List Cost)) (conflicts live : List (List Pair)) (masks xs : List ℕ) → IsLiveOf conflicts masks live → is_free slots live masks xs ≡ is_free slots conflicts masks xs
+live_free slots conflicts live masks xs l = go (are_left slots masks xs) refl
+  where
+    go : (b : Bool) → are_left slots masks xs ≡ b → (b && not (is_ruled_out live xs)) ≡ (b && not (is_ruled_out conflicts xs))
+    go true left = ap not (l.same slots xs left)
+    go false left = refl
+
 pub live_lowest : (slots : List (List Cost)) (conflicts live : List (List Pair)) (masks : List ℕ) (answer : Option Member) → IsLiveOf conflicts masks live → LowestTells slots live masks answer → LowestTells slots conflicts masks answer
 live_lowest slots conflicts live masks answer l = by answer
   where
     same : (xs : List ℕ) → is_free slots live masks xs ≡ is_free slots conflicts masks xs
-    same xs = go (are_left slots masks xs) refl
-      where
-        go : (b : Bool) → are_left slots masks xs ≡ b → (b && not (is_ruled_out live xs)) ≡ (b && not (is_ruled_out conflicts xs))
-        go true left = ap not (l.same slots xs left)
-        go false left = refl
+    same xs = live_free slots conflicts live masks xs l
 
     by : (answer : Option Member) → LowestTells slots live masks answer → LowestTells slots conflicts masks answer
     by None t = record { none = λ xs. sym (same xs) ∙ t.none xs }

@@ -1,5 +1,5 @@
-//! Of the cheapest members of a box the first in the order of slots. Choices that are too dear are taken out of the box;
-//! then, slot by slot, it is asked whether a member as cheap has a lower choice there, and that slot keeps the choice of
+//! Of the cheapest members of a box the first in the order of slots. Choices that are too dear are taken out of the box,
+//! with what conflicts then rule out; then, slot by slot, it is asked whether a member as cheap has a lower choice there, and that slot keeps the choice of
 //! the lowest found.
 #![tactic(auto)]
 
@@ -13,8 +13,10 @@ use super::cheapest::cheapest;
 use super::dear::drop_dear;
 use super::look::Member;
 use super::masks::Masks;
+use super::narrow::narrow;
 use lv_base::{Conflict, Pair, Seq};
 use lv_boxes::Grid;
+use lv_search_parts::live::live_in;
 use std::alloc::{AllocError, Global};
 
 /// Of the members that contain no conflict and cost as little as this one, which is a cheapest, the first.
@@ -30,9 +32,30 @@ pub(crate) fn lowest(
     ensures lowest { IfOk result (λ lowest. IsLowest grid.now conflicts.now masks.now lowest) }
     ensures cost { IfOk result (λ lowest. lowest.cost ≡ member.cost) }
 {
-    let cost = member.cost;
     let mut part = Masks::from_slice(alloc, masks.as_slice())?;
-    drop_dear(alloc, grid, conflicts, &mut part, cost + 1)?;
+    drop_dear(alloc, grid, conflicts, &mut part, member.cost + 1)?;
+    if !narrow(conflicts, &mut part) {
+        return Ok(member);
+    }
+    let live = live_in(alloc, conflicts, part.as_slice())?;
+    lowest_in(alloc, grid, live.as_slice(), part, member)
+}
+
+/// As `lowest`, in a box without choices that are too dear.
+fn lowest_in(
+    alloc: Global,
+    grid: &Grid,
+    conflicts: &[Conflict],
+    masks: Masks,
+    member: Member,
+) -> Result<Member, AllocError>
+    requires cheapest { IsCheapest grid.now conflicts.now masks member }
+    requires bound { member.cost ≤ 4096 * 1000000 }
+    ensures lowest { IfOk result (λ lowest. IsLowest grid.now conflicts.now masks lowest) }
+    ensures cost { IfOk result (λ lowest. lowest.cost ≡ member.cost) }
+{
+    let mut part = masks;
+    let cost = member.cost;
     let mut choices = member.choices;
     for slot in 0..grid.len() {
         let first = first_at(alloc, grid, conflicts, &part, slot, choices, cost)?;

@@ -6,10 +6,11 @@ use Rattle.std.proofs.Math.Seq.{take-suc}
 use Rattle.std.proofs.lemmas.List.{take_all}
 use Rattle.std.proofs.lemmas.List.Folds.{list_all-map}
 use Rattle.lv_base.specs.declared.search.Pair.{Pair}
+use Rattle.lv_base.specs.Choices.{slots_rise}
 use Rattle.lv_search_parts.specs.Slots.{pair_in, is_inside}
 use Rattle.lv_search_parts.specs.Parts.{is_there, inner_of, ArePlaces, IsLiveOf}
 use Rattle.lv_search_parts.proofs.PartLemmas.{inner_in, inner_out, renumbered_inside}
-use Rattle.lv_search_parts.proofs.LiveLemmas.{live_out}
+use Rattle.lv_search_parts.proofs.LiveLemmas.{open_begins, live_out, live_more}
 
 -- one conflict more, inside or not
 inner_more : (marks : List Bool) (ks : List (List Pair)) (k : List Pair) → is_inside marks k ≡ true → inner_of marks (ks ++ k ∷ []) ≡ inner_of marks ks ++ map (pair_in marks) k ∷ []
@@ -54,3 +55,11 @@ pub inner_out_of_reach : (marks : List Bool) (masks places : List ℕ) (pairs : 
 inner_out_of_reach marks masks places pairs conflicts live are inside out l =
     live_out conflicts masks live (map (pair_in marks) pairs)
     (ap (list_all (is_there masks)) (sym (renumbered_inside marks places pairs are inside)) ∙ list_all-map (is_there masks) (λ (p : Pair). record { slot = slice_index places p.slot; choice = p.choice }) pairs ∙ out) l
+
+-- one that a member may contain
+pub inner_pushed : (marks : List Bool) (masks places : List ℕ) (pairs read : List Pair) (conflicts live new : List (List Pair)) (k : List Pair) → ArePlaces marks (length marks) places → is_inside marks pairs ≡ true
+    → k ≡ read → read ≡ map (λ (p : Pair). record { slot = slice_index places p.slot; choice = p.choice }) pairs → slots_rise read ≡ true → new ≡ live ++ k ∷ []
+    → IsLiveOf conflicts masks live → IsLiveOf (conflicts ++ map (pair_in marks) pairs ∷ []) masks new
+inner_pushed marks masks places pairs read conflicts live new k are inside k_is read_is rising new_is l =
+    subst (λ (ps : List Pair). IsLiveOf (conflicts ++ ps ∷ []) masks new) (read_is ∙ renumbered_inside marks places pairs are inside)
+    (subst (λ (ks : List (List Pair)). IsLiveOf (conflicts ++ read ∷ []) masks ks) (sym (new_is ∙ ap (λ ps. live ++ ps ∷ []) k_is)) (live_more conflicts masks live read read (open_begins masks read rising) l))

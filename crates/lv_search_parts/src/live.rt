@@ -27,7 +27,7 @@ pub fn live_in(
 }
 
 /// Adds what a box leaves of one more conflict.
-pub(crate) fn push_live(
+fn push_live(
     alloc: Global,
     pairs: &[Pair],
     masks: &[u64],

@@ -10,7 +10,7 @@ ghost use Rattle.lv_base.specs.Choices.{slots_rise};
 ghost use Rattle.lv_search_parts.specs.Slots.{only, put_in, is_inside, pair_in};
 ghost use Rattle.lv_search_parts.specs.Parts.{is_there, inner_of, IsLiveOf, ArePlaces, fixed};
 
-use super::live::{is_there, push_live};
+use super::live::is_there;
 use super::marks::is_inside;
 use lv_base::{Conflict, Cost, Pair};
 use lv_boxes::{Grid, mask};
@@ -65,8 +65,8 @@ fn push_if(is: bool, mask: u64, masks: &mut Vec<u64>) -> Result<(), AllocError>
     Ok(())
 }
 
-/// What the part leaves of the conflicts whose slots are all marked, with the numbers that these have in the part. The
-/// masks are the part's.
+/// The conflicts whose slots are all marked and which a member of the part may contain, with the numbers that the slots
+/// have in the part. The masks are the part's.
 pub fn part_conflicts(
     alloc: Global,
     conflicts: &[Conflict],
@@ -107,7 +107,7 @@ fn places_of(alloc: Global, marks: &[bool]) -> Result<Vec<u32>, AllocError>
     Ok(places)
 }
 
-/// Adds what the part leaves of one more conflict, whose slots are all marked.
+/// Adds one more conflict, whose slots are all marked, if a member of the part may contain it.
 fn push_inner(
     alloc: Global,
     pairs: &[Pair],
@@ -125,7 +125,8 @@ fn push_inner(
         return Ok(());
     }
     let out = renumbered(alloc, pairs, places)?;
-    push_live(alloc, out.as_slice(), masks, inner)
+    inner.push(Conflict::from_pairs(alloc, out.as_slice())?)?;
+    Ok(())
 }
 
 /// Whether the part has the choices of all these pairs.

@@ -1,25 +1,23 @@
--- one slot after the other keeps the choice of the first
-use Rattle.std.proofs.Common.{ℕ, ◌+◌, ◌<◌, ◌≤◌, List, subst, ◌∙◌}
-use Rattle.lv_search_guide.specs.Dear.{KeepsUnder}
-use Rattle.lv_search_guide.proofs.LowestLemmas.{slot_in_choices, narrowed_begins, narrowed_more, narrowed_ends}
+-- what is taken out leaves the members that cost as little
+use Rattle.std.proofs.Common.{[], ◌∙◌}
+use Rattle.lv_search_guide.proofs.LeftLemmas.{both_told, live_at, cheapest_left, none_is_left, lowest_left}
 use Rattle.lv_search_guide.proofs.lowest.lowest.Goals as goal
 
-pub loop-slot-init : goal.loop-slot-init
-loop-slot-init c =
-    narrowed_begins c.args.grid.now c.args.conflicts.now c.args.masks.now c.drop_dear.new.masks c.args.member
-    (subst (λ (masks : List ℕ). KeepsUnder c.args.grid.now c.args.conflicts.now (c.args.member.cost + 1) masks c.drop_dear.new.masks) (c.in_ok-part.ensures ∙ c.as_slice.ensures) c.in_ok-drop_dear.ensures) c.requires.cheapest
+pub lowest_in-requires-clause-cheapest : goal.lowest_in-requires-clause-cheapest
+lowest_in-requires-clause-cheapest c =
+    cheapest_left c.args.grid.now c.args.conflicts.now c.as_slice-3.result.now c.args.masks.now c.in_ok-part.part c.drop_dear.new.masks c.narrow.new.masks c.args.member (c.in_ok-part.ensures ∙ c.as_slice.ensures)
+    c.in_ok-drop_dear.ensures c.requires.cheapest (rw c.if-not-narrow.false at c.narrow.ensures)
+    (live_at c.args.conflicts.now c.as_slice-2.result.now c.narrow.new.masks c.in_ok-live.live.items c.as_slice-3.result.now c.as_slice-2.ensures c.as_slice-3.ensures.value c.in_ok-live.ensures)
 
-pub choice_at-requires : goal.choice_at-requires
-choice_at-requires c =
-    slot_in_choices c.args.grid.now c.args.conflicts.now c.loop-slot.part c.in_ok-first.first c.loop-slot.slot c.in_ok-first.ensures.free
-    (subst (λ n. c.loop-slot.slot < n) c.len-slot-end.ensures.len c.loop-slot-test.true)
-
-pub loop-slot-preserved : goal.loop-slot-preserved
-loop-slot-preserved c =
-    narrowed_more c.args.grid.now c.args.conflicts.now c.args.masks.now c.args.member.cost c.loop-slot.slot c.loop-slot.part c.loop-slot.choices c.in_ok-first.first c.fix.new.self
-    (subst (λ n. c.loop-slot.slot < n) c.len-slot-end.ensures.len c.loop-slot-test.true) c.loop-slot.invariant c.in_ok-first.ensures (rw c.choice_at.ensures at c.fix.ensures)
+pub returns-then-not-narrow-clause-lowest : goal.returns-then-not-narrow-clause-lowest
+returns-then-not-narrow-clause-lowest c =
+    absurd (none_is_left c.args.grid.now c.args.conflicts.now [] c.args.masks.now c.in_ok-part.part c.drop_dear.new.masks [] c.args.member (c.in_ok-part.ensures ∙ c.as_slice.ensures) c.in_ok-drop_dear.ensures c.requires.cheapest
+    (rw c.if-not-narrow.true at c.narrow.ensures))
 
 pub returns-clause-lowest : goal.returns-clause-lowest
 returns-clause-lowest c =
-    narrowed_ends c.args.grid.now c.args.conflicts.now c.args.masks.now c.args.member.cost c.loop-slot.slot c.loop-slot.part c.loop-slot.choices
-    (subst (λ n. n ≤ c.loop-slot.slot) c.len-slot-end.ensures.len c.loop-slot-test.false) c.loop-slot.invariant c.requires.cheapest.least
+    both_told c.lowest_in.result _ _ _
+    (λ lowest told same. lowest_left c.args.grid.now c.args.conflicts.now c.as_slice-3.result.now c.args.masks.now c.in_ok-part.part c.drop_dear.new.masks c.narrow.new.masks c.args.member (c.in_ok-part.ensures ∙ c.as_slice.ensures)
+    c.in_ok-drop_dear.ensures c.requires.cheapest (rw c.if-not-narrow.false at c.narrow.ensures)
+    (live_at c.args.conflicts.now c.as_slice-2.result.now c.narrow.new.masks c.in_ok-live.live.items c.as_slice-3.result.now c.as_slice-2.ensures c.as_slice-3.ensures.value c.in_ok-live.ensures) lowest same told)
+    c.lowest_in.ensures.lowest c.lowest_in.ensures.cost
