@@ -32,11 +32,9 @@ use Rattle.lv_session_state.specs.lv_session_request.declared.request.Sighting.{
 use Rattle.lv_session_state.specs.lv_session_request.Goals.{IsGoalIn}
 use Rattle.lv_session_state.specs.lv_session_request.Requests.{IsSightingIn}
 use Rattle.lv_session_state.proofs.lv_session_request.WordLaws.{formula_is_one}
-use Rattle.lv_session_state.specs.declared.running.Diagnosed.{Diagnosed}
-use Rattle.lv_session_state.specs.declared.running.Recovering.{Recovering}
 use Rattle.lv_session_state.specs.State.{SessionState, facts_of, aim_of, formula_of, text_of_goal, walked, recovery, is_settled_by}
 use Rattle.lv_session_state.specs.States.{IsStateOf}
-use Rattle.lv_session_state.specs.Current.{IsDiagnosisAt, IsRecoveryAt}
+use Rattle.lv_session_state.specs.Current.{Diagnosed, Recovering, IsDiagnosisAt, IsRecoveryAt}
 use Rattle.lv_session.specs.Certificates.{CertifiesWalked, CertifiesRecovered}
 use Rattle.lv_session_state.proofs.Asking.{facts_fit, facts_in_range}
 use Rattle.lv_session_state.proofs.RecoveriesAsked.{aim_fits}

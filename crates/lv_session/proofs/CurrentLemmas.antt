@@ -51,26 +51,11 @@ module _ (plant : Plant) (state : SessionState) (running : Running) (is : IsCurr
     where
       by : (q : Query) (r : Running) → IsKeptOf q plant state r → IsKeptOf q plant (record state { budget = budget; is_ended = ended }) r
       by Absent r h = tt
-      by (Diagnosis sum) kept.Nothing h = h
-      by (Diagnosis sum) (kept.Window w) h = h
-      by (Diagnosis sum) (kept.Recovery r) h = h
-      by (Diagnosis sum) (kept.Test t) h = h
-      by (Diagnosis sum) (kept.Diagnosis d) h = record { plant_is = h.plant_is; facts_are = h.facts_are; k = h.k; distinct = h.distinct; on_walk = h.on_walk; came_to = same_walk plant state budget ended sum ∙ h.came_to }
-      by (Recovery sum) kept.Nothing h = h
-      by (Recovery sum) (kept.Window w) h = h
-      by (Recovery sum) (kept.Diagnosis d) h = h
-      by (Recovery sum) (kept.Test t) h = h
-      by (Recovery sum) (kept.Recovery r) h = record { plant_is = h.plant_is; aim_is = h.aim_is; some = h.some; on_walk = h.on_walk; came_to = same_recovery plant state budget ended sum ∙ h.came_to }
-      by (Test x sum) kept.Nothing h = h
-      by (Test x sum) (kept.Window w) h = h
-      by (Test x sum) (kept.Diagnosis d) h = h
-      by (Test x sum) (kept.Recovery r) h = h
-      by (Test x sum) (kept.Test t) h = record { plant_is = h.plant_is; aim_is = h.aim_is; var_is = h.var_is; on_walk = h.on_walk; came_to = same_test plant state budget ended x sum ∙ h.came_to }
-      by (Window steps sum) kept.Nothing h = h
-      by (Window steps sum) (kept.Diagnosis d) h = h
-      by (Window steps sum) (kept.Recovery r) h = h
-      by (Window steps sum) (kept.Test t) h = h
-      by (Window steps sum) (kept.Window w) h = record { plant_is = h.plant_is; steps_are = h.steps_are; k = h.k; on_walk = h.on_walk; came_to = same_window plant state budget ended steps sum ∙ h.came_to }
+      by (Diagnosis sum) (kept.Diagnosis d) h = record { on = h.on; came_to = same_walk plant state budget ended sum ∙ h.came_to }
+      by (Recovery sum) (kept.Recovery r) h = record { on = h.on; came_to = same_recovery plant state budget ended sum ∙ h.came_to }
+      by (Test x sum) (kept.Test t) h = record { on = h.on; came_to = same_test plant state budget ended x sum ∙ h.came_to }
+      by (Window steps sum) (kept.Window w) h = record { on = h.on; came_to = same_window plant state budget ended steps sum ∙ h.came_to }
+      by q r h = absurd h
 
   observe_current : (s : Sighting) → IsCurrent plant (observe state s).state running
   observe_current s = by (is_held state s.name) (has_no_room state s.name)

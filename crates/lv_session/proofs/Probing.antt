@@ -19,9 +19,8 @@ use Rattle.lv_reply.specs.declared.reply.Refusal.TheVariants.{NameHeld, TooManyH
 use Rattle.lv_reply.specs.declared.reply.Reply.TheVariants.{Refused}
 use Rattle.lv_session_state.specs.lv_session_request.Held.{observation_of}
 use Rattle.lv_session_state.specs.lv_session_request.declared.request.Sighting.{Sighting}
-use Rattle.lv_session_state.specs.declared.running.Diagnosed.{Diagnosed}
 use Rattle.lv_session_state.specs.State.{SessionState, unchanged, cleared, facts_of, walked, is_held, has_no_room, observe}
-use Rattle.lv_session_state.specs.Current.{IsDiagnosisAt}
+use Rattle.lv_session_state.specs.Current.{Diagnosed, IsDiagnosisAt}
 use Rattle.lv_session.specs.Laws.{is_refused}
 use Rattle.lv_session_state.proofs.Listed.{listed_all}
 

@@ -3,6 +3,7 @@ pub mod Asking
 pub mod RecoveriesAsked
 pub mod TestsAsked
 pub mod WindowsAsked
+pub mod Kept
 pub mod WindowReadings
 pub mod TestReadings
 pub mod TestWalks

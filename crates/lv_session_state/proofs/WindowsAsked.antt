@@ -1,7 +1,5 @@
 -- What a window of the last steps needs, and what its walk says of the current query.
-use Rattle.std.proofs.Common.{◌≡◌, ℕ, zero, suc, ◌+◌, ◌-◌, ◌*◌, ◌≤◌, Bool, true, false, cond, nat_lt, List, [], ◌∷◌, ◌++◌, length, drop, map, refl, sym, ◌∙◌, ap, subst, arith, All}
-use Rattle.std.specs.declared.alloc.Global.{Global}
-use Rattle.std.specs.declared.boxed.Box.{Box}
+use Rattle.std.proofs.Common.{◌≡◌, ℕ, zero, suc, ◌+◌, ◌-◌, ◌*◌, ◌≤◌, Bool, true, false, cond, nat_lt, List, [], ◌∷◌, length, drop, map, refl, sym, ◌∙◌, subst, arith, All}
 use Rattle.std.proofs.lemmas.Bool.{ltb-true, ltb-false}
 use Rattle.std.proofs.lemmas.List.{length-append, length-map, length-drop}
 use Rattle.std.proofs.lemmas.List.Elements.{All-cons, All-append, All-map, All-nil, Contains-get_or}
@@ -9,14 +7,13 @@ use Rattle.lv_base.specs.declared.ids.ValId.{ValId}
 use Rattle.lv_base.specs.declared.limits.TheConstants.{TRACKED, COMMITS, PARTS, FAULT_COST}
 use Rattle.lv_base.specs.declared.rank.Rank.{Rank}
 use Rattle.lv_model.specs.declared.plant.Plant.{Plant}
-use Rattle.lv_model.specs.declared.state.TrackedState.{TrackedState}
 use Rattle.lv_model.specs.Lists.{sizes, controls}
 use Rattle.lv_model.specs.WellFormed.{is_well_formed}
 use Rattle.lv_model.proofs.Reading.{All-at, few-parts}
 use Rattle.lv_model.proofs.Sizes.{small-types}
 use Rattle.lv_search_walk.specs.declared.outcome.Outcome.{Outcome}
-use Rattle.lv_search_walk.specs.declared.outcome.Outcome.TheVariants.{Settled, Unsettled}
-use Rattle.lv_search_walk.specs.Walk.{Walked, none_alike}
+use Rattle.lv_search_walk.specs.declared.outcome.Outcome.TheVariants.{Unsettled}
+use Rattle.lv_search_walk.specs.Walk.{none_alike}
 use Rattle.lv_search_walk.proofs.WalkLemmas.{at_most, used_up_unsettled}
 use Rattle.lv_ident.specs.lv_search.Standing.{trials_of}
 use Rattle.lv_meaning.specs.declared.facts.Facts.{Facts}
@@ -25,8 +22,6 @@ use Rattle.lv_meaning.specs.CandidateLaws.{moves_cost}
 use Rattle.lv_meaning.specs.Facts.{commanded, HasValue}
 use Rattle.lv_tracker.specs.Targets.{HasMoves}
 use Rattle.lv_tracker.specs.Tracked.{HasModes}
-use Rattle.lv_reply.specs.declared.reply.Refusal.TheVariants.{NoQuery, NotUnsettled}
-use Rattle.lv_reply.specs.declared.reply.Reply.TheVariants.{Refused, WindowConflicts}
 use Rattle.lv_session_request.specs.Held.{observation_of}
 use Rattle.lv_session_request.specs.Requests.{IsSightingIn}
 use Rattle.lv_session_request.specs.declared.request.Sighting.{Sighting}
@@ -43,13 +38,8 @@ use Rattle.lv_window.proofs.TrajectoryLemmas.{trajectory_is}
 use Rattle.lv_window_query.specs.Known.{StepFits}
 use Rattle.lv_system.specs.lv_compile.declared.windows.TheConstants.{WINDOW}
 use Rattle.lv_window_query.specs.Query.{WindowQueryValue, IsWindowQueryOf}
-use Rattle.lv_session_state.specs.declared.query.Query.{Query}
-use Rattle.lv_session_state.specs.declared.query.Query.TheVariants.{Window}
-use Rattle.lv_session_state.specs.declared.running.Tracing.{Tracing}
-use Rattle.lv_session_state.specs.declared.running.Running.{Running}
-use Rattle.lv_session_state.specs.declared.running.Running.TheVariants as kept
-use Rattle.lv_session_state.specs.Current.{window_come_to, IsTracingAt, IsKeptOf}
-use Rattle.lv_session_state.specs.State.{SessionState, facts_of, window_base, window_facts, window_start, tracing, trials, unchanged, traced, more, more_window_by, conflicts, commit, commit_by, last_step, taken_over}
+use Rattle.lv_session_state.specs.Current.{come_to, IsWindowOf, IsTracingAt}
+use Rattle.lv_session_state.specs.State.{SessionState, facts_of, window_base, window_facts, window_start, tracing, trials, last_step}
 use Rattle.lv_session_state.specs.States.{RankCosts, IsStateOf, IsListOf}
 use Rattle.lv_session_state.proofs.Asking.{observed_in_range, observed_values, facts_fit, facts_in_range, tracked_from}
 use Rattle.lv_session_state.proofs.Listed.{listed_all, move_for_each, cheap_moves, IsReady}
@@ -195,7 +185,7 @@ module _ (plant : Plant) (state : SessionState) (h : is_well_formed plant ≡ tr
       listed_all (λ (r : Rank). IsReady plant (state.time + 1) (last_step plant r)) none_alike (is_possible_trajectory plant (window_facts state steps)) (window_reason plant (window_facts state steps)) state.k n
       (trajectories plant (length (window_facts state steps)) (window_base state steps)) [] [] (All-nil (λ (r : Rank). IsReady plant (state.time + 1) (last_step plant r))) all_ready
 
-  few_traced : (n : ℕ) → length (tracing plant state steps n).listed ≤ TRACKED
+  pub few_traced : (n : ℕ) → length (tracing plant state steps n).listed ≤ TRACKED
   unfolding tracing
   few_traced n =
       let few : length (tracing plant state steps n).listed ≤ state.k =
@@ -215,9 +205,9 @@ module _ (plant : Plant) (state : SessionState) (h : is_well_formed plant ≡ tr
       }
 
 -- a walk that isn't settled made as many trials as it may
-all_traced : (plant : Plant) (state : SessionState) (steps n : ℕ) → (tracing plant state steps n).outcome ≡ Unsettled → trials (tracing plant state steps n) ≡ n
+pub window_trials : (plant : Plant) (state : SessionState) (steps n : ℕ) → (tracing plant state steps n).outcome ≡ Unsettled → trials (tracing plant state steps n) ≡ n
 unfolding tracing
-all_traced plant state steps n =
+window_trials plant state steps n =
     used_up_unsettled none_alike (is_possible_trajectory plant (window_facts state steps)) (window_reason plant (window_facts state steps)) state.k n
     (trajectories plant (length (window_facts state steps)) (window_base state steps)) [] []
 
@@ -228,85 +218,12 @@ unfolding tracing
 traced_at plant state steps p known k m sum plant_is known_is k_is m_is =
     λ i. window_walk (plant_is i) (known_is i) (k_is i) (m_is i) (trajectories (plant_is i) (length (known_is i)) (window_base state steps))
 
--- a search of the state's window that has run on
-pub window_has_run : (plant : Plant) (state : SessionState) (steps n sum : ℕ) (old new : WindowQueryValue) (o : Outcome) → old.plant ≡ plant → old.steps ≡ window_facts state steps → old.standing.k ≡ state.k
-    → trials_of old.standing + n ≡ sum → IsWindowQueryOf (window_base state steps) new
-    → window_walk old.plant old.steps old.standing.k (trials_of old.standing + n) (trajectories old.plant (length old.steps) (window_base state steps)) ≡ record { outcome = o; listed = new.standing.listed; kept = new.standing.kept }
+-- a search on the walk of the state's window has run on
+pub window_has_run : (plant : Plant) (state : SessionState) (steps n sum : ℕ) (old new : WindowQueryValue) (o : Outcome) → IsWindowOf plant (window_facts state steps) state.k (window_base state steps) old → trials_of old.standing + n ≡ sum
+    → IsWindowQueryOf (window_base state steps) new
+    → window_walk old.plant old.steps old.standing.k (trials_of old.standing + n) (trajectories old.plant (length old.steps) (window_base state steps)) ≡ come_to o new.standing
     → new.plant ≡ old.plant → new.steps ≡ old.steps → new.standing.k ≡ old.standing.k → IsTracingAt plant state steps sum (record { query = new; outcome = o })
-window_has_run plant state steps n sum old new o plant_is steps_are k_is sum_is on walk plant_same steps_same k_same = record {
-  plant_is = plant_same ∙ plant_is;
-  steps_are = steps_same ∙ steps_are;
-  k = k_same ∙ k_is;
-  on_walk = on;
-  came_to = sym (traced_at plant state steps old.plant old.steps old.standing.k (trials_of old.standing + n) sum plant_is steps_are k_is sum_is) ∙ walk;
-}
-
-module _ (plant : Plant) (state : SessionState) (steps sum : ℕ) (t : Tracing) (at : IsTracingAt plant state steps sum t) where
-  -- it lists few trajectories
-  pub few_at_window : is_well_formed plant ≡ true → IsStateOf plant state → length t.query.standing.listed ≤ TRACKED
-  few_at_window h is = subst (λ (w : Walked). length w.listed ≤ TRACKED) at.came_to (few_traced plant state h is steps sum)
-
-  -- whose last steps can be taken over
-  pub last_listed : is_well_formed plant ≡ true → IsStateOf plant state → IsListOf plant state (map (last_step plant) t.query.standing.listed)
-  last_listed h is = subst (λ (w : Walked). IsListOf plant state (map (last_step plant) w.listed)) at.came_to (last_list_of plant state h is steps sum)
-
-  -- a search that isn't settled made all its trials
-  pub tried_at_window : t.outcome ≡ Unsettled → trials (window_come_to t) ≡ sum
-  tried_at_window unsettled =
-      let o : (tracing plant state steps sum).outcome ≡ Unsettled = ap (λ (w : Walked). w.outcome) at.came_to ∙ unsettled in
-      ap trials (sym at.came_to) ∙ all_traced plant state steps sum o
-
-  -- and has run on
-  pub window_gone_on : (n : ℕ) (new : WindowQueryValue) (o : Outcome) → t.outcome ≡ Unsettled → IsWindowQueryOf (window_base state steps) new
-      → window_walk t.query.plant t.query.steps t.query.standing.k (trials_of t.query.standing + n) (trajectories t.query.plant (length t.query.steps) (window_base state steps))
-      ≡ record { outcome = o; listed = new.standing.listed; kept = new.standing.kept }
-      → new.plant ≡ t.query.plant → new.steps ≡ t.query.steps → new.standing.k ≡ t.query.standing.k → IsTracingAt plant state steps (sum + n) (record { query = new; outcome = o })
-  window_gone_on n new o unsettled on walk plant_same steps_same k_same =
-      let made : trials_of t.query.standing ≡ sum = tried_at_window unsettled in
-      window_has_run plant state steps n (sum + n) t.query new o at.plant_is at.steps_are at.k (omega (arith, made)) on walk plant_same steps_same k_same
-
-  -- the current query is that window
-  pub window_stands : (q : Query) (n : ℕ) → q ≡ Window steps sum → t.outcome ≡ Settled → unchanged state (Refused NotUnsettled) ≡ more q plant state n
-  window_stands q n is settled =
-      let o : (tracing plant state steps sum).outcome ≡ Settled = ap (λ (w : Walked). w.outcome) at.came_to ∙ settled in
-      sym (ap (λ (z : Outcome). more_window_by z plant state steps (sum + n)) o) ∙ sym (ap (λ (z : Query). more z plant state n) is)
-
-  pub window_goes_on : (q : Query) (n : ℕ) → q ≡ Window steps sum → t.outcome ≡ Unsettled → traced plant state steps (sum + n) ≡ more q plant state n
-  window_goes_on q n is unsettled =
-      let o : (tracing plant state steps sum).outcome ≡ Unsettled = ap (λ (w : Walked). w.outcome) at.came_to ∙ unsettled in
-      sym (ap (λ (z : Outcome). more_window_by z plant state steps (sum + n)) o) ∙ sym (ap (λ (z : Query). more z plant state n) is)
-
-  pub window_shown : (q : Query) → q ≡ Window steps sum → unchanged state (WindowConflicts (window_start state steps) (window_come_to t).kept (trials (window_come_to t))) ≡ conflicts q plant state
-  window_shown q is =
-      ap (λ (w : Walked). unchanged state (WindowConflicts (window_start state steps) w.kept (trials w))) (sym at.came_to) ∙ sym (ap (λ (z : Query). conflicts z plant state) is)
-
-  pub window_taken : (q : Query) → q ≡ Window steps sum → t.outcome ≡ Settled → taken_over plant state (map (last_step plant) t.query.standing.listed) ≡ commit q plant state
-  window_taken q is settled =
-      let o : (tracing plant state steps sum).outcome ≡ Settled = ap (λ (w : Walked). w.outcome) at.came_to ∙ settled in
-      ap (λ (w : Walked). taken_over plant state (map (last_step plant) w.listed)) (sym at.came_to)
-      ∙ sym (ap (λ (z : Outcome). commit_by z plant state (map (last_step plant) (tracing plant state steps sum).listed)) o) ∙ sym (ap (λ (z : Query). commit z plant state) is)
-
-  pub window_not_taken : (q : Query) → q ≡ Window steps sum → t.outcome ≡ Unsettled → unchanged state (Refused NoQuery) ≡ commit q plant state
-  window_not_taken q is unsettled =
-      let o : (tracing plant state steps sum).outcome ≡ Unsettled = ap (λ (w : Walked). w.outcome) at.came_to ∙ unsettled in
-      sym (ap (λ (z : Outcome). commit_by z plant state (map (last_step plant) (tracing plant state steps sum).listed)) o) ∙ sym (ap (λ (z : Query). commit z plant state) is)
-
--- what is kept of a query that is a window
-pub kept_window : (q : Query) (plant : Plant) (state : SessionState) (running : Running) (steps sum : ℕ) (t : Box Tracing Global) → q ≡ Window steps sum → running ≡ kept.Window t → IsKeptOf q plant state running
-    → IsTracingAt plant state steps sum t.value
-kept_window q plant state running steps sum t is runs at =
-    subst (λ (z : Running). IsKeptOf (Window steps sum) plant state z) runs (subst (λ (z : Query). IsKeptOf z plant state running) is at)
-
--- which query is current plays no part in what a window comes to
-other_tracing : (plant : Plant) (state : SessionState) (q : Query) (steps sum : ℕ) → tracing plant (record state { query = q }) steps sum ≡ tracing plant state steps sum
-unfolding tracing
-other_tracing plant state q steps sum = refl
-
-pub window_of_other_query : (plant : Plant) (state : SessionState) (q : Query) (steps sum : ℕ) (t : Tracing) → IsTracingAt plant state steps sum t → IsTracingAt plant (record state { query = q }) steps sum t
-window_of_other_query plant state q steps sum t at = record {
-  plant_is = at.plant_is;
-  steps_are = at.steps_are;
-  k = at.k;
-  on_walk = at.on_walk;
-  came_to = other_tracing plant state q steps sum ∙ at.came_to;
+window_has_run plant state steps n sum old new o is sum_is on walk plant_same steps_same k_same = record {
+  on = record { plant_is = plant_same ∙ is.plant_is; steps_are = steps_same ∙ is.steps_are; k_is = k_same ∙ is.k_is; on_walk = on };
+  came_to = sym (traced_at plant state steps old.plant old.steps old.standing.k (trials_of old.standing + n) sum is.plant_is is.steps_are is.k_is sum_is) ∙ walk;
 }

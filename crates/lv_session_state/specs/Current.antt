@@ -1,23 +1,39 @@
 -- The current query, and what is kept of it from line to line.
-use Rattle.std.specs.Prelude.{◌≡◌, ◌≤◌, None, ℕ, [], length}
-use Rattle.lv_model.specs.declared.plant.Plant.{Plant}
-use Rattle.lv_search_walk.specs.Walk.{Walked}
-use Rattle.lv_meaning.specs.Candidates.{candidates}
-use Rattle.lv_ident.specs.Query.{QueryValue, groups_for, IsQueryOf}
+use Rattle.std.specs.Prelude.{◌≡◌, ◌≤◌, None, ℕ, Bool, List, [], length}
 use Rattle.lv_base.specs.declared.ids.VarId.{VarId}
-use Rattle.lv_reconf.specs.Query.{IsQuery as IsRecoveryQuery}
-use Rattle.lv_reconf.specs.Testing.{IsTestQuery}
+use Rattle.lv_model.specs.declared.plant.Plant.{Plant}
+use Rattle.lv_model.specs.declared.state.TrackedState.{TrackedState}
+use Rattle.lv_search_walk.specs.declared.outcome.Outcome.{Outcome}
+use Rattle.lv_search_walk.specs.declared.outcome.Outcome.TheVariants.{Unsettled}
+use Rattle.lv_search_walk.specs.Walk.{Walked}
+use Rattle.lv_meaning.specs.declared.aim.Aim.{Aim}
+use Rattle.lv_meaning.specs.declared.facts.Facts.{Facts}
+use Rattle.lv_meaning.specs.Candidates.{candidates}
+use Rattle.lv_ident.specs.lv_search.Standing.{Standing}
+use Rattle.lv_ident.specs.Query.{QueryValue, groups_for, IsQueryOf}
+use Rattle.lv_reconf.specs.Query.{QueryValue as RecoveryValue, IsQuery as IsRecoveryQuery}
+use Rattle.lv_reconf.specs.Testing.{TestValue, IsTestQuery}
 use Rattle.lv_window.specs.Trajectories.{trajectories}
 use Rattle.lv_window_query.specs.Query.{WindowQueryValue, IsWindowQueryOf}
+use Rattle.lv_session_request.specs.declared.goals.Goal.{Goal}
 use Rattle.lv_session_state.specs.declared.query.Query.{Query}
 use Rattle.lv_session_state.specs.declared.query.Query.TheVariants.{Absent, Diagnosis, Recovery, Test, Window}
-use Rattle.lv_session_state.specs.declared.running.Diagnosed.{Diagnosed}
-use Rattle.lv_session_state.specs.declared.running.Recovering.{Recovering}
-use Rattle.lv_session_state.specs.declared.running.Testing.{Testing}
-use Rattle.lv_session_state.specs.declared.running.Tracing.{Tracing}
+use Rattle.lv_session_state.specs.declared.running.Asked.{Asked}
 use Rattle.lv_session_state.specs.declared.running.Running.{Running}
 use Rattle.lv_session_state.specs.declared.running.Running.TheVariants as kept
 use Rattle.lv_session_state.specs.State.{SessionState, facts_of, aim_of, walked, recovery, test_aim_of, testing, window_base, window_facts, tracing}
+
+abbrev pub Diagnosed : Type 0
+Diagnosed = Asked QueryValue
+
+abbrev pub Recovering : Type 0
+Recovering = Asked RecoveryValue
+
+abbrev pub Testing : Type 0
+Testing = Asked TestValue
+
+abbrev pub Tracing : Type 0
+Tracing = Asked WindowQueryValue
 
 -- the diagnosis of the state that has tried nothing
 abbrev pub untried : Plant → SessionState → QueryValue
@@ -28,41 +44,6 @@ untried plant state = record {
   standing = record { k = state.k; groups = groups_for state.distinct plant; listed = []; kept = []; left = candidates plant state.tracked };
 }
 
--- what it has come to
-abbrev pub come_to : Diagnosed → Walked
-come_to d = record { outcome = d.outcome; listed = d.query.standing.listed; kept = d.query.standing.kept }
-
--- the search is on the walk of a diagnosis of the state, and has come to where the walk with so many trials ends
-pub record IsDiagnosisAt (plant : Plant) (state : SessionState) (sum : ℕ) (d : Diagnosed) : Type 0 where
-  pub plant_is : d.query.plant ≡ plant
-  pub facts_are : d.query.facts ≡ facts_of state
-  pub k : d.query.standing.k ≡ state.k
-  pub distinct : d.query.distinct ≡ state.distinct
-  pub on_walk : IsQueryOf state.tracked d.query
-  pub came_to : walked plant state sum ≡ come_to d
-
--- the same of a recovery, for which some goal is held
-abbrev pub recovery_come_to : Recovering → Walked
-recovery_come_to r = record { outcome = r.outcome; listed = r.query.standing.listed; kept = r.query.standing.kept }
-
-pub record IsRecoveryAt (plant : Plant) (state : SessionState) (sum : ℕ) (r : Recovering) : Type 0 where
-  pub plant_is : r.query.plant ≡ plant
-  pub aim_is : r.query.aim ≡ aim_of state
-  pub some : 1 ≤ length state.goals
-  pub on_walk : IsRecoveryQuery r.query
-  pub came_to : recovery plant state sum ≡ recovery_come_to r
-
--- the same of a test
-abbrev pub test_come_to : Testing → Walked
-test_come_to t = record { outcome = t.outcome; listed = t.query.standing.listed; kept = t.query.standing.kept }
-
-pub record IsTestAt (plant : Plant) (state : SessionState) (x : VarId) (sum : ℕ) (t : Testing) : Type 0 where
-  pub plant_is : t.query.plant ≡ plant
-  pub aim_is : t.query.aim ≡ test_aim_of state
-  pub var_is : t.query.var ≡ x
-  pub on_walk : IsTestQuery t.query
-  pub came_to : testing plant state x sum ≡ test_come_to t
-
 -- the window of these steps that has tried nothing
 abbrev pub untraced : Plant → SessionState → ℕ → WindowQueryValue
 untraced plant state steps = record {
@@ -71,40 +52,80 @@ untraced plant state steps = record {
   standing = record { k = state.k; groups = None; listed = []; kept = []; left = trajectories plant (length (window_facts state steps)) (window_base state steps) };
 }
 
+-- what a search that stands here has come to, where its last run came to this
+abbrev pub come_to : Outcome → Standing → Walked
+come_to outcome s = record { outcome = outcome; listed = s.listed; kept = s.kept }
+
+-- what the search that is kept has come to
+abbrev pub kept_walk : Running → Walked
+kept_walk kept.Nothing = record { outcome = Unsettled; listed = []; kept = [] }
+kept_walk (kept.Diagnosis d) = come_to d.value.outcome d.value.query.standing
+kept_walk (kept.Recovery r) = come_to r.value.outcome r.value.query.standing
+kept_walk (kept.Test t) = come_to t.value.outcome t.value.query.standing
+kept_walk (kept.Window w) = come_to w.value.outcome w.value.query.standing
+
+-- the search is on the walk of this diagnosis
+pub record IsDiagnosisOf (plant : Plant) (facts : Facts) (k : ℕ) (distinct : Bool) (tracked : List TrackedState) (q : QueryValue) : Type 0 where
+  pub plant_is : q.plant ≡ plant
+  pub facts_are : q.facts ≡ facts
+  pub k_is : q.standing.k ≡ k
+  pub distinct_is : q.distinct ≡ distinct
+  pub on_walk : IsQueryOf tracked q
+
+-- and has come to where the walk with so many trials ends
+pub record IsDiagnosisAt (plant : Plant) (state : SessionState) (sum : ℕ) (d : Diagnosed) : Type 0 where
+  pub on : IsDiagnosisOf plant (facts_of state) state.k state.distinct state.tracked d.query
+  pub came_to : walked plant state sum ≡ come_to d.outcome d.query.standing
+
+-- the same of a recovery, for which some goal is held
+pub record IsRecoveryOf (plant : Plant) (aim : Aim) (goals : List Goal) (q : RecoveryValue) : Type 0 where
+  pub plant_is : q.plant ≡ plant
+  pub aim_is : q.aim ≡ aim
+  pub some : 1 ≤ length goals
+  pub on_walk : IsRecoveryQuery q
+
+pub record IsRecoveryAt (plant : Plant) (state : SessionState) (sum : ℕ) (r : Recovering) : Type 0 where
+  pub on : IsRecoveryOf plant (aim_of state) state.goals r.query
+  pub came_to : recovery plant state sum ≡ come_to r.outcome r.query.standing
+
+-- the same of a test
+pub record IsTestOf (plant : Plant) (aim : Aim) (x : VarId) (q : TestValue) : Type 0 where
+  pub plant_is : q.plant ≡ plant
+  pub aim_is : q.aim ≡ aim
+  pub var_is : q.var ≡ x
+  pub on_walk : IsTestQuery q
+
+pub record IsTestAt (plant : Plant) (state : SessionState) (x : VarId) (sum : ℕ) (t : Testing) : Type 0 where
+  pub on : IsTestOf plant (test_aim_of state) x t.query
+  pub came_to : testing plant state x sum ≡ come_to t.outcome t.query.standing
+
 -- the same of a window
-abbrev pub window_come_to : Tracing → Walked
-window_come_to t = record { outcome = t.outcome; listed = t.query.standing.listed; kept = t.query.standing.kept }
+pub record IsWindowOf (plant : Plant) (facts : List Facts) (k : ℕ) (base : List TrackedState) (q : WindowQueryValue) : Type 0 where
+  pub plant_is : q.plant ≡ plant
+  pub steps_are : q.steps ≡ facts
+  pub k_is : q.standing.k ≡ k
+  pub on_walk : IsWindowQueryOf base q
 
 pub record IsTracingAt (plant : Plant) (state : SessionState) (steps sum : ℕ) (t : Tracing) : Type 0 where
-  pub plant_is : t.query.plant ≡ plant
-  pub steps_are : t.query.steps ≡ window_facts state steps
-  pub k : t.query.standing.k ≡ state.k
-  pub on_walk : IsWindowQueryOf (window_base state steps) t.query
-  pub came_to : tracing plant state steps sum ≡ window_come_to t
+  pub on : IsWindowOf plant (window_facts state steps) state.k (window_base state steps) t.query
+  pub came_to : tracing plant state steps sum ≡ come_to t.outcome t.query.standing
+
+-- the search that is kept is on the walk of the query
+abbrev pub IsOn : Query → Plant → SessionState → Running → Type 0
+IsOn (Diagnosis sum) plant state (kept.Diagnosis d) = IsDiagnosisOf plant (facts_of state) state.k state.distinct state.tracked d.value.query
+IsOn (Recovery sum) plant state (kept.Recovery r) = IsRecoveryOf plant (aim_of state) state.goals r.value.query
+IsOn (Test x sum) plant state (kept.Test t) = IsTestOf plant (test_aim_of state) x t.value.query
+IsOn (Window steps sum) plant state (kept.Window w) = IsWindowOf plant (window_facts state steps) state.k (window_base state steps) w.value.query
+IsOn q plant state running = ⊥
 
 -- of a query its search is kept; where no query is current nothing is asked
 abbrev pub IsKeptOf : Query → Plant → SessionState → Running → Type 0
 IsKeptOf Absent plant state running = Unit {0}
-IsKeptOf (Diagnosis sum) plant state kept.Nothing = ⊥
-IsKeptOf (Diagnosis sum) plant state (kept.Window w) = ⊥
-IsKeptOf (Diagnosis sum) plant state (kept.Recovery r) = ⊥
-IsKeptOf (Diagnosis sum) plant state (kept.Test t) = ⊥
 IsKeptOf (Diagnosis sum) plant state (kept.Diagnosis d) = IsDiagnosisAt plant state sum d.value
-IsKeptOf (Recovery sum) plant state kept.Nothing = ⊥
-IsKeptOf (Recovery sum) plant state (kept.Window w) = ⊥
-IsKeptOf (Recovery sum) plant state (kept.Diagnosis d) = ⊥
-IsKeptOf (Recovery sum) plant state (kept.Test t) = ⊥
 IsKeptOf (Recovery sum) plant state (kept.Recovery r) = IsRecoveryAt plant state sum r.value
-IsKeptOf (Test x sum) plant state kept.Nothing = ⊥
-IsKeptOf (Test x sum) plant state (kept.Window w) = ⊥
-IsKeptOf (Test x sum) plant state (kept.Diagnosis d) = ⊥
-IsKeptOf (Test x sum) plant state (kept.Recovery r) = ⊥
 IsKeptOf (Test x sum) plant state (kept.Test t) = IsTestAt plant state x sum t.value
-IsKeptOf (Window steps sum) plant state kept.Nothing = ⊥
-IsKeptOf (Window steps sum) plant state (kept.Diagnosis d) = ⊥
-IsKeptOf (Window steps sum) plant state (kept.Recovery r) = ⊥
-IsKeptOf (Window steps sum) plant state (kept.Test t) = ⊥
 IsKeptOf (Window steps sum) plant state (kept.Window w) = IsTracingAt plant state steps sum w.value
+IsKeptOf q plant state running = ⊥
 
 -- what is kept is that of the current query
 abbrev pub IsCurrent : Plant → SessionState → Running → Type 0

@@ -132,6 +132,14 @@ unfoldable pub tracing : Plant → SessionState → ℕ → ℕ → Walked
 tracing plant state steps trials =
     window_walk plant (window_facts state steps) state.k trials (trajectories plant (length (window_facts state steps)) (window_base state steps))
 
+-- the walk of a query; of none, one that has tried nothing
+abbrev pub walk_of : Query → Plant → SessionState → Walked
+walk_of Absent plant state = record { outcome = Unsettled; listed = []; kept = [] }
+walk_of (Diagnosis sum) plant state = walked plant state sum
+walk_of (Recovery sum) plant state = recovery plant state sum
+walk_of (Test x sum) plant state = testing plant state x sum
+walk_of (Window steps sum) plant state = tracing plant state steps sum
+
 pub record Stepped : Type 0 where
   pub state : SessionState
   pub reply : Reply
@@ -275,6 +283,18 @@ window_reply steps w = window_reply_by w.outcome steps w
 abbrev pub traced : Plant → SessionState → ℕ → ℕ → Stepped
 traced plant state steps sum = record { state = record state { query = Window steps sum }; reply = window_reply steps (tracing plant state steps sum) }
 
+-- what a query whose walk came to this replies
+abbrev pub reply_to : Query → Walked → Reply
+reply_to Absent w = Refused NoQuery
+reply_to (Diagnosis sum) w = diagnosis_reply w
+reply_to (Recovery sum) w = recovery_reply w
+reply_to (Test x sum) w = test_reply w
+reply_to (Window steps sum) w = window_reply steps w
+
+-- any of these: it becomes the current query
+abbrev pub asked : Query → Plant → SessionState → Stepped
+asked q plant state = record { state = record state { query = q }; reply = reply_to q (walk_of q plant state) }
+
 -- `window`: so many steps have to be kept
 abbrev pub look_back : Plant → SessionState → ℕ → Stepped
 look_back plant state steps = if has_steps state.history steps then traced plant state steps state.budget else unchanged state (Refused OutOfLimits)
@@ -298,6 +318,22 @@ more_test_by Unsettled plant state x sum = tested plant state x sum
 abbrev pub more_window_by : Outcome → Plant → SessionState → ℕ → ℕ → Stepped
 more_window_by Settled plant state steps sum = unchanged state (Refused NotUnsettled)
 more_window_by Unsettled plant state steps sum = traced plant state steps sum
+
+-- the trials that a query may make
+abbrev pub sum_of : Query → ℕ
+sum_of Absent = 0
+sum_of (Diagnosis sum) = sum
+sum_of (Recovery sum) = sum
+sum_of (Test x sum) = sum
+sum_of (Window steps sum) = sum
+
+-- the same query with so many trials more
+abbrev pub with_more : Query → ℕ → Query
+with_more Absent n = Absent
+with_more (Diagnosis sum) n = Diagnosis (sum + n)
+with_more (Recovery sum) n = Recovery (sum + n)
+with_more (Test x sum) n = Test x (sum + n)
+with_more (Window steps sum) n = Window steps (sum + n)
 
 -- `more`: a query that isn't settled goes on with the sum of its trials
 abbrev pub more : Query → Plant → SessionState → ℕ → Stepped

@@ -5,11 +5,11 @@ ghost use Rattle.std.specs.Prelude.{◌≡◌, IfOk, map};
 ghost use Rattle.std.specs.Option.{option_copied};
 ghost use Rattle.lv_meaning.specs.Possible.{value};
 ghost use Rattle.lv_session_state.specs.Applying.{first_values, values_found, recovery_values};
-ghost use Rattle.lv_session_state.specs.Current.{recovery_come_to, IsCurrent};
+ghost use Rattle.lv_session_state.specs.Current.{kept_walk, IsCurrent};
 ghost use Rattle.lv_session_state.specs.declared.query.Query.TheVariants.{Absent};
 
 use crate::query::Query;
-use crate::running::{Recovering, Running};
+use crate::running::Running;
 use crate::state::State;
 use lv_base::{Rank, ValId};
 use lv_model::Model;
@@ -24,11 +24,11 @@ fn first_values(listed: &[Rank]) -> Option<&[u32]>
 }
 
 /// The values that a recovery that has run gives the controls, if it is settled and found some.
-fn values_found<'r>(run: &'r Recovering<'_>) -> Option<&'r [u32]>
-    ensures { option_copied result ≡ values_found (recovery_come_to run.now) }
+fn values_found<'r>(run: &'r Running<'_>) -> Option<&'r [u32]>
+    ensures { option_copied result ≡ values_found (kept_walk run.now) }
 {
-    match run.outcome {
-        Outcome::Settled => first_values(run.query.listed()),
+    match run.outcome() {
+        Outcome::Settled => first_values(run.listed()),
         Outcome::Unsettled => None,
     }
 }
@@ -47,15 +47,9 @@ impl State {
         ensures { option_copied result ≡ recovery_values self.now.query model.now self.now }
     {
         match self.query {
+            Query::Recovery(_) => values_found(running),
             Query::Absent => None,
             Query::Diagnosis(_) => None,
-            Query::Recovery(_) => match running {
-                Running::Recovery(run) => values_found(run),
-                Running::Diagnosis(_) => None,
-                Running::Test(_) => None,
-                Running::Window(_) => None,
-                Running::Nothing => None,
-            },
             Query::Test(_, _) => None,
             Query::Window(_, _) => None,
         }

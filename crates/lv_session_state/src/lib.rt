@@ -5,13 +5,14 @@
 //! | `state` | the state, and what a request does to it |
 //! | `observations` | the observations held, by their names |
 //! | `goals` | the goals held, by their names |
-//! | `diagnoses` | diagnoses asked for, gone on with and taken over |
-//! | `recoveries` | recoveries asked for and gone on with |
-//! | `tests` | tests asked for and gone on with |
-//! | `windows` | windows of the last steps asked for, gone on with and taken over |
+//! | `diagnoses` | diagnoses, asked for and taken over |
+//! | `recoveries` | recoveries |
+//! | `tests` | tests |
+//! | `windows` | windows of the last steps, asked for and taken over |
 //! | `times` | the times that are kept, and what is observed of each |
 //! | `applying` | the values that the current recovery gives the controls |
-//! | `queries` | the current query gone on with, shown and taken over, and whether it is settled |
+//! | `queries` | the current query asked, gone on with, shown and taken over, and whether it is settled |
+//! | `replies` | what a query that has run replies |
 //! | `query` | the current query |
 //! | `running` | what is kept of it from line to line |
 //! | `laws` | what a settled test is, and a settled window |
@@ -27,6 +28,7 @@ mod observations;
 mod queries;
 pub mod query;
 mod recoveries;
+mod replies;
 pub mod running;
 pub mod state;
 mod tests;
@@ -44,5 +46,5 @@ pub use lv_session_request::{
 };
 pub use lv_system::{StepSystem, compile};
 pub use query::Query;
-pub use running::{Diagnosed, Recovering, Running, Testing, Tracing};
+pub use running::{Asked, Diagnosed, Recovering, Running, Testing, Tracing};
 pub use state::State;

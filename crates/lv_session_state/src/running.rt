@@ -1,38 +1,33 @@
 //! What is kept of the current query from line to line, so that it goes on where it stopped.
 #![tactic(auto)]
 
+ghost use Rattle.std.specs.Prelude.{◌≡◌, ◌≤◌, ◌+◌, ◌<◌, ◌^◌, IfOk, length};
+ghost use Rattle.lv_base.specs.declared.limits.TheConstants.{TRACKED, BUDGET};
+ghost use Rattle.lv_search_walk.specs.declared.outcome.Outcome.TheVariants.{Unsettled};
+ghost use Rattle.lv_session_state.specs.State.{trials};
+ghost use Rattle.lv_session_state.specs.Current.{kept_walk};
+
+use lv_base::{Conflict, Rank};
 use lv_ident::{Query, QueryEffort};
 use lv_reconf::{Query as RecoveryQuery, TestQuery};
 use lv_search_walk::Outcome;
 use lv_window_query::WindowQuery;
+use std::alloc::{AllocError, Global};
 
-/// A diagnosis that has run: its search, and what its last run came to.
+/// A query's search, and what its last run came to: before the first it is unsettled.
 #[derive(Drop)]
-pub struct Diagnosed<'a> {
-    pub query: Query<'a>,
+pub struct Asked<Q> {
+    pub query: Q,
     pub outcome: Outcome,
 }
 
-/// A recovery that has run: its search, and what its last run came to.
-#[derive(Drop)]
-pub struct Recovering<'a> {
-    pub query: RecoveryQuery<'a>,
-    pub outcome: Outcome,
-}
+pub type Diagnosed<'a> = Asked<Query<'a>>;
 
-/// A test that has run: its search, and what its last run came to.
-#[derive(Drop)]
-pub struct Testing<'a> {
-    pub query: TestQuery<'a>,
-    pub outcome: Outcome,
-}
+pub type Recovering<'a> = Asked<RecoveryQuery<'a>>;
 
-/// A window that has run: its search, and what its last run came to.
-#[derive(Drop)]
-pub struct Tracing<'a> {
-    pub query: WindowQuery<'a>,
-    pub outcome: Outcome,
-}
+pub type Testing<'a> = Asked<TestQuery<'a>>;
+
+pub type Tracing<'a> = Asked<WindowQuery<'a>>;
 
 /// What is kept of the current query, in a box, so that whoever holds it holds little. Where no query is current, what is
 /// kept means nothing.
@@ -45,7 +40,65 @@ pub enum Running<'a> {
     Window(Box<Tracing<'a>>),
 }
 
+/// A query that hasn't run, in a box, which is let go of with less to check than what lies in it.
+pub(crate) fn unrun<Q: Drop>(alloc: Global, query: Q) -> Result<Box<Asked<Q>>, AllocError>
+    ensures { IfOk result (λ asked. asked.value ≡ record { query = query; outcome = Unsettled }) }
+{
+    let asked = Asked {
+        query,
+        outcome: Outcome::Unsettled,
+    };
+    Ok(Box::new(alloc, asked)?)
+}
+
 impl Running<'_> {
+    /// What its last run came to.
+    pub(crate) fn outcome(&self) -> Outcome
+        ensures { result ≡ (kept_walk self.now).outcome }
+    {
+        match self {
+            Running::Diagnosis(run) => run.outcome,
+            Running::Recovery(run) => run.outcome,
+            Running::Test(run) => run.outcome,
+            Running::Window(run) => run.outcome,
+            Running::Nothing => Outcome::Unsettled,
+        }
+    }
+
+    /// What it listed.
+    pub(crate) fn listed(&self) -> &[Rank]
+        ensures { result.now ≡ (kept_walk self.now).listed }
+    {
+        match self {
+            Running::Diagnosis(run) => run.query.listed(),
+            Running::Recovery(run) => run.query.listed(),
+            Running::Test(run) => run.query.listed(),
+            Running::Window(run) => run.query.listed(),
+            Running::Nothing => &[],
+        }
+    }
+
+    /// The conflicts that it kept.
+    pub(crate) fn conflicts(&self) -> &[Conflict]
+        ensures { result.now ≡ (kept_walk self.now).kept }
+    {
+        match self {
+            Running::Diagnosis(run) => run.query.conflicts(),
+            Running::Recovery(run) => run.query.conflicts(),
+            Running::Test(run) => run.query.conflicts(),
+            Running::Window(run) => run.query.conflicts(),
+            Running::Nothing => &[],
+        }
+    }
+
+    /// How many trials it made.
+    pub(crate) fn trials(&self) -> u64
+        ensures trials { result ≡ trials (kept_walk self.now) }
+        ensures room { length (kept_walk self.now).listed ≤ TRACKED → result + BUDGET < 2 ^ 64 }
+    {
+        self.listed().len() as u64 + self.conflicts().len() as u64
+    }
+
     /// What a diagnosis did so far, where it is one. Takes no memory.
     pub fn effort(&self) -> Option<QueryEffort> {
         match self {

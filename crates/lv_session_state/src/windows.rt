@@ -1,60 +1,24 @@
-//! Windows of the last steps: asked for, gone on with, and taken over.
-//!
-//! What a window comes to is the walk of its definition; the search that is kept beside the state has come to the same,
-//! and goes on from there.
+//! Windows of the last steps: asked for, and taken over.
 #![tactic(auto)]
 
-ghost use Rattle.std.specs.Prelude.{◌≡◌, ◌≤◌, ◌+◌, ◌<◌, ◌^◌, IfOk, OnOk, OnErr, length, map};
-ghost use Rattle.lv_base.specs.declared.limits.TheConstants.{TRACKED, BUDGET, COMMITS};
-ghost use Rattle.lv_session_state.specs.declared.query.Query.TheVariants.{Window as IsWindow};
-ghost use Rattle.lv_session_state.specs.declared.running.Running.TheVariants.{Window as KeptWindow};
-ghost use Rattle.lv_search_walk.specs.declared.outcome.Outcome.TheVariants.{Unsettled};
-ghost use Rattle.lv_session_state.specs.State.{window_base, window_facts, window_start, trials, tracing, window_reply, traced, look_back, more, last_step, taken_over};
+ghost use Rattle.std.specs.Prelude.{◌≡◌, ◌≤◌, IfOk, OnOk, OnErr, map};
+ghost use Rattle.lv_base.specs.declared.limits.TheConstants.{COMMITS};
+ghost use Rattle.lv_session_state.specs.State.{window_base, window_facts, window_start, look_back, last_step, taken_over};
 ghost use Rattle.lv_session_state.specs.States.{IsStateOf, IsListOf};
-ghost use Rattle.lv_session_state.specs.Current.{untraced, window_come_to, IsTracingAt, IsKeptOf, IsCurrent};
+ghost use Rattle.lv_session_state.specs.Current.{untraced, IsCurrent};
 ghost use Rattle.lv_window_query.specs.Query.{IsWindowQueryOf};
 
-use crate::diagnoses::copied_ranks;
 use crate::query::Query;
-use crate::running::{Running, Tracing};
+use crate::running::{Running, unrun};
 use crate::state::State;
 use lv_base::{Rank, Seq};
 use lv_meaning::Facts;
 use lv_model::{Model, Plant};
 use lv_reply::{Refusal, Reply};
-use lv_search_walk::Outcome;
 use lv_session_history::{facts_on, tracked_before};
 use lv_tracker::Tracked;
 use lv_window_query::{WindowQuery, window};
 use std::alloc::{AllocError, Global};
-
-/// How many trials a window made.
-pub(crate) fn trials(run: &Tracing<'_>) -> u64
-    requires { length run.now.query.standing.listed ≤ TRACKED }
-    ensures trials { result ≡ trials (window_come_to run.now) }
-    ensures room { result + BUDGET < 2 ^ 64 }
-{
-    run.query.listed().len() as u64 + run.query.conflicts().len() as u64
-}
-
-/// What a window over so many steps that has run replies.
-fn reply_of(alloc: Global, steps: u32, run: &Tracing<'_>) -> Result<Reply, AllocError>
-    requires { length run.now.query.standing.listed ≤ TRACKED }
-    ensures { IfOk result (λ reply. reply ≡ window_reply steps (window_come_to run.now)) }
-{
-    let listed = Seq::from_vec(copied_ranks(alloc, run.query.listed())?);
-    match run.outcome {
-        Outcome::Settled => Ok(Reply::SettledWindow(steps, listed)),
-        Outcome::Unsettled => Ok(Reply::UnsettledWindow(steps, listed, trials(run))),
-    }
-}
-
-/// The same in a box, which is let go of with less to check than what lies in it.
-fn boxed<'a>(alloc: Global, run: Tracing<'a>) -> Result<Box<Tracing<'a>>, AllocError>
-    ensures { IfOk result (λ kept. kept.value ≡ run.entry) }
-{
-    Ok(Box::new(alloc, run)?)
-}
 
 /// The last step of a trajectory, at what the whole cost.
 fn last_step(alloc: Global, plant: &Plant, rank: &Rank) -> Result<Rank, AllocError>
@@ -121,50 +85,6 @@ impl State {
         window(alloc, model, base.as_slice(), facts.as_slice(), self.k)
     }
 
-    /// A window over so many steps that has run with so many trials.
-    fn window_run<'a>(
-        &self,
-        alloc: Global,
-        model: &'a Model,
-        steps: u32,
-        n: u64,
-    ) -> Result<Tracing<'a>, AllocError>
-        requires { IsStateOf model.now self.now }
-        ensures at { IfOk result (λ run. IsTracingAt model.now self.now steps n run) }
-    {
-        let mut query = self.untraced(alloc, model, steps)?;
-        match query.run(n) {
-            Ok(outcome) => Ok(Tracing { query, outcome }),
-            Err(error) => {
-                drop(query);
-                Err(error)
-            }
-        }
-    }
-
-    /// A window over these steps with so many trials, which becomes the current query.
-    fn traced<'a>(
-        &mut self,
-        alloc: Global,
-        model: &'a Model,
-        running: &mut Running<'a>,
-        steps: u32,
-        n: u64,
-    ) -> Result<Reply, AllocError>
-        requires { IsStateOf model.now self.old }
-        ensures ok { IfOk result (λ reply. record { state = self.new; reply = reply } ≡ traced model.now self.old steps n) }
-        ensures err { OnErr result (self.new ≡ self.old) }
-        ensures running { OnOk result (IsCurrent model.now self.new running.new) }
-    {
-        let _plant = model.plant();
-        let run = self.window_run(alloc, model, steps, n)?;
-        let kept = boxed(alloc, run)?;
-        let reply = reply_of(alloc, steps, &kept)?;
-        *running = Running::Window(kept);
-        self.query = Query::Window(steps, n);
-        Ok(reply)
-    }
-
     /// A window over so many steps with the budget, if as many are kept.
     pub fn look_back<'a>(
         &mut self,
@@ -182,80 +102,11 @@ impl State {
         if !self.history.has_steps(steps) {
             return Ok(Reply::Refused(Refusal::OutOfLimits));
         }
-        let budget = self.budget;
-        self.traced(alloc, model, running, steps, budget)
-    }
-
-    /// Runs a window that isn't settled on, with the sum of all trials.
-    fn run_window_on(
-        &self,
-        alloc: Global,
-        model: &Model,
-        run: &mut Tracing<'_>,
-        steps: u32,
-        sum: u64,
-        n: u64,
-    ) -> Result<Reply, AllocError>
-        requires state { IsStateOf model.now self.now }
-        requires at { IsTracingAt model.now self.now steps sum run.old }
-        requires unsettled { run.old.outcome ≡ Unsettled }
-        requires few { n ≤ BUDGET }
-        ensures reply { IfOk result (λ reply. reply ≡ window_reply steps (tracing model.now self.now steps (sum + n))) }
-        ensures at { OnOk result (IsTracingAt model.now self.now steps (sum + n) run.new) }
-        ensures room { sum + n < 2 ^ 64 }
-    {
-        let _plant = model.plant();
-        let _trials = trials(run);
-        run.outcome = run.query.run(n)?;
-        reply_of(alloc, steps, run)
-    }
-
-    /// More trials for a window that isn't settled, which goes on with the sum of all.
-    fn go_on_tracing(
-        &mut self,
-        alloc: Global,
-        model: &Model,
-        run: &mut Tracing<'_>,
-        steps: u32,
-        sum: u64,
-        n: u64,
-    ) -> Result<Reply, AllocError>
-        requires state { IsStateOf model.now self.old }
-        requires at { IsTracingAt model.now self.old steps sum run.old }
-        requires unsettled { run.old.outcome ≡ Unsettled }
-        requires few { n ≤ BUDGET }
-        ensures ok { IfOk result (λ reply. record { state = self.new; reply = reply } ≡ traced model.now self.old steps (sum + n)) }
-        ensures err { OnErr result (self.new ≡ self.old) }
-        ensures query { OnOk result (self.new.query ≡ IsWindow steps (sum + n)) }
-        ensures at { OnOk result (IsTracingAt model.now self.new steps (sum + n) run.new) }
-    {
-        let reply = self.run_window_on(alloc, model, run, steps, sum, n)?;
-        self.query = Query::Window(steps, sum + n);
-        Ok(reply)
-    }
-
-    /// The window with more trials, if it isn't settled.
-    pub(crate) fn more_of_window(
-        &mut self,
-        alloc: Global,
-        model: &Model,
-        run: &mut Box<Tracing<'_>>,
-        steps: u32,
-        sum: u64,
-        n: u64,
-    ) -> Result<Reply, AllocError>
-        requires state { IsStateOf model.now self.old }
-        requires query { self.old.query ≡ IsWindow steps sum }
-        requires at { IsTracingAt model.now self.old steps sum run.old.value }
-        requires few { n ≤ BUDGET }
-        ensures ok { IfOk result (λ reply. record { state = self.new; reply = reply } ≡ more self.old.query model.now self.old n) }
-        ensures err { OnErr result (self.new ≡ self.old) }
-        ensures current { OnOk result (IsKeptOf self.new.query model.now self.new (KeptWindow run.new)) }
-    {
-        match run.outcome {
-            Outcome::Settled => Ok(Reply::Refused(Refusal::NotUnsettled)),
-            Outcome::Unsettled => self.go_on_tracing(alloc, model, run, steps, sum, n),
-        }
+        let query = self.untraced(alloc, model, steps)?;
+        let run = unrun(alloc, query)?;
+        *running = Running::Window(run);
+        let budget = self.budget();
+        self.ask(alloc, model, running, Query::Window(steps, budget), budget)
     }
 
     /// Takes over what these trajectories led to.

@@ -3,8 +3,7 @@ use Rattle.std.proofs.Common.{List, All, map, sym, subst, ◌∙◌}
 use Rattle.lv_base.specs.declared.rank.Rank.{Rank}
 use Rattle.lv_search_walk.specs.Walk.{candidate_of}
 use Rattle.lv_probe.specs.Probing.{IsFull}
-use Rattle.lv_session_state.specs.declared.running.Diagnosed.{Diagnosed}
-use Rattle.lv_session_state.specs.Current.{IsDiagnosisAt}
+use Rattle.lv_session_state.specs.Current.{Diagnosed, IsDiagnosisAt}
 use Rattle.lv_session_state.proofs.Asking.{kept_is}
 use Rattle.lv_session.proofs.Probing.{full_at}
 use Rattle.lv_session.proofs.probes.probe.Goals as goal

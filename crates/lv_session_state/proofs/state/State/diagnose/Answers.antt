@@ -1,14 +1,18 @@
--- which query is current plays no part in what the search is on
-use Rattle.std.proofs.Common.{sym, subst}
-use Rattle.lv_session_state.specs.declared.query.Query.TheVariants.{Diagnosis}
-use Rattle.lv_session_state.specs.declared.running.Diagnosed.{Diagnosed}
-use Rattle.lv_session_state.specs.State.{SessionState}
-use Rattle.lv_session_state.specs.Current.{IsDiagnosisAt}
-use Rattle.lv_session_state.proofs.Asking.{other_query}
+-- the search is on the walk of the state's diagnosis, and has tried nothing
+use Rattle.std.proofs.Common.{ap, sym, subst}
+use Rattle.lv_ident.specs.Query.{QueryValue}
+use Rattle.lv_session_state.specs.State.{facts_of}
+use Rattle.lv_session_state.specs.Current.{Diagnosed, IsDiagnosisOf}
 use Rattle.lv_session_state.proofs.state.State.diagnose.Goals as goal
 
-pub returns-clause-running : goal.returns-clause-running
-returns-clause-running c =
-    subst (λ (s : SessionState). IsDiagnosisAt c.args.model.now (record s { query = Diagnosis c.args.n }) c.args.n c.in_ok-kept.kept.value) (sym c.self.view_is)
-    (other_query c.args.model.now c.args.self.now (Diagnosis c.args.n) c.args.n c.in_ok-kept.kept.value
-    (subst (λ (d : Diagnosed). IsDiagnosisAt c.args.model.now c.args.self.now c.args.n d) (sym c.in_ok-kept.ensures) c.in_ok-run.ensures.at))
+pub ask-requires-clause-on : goal.ask-requires-clause-on
+ask-requires-clause-on c =
+    let start = c.in_ok-query.ensures.start in
+    subst (λ (d : Diagnosed). IsDiagnosisOf c.args.model.now (facts_of c.args.self.now) c.args.self.now.k c.args.self.now.distinct c.args.self.now.tracked d.query) (sym c.in_ok-run.ensures)
+    (record {
+      plant_is = ap (λ (q : QueryValue). q.plant) start;
+      facts_are = ap (λ (q : QueryValue). q.facts) start;
+      k_is = ap (λ (q : QueryValue). q.standing.k) start;
+      distinct_is = ap (λ (q : QueryValue). q.distinct) start;
+      on_walk = c.in_ok-query.ensures.query;
+    })

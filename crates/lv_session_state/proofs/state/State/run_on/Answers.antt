@@ -1,52 +1,67 @@
--- a search that isn't settled made all its trials, and lists few
-use Rattle.std.proofs.Common.{◌≡◌, ℕ, ◌+◌, ◌<◌, ◌≤◌, ◌^◌, true, sym, ap, subst, ◌∙◌, arith}
-use Rattle.lv_base.specs.declared.limits.TheConstants.{BUDGET}
-use Rattle.std.proofs.lemmas.Result.{IfOk-weaker}
-use Rattle.lv_model.specs.declared.plant.Plant.{Plant}
-use Rattle.lv_model.specs.WellFormed.{is_well_formed}
-use Rattle.lv_session_state.specs.State.{diagnosis_reply}
-use Rattle.lv_session_state.proofs.Asking.{listed_at, trials_at, gone_on, when_ok}
+-- the search that is kept has run on
+use Rattle.std.proofs.Common.{◌≡◌, ◌+◌, subst, ap}
+use Rattle.lv_session_state.specs.declared.running.Running.{Running}
+use Rattle.lv_session_state.specs.State.{trials, sum_of}
+use Rattle.lv_session_state.specs.Current.{Diagnosed, Recovering, Testing, Tracing, kept_walk, IsOn}
+use Rattle.lv_session_state.proofs.Kept.{diagnosis_suits, diagnosis_ran, recovery_suits, recovery_ran, test_suits, test_ran, window_suits, window_ran}
 use Rattle.lv_session_state.proofs.state.State.run_on.Goals as goal
 
-pub trials-trials-requires : goal.trials-trials-requires
-trials-trials-requires c =
-    let well : is_well_formed c.args.model.now ≡ true = subst (λ (p : Plant). is_well_formed p ≡ true) c.plant-plant.ensures.plant c.plant-plant.ensures.well_formed in
-    (listed_at c.args.model.now c.args.self.now c.args.sum c.args.run.now well c.requires.state c.requires.at).few
+pub run-requires-clause-suit : goal.run-requires-clause-suit
+run-requires-clause-suit c =
+    diagnosis_suits c.args.model.now c.args.self.now c.args.n c.args.query c.in-Diagnosis.run' c.deref_mut.result.now
+    (subst (λ (r : Running). IsOn c.args.query c.args.model.now c.args.self.now r) c.in-Diagnosis.is c.requires.on) c.deref_mut.ensures.value
 
--- all trials made before and those to come fit
-room : (made sum n : ℕ) → made ≡ sum → n ≤ BUDGET → made + BUDGET < 2 ^ 64 → sum + n < 2 ^ 64
-room made sum n same few fits = omega (arith, same, few, fits)
+pub returns-in_ok-running-in-Diagnosis : goal.returns-in_ok-running-in-Diagnosis
+returns-in_ok-running-in-Diagnosis c =
+    let ran = c.in_ok-running-in-Diagnosis in
+    let run = c.run in
+    diagnosis_ran c.args.model.now c.args.self.now c.args.n c.args.query c.in-Diagnosis.run' _ c.deref_mut.result.now run.new.self ran.field-0
+    (subst (λ (r : Running). IsOn c.args.query c.args.model.now c.args.self.now r) c.in-Diagnosis.is c.requires.on)
+    (subst (λ (r : Running). trials (kept_walk r) + c.args.n ≡ sum_of c.args.query) c.in-Diagnosis.is c.requires.sum) c.deref_mut.ensures.value
+    ran.ensures.query ran.ensures.walk run.ensures.plant run.ensures.facts ran.ensures.k run.ensures.distinct
+    (ap (λ (d : Diagnosed). record { query = d.query; outcome = ran.field-0 }) c.deref_mut-in-Diagnosis.ensures.value)
 
-pub returns-in_err-run-clause-room : goal.returns-in_err-run-clause-room
-returns-in_err-run-clause-room c =
-    room c.trials-trials.result c.args.sum c.args.n (c.trials-trials.ensures.trials ∙ trials_at c.args.model.now c.args.self.now c.args.sum c.args.run.now c.requires.at c.requires.unsettled)
-    c.requires.few c.trials-trials.ensures.room
+pub run-requires-in-Recovery-clause-suit : goal.run-requires-in-Recovery-clause-suit
+run-requires-in-Recovery-clause-suit c =
+    recovery_suits c.args.model.now c.args.self.now c.args.n c.args.query c.in-Recovery.run' c.deref_mut-in-Recovery.result.now
+    (subst (λ (r : Running). IsOn c.args.query c.args.model.now c.args.self.now r) c.in-Recovery.is c.requires.on) c.deref_mut-in-Recovery.ensures.value
 
-pub returns-clause-room : goal.returns-clause-room
-returns-clause-room c =
-    room c.trials-trials.result c.args.sum c.args.n (c.trials-trials.ensures.trials ∙ trials_at c.args.model.now c.args.self.now c.args.sum c.args.run.now c.requires.at c.requires.unsettled)
-    c.requires.few c.trials-trials.ensures.room
+pub returns-in_ok-running-in-Recovery : goal.returns-in_ok-running-in-Recovery
+returns-in_ok-running-in-Recovery c =
+    let ran = c.in_ok-running-in-Recovery in
+    let run = c.run-in-Recovery in
+    recovery_ran c.args.model.now c.args.self.now c.args.n c.args.query c.in-Recovery.run' _ c.deref_mut-in-Recovery.result.now run.new.self ran.field-0
+    (subst (λ (r : Running). IsOn c.args.query c.args.model.now c.args.self.now r) c.in-Recovery.is c.requires.on)
+    (subst (λ (r : Running). trials (kept_walk r) + c.args.n ≡ sum_of c.args.query) c.in-Recovery.is c.requires.sum) c.deref_mut-in-Recovery.ensures.value
+    ran.ensures.query ran.ensures.walk run.ensures.plant run.ensures.aim
+    (ap (λ (d : Recovering). record { query = d.query; outcome = ran.field-0 }) c.deref_mut-in-Recovery-2.ensures.value)
 
-pub reply_of-requires : goal.reply_of-requires
-reply_of-requires c =
-    let well : is_well_formed c.args.model.now ≡ true = subst (λ (p : Plant). is_well_formed p ≡ true) c.plant-plant.ensures.plant c.plant-plant.ensures.well_formed in
-    let at =
-    gone_on c.args.model.now c.args.self.now c.args.sum c.args.n c.args.run.now c.run.new.self c.in_ok-run.field-0 c.requires.at c.requires.unsettled
-    (c.in_ok-run.ensures.query c.args.self.now.tracked c.requires.at.on_walk) (c.in_ok-run.ensures.walk c.args.self.now.tracked c.requires.at.on_walk)
-    c.in_ok-run.ensures.plant c.in_ok-run.ensures.facts c.in_ok-run.ensures.k c.in_ok-run.ensures.distinct in
-    (listed_at c.args.model.now c.args.self.now (c.args.sum + c.args.n) (record { query = c.run.new.self; outcome = c.in_ok-run.field-0 }) well c.requires.state at).few
+pub run-requires-in-Test-clause-suit : goal.run-requires-in-Test-clause-suit
+run-requires-in-Test-clause-suit c =
+    test_suits c.args.model.now c.args.self.now c.args.n c.args.query c.in-Test.run' c.deref_mut-in-Test.result.now
+    (subst (λ (r : Running). IsOn c.args.query c.args.model.now c.args.self.now r) c.in-Test.is c.requires.on) c.deref_mut-in-Test.ensures.value
 
-pub returns-clause-reply : goal.returns-clause-reply
-returns-clause-reply c =
-    let at =
-    gone_on c.args.model.now c.args.self.now c.args.sum c.args.n c.args.run.now c.run.new.self c.in_ok-run.field-0 c.requires.at c.requires.unsettled
-    (c.in_ok-run.ensures.query c.args.self.now.tracked c.requires.at.on_walk) (c.in_ok-run.ensures.walk c.args.self.now.tracked c.requires.at.on_walk)
-    c.in_ok-run.ensures.plant c.in_ok-run.ensures.facts c.in_ok-run.ensures.k c.in_ok-run.ensures.distinct in
-    IfOk-weaker c.reply_of.result _ _ (λ reply h. h ∙ ap diagnosis_reply (sym at.came_to)) c.reply_of.ensures
+pub returns-in_ok-running-in-Test : goal.returns-in_ok-running-in-Test
+returns-in_ok-running-in-Test c =
+    let ran = c.in_ok-running-in-Test in
+    let run = c.run-in-Test in
+    test_ran c.args.model.now c.args.self.now c.args.n c.args.query c.in-Test.run' _ c.deref_mut-in-Test.result.now run.new.self ran.field-0
+    (subst (λ (r : Running). IsOn c.args.query c.args.model.now c.args.self.now r) c.in-Test.is c.requires.on)
+    (subst (λ (r : Running). trials (kept_walk r) + c.args.n ≡ sum_of c.args.query) c.in-Test.is c.requires.sum) c.deref_mut-in-Test.ensures.value
+    ran.ensures.query ran.ensures.walk run.ensures.plant run.ensures.aim run.ensures.var
+    (ap (λ (d : Testing). record { query = d.query; outcome = ran.field-0 }) c.deref_mut-in-Test-2.ensures.value)
 
-pub returns-clause-at : goal.returns-clause-at
-returns-clause-at c =
-    when_ok c.reply_of.result
-    (gone_on c.args.model.now c.args.self.now c.args.sum c.args.n c.args.run.now c.run.new.self c.in_ok-run.field-0 c.requires.at c.requires.unsettled
-    (c.in_ok-run.ensures.query c.args.self.now.tracked c.requires.at.on_walk) (c.in_ok-run.ensures.walk c.args.self.now.tracked c.requires.at.on_walk)
-    c.in_ok-run.ensures.plant c.in_ok-run.ensures.facts c.in_ok-run.ensures.k c.in_ok-run.ensures.distinct)
+pub run-requires-in-Window-clause-suit : goal.run-requires-in-Window-clause-suit
+run-requires-in-Window-clause-suit c =
+    window_suits c.args.model.now c.args.self.now c.args.n c.args.query c.in-Window.run' c.deref_mut-in-Window.result.now
+    (subst (λ (r : Running). IsOn c.args.query c.args.model.now c.args.self.now r) c.in-Window.is c.requires.on) c.deref_mut-in-Window.ensures.value
+
+pub returns-in_ok-running-in-Window : goal.returns-in_ok-running-in-Window
+returns-in_ok-running-in-Window c =
+    let ran = c.in_ok-running-in-Window in
+    let run = c.run-in-Window in
+    window_ran c.args.model.now c.args.self.now c.args.n c.args.query c.in-Window.run' _ c.deref_mut-in-Window.result.now run.new.self ran.field-0
+    (subst (λ (r : Running). IsOn c.args.query c.args.model.now c.args.self.now r) c.in-Window.is c.requires.on)
+    (subst (λ (r : Running). trials (kept_walk r) + c.args.n ≡ sum_of c.args.query) c.in-Window.is c.requires.sum) c.deref_mut-in-Window.ensures.value
+    ran.ensures.query ran.ensures.walk run.ensures.plant run.ensures.steps ran.ensures.k
+    (ap (λ (d : Tracing). record { query = d.query; outcome = ran.field-0 }) c.deref_mut-in-Window-2.ensures.value)

@@ -1,19 +1,24 @@
--- one command set at most is listed; and which query is current plays no part in what the search is on
-use Rattle.std.proofs.Common.{sym, subst, ◌∙◌}
-use Rattle.lv_session_state.specs.declared.query.Query.TheVariants.{Test}
-use Rattle.lv_session_state.specs.declared.running.Testing.{Testing}
-use Rattle.lv_session_state.specs.State.{SessionState}
-use Rattle.lv_session_state.specs.Current.{IsTestAt}
-use Rattle.lv_session_state.proofs.TestsAsked.{few_at_test, test_of_other_query}
+-- the aim is of the plant and its values; the search is on the walk of the state's test, and has tried nothing
+use Rattle.std.proofs.Common.{ap, sym, subst, ◌∙◌}
+use Rattle.lv_meaning.specs.declared.aim.Aim.{Aim}
+use Rattle.lv_meaning.specs.Ranges.{AimFits}
+use Rattle.lv_reconf.specs.Testing.{TestValue}
+use Rattle.lv_session_state.specs.State.{test_aim_of}
+use Rattle.lv_session_state.specs.Current.{Testing, IsTestOf}
+use Rattle.lv_session_state.proofs.TestsAsked.{test_aim_fits, observable_there}
 use Rattle.lv_session_state.proofs.state.State.test.Goals as goal
 
-pub reply_of-requires : goal.reply_of-requires
-reply_of-requires c =
-    few_at_test c.args.model.now c.args.self.now c.args.var c.args.n c.deref.result.now
-    (subst (λ (r : Testing). IsTestAt c.args.model.now c.args.self.now c.args.var c.args.n r) (sym (c.deref.ensures ∙ c.in_ok-kept.ensures)) c.in_ok-run.ensures.at)
+pub find_test-requires-clause-fits : goal.find_test-requires-clause-fits
+find_test-requires-clause-fits c = subst (AimFits c.args.model.now) (sym c.in_ok-aim.ensures) (test_aim_fits c.args.model.now c.args.self.now c.requires.state)
 
-pub returns-clause-running : goal.returns-clause-running
-returns-clause-running c =
-    subst (λ (s : SessionState). IsTestAt c.args.model.now (record s { query = Test c.args.var c.args.n }) c.args.var c.args.n c.in_ok-kept.kept.value) (sym c.self.view_is)
-    (test_of_other_query c.args.model.now c.args.self.now (Test c.args.var c.args.n) c.args.var c.args.n c.in_ok-kept.kept.value
-    (subst (λ (r : Testing). IsTestAt c.args.model.now c.args.self.now c.args.var c.args.n r) (sym c.in_ok-kept.ensures) c.in_ok-run.ensures.at))
+pub find_test-requires-clause-none : goal.find_test-requires-clause-none
+find_test-requires-clause-none c = ap (λ (a : Aim). a.goals) c.in_ok-aim.ensures
+
+pub find_test-requires-clause-there : goal.find_test-requires-clause-there
+find_test-requires-clause-there c = observable_there c.args.model.now c.args.var c.requires.there
+
+pub ask-requires-clause-on : goal.ask-requires-clause-on
+ask-requires-clause-on c =
+    let start = c.in_ok-query.ensures.start in
+    subst (λ (t : Testing). IsTestOf c.args.model.now (test_aim_of c.args.self.now) c.args.var t.query) (sym c.in_ok-run.ensures)
+    (record { plant_is = ap (λ (q : TestValue). q.plant) start; aim_is = ap (λ (q : TestValue). q.aim) start ∙ c.in_ok-aim.ensures; var_is = ap (λ (q : TestValue). q.var) start; on_walk = c.in_ok-query.ensures.query })

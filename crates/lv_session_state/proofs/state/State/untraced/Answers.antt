@@ -1,6 +1,5 @@
 -- what is known is of the plant and its values, and so is what was tracked
 use Rattle.std.proofs.Common.{◌≤◌, List, length, sym, subst, ◌∙◌, All}
-use Rattle.lv_base.specs.declared.limits.TheConstants.{TRACKED}
 use Rattle.lv_model.specs.declared.state.TrackedState.{TrackedState}
 use Rattle.lv_meaning.specs.declared.facts.Facts.{Facts}
 use Rattle.lv_meaning.specs.Candidates.{IsTracked}

@@ -1,5 +1,5 @@
 use Rattle.std.proofs.Common.{◌≡◌, ◌++◌, drop}
-use Rattle.lv_session_state.proofs.diagnoses.copied_ranks.Given as goal
+use Rattle.lv_session_state.proofs.replies.copied_ranks.Given as goal
 
 -- what was copied, with the ranks that are left, is all
 abbrev pub invariant-loop-rank : goal.invariant-loop-rank

@@ -1,5 +1,5 @@
 use Rattle.std.proofs.Common.{◌≡◌, ◌++◌, drop}
-use Rattle.lv_session_state.proofs.queries.copied_conflicts.Given as goal
+use Rattle.lv_session_state.proofs.replies.copied_conflicts.Given as goal
 
 -- what was copied, with the conflicts that are left, is all
 abbrev pub invariant-loop-conflict : goal.invariant-loop-conflict
