@@ -1,6 +1,7 @@
 //! Small texts whose statements the rules give, and the lines on which others are refused.
 
 use lv_reader::{ModelCode, ModelFault, read_model};
+use std::alloc::Global;
 
 #[test]
 fn reads_statements(rt: HostRuntime) -> Result<(), ModelFault> {
@@ -20,6 +21,14 @@ struct Row {
     text: &'static [u8],
     code: ModelCode,
     line: usize,
+}
+
+/// Whether a text is not read for this reason on this line.
+fn is_refused(alloc: Global, row: &Row) -> bool {
+    match read_model(alloc, row.text) {
+        Err(ModelFault::At { code, line }) => code == row.code && line == row.line,
+        _ => false,
+    }
 }
 
 const ROWS: [Row; 6] = [
@@ -58,12 +67,7 @@ const ROWS: [Row; 6] = [
 #[test]
 fn refuses_other_lines(rt: HostRuntime) {
     for row in &ROWS {
-        match read_model(rt.alloc(), row.text) {
-            Err(ModelFault::At { code, line }) => {
-                assert!(rt; code == row.code && line == row.line);
-            }
-            _ => assert!(rt; false),
-        }
+        assert!(rt; is_refused(rt.alloc(), row));
     }
 }
 
@@ -244,12 +248,7 @@ const VERSION_ROWS: [Row; 34] = [
 #[test]
 fn refuses_lines_by_the_version(rt: HostRuntime) {
     for row in &VERSION_ROWS {
-        match read_model(rt.alloc(), row.text) {
-            Err(ModelFault::At { code, line }) => {
-                assert!(rt; code == row.code && line == row.line);
-            }
-            _ => assert!(rt; false),
-        }
+        assert!(rt; is_refused(rt.alloc(), row));
     }
 }
 
