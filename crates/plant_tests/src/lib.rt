@@ -8,4 +8,6 @@ mod first_places;
 #[cfg(test)]
 mod models;
 #[cfg(test)]
+mod refusals;
+#[cfg(test)]
 mod versions;

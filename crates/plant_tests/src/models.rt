@@ -1,9 +1,9 @@
 //! Small texts, with the verdict that an independent reference program gives.
 
+use crate::refusals::{Refusal, is_refused};
 use lv_base::{PartId, ValId, VarId};
 use lv_checker::model_of;
 use lv_model::Model;
-use lv_reader::ModelFault;
 use std::alloc::{AllocError, Global};
 use test_texts::VALVE;
 
@@ -25,13 +25,6 @@ fn reads_a_valve(rt: HostRuntime) -> Result<(), AllocError> {
     }
     assert!(rt; lines.as_slice() == &[1, 0, 3, 6, 2, 0, 4, 5, 0, 0][..]);
     Ok(())
-}
-
-/// A text that is refused, the number of the code, and the line.
-struct Row {
-    text: &'static [u8],
-    code: u32,
-    line: usize,
 }
 
 /// The first move from the first mode, and how many there are; what the command to open costs, and what rest does.
@@ -69,48 +62,48 @@ fn tells_moves_prices_and_lists(rt: HostRuntime) -> Result<(), AllocError> {
     Ok(())
 }
 
-const ROWS: [Row; 9] = [
-    Row {
+const REFUSALS: [Refusal; 9] = [
+    Refusal {
         text: b"",
         code: 15,
         line: 1,
     },
-    Row {
+    Refusal {
         text: b"domain d a a\n",
         code: 7,
         line: 1,
     },
-    Row {
+    Refusal {
         text: b"type t\nend\n",
         code: 11,
         line: 2,
     },
-    Row {
+    Refusal {
         text: b"type t\nmode m\n",
         code: 11,
         line: 3,
     },
-    Row {
+    Refusal {
         text: b"domain d a\nmodel m\n",
         code: 10,
         line: 2,
     },
-    Row {
+    Refusal {
         text: b"type t\nmode m\nend\npart p t n\n",
         code: 8,
         line: 4,
     },
-    Row {
+    Refusal {
         text: b"type t\nmode m\nend\npart p t m\nlaw p.mode = n\n",
         code: 9,
         line: 5,
     },
-    Row {
+    Refusal {
         text: b"type t\nmode m\nlaw mode = mode <=> (mode = mode <=> mode = mode)\nend\npart p t m\n",
         code: 14,
         line: 3,
     },
-    Row {
+    Refusal {
         text: b"domain d a b\ntype t\ncontrol c d\nmode m\nend\npart p t m\nprice p.c = a 3\n",
         code: 9,
         line: 7,
@@ -119,12 +112,7 @@ const ROWS: [Row; 9] = [
 
 #[test]
 fn refuses_other_texts(rt: HostRuntime) {
-    for row in &ROWS {
-        match model_of(rt.alloc(), row.text) {
-            Err(ModelFault::At { code, line }) => {
-                assert!(rt; code.number() == row.code && line == row.line);
-            }
-            _ => assert!(rt; false),
-        }
+    for refusal in &REFUSALS {
+        assert!(rt; is_refused(rt.alloc(), refusal));
     }
 }

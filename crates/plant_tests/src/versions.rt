@@ -1,6 +1,7 @@
 //! Lines of the second version in a type, with the verdict that an independent reference program gives, and the moves of
 //! both versions.
 
+use crate::refusals::{Refusal, is_refused};
 use lv_checker::model_of;
 use lv_model::Model;
 use lv_reader::ModelFault;
@@ -377,13 +378,6 @@ fn judges_lines_of_the_second_version(rt: HostRuntime) -> Result<(), AllocError>
     Ok(())
 }
 
-/// A whole text that is refused, the code, and the line.
-struct Refusal {
-    text: &'static [u8],
-    code: u32,
-    line: usize,
-}
-
 const REFUSALS: [Refusal; 11] = [
     Refusal {
         text: b"version 2\n",
@@ -444,13 +438,8 @@ const REFUSALS: [Refusal; 11] = [
 
 #[test]
 fn judges_places_of_the_version(rt: HostRuntime) {
-    for row in &REFUSALS {
-        match model_of(rt.alloc(), row.text) {
-            Err(ModelFault::At { code, line }) => {
-                assert!(rt; code.number() == row.code && line == row.line);
-            }
-            _ => assert!(rt; false),
-        }
+    for refusal in &REFUSALS {
+        assert!(rt; is_refused(rt.alloc(), refusal));
     }
 }
 
