@@ -1,7 +1,7 @@
 //! The lines of listed candidates: each with values before and after its step, which show that it is possible.
 #![tactic(auto)]
 
-ghost use Rattle.std.specs.Prelude.{◌≡◌, ◌∷◌, [], All, IfOk};
+ghost use Rattle.std.specs.Prelude.{◌≡◌, ◌∷◌, All, IfOk};
 ghost use Rattle.lv_cert.specs.declared.line.Head.TheVariants.{Listed};
 ghost use Rattle.lv_cert.specs.declared.line.Line.TheVariants.{Numbers};
 ghost use Rattle.lv_cert_writing.specs.Lines.{numbers_of};
@@ -24,26 +24,6 @@ fn listed_line(alloc: Global, rank: &Rank) -> Result<Line, AllocError>
     Ok(Line::Numbers(Head::Listed, numbers))
 }
 
-/// Adds the lines of a possible candidate.
-fn push_candidate(
-    alloc: Global,
-    lines: &mut Vec<Line>,
-    asking: &Asking<'_>,
-    refuter: &mut Refuter<'_>,
-    rank: &Rank,
-) -> Result<(), AllocError>
-    requires refuter { refuter.old ≡ asking.now.system }
-    requires can { CanBeShown asking.now.plant asking.now.facts rank.now }
-    ensures added { IfOk result (λ _. AddsShown asking.now.plant asking.now.facts (rank.now ∷ []) lines.old.items lines.new.items) }
-    ensures kept { refuter.new ≡ refuter.old }
-{
-    let step = asking.step_of(refuter, rank)?;
-    lines.push(listed_line(alloc, rank)?)?;
-    lines.push(values_line(alloc, Head::Now, step.now.as_slice())?)?;
-    lines.push(values_line(alloc, Head::Next, step.next.as_slice())?)?;
-    Ok(())
-}
-
 /// Adds the lines of these candidates, each of which is possible.
 pub fn push_listed(
     alloc: Global,
@@ -58,7 +38,10 @@ pub fn push_listed(
     ensures kept { refuter.new ≡ refuter.old }
 {
     for rank in listed {
-        push_candidate(alloc, lines, asking, refuter, rank)?;
+        let step = asking.step_of(refuter, rank)?;
+        lines.push(listed_line(alloc, rank)?)?;
+        lines.push(values_line(alloc, Head::Now, step.now.as_slice())?)?;
+        lines.push(values_line(alloc, Head::Next, step.next.as_slice())?)?;
     }
     Ok(())
 }

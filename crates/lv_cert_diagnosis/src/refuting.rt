@@ -1,7 +1,7 @@
 //! The blocks of conflicts: each with lines that refute that its choices stand together under the facts.
 #![tactic(auto)]
 
-ghost use Rattle.std.specs.Prelude.{◌≡◌, ◌∷◌, [], All, IfOk};
+ghost use Rattle.std.specs.Prelude.{◌≡◌, All, IfOk};
 ghost use Rattle.lv_cert.specs.declared.line.Head.TheVariants.{Conflict as OfConflict};
 ghost use Rattle.lv_cert.specs.declared.line.Line.TheVariants.{Numbers};
 ghost use Rattle.lv_cert_writing.specs.Lines.{pair_numbers};
@@ -24,26 +24,6 @@ fn conflict_line(alloc: Global, pairs: &[Pair]) -> Result<Line, AllocError>
     Ok(Line::Numbers(Head::Conflict, numbers))
 }
 
-/// Adds the block of a conflict, whose choices aren't possible together.
-fn push_block(
-    alloc: Global,
-    lines: &mut Vec<Line>,
-    asking: &Asking<'_>,
-    refuter: &mut Refuter<'_>,
-    conflict: &Conflict,
-) -> Result<(), AllocError>
-    requires refuter { refuter.old ≡ asking.now.system }
-    requires can { CanBeRefuted asking.now.plant asking.now.facts conflict.now }
-    ensures added { IfOk result (λ _. AddsBlocks asking.now.plant asking.now.facts (conflict.now ∷ []) lines.old.items lines.new.items) }
-    ensures kept { refuter.new ≡ refuter.old }
-{
-    let pairs = conflict.pairs();
-    let told = asking.refutation_of(refuter, pairs)?;
-    lines.push(conflict_line(alloc, pairs)?)?;
-    push_clauses(lines, told)?;
-    Ok(())
-}
-
 /// Adds the blocks of these conflicts, of none of which the choices are possible together.
 pub fn push_blocks(
     alloc: Global,
@@ -58,7 +38,10 @@ pub fn push_blocks(
     ensures kept { refuter.new ≡ refuter.old }
 {
     for conflict in kept {
-        push_block(alloc, lines, asking, refuter, conflict)?;
+        let pairs = conflict.pairs();
+        let told = asking.refutation_of(refuter, pairs)?;
+        lines.push(conflict_line(alloc, pairs)?)?;
+        push_clauses(lines, told)?;
     }
     Ok(())
 }
