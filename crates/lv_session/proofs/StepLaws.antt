@@ -53,6 +53,11 @@ pub record IsFair (plant : Plant) (state : SessionState) (clearing certifying : 
   pub due : IsDue plant s.state s.reply
   pub told : certifying ≡ false → is_certificate s.reply ≡ false
 
+-- a reply that is no refusal and no certificate
+record IsAnswer (plant : Plant) (next : SessionState) (reply : Reply) : Type 0 where
+  pub plain : keeps reply ≡ false
+  pub due : IsDue plant next reply
+
 -- a refusal
 fair_refusal : (plant : Plant) (state : SessionState) (b : Bool) (refusal : Refusal) → IsFair plant state b false (unchanged state (Refused refusal))
 fair_refusal plant state b refusal = record { kept = λ _. refl; carried = λ _ e. absurd (cc e); due = tt; told = λ _. refl }
@@ -101,89 +106,57 @@ module _ (plant : Plant) (state : SessionState) where
       by true = fair_clearing plant state (record state { goals = filter (lacks_goal_name name) state.goals }) true
       by false = fair_refusal plant state true NameNotHeld
 
-  -- a diagnosis is no refusal and no certificate
-  no_refusal : (o : Outcome) (w : Walked) → keeps (reply_by o w) ≡ false
-  no_refusal Settled w = refl
-  no_refusal Unsettled w = refl
+  fair_answer : (s : Stepped) → IsAnswer plant s.state s.reply → IsFair plant state false false s
+  fair_answer s is = record {
+    kept = λ e. let clash : true ≡ false = sym e ∙ is.plain in absurd (cc clash);
+    carried = λ e _. absurd (cc e);
+    due = is.due;
+    told = λ _. (or_parts (is_refused s.reply) (is_certificate s.reply) is.plain).1;
+  }
 
-  diagnosis_due : (next : SessionState) (o : Outcome) (w : Walked) → IsDue plant next (reply_by o w)
-  diagnosis_due next Settled w = tt
-  diagnosis_due next Unsettled w = tt
+  diagnosis_answers : (next : SessionState) (o : Outcome) (w : Walked) → IsAnswer plant next (reply_by o w)
+  diagnosis_answers next Settled w = record { plain = refl; due = tt }
+  diagnosis_answers next Unsettled w = record { plain = refl; due = tt }
 
   fair_diagnosis : (sum : ℕ) → IsFair plant state false false (diagnosed plant state sum)
-  fair_diagnosis sum = record {
-    kept = λ e. let clash : true ≡ false = sym e ∙ no_refusal (walked plant state sum).outcome (walked plant state sum) in absurd (cc clash);
-    carried = λ e _. absurd (cc e);
-    due = diagnosis_due (diagnosed plant state sum).state (walked plant state sum).outcome (walked plant state sum);
-    told = λ _. (or_parts (is_refused (diagnosed plant state sum).reply) _ (no_refusal (walked plant state sum).outcome (walked plant state sum))).1;
-  }
+  fair_diagnosis sum =
+      let w = walked plant state sum in
+      fair_answer (diagnosed plant state sum) (diagnosis_answers (diagnosed plant state sum).state w.outcome w)
 
-  -- nor is a recovery
-  recovery_no_refusal : (o : Outcome) (w : Walked) → keeps (recovery_reply_by o w) ≡ false
-  recovery_no_refusal Settled w = by w.listed
+  recovery_answers : (next : SessionState) (o : Outcome) (w : Walked) → IsAnswer plant next (recovery_reply_by o w)
+  recovery_answers next Settled w = by w.listed
     where
-      by : (rs : List Rank) → keeps (found rs) ≡ false
-      by [] = refl
-      by (r ∷ rs) = refl
-  recovery_no_refusal Unsettled w = refl
-
-  recovery_due : (next : SessionState) (o : Outcome) (w : Walked) → IsDue plant next (recovery_reply_by o w)
-  recovery_due next Settled w = by w.listed
-    where
-      by : (rs : List Rank) → IsDue plant next (found rs)
-      by [] = tt
-      by (r ∷ rs) = tt
-  recovery_due next Unsettled w = tt
+      by : (rs : List Rank) → IsAnswer plant next (found rs)
+      by [] = record { plain = refl; due = tt }
+      by (r ∷ rs) = record { plain = refl; due = tt }
+  recovery_answers next Unsettled w = record { plain = refl; due = tt }
 
   fair_recovery : (sum : ℕ) → IsFair plant state false false (recovered plant state sum)
-  fair_recovery sum = record {
-    kept = λ e. let clash : true ≡ false = sym e ∙ recovery_no_refusal (recovery plant state sum).outcome (recovery plant state sum) in absurd (cc clash);
-    carried = λ e _. absurd (cc e);
-    due = recovery_due (recovered plant state sum).state (recovery plant state sum).outcome (recovery plant state sum);
-    told = λ _. (or_parts (is_refused (recovered plant state sum).reply) _ (recovery_no_refusal (recovery plant state sum).outcome (recovery plant state sum))).1;
-  }
+  fair_recovery sum =
+      let w = recovery plant state sum in
+      fair_answer (recovered plant state sum) (recovery_answers (recovered plant state sum).state w.outcome w)
 
-  -- nor is a test
-  test_no_refusal : (o : Outcome) (w : Walked) → keeps (test_reply_by o w) ≡ false
-  test_no_refusal Settled w = by w.listed
+  test_answers : (next : SessionState) (o : Outcome) (w : Walked) → IsAnswer plant next (test_reply_by o w)
+  test_answers next Settled w = by w.listed
     where
-      by : (rs : List Rank) → keeps (found_test rs) ≡ false
-      by [] = refl
-      by (r ∷ rs) = refl
-  test_no_refusal Unsettled w = refl
-
-  test_due : (next : SessionState) (o : Outcome) (w : Walked) → IsDue plant next (test_reply_by o w)
-  test_due next Settled w = by w.listed
-    where
-      by : (rs : List Rank) → IsDue plant next (found_test rs)
-      by [] = tt
-      by (r ∷ rs) = tt
-  test_due next Unsettled w = tt
+      by : (rs : List Rank) → IsAnswer plant next (found_test rs)
+      by [] = record { plain = refl; due = tt }
+      by (r ∷ rs) = record { plain = refl; due = tt }
+  test_answers next Unsettled w = record { plain = refl; due = tt }
 
   fair_test : (x : VarId) (sum : ℕ) → IsFair plant state false false (tested plant state x sum)
-  fair_test x sum = record {
-    kept = λ e. let clash : true ≡ false = sym e ∙ test_no_refusal (testing plant state x sum).outcome (testing plant state x sum) in absurd (cc clash);
-    carried = λ e _. absurd (cc e);
-    due = test_due (tested plant state x sum).state (testing plant state x sum).outcome (testing plant state x sum);
-    told = λ _. (or_parts (is_refused (tested plant state x sum).reply) _ (test_no_refusal (testing plant state x sum).outcome (testing plant state x sum))).1;
-  }
+  fair_test x sum =
+      let w = testing plant state x sum in
+      fair_answer (tested plant state x sum) (test_answers (tested plant state x sum).state w.outcome w)
 
-  -- nor is a window
-  window_no_refusal : (o : Outcome) (steps : ℕ) (w : Walked) → keeps (window_reply_by o steps w) ≡ false
-  window_no_refusal Settled steps w = refl
-  window_no_refusal Unsettled steps w = refl
-
-  window_due : (next : SessionState) (o : Outcome) (steps : ℕ) (w : Walked) → IsDue plant next (window_reply_by o steps w)
-  window_due next Settled steps w = tt
-  window_due next Unsettled steps w = tt
+  window_answers : (next : SessionState) (o : Outcome) (steps : ℕ) (w : Walked) → IsAnswer plant next (window_reply_by o steps w)
+  window_answers next Settled steps w = record { plain = refl; due = tt }
+  window_answers next Unsettled steps w = record { plain = refl; due = tt }
 
   fair_window : (steps sum : ℕ) → IsFair plant state false false (traced plant state steps sum)
-  fair_window steps sum = record {
-    kept = λ e. let clash : true ≡ false = sym e ∙ window_no_refusal (tracing plant state steps sum).outcome steps (tracing plant state steps sum) in absurd (cc clash);
-    carried = λ e _. absurd (cc e);
-    due = window_due (traced plant state steps sum).state (tracing plant state steps sum).outcome steps (tracing plant state steps sum);
-    told = λ _. (or_parts (is_refused (traced plant state steps sum).reply) _ (window_no_refusal (tracing plant state steps sum).outcome steps (tracing plant state steps sum))).1;
-  }
+  fair_window steps sum =
+      let w = tracing plant state steps sum in
+      fair_answer (traced plant state steps sum) (window_answers (traced plant state steps sum).state w.outcome steps w)
 
   fair_look_back : (steps : ℕ) → IsFair plant state false false (look_back plant state steps)
   fair_look_back steps = by (has_steps state.history steps)

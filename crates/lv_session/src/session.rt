@@ -94,19 +94,15 @@ impl<'a> Session<'a> {
         if self.is_out_of_memory {
             return Err(AllocError);
         }
-        match answer(
+        let reply = answer(
             self.alloc,
             self.compiled,
             &mut self.workings,
             &mut self.state,
             line,
-        ) {
-            Ok(reply) => Ok(reply),
-            Err(error) => {
-                self.is_out_of_memory = true;
-                Err(error)
-            }
-        }
+        );
+        self.is_out_of_memory = reply.is_err();
+        reply
     }
 
     /// Does what a line asks for, and answers a text of the reply.
@@ -222,19 +218,15 @@ impl<'a> Session<'a> {
         if self.is_out_of_memory {
             return Err(AllocError);
         }
-        match perform(
+        let reply = perform(
             self.alloc,
             self.compiled,
             &mut self.workings,
             &mut self.state,
             request,
-        ) {
-            Ok(reply) => Ok(reply),
-            Err(error) => {
-                self.is_out_of_memory = true;
-                Err(error)
-            }
-        }
+        );
+        self.is_out_of_memory = reply.is_err();
+        reply
     }
 
     /// What the last diagnosis did, in counts that no clause speaks of: for measuring. None where no diagnosis is kept. Takes

@@ -3,14 +3,14 @@
 
 ghost use Rattle.std.specs.Prelude.{◌≡◌, IfOk, None, OnOk, OnErr};
 ghost use Rattle.lv_session_state.specs.lv_session_request.Requests.{IsRequestOf};
-ghost use Rattle.lv_session.specs.Session.{carried_out, stepped};
+ghost use Rattle.lv_session.specs.Session.{stepped};
 ghost use Rattle.lv_session.specs.Applying.{performed};
 ghost use Rattle.lv_session_state.specs.States.{IsStateOf};
 ghost use Rattle.lv_session_state.specs.Current.{IsCurrent};
 ghost use Rattle.lv_session.specs.Kept.{IsLabellerOf};
 
 use crate::compiled::CompiledModel;
-use crate::requests;
+use crate::requests::carry_out;
 use lv_labels::Labeller;
 use lv_reply::Reply;
 use lv_session_state::{Request, Running, State, Unread, request_of};
@@ -45,39 +45,6 @@ impl<'a> Workings<'a> {
     }
 }
 
-/// Does what is asked for in a session that hasn't ended, and answers the reply. After want of memory the state is as it was,
-/// and what is kept of the current query may be lost.
-fn carry_out<'a>(
-    alloc: Global,
-    compiled: &'a CompiledModel<'a>,
-    workings: &mut Workings<'a>,
-    state: &mut State,
-    request: Request,
-) -> Result<Reply, AllocError>
-    requires state { IsStateOf compiled.now state.old }
-    requires request { IsRequestOf compiled.now request }
-    requires running { IsCurrent compiled.now state.old workings.old.running }
-    requires labeller { IsLabellerOf compiled.now workings.old.labeller }
-    ensures ok { IfOk result (λ reply. record { state = state.new; reply = reply } ≡ carried_out compiled.now state.old request) }
-    ensures err { OnErr result (state.new ≡ state.old) }
-    ensures kept { IsStateOf compiled.now state.new }
-    ensures running { OnOk result (IsCurrent compiled.now state.new workings.new.running) }
-    ensures labeller { IsLabellerOf compiled.now workings.new.labeller }
-{
-    let model = compiled.model;
-    let _plant = model.plant();
-    requests::carry_out(
-        alloc,
-        model,
-        &compiled.system,
-        &compiled.lists,
-        state,
-        &mut workings.running,
-        &mut workings.labeller,
-        request,
-    )
-}
-
 /// Does what a line asks for, which is given without its end, and answers the reply. After want of memory the state is
 /// as it was, and what is kept of the current query may be lost.
 #[tactic(auto, unfolding(crate::specs::Session::stepped))]
@@ -102,13 +69,14 @@ pub(crate) fn answer<'a>(
     }
     let model = compiled.model;
     match request_of(alloc, model, &compiled.lists, &mut workings.room, line) {
-        Ok(request) => carry_out(alloc, compiled, workings, state, request),
+        Ok(request) => perform(alloc, compiled, workings, state, request),
         Err(Unread::Refused(refusal)) => Ok(Reply::Refused(refusal)),
         Err(Unread::Memory) => Err(AllocError),
     }
 }
 
-/// Does what is asked for without a line, and answers the reply, as `answer` does with a line that asks for it.
+/// Does what is asked for, as a line that asks for it does, and answers the reply. After want of memory the state is as it
+/// was, and what is kept of the current query may be lost.
 pub(crate) fn perform<'a>(
     alloc: Global,
     compiled: &'a CompiledModel<'a>,
@@ -129,5 +97,16 @@ pub(crate) fn perform<'a>(
     if state.is_ended() {
         return Ok(Reply::Nothing);
     }
-    carry_out(alloc, compiled, workings, state, request)
+    let model = compiled.model;
+    let _plant = model.plant();
+    carry_out(
+        alloc,
+        model,
+        &compiled.system,
+        &compiled.lists,
+        state,
+        &mut workings.running,
+        &mut workings.labeller,
+        request,
+    )
 }

@@ -8,7 +8,7 @@ use Rattle.lv_session_state.specs.States.{IsStateOf}
 use Rattle.lv_session_state.specs.Current.{IsCurrent}
 use Rattle.lv_session.proofs.Keeping.{state_kept}
 use Rattle.lv_session.proofs.CurrentLemmas.{current_kept}
-use Rattle.lv_session.proofs.workings.carry_out.Goals as goal
+use Rattle.lv_session.proofs.workings.perform.Goals as goal
 
 pub returns-clause-kept : goal.returns-clause-kept
 returns-clause-kept c =
