@@ -42,7 +42,7 @@ use Rattle.lv_cert_writing.specs.BlockLines.{derived_of}
 use Rattle.lv_cert_recovery.specs.declared.asking.Told.{Told}
 use Rattle.lv_cert_recovery.specs.declared.asking.Told.TheVariants.{Step, Lines}
 use Rattle.lv_cert_recovery.specs.Asking.{Asked, IsAsking}
-use Rattle.lv_cert_recovery.specs.Telling.{IsDecodedFrom, IsTold, TellsReached, TellsMissed}
+use Rattle.lv_cert_recovery.specs.Telling.{IsDecodedFrom, IsToldOf, TellsReached, TellsMissed}
 use Rattle.lv_cert_recovery.proofs.MeaningLemmas.{nominal_in, units_over}
 use Rattle.lv_cert_recovery.proofs.StepLemmas.{goal_means, goals_mean, as_not, decoded_step, more_hold, model_of}
 
@@ -65,12 +65,12 @@ module _ (plant : Plant) (system : SystemValue) (of : IsSystemOf plant system) w
   pub goal_spoken : (goal given : Tree) → GoalFits plant goal → given ≡ goal → IsTrue (goal_speaks system given)
   goal_spoken goal given fit same = ap (goal_speaks system) same ∙ goals_exact.speaks plant system of goal fit.equations
 
-  goal_over : (goal : Tree) (sign : Bool) → GoalFits plant goal → All (IsOver (bool_count plant)) (goal_clauses plant sign goal)
+  pub goal_over : (goal : Tree) (sign : Bool) → GoalFits plant goal → All (IsOver (bool_count plant)) (goal_clauses plant sign goal)
   goal_over goal sign fit =
       over_from (bool_count plant) (goal_clauses plant sign goal)
       (ap (list_all (is_clause (bool_count plant))) (sym (goal_made goal sign)) ∙ goals_exact.clauses plant system of goal fit.equations sign)
 
-  goals_over : (gs : List Tree) → All (GoalFits plant) gs → All (IsOver (bool_count plant)) (flat_map (goal_clauses plant true) gs)
+  pub goals_over : (gs : List Tree) → All (GoalFits plant) gs → All (IsOver (bool_count plant)) (flat_map (goal_clauses plant true) gs)
   goals_over [] fit = All-nil (IsOver (bool_count plant))
   goals_over (g ∷ gs) fit =
       All-append (IsOver (bool_count plant)) (goal_clauses plant true g) (flat_map (goal_clauses plant true) gs) (goal_over g true (All-head (GoalFits plant) g gs fit))
@@ -83,16 +83,10 @@ module _ (plant : Plant) (system : SystemValue) (of : IsSystemOf plant system) w
         (units_over (bool_count plant) ((mode_literals plant plant.parts s.modes ++ no_fault_literals plant 0 plant.parts) ++ ((stated_by plant aim).literals ++ map (control_literal plant) pairs))
         (nominal_in plant s.modes aim.present pairs fit fits.present have))
 
-    own_over : (more : Clauses) → All (IsOver (bool_count plant)) more → All (IsOver system.set.bools) (own_clauses plant aim s pairs more)
+    pub own_over : (more : Clauses) → All (IsOver (bool_count plant)) more → All (IsOver system.set.bools) (own_clauses plant aim s pairs more)
     own_over more over =
         subst (λ bools. All (IsOver bools) (own_clauses plant aim s pairs more)) (sym of.bools)
         (All-append (IsOver (bool_count plant)) (nominal_units plant s.modes (stated_by plant aim).literals pairs) more nominal_over over)
-
-    pub reach_over : All (IsOver system.set.bools) (own_clauses plant aim s pairs (reached_clauses plant aim))
-    reach_over = own_over (reached_clauses plant aim) (goals_over aim.goals fits.goals)
-
-    pub miss_over : (goal : Tree) → GoalFits plant goal → All (IsOver system.set.bools) (own_clauses plant aim s pairs (goal_clauses plant false goal))
-    miss_over goal fitting = own_over (goal_clauses plant false goal) (goal_over goal false fitting)
 
 -- literals added one behind the other
 pub regrouped : (none a b c d all : List Lit) → none ≡ [] → all ≡ (((none ++ a) ++ b) ++ c) ++ d → all ≡ (a ++ b) ++ (c ++ d)
@@ -129,24 +123,25 @@ module _ (v : Asked) (vars : List VarId) (k : IsAsking v vars) (s : State) (fit 
     told_code : IsModelOf v.plant v.system p.now p.next p.moves d.values
     told_code = model_of v.plant k.well_formed v.aim v.system k.of_plant s fit k.asked.fits.present pairs have d.values p.now p.next p.moves d.decoded more d.true_of.own_hold
 
-  pub reach_tells : (told : Told) → length (own_clauses v.plant v.aim s pairs (reached_clauses v.plant v.aim)) ≤ 2 ^ 64
-      → IsTold v.system (own_clauses v.plant v.aim s pairs (reached_clauses v.plant v.aim)) told → TellsReached v.plant v.aim s pairs told
-  reach_tells (Step p) few d =
+  pub reach_tells : (told : Told) → IsToldOf v.system (own_clauses v.plant v.aim s pairs (reached_clauses v.plant v.aim)) told → TellsReached v.plant v.aim s pairs told
+  reach_tells (Step p) is =
+      let d : IsDecodedFrom v.system (own_clauses v.plant v.aim s pairs (reached_clauses v.plant v.aim)) p = is.told in
       record {
         step = told_step (reached_clauses v.plant v.aim) p d;
         goals =
             goals_mean v.plant d.values p.next (told_code (reached_clauses v.plant v.aim) p d).next v.aim.goals (all_fitting v.plant v.aim.goals k.asked.fits.goals)
             (told_hold (reached_clauses v.plant v.aim) p d);
       }
-  reach_tells (Lines ds) few told = refuted_there (reached_clauses v.plant v.aim) (map derived_of ds) few told
+  reach_tells (Lines ds) is = refuted_there (reached_clauses v.plant v.aim) (map derived_of ds) is.few is.told
 
-  pub miss_tells : (goal : Tree) → GoalFits v.plant goal → (told : Told) → length (own_clauses v.plant v.aim s pairs (goal_clauses v.plant false goal)) ≤ 2 ^ 64
-      → IsTold v.system (own_clauses v.plant v.aim s pairs (goal_clauses v.plant false goal)) told → TellsMissed v.plant v.aim s pairs goal told
-  miss_tells goal fitting (Step p) few d =
+  pub miss_tells : (goal : Tree) → GoalFits v.plant goal → (told : Told) → IsToldOf v.system (own_clauses v.plant v.aim s pairs (goal_clauses v.plant false goal)) told
+      → TellsMissed v.plant v.aim s pairs goal told
+  miss_tells goal fitting (Step p) is =
+      let d : IsDecodedFrom v.system (own_clauses v.plant v.aim s pairs (goal_clauses v.plant false goal)) p = is.told in
       record {
         step = told_step (goal_clauses v.plant false goal) p d;
         fails =
             as_not (truth_of p.next 0 goal)
             (sym (goal_means v.plant d.values p.next (told_code (goal_clauses v.plant false goal) p d).next goal fitting.equations false) ∙ told_hold (goal_clauses v.plant false goal) p d);
       }
-  miss_tells goal fitting (Lines ds) few told = refuted_there (goal_clauses v.plant false goal) (map derived_of ds) few told
+  miss_tells goal fitting (Lines ds) is = refuted_there (goal_clauses v.plant false goal) (map derived_of ds) is.few is.told

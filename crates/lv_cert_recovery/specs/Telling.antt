@@ -1,5 +1,5 @@
 -- What is told of the nominal steps from a state with some values of controls: one, or lines by which there is none.
-use Rattle.std.specs.Prelude.{◌≡◌, ◌++◌, Bool, true, false, List, map, Option, Some, None}
+use Rattle.std.specs.Prelude.{◌≡◌, ◌≤◌, ◌^◌, ◌++◌, Bool, true, false, List, length, map, Option, Some, None}
 use Rattle.lv_base.specs.declared.ids.Lit.{Lit}
 use Rattle.lv_base.specs.declared.ids.ValId.{ValId}
 use Rattle.lv_base.specs.declared.search.Pair.{Pair}
@@ -54,6 +54,11 @@ pub record IsDecodedFrom (s : SystemValue) (own : List (List Lit)) (p : StepPair
 abbrev pub IsTold : SystemValue → List (List Lit) → Told → Type 0
 IsTold s own (Step p) = IsDecodedFrom s own p
 IsTold s own (Lines ds) = refutes s.set.bools (clauses_of s ++ own) (map derived_of ds) ≡ true
+
+-- this of clauses of which there aren't too many
+pub record IsToldOf (s : SystemValue) (own : List (List Lit)) (t : Told) : Type 0 where
+  pub told : IsTold s own t
+  pub few : length own ≤ 2 ^ 64
 
 -- a step that reaches all goals, or lines by which none does
 abbrev pub TellsReached : Plant → Aim → State → List Pair → Told → Type 0

@@ -6,13 +6,14 @@ ghost use Rattle.lv_model.specs.Ranges.{plant_ranges};
 ghost use Rattle.lv_model.specs.WellFormed.{is_well_formed};
 ghost use Rattle.lv_meaning.specs.Commands.{control_sizes};
 ghost use Rattle.lv_meaning.specs.Ranges.{GoalFits, modes_fit};
+ghost use Rattle.lv_search_zones.specs.lv_compile.Booleans.{bool_count};
 ghost use Rattle.lv_system.specs.System.{IsSystemOf};
 ghost use Rattle.lv_system.specs.Numbering.{IsOver};
 ghost use Rattle.lv_cert_laws.specs.lv_cert_meaning.Units.{nominal_units, goal_clauses};
 ghost use Rattle.lv_cert_laws.specs.lv_cert_meaning.Certifying.{IsAsked};
 ghost use Rattle.lv_cert_writing.specs.Pairs.{HasChoice};
-ghost use Rattle.lv_cert_recovery.specs.Showing.{stated_by, reached_clauses};
-ghost use Rattle.lv_cert_recovery.specs.Telling.{IsTold, TellsReached, TellsMissed, is_step, are_lines};
+ghost use Rattle.lv_cert_recovery.specs.Showing.{stated_by, own_clauses, reached_clauses};
+ghost use Rattle.lv_cert_recovery.specs.Telling.{IsTold, IsToldOf, TellsReached, TellsMissed, is_step, are_lines};
 ghost use Rattle.lv_cert_recovery.specs.declared.asking.Told.TheVariants.{Step, Lines};
 
 use crate::units::{push_controls, push_modes, push_no_faults, push_seen};
@@ -175,6 +176,26 @@ impl<'a> Asking<'a> {
         Ok(())
     }
 
+    /// What is told of the nominal steps from the state, with these values of controls, that make these clauses true too.
+    fn steps_with(
+        &self,
+        refuter: &mut Refuter<'_>,
+        state: &State,
+        pairs: &[Pair],
+        more: Vec<Seq<Lit>>,
+    ) -> Result<Told, AllocError>
+        requires refuter { refuter.old ≡ self.now.system }
+        requires fit { modes_fit (plant_ranges self.now.plant) self.now.plant.parts state.now.modes ≡ true }
+        requires have { All (HasChoice (control_sizes self.now.plant)) pairs.now }
+        requires over { All (IsOver (bool_count self.now.plant)) more.items }
+        ensures told { IfOk result (IsToldOf self.now.system (own_clauses self.now.plant self.now.aim state.now pairs.now more.items)) }
+        ensures kept { refuter.new ≡ refuter.old }
+    {
+        let mut own = self.nominal(state, pairs)?;
+        push_all(&mut own, more)?;
+        ask(self.alloc, self.model, self.system, refuter, own.as_slice())
+    }
+
     /// A nominal step from the state, with these values of controls, that reaches all goals, or lines by which none does.
     pub fn reach(
         &self,
@@ -188,9 +209,9 @@ impl<'a> Asking<'a> {
         ensures told { IfOk result (TellsReached self.now.plant self.now.aim state.now pairs.now) }
         ensures kept { refuter.new ≡ refuter.old }
     {
-        let mut own = self.nominal(state, pairs)?;
-        self.push_reached(&mut own)?;
-        ask(self.alloc, self.model, self.system, refuter, own.as_slice())
+        let mut reached = Vec::new(self.alloc);
+        self.push_reached(&mut reached)?;
+        self.steps_with(refuter, state, pairs, reached)
     }
 
     /// Such a step that ends with the goal false, or lines by which none does.
@@ -208,9 +229,9 @@ impl<'a> Asking<'a> {
         ensures told { IfOk result (TellsMissed self.now.plant self.now.aim state.now pairs.now goal.now) }
         ensures kept { refuter.new ≡ refuter.old }
     {
-        let mut own = self.nominal(state, pairs)?;
-        push_all(&mut own, self.goal(goal, false)?)?;
-        ask(self.alloc, self.model, self.system, refuter, own.as_slice())
+        let _system = self.system;
+        let missed = self.goal(goal, false)?;
+        self.steps_with(refuter, state, pairs, missed)
     }
 }
 

@@ -1,47 +1,27 @@
--- what is stated is over the booleans of the system, and what is told of it is told of steps
-use Rattle.std.proofs.Common.{◌≡◌, ◌++◌, ◌∙◌, List, All, length, false, subst, sym, ap, arith}
+-- what is told of the clauses of the goal's negation is told of steps that miss it
+use Rattle.std.proofs.Common.{List, All, false, subst, sym}
 use Rattle.std.proofs.lemmas.Result.{IfOk-weaker}
 use Rattle.lv_base.specs.declared.ids.Lit.{Lit}
+use Rattle.lv_search_zones.specs.lv_compile.Booleans.{bool_count}
 use Rattle.lv_system.specs.Numbering.{IsOver}
-use Rattle.lv_system.specs.System.{SystemValue}
-use Rattle.lv_cert_laws.specs.lv_cert_meaning.Units.{nominal_units, goal_clauses}
 use Rattle.lv_cert_recovery.specs.Asking.{Asked, IsAsking}
-use Rattle.lv_cert_recovery.specs.Showing.{stated_by, own_clauses}
-use Rattle.lv_cert_recovery.specs.Telling.{IsTold}
-use Rattle.lv_cert_recovery.proofs.AskingLemmas.{miss_over, miss_tells}
+use Rattle.lv_cert_recovery.specs.Showing.{own_clauses}
+use Rattle.lv_cert_recovery.specs.Telling.{IsToldOf}
+use Rattle.lv_cert_recovery.proofs.AskingLemmas.{goal_over, miss_tells}
 use Rattle.lv_cert_recovery.proofs.asking.Asking.miss.Goals as goal
 
-pub ask-requires-clause-refuter : goal.ask-requires-clause-refuter
-ask-requires-clause-refuter c =
+pub steps_with-requires-clause-over : goal.steps_with-requires-clause-over
+steps_with-requires-clause-over c =
     let v : Asked = c.args.self.now in
     let k : IsAsking v c.self.inside.vars.items = subst (λ (a : Asked). IsAsking a c.self.inside.vars.items) c.self.view_is c.self.invariant in
-    let first : List (List Lit) = nominal_units v.plant c.args.state.now.modes (stated_by v.plant v.aim).literals c.args.pairs.now in
-    let of_system : c.self.inside.system.now ≡ v.system = ap (λ (a : Asked). a.system) c.self.view_is in
-    c.requires.refuter ∙ sym of_system
-
-pub ask-requires-clause-over : goal.ask-requires-clause-over
-ask-requires-clause-over c =
-    let v : Asked = c.args.self.now in
-    let k : IsAsking v c.self.inside.vars.items = subst (λ (a : Asked). IsAsking a c.self.inside.vars.items) c.self.view_is c.self.invariant in
-    let first : List (List Lit) = nominal_units v.plant c.args.state.now.modes (stated_by v.plant v.aim).literals c.args.pairs.now in
-    let of_system : c.self.inside.system.now ≡ v.system = ap (λ (a : Asked). a.system) c.self.view_is in
-    let made : c.as_slice.result.now ≡ own_clauses v.plant v.aim c.args.state.now c.args.pairs.now (goal_clauses v.plant false c.args.goal.now) =
-    c.as_slice.ensures.value ∙ c.in_ok-push_all.ensures ∙ ap (λ (cs : List (List Lit)). cs ++ c.in_ok-goal.field-0.items) c.in_ok-own.ensures ∙ ap (λ (cs : List (List Lit)). first ++ cs) c.in_ok-goal.ensures in
-    subst (λ (s : SystemValue). All (IsOver s.set.bools) c.as_slice.result.now) (sym of_system)
-    (subst (λ (cs : List (List Lit)). All (IsOver v.system.set.bools) cs) (sym made)
-    (miss_over v.plant v.system k.of_plant v.aim k.asked.fits c.args.state.now c.requires.fit c.args.pairs.now c.requires.have c.args.goal.now c.requires.goal))
+    subst (λ (cs : List (List Lit)). All (IsOver (bool_count v.plant)) cs) (sym c.in_ok-missed.ensures) (goal_over v.plant v.system k.of_plant c.args.goal.now false c.requires.goal)
 
 pub returns-clause-told : goal.returns-clause-told
 returns-clause-told c =
     let v : Asked = c.args.self.now in
     let k : IsAsking v c.self.inside.vars.items = subst (λ (a : Asked). IsAsking a c.self.inside.vars.items) c.self.view_is c.self.invariant in
-    let first : List (List Lit) = nominal_units v.plant c.args.state.now.modes (stated_by v.plant v.aim).literals c.args.pairs.now in
-    let of_system : c.self.inside.system.now ≡ v.system = ap (λ (a : Asked). a.system) c.self.view_is in
-    let made : c.as_slice.result.now ≡ own_clauses v.plant v.aim c.args.state.now c.args.pairs.now (goal_clauses v.plant false c.args.goal.now) =
-    c.as_slice.ensures.value ∙ c.in_ok-push_all.ensures ∙ ap (λ (cs : List (List Lit)). cs ++ c.in_ok-goal.field-0.items) c.in_ok-own.ensures ∙ ap (λ (cs : List (List Lit)). first ++ cs) c.in_ok-goal.ensures in
-    IfOk-weaker c.ask.result _ _
-    (λ told tells.
+    IfOk-weaker c.steps_with.result _ _
+    (λ told is.
     miss_tells v c.self.inside.vars.items k c.args.state.now c.requires.fit c.args.pairs.now c.requires.have c.args.goal.now c.requires.goal told
-    (let same = ap length made in let len = c.as_slice.ensures.len in let small = c.push_all.new.out.small in omega (arith, same, len, small))
-    (subst (λ (cs : List (List Lit)). IsTold v.system cs told) made (subst (λ (s : SystemValue). IsTold s c.as_slice.result.now told) of_system tells)))
-    c.ask.ensures.told
+    (subst (λ (cs : List (List Lit)). IsToldOf v.system (own_clauses v.plant v.aim c.args.state.now c.args.pairs.now cs) told) c.in_ok-missed.ensures is))
+    c.steps_with.ensures.told
