@@ -36,13 +36,13 @@ pub struct Pieces {
     pub err: usize,
 }
 
-pub const WHOLE: Pieces = Pieces {
+const WHOLE: Pieces = Pieces {
     file: 4096,
     out: 4096,
     err: 7,
 };
 
-pub const BYTES: Pieces = Pieces {
+const BYTES: Pieces = Pieces {
     file: 1,
     out: 4096,
     err: 7,
@@ -228,14 +228,23 @@ pub fn status_of(
     status_over_shelf(alloc, call, &mut shelf, pieces, wanted)
 }
 
-/// Whether a call ends as wanted.
-pub fn ends_so(
+/// Whether a call ends as wanted where so much comes at a time.
+fn ends_so(
     alloc: Global,
     call: &Call<'_>,
     pieces: Pieces,
     wanted: Wanted<'_>,
 ) -> Result<bool, AllocError> {
     Ok(status_of(alloc, call, pieces, wanted)?.is_some())
+}
+
+/// Whether a call ends as wanted where all comes at once, and where it comes byte by byte.
+pub fn ends_so_in_pieces(
+    alloc: Global,
+    call: &Call<'_>,
+    wanted: Wanted<'_>,
+) -> Result<bool, AllocError> {
+    Ok(ends_so(alloc, call, WHOLE, wanted)? && ends_so(alloc, call, BYTES, wanted)?)
 }
 
 /// A call of a table, and what is wanted of it.
@@ -245,9 +254,9 @@ pub struct Case {
     pub wanted: Wanted<'static>,
 }
 
-/// Whether a call ends as wanted where so much comes at a time.
-pub fn is_met(alloc: Global, case: &Case, pieces: Pieces) -> Result<bool, AllocError> {
-    ends_so(alloc, &case.call, pieces, case.wanted)
+/// Whether a call ends as wanted where all comes at once.
+pub fn is_met(alloc: Global, case: &Case) -> Result<bool, AllocError> {
+    ends_so(alloc, &case.call, WHOLE, case.wanted)
 }
 
 /// A case of a table: its name, the words, and the second file's text; behind `;` which call fails, on the shelf, the output or
@@ -298,13 +307,12 @@ macro_rules! case {
     };
 }
 
-/// Whether a call with a text as its second file is done, and writes these replies.
+/// Whether a call with a text as its second file is done, and writes these replies, all at once and byte by byte.
 pub fn replies_so<'a>(
     alloc: Global,
     words: &'a [&'a str],
     second: &'a [u8],
     replies: &'a [u8],
-    pieces: Pieces,
 ) -> Result<bool, AllocError> {
     let call = Call {
         words,
@@ -316,7 +324,7 @@ pub fn replies_so<'a>(
         out: replies,
         err: b"",
     };
-    ends_so(alloc, &call, pieces, Wanted::Just(end))
+    ends_so_in_pieces(alloc, &call, Wanted::Just(end))
 }
 
 /// Lines over the valve, and what is replied to them.
@@ -331,7 +339,6 @@ pub fn are_replied<'a>(
     alloc: Global,
     words: &'a [&'a str],
     script: &'a Script,
-    pieces: Pieces,
 ) -> Result<bool, AllocError> {
-    replies_so(alloc, words, script.lines, script.replies, pieces)
+    replies_so(alloc, words, script.lines, script.replies)
 }

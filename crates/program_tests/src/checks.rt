@@ -1,93 +1,105 @@
 //! Checks of certificates as whole calls: each status once.
 #![tactic(auto)]
 
-use crate::calls::{BYTES, Call, Case, End, Fails, USAGE, WHOLE, Wanted, is_met};
+use crate::calls::{Call, Case, End, Fails, NOTHING, USAGE, Wanted, ends_so_in_pieces, is_met};
 use crate::case;
 use lv_run::Status;
-use std::alloc::AllocError;
+use std::alloc::{AllocError, Global};
 use test_texts::STUCK_CLOSED;
 
 pub const CHECK: &[&str] = &["livingstone", "check", "valve.lv", "a.ses"];
 
-/// The same without its last line but one: what is left of the candidates is not looked at.
-const UNSPLIT: &[u8] = b"certificate diagnosis
-model valve
-k 4
-state 0 1
-control 2
-fact next 4 1
-listed 1 3
-now 1 2 2 1
-next 3 1 2 1
-conflict 1 1
-clause 0 117 92 116 39 44 35 0
-conflict 1 2
-clause 0 117 115 96 0
-conflict 1 4
-clause 0 117 100 116 42 44 35 0
-split 1 conflict 1
-split 2 conflict 2
-split 3 listed 1
-end
-";
-
-/// The same, where no two of the listed may lead to one state, and the last zone but one is split by a target.
-const DISTINCT: &[u8] = b"certificate diagnosis
-model valve
-k 4 distinct
-state 0 1
-control 2
-fact next 4 1
-listed 1 3
-now 1 2 2 1
-next 3 1 2 1
-conflict 1 1
-clause 0 117 92 116 39 44 35 0
-conflict 1 2
-clause 0 117 115 96 0
-conflict 1 4
-clause 0 117 100 116 42 44 35 0
-split 1 conflict 1
-split 2 conflict 2
-split 3 target 1
-split 4 conflict 3
-end
-";
-
-/// The same split where targets need not be distinct.
-const UNASKED: &[u8] = b"certificate diagnosis
-model valve
-k 4
-state 0 1
-control 2
-fact next 4 1
-listed 1 3
-now 1 2 2 1
-next 3 1 2 1
-conflict 1 1
-clause 0 117 92 116 39 44 35 0
-conflict 1 2
-clause 0 117 115 96 0
-conflict 1 4
-clause 0 117 100 116 42 44 35 0
-split 1 conflict 1
-split 2 conflict 2
-split 3 target 1
-split 4 conflict 3
-end
-";
-
 pub const UNREAD: &[u8] = b"cannot read certificate\n";
 
-const CERTIFICATES: &[Case] = &[
-    case!("a valid certificate", CHECK, STUCK_CLOSED => Done, b"valid\n", b""),
-    case!("a split by a target", CHECK, DISTINCT => Done, b"valid\n", b""),
-    case!(
-        "a split by a target that is not asked for", CHECK, UNASKED
-        => Invalid, b"invalid 18\n", b""
-    ),
-    case!("an invalid certificate", CHECK, UNSPLIT => Invalid, b"invalid 19\n", b""),
+/// A line, and what stands in its place.
+#[derive(Clone, Copy)]
+struct Edit {
+    old: &'static [u8],
+    new: &'static [u8],
+}
+
+/// A certificate that is `STUCK_CLOSED` but for some lines, and what is said of it.
+struct Certificate {
+    name: &'static str,
+    edits: &'static [Edit],
+    status: Status,
+    says: &'static [u8],
+}
+
+const BY_TARGET: Edit = Edit {
+    old: b"split 3 listed 1\n",
+    new: b"split 3 target 1\n",
+};
+
+const CERTIFICATES: &[Certificate] = &[
+    Certificate {
+        name: "a valid certificate",
+        edits: &[],
+        status: Status::Done,
+        says: b"valid\n",
+    },
+    Certificate {
+        name: "a split by a target",
+        edits: &[
+            Edit {
+                old: b"k 4\n",
+                new: b"k 4 distinct\n",
+            },
+            BY_TARGET,
+        ],
+        status: Status::Done,
+        says: b"valid\n",
+    },
+    Certificate {
+        name: "a split by a target that is not asked for",
+        edits: &[BY_TARGET],
+        status: Status::Invalid,
+        says: b"invalid 18\n",
+    },
+    Certificate {
+        name: "what is left of the candidates is not looked at",
+        edits: &[Edit {
+            old: b"split 4 conflict 3\n",
+            new: b"",
+        }],
+        status: Status::Invalid,
+        says: b"invalid 19\n",
+    },
 ];
+
+/// What stands in the place of a line.
+fn in_place_of<'a>(line: &'a [u8], edits: &[Edit]) -> &'a [u8] {
+    for edit in edits {
+        if edit.old == line {
+            return edit.new;
+        }
+    }
+    line
+}
+
+fn edited(alloc: Global, text: &[u8], edits: &[Edit]) -> Result<Vec<u8>, AllocError> {
+    let mut out = Vec::new(alloc);
+    for line in text.split_inclusive(|byte| *byte == b'\n') {
+        out.extend_from_slice(in_place_of(line, edits))?;
+    }
+    Ok(out)
+}
+
+/// Whether this is said of the certificate.
+fn is_judged(alloc: Global, certificate: &Certificate) -> Result<bool, AllocError> {
+    let text = edited(alloc, STUCK_CLOSED, certificate.edits)?;
+    let call = Call {
+        words: CHECK,
+        second: text.as_slice(),
+        fails: NOTHING,
+    };
+    let end = End {
+        status: certificate.status,
+        out: certificate.says,
+        err: b"",
+    };
+    ends_so_in_pieces(alloc, &call, Wanted::Just(end))
+}
 
 const CALLS: &[Case] = &[
     case!("a text out of form", CHECK, b"" => Invalid, b"invalid 1\n", b""),
@@ -103,11 +115,8 @@ const CALLS: &[Case] = &[
         "a certificate that is not there", &["livingstone", "check", "valve.lv", "absent"], STUCK_CLOSED
         => SecondUnread, b"", UNREAD
     ),
-];
-
-const WRITES: &[Case] = &[
     case!("the write fails", CHECK, STUCK_CLOSED; out fails at 1 => OutputFailed, b"", b""),
-    case!("the flush fails", CHECK, UNSPLIT; out fails at 2 => OutputFailed, b"invalid 19\n", b""),
+    case!("the flush fails", CHECK, b""; out fails at 2 => OutputFailed, b"invalid 1\n", b""),
     case!(
         "the line on standard error fails", &["livingstone", "check", "bad.lv", "a.ses"], STUCK_CLOSED; err fails at 1
         => OutputFailed, b"", b""
@@ -116,13 +125,8 @@ const WRITES: &[Case] = &[
 
 #[test]
 fn certificates_in_pieces(rt: HostRuntime) -> Result<(), AllocError> {
-    for case in CERTIFICATES {
-        assert!(rt; is_met(rt.alloc(), case, WHOLE)?, "{}", case.name);
-        assert!(rt;
-            is_met(rt.alloc(), case, BYTES)?,
-            "{}, byte by byte",
-            case.name
-        );
+    for certificate in CERTIFICATES {
+        assert!(rt; is_judged(rt.alloc(), certificate)?, "{}", certificate.name);
     }
     Ok(())
 }
@@ -130,15 +134,7 @@ fn certificates_in_pieces(rt: HostRuntime) -> Result<(), AllocError> {
 #[test]
 fn calls_to_check(rt: HostRuntime) -> Result<(), AllocError> {
     for case in CALLS {
-        assert!(rt; is_met(rt.alloc(), case, WHOLE)?, "{}", case.name);
-    }
-    Ok(())
-}
-
-#[test]
-fn failed_writes(rt: HostRuntime) -> Result<(), AllocError> {
-    for case in WRITES {
-        assert!(rt; is_met(rt.alloc(), case, WHOLE)?, "{}", case.name);
+        assert!(rt; is_met(rt.alloc(), case)?, "{}", case.name);
     }
     Ok(())
 }

@@ -2,7 +2,7 @@
 //! memory. The replies are those of an independent program.
 #![tactic(auto)]
 
-use crate::calls::{BYTES, Script, WHOLE, are_replied};
+use crate::calls::{Script, are_replied};
 use std::alloc::AllocError;
 
 const LANES: &[&str] = &["livingstone", "lanes", "valve.lv", "a.ses"];
@@ -114,16 +114,7 @@ turn 3
 #[test]
 fn lanes(rt: HostRuntime) -> Result<(), AllocError> {
     for script in SCRIPTS {
-        assert!(rt;
-            are_replied(rt.alloc(), LANES, script, WHOLE)?,
-            "{}",
-            script.name
-        );
-        assert!(rt;
-            are_replied(rt.alloc(), LANES, script, BYTES)?,
-            "{}, byte by byte",
-            script.name
-        );
+        assert!(rt; are_replied(rt.alloc(), LANES, script)?, "{}", script.name);
     }
     Ok(())
 }

@@ -2,7 +2,7 @@
 //! memory. The replies are those of an independent program.
 #![tactic(auto)]
 
-use crate::calls::{BYTES, Script, WHOLE, are_replied};
+use crate::calls::{Script, are_replied};
 use std::alloc::AllocError;
 
 const PLANT: &[&str] = &["livingstone", "plant", "valve.lv", "a.ses"];
@@ -267,16 +267,7 @@ error S02
 #[test]
 fn plants(rt: HostRuntime) -> Result<(), AllocError> {
     for script in SCRIPTS {
-        assert!(rt;
-            are_replied(rt.alloc(), PLANT, script, WHOLE)?,
-            "{}",
-            script.name
-        );
-        assert!(rt;
-            are_replied(rt.alloc(), PLANT, script, BYTES)?,
-            "{}, byte by byte",
-            script.name
-        );
+        assert!(rt; are_replied(rt.alloc(), PLANT, script)?, "{}", script.name);
     }
     Ok(())
 }

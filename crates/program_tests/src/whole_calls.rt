@@ -3,118 +3,41 @@
 #![tactic(auto)]
 
 use crate::calls::{
-    BYTES, Call, Case, End, Fails, MODEL_UNREAD, NOTHING, Pieces, USAGE, WHOLE, Wanted, is_met,
+    Call, Case, End, Fails, MODEL_UNREAD, NOTHING, USAGE, Wanted, ends_so_in_pieces, is_met,
     replies_so,
 };
 use crate::case;
+use crate::expected_texts::MODEL;
 use lv_run::Status;
 use std::alloc::{AllocError, Global};
 
-/// The valve's canonical text.
-const CANONICAL: &[u8] = b"version 2
-model valve
-domain flow zero some
-domain order none open close
-type valve
-control cmd order
-variable inn flow
-observable out flow
-mode closed
-mode open
-mode stuck_closed
-mode stuck_open
-in closed out=zero
-in open out=inn
-in stuck_closed out=zero
-in stuck_open out=inn
-step closed->open when cmd=open
-step open->closed when cmd=close
-fault closed->stuck_closed cost 3
-fault open->stuck_open cost 5
-fault open->stuck_closed cost 4
-fault closed->stuck_open cost 8
+/// A text of the second version, with each form that the first lacks.
+const SECOND: &[u8] = b"version 2
+model m
+domain d a b
+type t
+control c d
+mode m
+mode n
+in m | n c = a
+fault -> m cost 7
+fault m -> n cost 3 repair c = a
 end
-part v valve closed
-law v.inn=some
+part p t m
 ";
 
-/// The valve in short, in the second version.
-const SHORT: &[u8] = b"version 2
-model valve
-domain flow zero some
-domain order none open close
-type valve
-control cmd order
-variable inn flow
-observable out flow
-mode closed
-mode open
-mode stuck_closed
-mode stuck_open
-in closed | stuck_closed out = zero
-in open out = inn
-in stuck_open out = inn
-step closed -> open when cmd = open
-step open -> closed when cmd = close
-fault closed -> stuck_closed cost 3 repair cmd = close
-fault open -> stuck_open cost 5
-fault -> stuck_closed cost 4
-fault closed -> stuck_open cost 8
+const SECOND_CANONICAL: &[u8] = b"version 2
+model m
+domain d a b
+type t
+control c d
+mode m
+mode n
+in m|n c=a
+fault->m cost 7
+fault m->n cost 3 repair c=a
 end
-part v valve closed
-law v.inn = some
-";
-
-const SHORT_CANONICAL: &[u8] = b"version 2
-model valve
-domain flow zero some
-domain order none open close
-type valve
-control cmd order
-variable inn flow
-observable out flow
-mode closed
-mode open
-mode stuck_closed
-mode stuck_open
-in closed|stuck_closed out=zero
-in open out=inn
-in stuck_open out=inn
-step closed->open when cmd=open
-step open->closed when cmd=close
-fault closed->stuck_closed cost 3 repair cmd=close
-fault open->stuck_open cost 5
-fault->stuck_closed cost 4
-fault closed->stuck_open cost 8
-end
-part v valve closed
-law v.inn=some
-";
-
-/// The same without its version.
-const SHORT_IN_ONE: &[u8] = b"model valve
-domain flow zero some
-domain order none open close
-type valve
-control cmd order
-variable inn flow
-observable out flow
-mode closed
-mode open
-mode stuck_closed
-mode stuck_open
-in closed | stuck_closed out = zero
-in open out = inn
-in stuck_open out = inn
-step closed -> open when cmd = open
-step open -> closed when cmd = close
-fault closed -> stuck_closed cost 3 repair cmd = close
-fault open -> stuck_open cost 5
-fault -> stuck_closed cost 4
-fault closed -> stuck_open cost 8
-end
-part v valve closed
-law v.inn = some
+part p t m
 ";
 
 const COMMANDED: &[u8] = b"ok
@@ -134,15 +57,24 @@ const RUN: &[&str] = &["livingstone", "run", "valve.lv", "a.ses"];
 
 const FIRST: &[u8] = b"command v.cmd = open\ndiagnose\n";
 
-const SESSIONS: &[Case] = &[
+const PRINT: &[&str] = &["livingstone", "print", "a.ses"];
+
+/// The session of 31 as an independent reference program runs it.
+const DRIVEN: &[u8] = b"drive 31
+replies 123
+errors 4
+settled 20
+unsettled 0
+trials 55
+tracked 1
+";
+
+const CALLS: &[Case] = &[
     case!("an empty session", RUN, b"" => Done, b"", b""),
     case!(
         "a refused model", &["livingstone", "run", "bad.lv", "a.ses"], FIRST
         => ModelRefused, b"", b"model 1 M04\n"
     ),
-];
-
-const WORDS: &[Case] = &[
     case!("too few words", &["livingstone", "run", "valve.lv"], FIRST => WordsRefused, b"", USAGE),
     case!(
         "a file word of a dash", &["livingstone", "run", "-", "a.ses"], FIRST
@@ -165,20 +97,16 @@ const WORDS: &[Case] = &[
         "no model has the number 0", &["livingstone", "generate", "model", "0"], b""
         => WordsRefused, b"", USAGE
     ),
-];
-
-const PRINTS: &[Case] = &[
-    case!("a printed model", &["livingstone", "print", "valve.lv"], b"" => Done, CANONICAL, b""),
     case!(
-        "a printed model of the second version", &["livingstone", "print", "a.ses"], SHORT
-        => Done, SHORT_CANONICAL, b""
+        "a printed model of the second version", PRINT, SECOND
+        => Done, SECOND_CANONICAL, b""
     ),
     case!(
-        "a form of the second version in a text of the first", &["livingstone", "print", "a.ses"], SHORT_IN_ONE
-        => ModelRefused, b"", b"model 12 M05\n"
+        "a form of the second version in a text of the first", PRINT, b"version 1\nmodel m\ntype t\nin m | n c = a\n"
+        => ModelRefused, b"", b"model 4 M05\n"
     ),
     case!(
-        "a version that is none", &["livingstone", "print", "a.ses"], b"version 3"
+        "a version that is none", PRINT, b"version 3"
         => ModelRefused, b"", b"model 1 M06\n"
     ),
     case!(
@@ -189,10 +117,7 @@ const PRINTS: &[Case] = &[
         "a refused model is not printed", &["livingstone", "print", "bad.lv"], b""
         => ModelRefused, b"", b"model 1 M04\n"
     ),
-];
-
-/// The model is opened and read in two calls, and the session in one more each; then nothing more comes.
-const READS: &[Case] = &[
+    // The model is opened and read in two calls, and the session in one more each; then nothing more comes.
     case!(
         "a failed read of the model", RUN, FIRST; shelf fails at 3
         => ModelUnread, b"", MODEL_UNREAD
@@ -209,9 +134,6 @@ const READS: &[Case] = &[
         "a line torn by it", RUN, b"command v.cmd = open\ndiagnose"; shelf fails at 6
         => SecondUnread, b"ok\n", b"cannot read session\n"
     ),
-];
-
-const WRITES: &[Case] = &[
     case!("a failed write", RUN, b"diagnose"; out fails at 1 => OutputFailed, b"", b""),
     // Both replies of a piece are one write; the flush behind it fails.
     case!("a failed flush", RUN, FIRST; out fails at 2 => OutputFailed, COMMANDED, b""),
@@ -220,6 +142,10 @@ const WRITES: &[Case] = &[
         "a failed write of a line", &["livingstone", "run", "bad.lv", "a.ses"], FIRST; err fails at 2
         => OutputFailed, b"", b"model 1"
     ),
+    case!("the model of 1", &["livingstone", "generate", "model", "1"], b"" => 28 lines),
+    case!("the model of 30", &["livingstone", "generate", "model", "30"], b"" => 86 lines),
+    case!("the model of 31", &["livingstone", "generate", "model", "0031"], b"" => 26 lines),
+    case!("a driven session", &["livingstone", "drive", "31"], b"" => Done, DRIVEN, b""),
 ];
 
 const LINES: &[Case] = &[
@@ -229,62 +155,10 @@ const LINES: &[Case] = &[
     case!("carriage returns", RUN, b"jump\r\n\njump\r" => Done, b"error S01\nerror S01\n", b""),
 ];
 
-const GENERATED: &[Case] = &[
-    case!("the model of 1", &["livingstone", "generate", "model", "1"], b"" => 28 lines),
-    case!("the model of 30", &["livingstone", "generate", "model", "30"], b"" => 86 lines),
-    case!("the model of 31", &["livingstone", "generate", "model", "0031"], b"" => 26 lines),
-];
-
-/// The session of 31 as an independent reference program runs it.
-const DRIVEN: &[u8] = b"drive 31
-replies 123
-errors 4
-settled 20
-unsettled 0
-trials 55
-tracked 1
-";
-
-const DRIVES: &[Case] = &[
-    case!("a driven session", &["livingstone", "drive", "31"], b"" => Done, DRIVEN, b""),
-];
-
 #[test]
-fn sessions(rt: HostRuntime) -> Result<(), AllocError> {
-    for case in SESSIONS {
-        assert!(rt; is_met(rt.alloc(), case, WHOLE)?, "{}", case.name);
-    }
-    Ok(())
-}
-
-#[test]
-fn words(rt: HostRuntime) -> Result<(), AllocError> {
-    for case in WORDS {
-        assert!(rt; is_met(rt.alloc(), case, WHOLE)?, "{}", case.name);
-    }
-    Ok(())
-}
-
-#[test]
-fn printed_models(rt: HostRuntime) -> Result<(), AllocError> {
-    for case in PRINTS {
-        assert!(rt; is_met(rt.alloc(), case, WHOLE)?, "{}", case.name);
-    }
-    Ok(())
-}
-
-#[test]
-fn failed_reads(rt: HostRuntime) -> Result<(), AllocError> {
-    for case in READS {
-        assert!(rt; is_met(rt.alloc(), case, WHOLE)?, "{}", case.name);
-    }
-    Ok(())
-}
-
-#[test]
-fn failed_writes(rt: HostRuntime) -> Result<(), AllocError> {
-    for case in WRITES {
-        assert!(rt; is_met(rt.alloc(), case, WHOLE)?, "{}", case.name);
+fn each_call_ends_as_wanted(rt: HostRuntime) -> Result<(), AllocError> {
+    for case in CALLS {
+        assert!(rt; is_met(rt.alloc(), case)?, "{}", case.name);
     }
     Ok(())
 }
@@ -292,29 +166,25 @@ fn failed_writes(rt: HostRuntime) -> Result<(), AllocError> {
 #[test]
 fn every_cut_into_pieces(rt: HostRuntime) -> Result<(), AllocError> {
     for case in LINES {
-        assert!(rt; is_met(rt.alloc(), case, WHOLE)?, "{}", case.name);
         assert!(rt;
-            is_met(rt.alloc(), case, BYTES)?,
-            "{}, byte by byte",
+            ends_so_in_pieces(rt.alloc(), &case.call, case.wanted)?,
+            "{}",
             case.name
         );
     }
     Ok(())
 }
 
-#[test]
-fn generated_models(rt: HostRuntime) -> Result<(), AllocError> {
-    for case in GENERATED {
-        assert!(rt; is_met(rt.alloc(), case, WHOLE)?, "{}", case.name);
-    }
-    Ok(())
+/// Whether what is printed of a canonical text of the first version is the text, behind the line of the second.
+fn is_printed(alloc: Global, text: &[u8]) -> Result<bool, AllocError> {
+    let mut printed = Vec::from_slice(alloc, b"version 2\n")?;
+    printed.extend_from_slice(text)?;
+    replies_so(alloc, PRINT, text, printed.as_slice())
 }
 
 #[test]
-fn driven_session(rt: HostRuntime) -> Result<(), AllocError> {
-    for case in DRIVES {
-        assert!(rt; is_met(rt.alloc(), case, WHOLE)?, "{}", case.name);
-    }
+fn a_canonical_model(rt: HostRuntime) -> Result<(), AllocError> {
+    assert!(rt; is_printed(rt.alloc(), MODEL)?);
     Ok(())
 }
 
@@ -357,17 +227,16 @@ fn session_of(alloc: Global, line: &LongLine) -> Result<Vec<u8>, AllocError> {
     Ok(session)
 }
 
-/// Whether a session with the line is replied to so where so much comes at a time.
-fn is_limited(alloc: Global, line: &LongLine, pieces: Pieces) -> Result<bool, AllocError> {
+/// Whether a session with the line is replied to so.
+fn is_limited(alloc: Global, line: &LongLine) -> Result<bool, AllocError> {
     let session = session_of(alloc, line)?;
-    replies_so(alloc, RUN, session.as_slice(), line.replies, pieces)
+    replies_so(alloc, RUN, session.as_slice(), line.replies)
 }
 
 #[test]
 fn lines_that_are_too_long(rt: HostRuntime) -> Result<(), AllocError> {
     for line in LONG_LINES {
-        assert!(rt; is_limited(rt.alloc(), line, WHOLE)?);
-        assert!(rt; is_limited(rt.alloc(), line, BYTES)?);
+        assert!(rt; is_limited(rt.alloc(), line)?);
     }
     Ok(())
 }

@@ -48,29 +48,33 @@ fn all_reply(
     Ok(lines.len() == wanted.len())
 }
 
-/// Whether the lines of a new session get these replies.
-fn replies_over(
+/// Lines of a new session over the valve, and the reply that each gets.
+struct Talk {
+    name: &'static str,
+    lines: &'static [&'static str],
+    replies: &'static [&'static str],
+}
+
+fn talks_over(
     alloc: Global,
     compiled: &CompiledModel<'_>,
-    lines: &[&str],
-    wanted: &[&str],
+    talk: &Talk,
 ) -> Result<bool, AllocError> {
     let mut session = Session::new(alloc, compiled)?;
-    all_reply(&mut session, lines, wanted)
+    all_reply(&mut session, talk.lines, talk.replies)
 }
 
-/// Whether the lines of a new session over the valve get these replies.
-fn session_replies(alloc: Global, lines: &[&str], wanted: &[&str]) -> Result<bool, AllocError> {
+/// Whether the lines get their replies.
+fn is_talk(alloc: Global, talk: &Talk) -> Result<bool, AllocError> {
     let model = valve(alloc)?;
     let compiled = CompiledModel::new(alloc, &model)?;
-    replies_over(alloc, &compiled, lines, wanted)
+    talks_over(alloc, &compiled, talk)
 }
 
-#[test]
-fn lines_of_a_session(rt: HostRuntime) -> Result<(), AllocError> {
-    let right = session_replies(
-        rt.alloc(),
-        &[
+const TALKS: &[Talk] = &[
+    Talk {
+        name: "lines of a session",
+        lines: &[
             " # nothing",
             "command v.cmd = open",
             "command v.inn = some",
@@ -79,7 +83,7 @@ fn lines_of_a_session(rt: HostRuntime) -> Result<(), AllocError> {
             "command v.cmd",
             "diagnose",
         ],
-        &[
+        replies: &[
             "",
             "ok\n",
             "error S04\n",
@@ -88,16 +92,10 @@ fn lines_of_a_session(rt: HostRuntime) -> Result<(), AllocError> {
             "error S02\n",
             OPENED,
         ],
-    )?;
-    assert!(rt; right);
-    Ok(())
-}
-
-#[test]
-fn a_query_that_goes_on(rt: HostRuntime) -> Result<(), AllocError> {
-    let right = session_replies(
-        rt.alloc(),
-        &[
+    },
+    Talk {
+        name: "a query that goes on",
+        lines: &[
             "budget 2",
             "command v.cmd = open",
             "observe o v.out = zero",
@@ -108,7 +106,7 @@ fn a_query_that_goes_on(rt: HostRuntime) -> Result<(), AllocError> {
             "commit",
             "states",
         ],
-        &[
+        replies: &[
             "ok\n",
             "ok\n",
             "ok\n",
@@ -119,16 +117,10 @@ fn a_query_that_goes_on(rt: HostRuntime) -> Result<(), AllocError> {
             "time 1 tracked 1\n",
             "time 1 tracked 1\n1 cost 3: v=stuck_closed\n",
         ],
-    )?;
-    assert!(rt; right);
-    Ok(())
-}
-
-#[test]
-fn certificates_of_no_settled_query(rt: HostRuntime) -> Result<(), AllocError> {
-    let right = session_replies(
-        rt.alloc(),
-        &[
+    },
+    Talk {
+        name: "certificates of no settled query",
+        lines: &[
             "certificate",
             "certificate 1",
             "budget 1",
@@ -139,7 +131,7 @@ fn certificates_of_no_settled_query(rt: HostRuntime) -> Result<(), AllocError> {
             "drop g",
             "certificate",
         ],
-        &[
+        replies: &[
             "error S10\n",
             "error S02\n",
             "ok\n",
@@ -150,16 +142,10 @@ fn certificates_of_no_settled_query(rt: HostRuntime) -> Result<(), AllocError> {
             "ok\n",
             "error S10\n",
         ],
-    )?;
-    assert!(rt; right);
-    Ok(())
-}
-
-#[test]
-fn commands_that_test(rt: HostRuntime) -> Result<(), AllocError> {
-    let right = session_replies(
-        rt.alloc(),
-        &[
+    },
+    Talk {
+        name: "commands that test",
+        lines: &[
             "observe o v.out = zero",
             "diagnose",
             "commit",
@@ -168,7 +154,7 @@ fn commands_that_test(rt: HostRuntime) -> Result<(), AllocError> {
             "commit",
             "test v.inn",
         ],
-        &[
+        replies: &[
             "ok\n",
             "settled 2\n1 cost 0 from 1: -\n2 cost 3 from 1: v closed>stuck_closed #3\n",
             "time 1 tracked 2\n",
@@ -177,7 +163,13 @@ fn commands_that_test(rt: HostRuntime) -> Result<(), AllocError> {
             "error S10\n",
             "error S05\n",
         ],
-    )?;
-    assert!(rt; right);
+    },
+];
+
+#[test]
+fn talks_with_a_session(rt: HostRuntime) -> Result<(), AllocError> {
+    for talk in TALKS {
+        assert!(rt; is_talk(rt.alloc(), talk)?, "{}", talk.name);
+    }
     Ok(())
 }
