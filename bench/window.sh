@@ -1,10 +1,11 @@
 #!/usr/bin/env bash
 # What windows take, in milliseconds of the processor: over rows of 2 to 32 valves the session that `generate` makes, of 20
 # rounds, with a window of 1, 2, 3 or 4 steps, as many as there are, asked for after each commit; and in its place a
-# diagnosis. With 1, 4 and 64 candidates. The time of the session without them is taken off, and stands beside; then the
-# trials and the conflicts of all of them, the microseconds for each trial, and how many times those of the diagnosis that
-# is: a window of W steps has W times as many choices, and is to take no more than 3 W times as long. A row that does is
-# marked, and the status is then 1. Builds the program first. Sizes may be given.
+# diagnosis. With 1, 4 and 64 candidates. Short sessions are run as often as fills a third of a second. The time of the
+# session without them is taken off, and stands beside; then the trials and the conflicts of all of them, the microseconds
+# for each trial, and how many times those of the diagnosis that is: a window of W steps has W times as many choices, and
+# is to take no more than 3 W times as long. A row that does is marked, and the status is then 1. Builds the program
+# first. Sizes may be given.
 set -eu
 . "$(dirname "$0")/common.sh"
 prepare "$@"
@@ -26,9 +27,19 @@ asking() {
     }' "$work/generated.ses"
 }
 
-# taken_by_session SESSION: the milliseconds of the processor, of three runs the middle one
+# taken_by_session SESSION: the microseconds of the processor, of three measurements the middle one
 taken_by_session() {
-  for _ in 1 2 3; do taken_by run "$work/row.lv" "$1"; done | sort -n | sed -n 2p
+  local once times
+  once=$(taken_by run "$work/row.lv" "$1")
+  times=$((once < 330 ? 330 / (once + 1) + 1 : 1))
+  for _ in 1 2 3; do taken_by_runs "$times" "$1"; done | sort -n | sed -n 2p
+}
+
+# taken_by_runs TIMES SESSION: the microseconds of the processor of one run, over so many
+taken_by_runs() {
+  local TIMEFORMAT=%3U taken
+  taken=$({ time for _ in $(seq "$1"); do "$program" run "$work/row.lv" "$2" >/dev/null; done; } 2>&1)
+  echo $((10#${taken/./} * 1000 / $1))
 }
 
 printf '%6s %4s %-10s %10s %10s %8s %9s %10s %7s\n' valves k query 'before ms' 'query ms' trials conflicts 'us a trial' times
@@ -51,12 +62,12 @@ for n in $sizes; do
       steps=${query#window }
       awk -v n="$n" -v k="$k" -v query="$query" -v before="$before" -v took="$took" -v trials="$trials" -v kept="$kept" \
         -v steps="${steps/diagnose/0}" -v of_one="$each" 'BEGIN {
-          each = trials > 0 ? took * 1000 / trials : 0
+          each = trials > 0 ? took / trials : 0
           times = of_one > 0 ? each / of_one : 0
           # a time too short to be told from another says nothing
-          slow = steps > 0 && took >= 20 && of_one > 0 && times > 3 * steps
+          slow = steps > 0 && took >= 20000 && of_one > 0 && times > 3 * steps
           ratio = times > 0 ? sprintf("%.2f", times) : "-"
-          printf("%6d %4d %-10s %10d %10d %8d %9d %10.1f %7s%s\n", n, k, query, before, took, trials, kept, each, ratio, slow ? " SLOW" : "")
+          printf("%6d %4d %-10s %10.1f %10.1f %8d %9d %10.1f %7s%s\n", n, k, query, before / 1000, took / 1000, trials, kept, each, ratio, slow ? " SLOW" : "")
           print each > "'"$work"'/each"
           exit slow
         }' || slow=1
