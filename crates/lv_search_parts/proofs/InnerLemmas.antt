@@ -1,16 +1,13 @@
 -- What a part leaves of the conflicts inside, one after the other.
 use Rattle.std.proofs.Common.{◌≡◌, ℕ, suc, ◌+◌, ◌<◌, ◌≤◌, Bool, true, false, List, [], ◌∷◌, ◌++◌, length, map, take, get_or, refl, sym, ◌∙◌, ap, ap₂, subst, add-one}
 use Rattle.std.specs.Prelude.{slice_index}
-use Rattle.std.specs.List.{list_all}
 use Rattle.std.proofs.Math.Seq.{take-suc}
 use Rattle.std.proofs.lemmas.List.{take_all}
-use Rattle.std.proofs.lemmas.List.Folds.{list_all-map}
 use Rattle.lv_base.specs.declared.search.Pair.{Pair}
 use Rattle.lv_base.specs.Choices.{slots_rise}
 use Rattle.lv_search_parts.specs.Slots.{pair_in, is_inside}
-use Rattle.lv_search_parts.specs.Parts.{is_there, inner_of, ArePlaces, IsLiveOf}
-use Rattle.lv_search_parts.proofs.PartLemmas.{inner_in, inner_out, renumbered_inside}
-use Rattle.lv_search_parts.proofs.LiveLemmas.{open_begins, live_out, live_more}
+use Rattle.lv_search_parts.specs.Parts.{inner_of, ArePlaces, IsLiveOf}
+use Rattle.lv_search_parts.proofs.PartLemmas.{inner_in, inner_out, renumbered_inside, placed_rise}
 
 -- one conflict more, inside or not
 inner_more : (marks : List Bool) (ks : List (List Pair)) (k : List Pair) → is_inside marks k ≡ true → inner_of marks (ks ++ k ∷ []) ≡ inner_of marks ks ++ map (pair_in marks) k ∷ []
@@ -33,7 +30,7 @@ inner_same marks (j ∷ js) k outside = by (is_inside marks j) refl (inner_same 
 took : (conflicts : List (List Pair)) (i : ℕ) (d pairs : List Pair) → i < length conflicts → pairs ≡ get_or conflicts i d → take (i + 1) conflicts ≡ take i conflicts ++ pairs ∷ []
 took conflicts i d pairs within is = ap (λ n. take n conflicts) (add-one i) ∙ take-suc conflicts i d within ∙ ap (λ ps. take i conflicts ++ ps ∷ []) (sym is)
 
-pub inner_live_more : (marks : List Bool) (conflicts : List (List Pair)) (i : ℕ) (d pairs : List Pair) (masks : List ℕ) (old new : List (List Pair)) → i < length conflicts → pairs ≡ get_or conflicts i d → is_inside marks pairs ≡ true
+inner_live_more : (marks : List Bool) (conflicts : List (List Pair)) (i : ℕ) (d pairs : List Pair) (masks : List ℕ) (old new : List (List Pair)) → i < length conflicts → pairs ≡ get_or conflicts i d → is_inside marks pairs ≡ true
     → ((ks : List (List Pair)) → IsLiveOf ks masks old → IsLiveOf (ks ++ map (pair_in marks) pairs ∷ []) masks new)
     → IsLiveOf (inner_of marks (take i conflicts)) masks old → IsLiveOf (inner_of marks (take (i + 1) conflicts)) masks new
 inner_live_more marks conflicts i d pairs masks old new within is inside step l =
@@ -48,18 +45,16 @@ pub inner_live_ends : (marks : List Bool) (conflicts : List (List Pair)) (i : �
     → IsLiveOf (inner_of marks conflicts) masks live
 inner_live_ends marks conflicts i masks live past l = subst (λ (ks : List (List Pair)). IsLiveOf (inner_of marks ks) masks live) (take_all i conflicts past) l
 
--- a conflict that the part has not all choices of
-pub inner_out_of_reach : (marks : List Bool) (masks places : List ℕ) (pairs : List Pair) (conflicts live : List (List Pair)) → ArePlaces marks (length marks) places → is_inside marks pairs ≡ true
-    → list_all (λ (p : Pair). is_there masks (record { slot = slice_index places p.slot; choice = p.choice })) pairs ≡ false
-    → IsLiveOf conflicts masks live → IsLiveOf (conflicts ++ map (pair_in marks) pairs ∷ []) masks live
-inner_out_of_reach marks masks places pairs conflicts live are inside out l =
-    live_out conflicts masks live (map (pair_in marks) pairs)
-    (ap (list_all (is_there masks)) (sym (renumbered_inside marks places pairs are inside)) ∙ list_all-map (is_there masks) (λ (p : Pair). record { slot = slice_index places p.slot; choice = p.choice }) pairs ∙ out) l
+-- the pairs with the numbers of the part
+pub placed_rises : (marks : List Bool) (places : List ℕ) (pairs read placed : List Pair) → ArePlaces marks (length marks) places → is_inside marks pairs ≡ true → slots_rise pairs ≡ true
+    → read ≡ placed → placed ≡ map (λ (p : Pair). record { slot = slice_index places p.slot; choice = p.choice }) pairs → slots_rise read ≡ true
+placed_rises marks places pairs read placed are inside rising read_is is =
+    subst (λ (ps : List Pair). slots_rise ps ≡ true) (sym (read_is ∙ is ∙ renumbered_inside marks places pairs are inside)) (placed_rise marks pairs inside rising)
 
--- one that a member may contain
-pub inner_pushed : (marks : List Bool) (masks places : List ℕ) (pairs read : List Pair) (conflicts live new : List (List Pair)) (k : List Pair) → ArePlaces marks (length marks) places → is_inside marks pairs ≡ true
-    → k ≡ read → read ≡ map (λ (p : Pair). record { slot = slice_index places p.slot; choice = p.choice }) pairs → slots_rise read ≡ true → new ≡ live ++ k ∷ []
-    → IsLiveOf conflicts masks live → IsLiveOf (conflicts ++ map (pair_in marks) pairs ∷ []) masks new
-inner_pushed marks masks places pairs read conflicts live new k are inside k_is read_is rising new_is l =
-    subst (λ (ps : List Pair). IsLiveOf (conflicts ++ ps ∷ []) masks new) (read_is ∙ renumbered_inside marks places pairs are inside)
-    (subst (λ (ks : List (List Pair)). IsLiveOf (conflicts ++ read ∷ []) masks ks) (sym (new_is ∙ ap (λ ps. live ++ ps ∷ []) k_is)) (live_more conflicts masks live read read (open_begins masks read rising) l))
+pub inner_placed_more : (marks : List Bool) (places : List ℕ) (conflicts : List (List Pair)) (i : ℕ) (d pairs read placed : List Pair) (masks : List ℕ) (old new : List (List Pair)) → i < length conflicts → pairs ≡ get_or conflicts i d
+    → ArePlaces marks (length marks) places → is_inside marks pairs ≡ true → read ≡ placed → placed ≡ map (λ (p : Pair). record { slot = slice_index places p.slot; choice = p.choice }) pairs
+    → ((ks : List (List Pair)) → IsLiveOf ks masks old → IsLiveOf (ks ++ read ∷ []) masks new)
+    → IsLiveOf (inner_of marks (take i conflicts)) masks old → IsLiveOf (inner_of marks (take (i + 1) conflicts)) masks new
+inner_placed_more marks places conflicts i d pairs read placed masks old new within is are inside read_is placed_is step =
+    inner_live_more marks conflicts i d pairs masks old new within is inside
+    (λ ks l. subst (λ (ps : List Pair). IsLiveOf (ks ++ ps ∷ []) masks new) (read_is ∙ placed_is ∙ renumbered_inside marks places pairs are inside) (step ks l))

@@ -19,18 +19,20 @@ pub fn live_in(
 ) -> Result<Vec<Conflict>, AllocError>
     ensures { IfOk result (λ live. IsLiveOf conflicts.now masks.now live.items) }
 {
+    let mut left = Vec::new(alloc);
     let mut live = Vec::new(alloc);
     for conflict in conflicts {
-        push_live(alloc, conflict.pairs(), masks, &mut live)?;
+        push_live(alloc, conflict.pairs(), masks, &mut left, &mut live)?;
     }
     Ok(live)
 }
 
-/// Adds what a box leaves of one more conflict.
-fn push_live(
+/// Adds what a box leaves of one more conflict, whose pairs these are. What it leaves is written first into `left`.
+pub(crate) fn push_live(
     alloc: Global,
     pairs: &[Pair],
     masks: &[u64],
+    left: &mut Vec<Pair>,
     live: &mut Vec<Conflict>,
 ) -> Result<(), AllocError>
     requires { IsTrue (slots_rise pairs.now) }
@@ -39,21 +41,21 @@ fn push_live(
     if !are_there(masks, pairs) {
         return Ok(());
     }
-    let left = open_pairs(alloc, pairs, masks)?;
+    write_open(pairs, masks, left)?;
     live.push(Conflict::from_pairs(alloc, left.as_slice())?)?;
     Ok(())
 }
 
-/// The pairs that not each member has.
-fn open_pairs(alloc: Global, pairs: &[Pair], masks: &[u64]) -> Result<Vec<Pair>, AllocError>
+/// Writes the pairs that not each member has.
+fn write_open(pairs: &[Pair], masks: &[u64], left: &mut Vec<Pair>) -> Result<(), AllocError>
     requires { IsTrue (slots_rise pairs.now) }
-    ensures { IfOk result (λ left. IsOpenOf masks.now pairs.now left.items) }
+    ensures { OnOk result (IsOpenOf masks.now pairs.now left.new.items) }
 {
-    let mut left = Vec::new(alloc);
+    left.clear();
     for pair in pairs {
-        push_open(*pair, masks, &mut left)?;
+        push_open(*pair, masks, left)?;
     }
-    Ok(left)
+    Ok(())
 }
 
 /// Adds a pair, if not each member has it.
@@ -68,7 +70,7 @@ fn push_open(pair: Pair, masks: &[u64], left: &mut Vec<Pair>) -> Result<(), Allo
 }
 
 /// Whether the box has the choices of all these pairs.
-pub fn are_there(masks: &[u64], pairs: &[Pair]) -> bool
+fn are_there(masks: &[u64], pairs: &[Pair]) -> bool
     ensures { result ≡ list_all (is_there masks.now) pairs.now }
 {
     pairs.iter().all(|pair| is_there(masks, *pair))

@@ -1,16 +1,14 @@
 //! The smaller box of the slots that are marked, numbered anew.
 #![tactic(auto)]
 
-ghost use Rattle.std.specs.Prelude.{◌≡◌, ◌<◌, ◌≤◌, ◌^◌, true, List, length, map, nat_lt, ◌&&◌, ◌++◌, ◌∷◌, [], slice_index, IfOk, OnOk, IsTrue, if◌then◌else◌};
-ghost use Rattle.std.specs.List.{list_all};
+ghost use Rattle.std.specs.Prelude.{◌≡◌, ◌<◌, ◌≤◌, ◌^◌, true, List, length, map, nat_lt, ◌&&◌, ◌++◌, ◌∷◌, [], slice_index, IfOk, OnOk, if◌then◌else◌};
 ghost use Rattle.lv_boxes.specs.Masks.{only_choice};
 ghost use Rattle.lv_boxes.specs.Members.{IsSlot};
 ghost use Rattle.lv_base.specs.declared.search.Pair.{Pair};
-ghost use Rattle.lv_base.specs.Choices.{slots_rise};
-ghost use Rattle.lv_search_parts.specs.Slots.{only, put_in, is_inside, pair_in};
-ghost use Rattle.lv_search_parts.specs.Parts.{is_there, inner_of, IsLiveOf, ArePlaces, fixed};
+ghost use Rattle.lv_search_parts.specs.Slots.{only, put_in};
+ghost use Rattle.lv_search_parts.specs.Parts.{inner_of, IsLiveOf, ArePlaces, fixed};
 
-use super::live::is_there;
+use super::live::push_live;
 use super::marks::is_inside;
 use lv_base::{Conflict, Cost, Pair};
 use lv_boxes::{Grid, mask};
@@ -65,8 +63,8 @@ fn push_if(is: bool, mask: u64, masks: &mut Vec<u64>) -> Result<(), AllocError>
     Ok(())
 }
 
-/// The conflicts whose slots are all marked and which a member of the part may contain, with the numbers that the slots
-/// have in the part. The masks are the part's.
+/// What the part leaves of the conflicts whose slots are all marked, with the numbers that the slots have in the part. The
+/// masks are the part's.
 pub fn part_conflicts(
     alloc: Global,
     conflicts: &[Conflict],
@@ -77,17 +75,14 @@ pub fn part_conflicts(
     ensures { IfOk result (λ inner. IsLiveOf (inner_of marks.now conflicts.now) masks.now inner.items) }
 {
     let places = places_of(alloc, marks)?;
+    let mut placed = Vec::new(alloc);
+    let mut left = Vec::new(alloc);
     let mut inner = Vec::new(alloc);
     for conflict in conflicts {
-        if is_inside(marks, conflict.pairs()) {
-            push_inner(
-                alloc,
-                conflict.pairs(),
-                marks,
-                places.as_slice(),
-                masks,
-                &mut inner,
-            )?;
+        let pairs = conflict.pairs();
+        if is_inside(marks, pairs) {
+            place(pairs, places.as_slice(), &mut placed)?;
+            push_live(alloc, placed.as_slice(), masks, &mut left, &mut inner)?;
         }
     }
     Ok(inner)
@@ -107,56 +102,18 @@ fn places_of(alloc: Global, marks: &[bool]) -> Result<Vec<u32>, AllocError>
     Ok(places)
 }
 
-/// Adds one more conflict, whose slots are all marked, if a member of the part may contain it.
-fn push_inner(
-    alloc: Global,
-    pairs: &[Pair],
-    marks: &[bool],
-    places: &[u32],
-    masks: &[u64],
-    inner: &mut Vec<Conflict>,
-) -> Result<(), AllocError>
-    requires places { ArePlaces marks.now (length marks.now) places.now }
-    requires inside { is_inside marks.now pairs.now ≡ true }
-    requires rising { IsTrue (slots_rise pairs.now) }
-    ensures { OnOk result ((conflicts : List (List Pair)) → IsLiveOf conflicts masks.now inner.old.items → IsLiveOf (conflicts ++ map (pair_in marks.now) pairs.now ∷ []) masks.now inner.new.items) }
+/// Writes the pairs with the numbers of their slots looked up.
+fn place(pairs: &[Pair], places: &[u32], placed: &mut Vec<Pair>) -> Result<(), AllocError>
+    ensures { OnOk result (placed.new.items ≡ map (λ (p : Pair). record { slot = slice_index places.now p.slot; choice = p.choice }) pairs.now) }
 {
-    if !are_there_in(masks, places, pairs) {
-        return Ok(());
-    }
-    let out = renumbered(alloc, pairs, places)?;
-    inner.push(Conflict::from_pairs(alloc, out.as_slice())?)?;
-    Ok(())
-}
-
-/// Whether the part has the choices of all these pairs.
-fn are_there_in(masks: &[u64], places: &[u32], pairs: &[Pair]) -> bool
-    ensures { result ≡ list_all (λ (p : Pair). is_there masks.now (record { slot = slice_index places.now p.slot; choice = p.choice })) pairs.now }
-{
-    pairs
-        .iter()
-        .all(|pair| is_there(masks, placed(*pair, places)))
-}
-
-/// The pair with the number of its slot looked up.
-fn placed(pair: Pair, places: &[u32]) -> Pair
-    ensures { result ≡ record { slot = slice_index places.now pair.slot; choice = pair.choice } }
-{
-    Pair {
-        slot: number_at(places, pair.slot as usize),
-        choice: pair.choice,
-    }
-}
-
-/// The pairs with the numbers of their slots looked up.
-fn renumbered(alloc: Global, pairs: &[Pair], places: &[u32]) -> Result<Vec<Pair>, AllocError>
-    ensures { IfOk result (λ out. out.items ≡ map (λ (p : Pair). record { slot = slice_index places.now p.slot; choice = p.choice }) pairs.now) }
-{
-    let mut out = Vec::new(alloc);
+    placed.clear();
     for pair in pairs {
-        out.push(placed(*pair, places))?;
+        placed.push(Pair {
+            slot: number_at(places, pair.slot as usize),
+            choice: pair.choice,
+        })?;
     }
-    Ok(out)
+    Ok(())
 }
 
 /// A number of a list, or 0, where there isn't one.

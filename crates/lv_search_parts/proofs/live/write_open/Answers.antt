@@ -1,7 +1,7 @@
 -- one pair more
 use Rattle.std.proofs.Common.{refl}
 use Rattle.lv_search_parts.proofs.LiveLemmas.{open_next}
-use Rattle.lv_search_parts.proofs.live.open_pairs.Goals as goal
+use Rattle.lv_search_parts.proofs.live.write_open.Goals as goal
 
 pub loop-pair-preserved : goal.loop-pair-preserved
 loop-pair-preserved c =
