@@ -1,7 +1,7 @@
 -- Choices that are too dear for a member that is cheap enough.
-use Rattle.std.proofs.Common.{◌≡◌, ℕ, zero, suc, ◌+◌, ◌<◌, ◌≤◌, Bool, true, false, not, nat_lt, List, [], ◌∷◌, length, cond, get_or, refl, sym, ◌∙◌, subst, arith}
-use Rattle.std.specs.Prelude.{slice_index, slice_index_or}
-use Rattle.std.proofs.lemmas.Bool.{and_from, and_parts, lt-ltb, both_ways, false_from_ne_true, not_from_false}
+use Rattle.std.proofs.Common.{◌≡◌, ℕ, zero, suc, ◌+◌, ◌<◌, ◌≤◌, Bool, true, false, not, nat_lt, List, [], ◌∷◌, length, cond, get_or, ◌⊎◌, inl, inr, refl, sym, ◌∙◌, ap, subst, arith}
+use Rattle.std.specs.Prelude.{slice_index, slice_index_or, slice_set, sum}
+use Rattle.std.proofs.lemmas.Bool.{cases_eq, cases_lt, and_from, and_parts, lt-ltb, both_ways, false_from_ne_true, not_from_false}
 use Rattle.std.proofs.Math.ListN.{length-set}
 use Rattle.lv_base.specs.declared.ids.Cost.{Cost}
 use Rattle.lv_base.specs.declared.search.Pair.{Pair}
@@ -9,13 +9,31 @@ use Rattle.lv_base.specs.Choices.{picks}
 use Rattle.lv_boxes.specs.Members.{is_left, are_left, choice_cost, choices_cost}
 use Rattle.lv_boxes.specs.Parts.{masks_without}
 use Rattle.lv_boxes.proofs.MemberLemmas.{length-are_left}
-use Rattle.lv_boxes.specs.Masks.{has_choice}
+use Rattle.lv_boxes.specs.Masks.{has_choice, without_choice}
 use Rattle.lv_search_guide.specs.Boxes.{is_free, has_left}
 use Rattle.lv_search_guide.specs.Lowest.{NoneHas}
 use Rattle.lv_search_guide.specs.Dear.{KeepsUnder}
 use Rattle.lv_search_guide.specs.Prices.{IsBound}
-use Rattle.lv_search_guide.proofs.BoxLemmas.{free_without, free_is_left, length-left, slot_within, choice_is}
+use Rattle.lv_search_guide.proofs.BoxLemmas.{smaller, without_all, without_and_only, free_without, free_is_left, length-left, slot_within, choice_is}
 use Rattle.lv_search_guide.proofs.PriceLemmas.{left_at, left_long}
+
+set_past : (xs : List ℕ) (i x : ℕ) → length xs ≤ i → slice_set xs i x ≡ xs
+set_past [] i x past = refl
+set_past (y ∷ ys) zero x past = absurd (omega (arith, past))
+set_past (y ∷ ys) (suc i) x past = ap (λ (zs : List ℕ). y ∷ zs) (set_past ys i x (omega (arith, past)))
+
+-- a choice less leaves no more
+no_more : (masks : List ℕ) (p : Pair) → sum (masks_without masks p) ≤ sum masks
+no_more masks p = by (cases_lt p.slot (length masks)) (cases_eq (without_choice (slice_index masks p.slot) p.choice) (slice_index masks p.slot))
+  where
+    down : without_choice (slice_index masks p.slot) p.choice ≤ slice_index masks p.slot
+    down = let parts = without_and_only (slice_index masks p.slot) p.choice in omega (arith, parts)
+
+    by : (p.slot < length masks) ⊎ (length masks ≤ p.slot) → (without_choice (slice_index masks p.slot) p.choice ≡ slice_index masks p.slot) ⊎ (without_choice (slice_index masks p.slot) p.choice ≡ slice_index masks p.slot → ⊥)
+        → sum (masks_without masks p) ≤ sum masks
+    by within (inl same) = let is = ap sum (without_all masks p same) in omega (arith, is)
+    by (inl within) (inr other) = let less = smaller masks p.slot (without_choice (slice_index masks p.slot) p.choice) within down other in omega (arith, less)
+    by (inr past) (inr other) = let is = ap sum (set_past masks p.slot (without_choice (slice_index masks p.slot) p.choice) past) in omega (arith, is)
 
 -- one choice costs no more than all
 one_of_all : (rows : List (List Cost)) (s : ℕ) (masks choices : List ℕ) → s < length rows → are_left rows masks choices ≡ true → choice_cost (slice_index_or rows s []) (slice_index choices s) ≤ choices_cost rows choices
@@ -28,7 +46,7 @@ one_of_all (row ∷ rows) (suc s) (mask ∷ masks) (choice ∷ choices) within l
     omega (arith, rest)
 
 pub keeps_all : (slots : List (List Cost)) (conflicts : List (List Pair)) (under : ℕ) (masks : List ℕ) → KeepsUnder slots conflicts under masks masks
-keeps_all slots conflicts under masks = record { inside = λ choices free. free; keeps = λ choices free cheap. free }
+keeps_all slots conflicts under masks = record { inside = λ choices free. free; keeps = λ choices free cheap. free; less = omega arith }
 
 module _ (slots : List (List Cost)) (conflicts : List (List Pair)) (whole part : List ℕ) (low under : ℕ) (rows : List (List Cost)) (p : Pair) (b : IsBound slots conflicts whole low rows) (within : p.slot < length rows) where
   in_part : (masks choices : List ℕ) → are_left slots masks choices ≡ true → p.slot < length masks
@@ -39,7 +57,7 @@ module _ (slots : List (List Cost)) (conflicts : List (List Pair)) (whole part :
       omega (arith, long, same, within)
 
   pub dear_dropped : (new : List ℕ) → new ≡ masks_without part p → under ≤ low + choice_cost (slice_index_or rows p.slot []) p.choice → KeepsUnder slots conflicts under whole part → KeepsUnder slots conflicts under whole new
-  dear_dropped new is dear k = subst (λ (ms : List ℕ). KeepsUnder slots conflicts under whole ms) (sym is) (record { inside = inside; keeps = keeps })
+  dear_dropped new is dear k = subst (λ (ms : List ℕ). KeepsUnder slots conflicts under whole ms) (sym is) (record { inside = inside; keeps = keeps; less = let one = no_more part p in let all = k.less in omega (arith, one, all) })
     where
       inside : (choices : List ℕ) → is_free slots conflicts (masks_without part p) choices ≡ true → is_free slots conflicts whole choices ≡ true
       inside choices free =

@@ -1,8 +1,8 @@
 -- Prices are lowered where a conflict is broken, by no more than what is found there, so what a member costs is never passed.
-use Rattle.std.proofs.Common.{◌≡◌, ℕ, zero, suc, ◌+◌, ◌-◌, ◌<◌, ◌≤◌, Bool, true, false, not, nat_lt, nat_eq, ◌&&◌, List, [], ◌∷◌, Option, Some, None, length, get_or, ◌⊎◌, inl, inr, refl, sym, ◌∙◌, ap, subst, arith}
+use Rattle.std.proofs.Common.{◌≡◌, ℕ, zero, suc, ◌+◌, ◌-◌, ◌<◌, ◌≤◌, ◌≢◌, Bool, true, false, not, nat_lt, nat_eq, min, cond, ◌&&◌, ◌||◌, List, [], ◌∷◌, Option, Some, None, length, get_or, ◌⊎◌, inl, inr, refl, sym, ◌∙◌, ap, subst, arith}
 use Rattle.std.specs.Prelude.{slice_index, slice_index_or, slice_set, All, IfSome}
 use Rattle.std.specs.List.{AllByRecursion}
-use Rattle.std.proofs.lemmas.Bool.{and_from, and_parts, and_cases, eqb-true, ltb-true, lt-ltb, false_from_ne_true, not_from_false, cases_eq}
+use Rattle.std.proofs.lemmas.Bool.{and_from, and_parts, and_cases, eqb-true, ltb-true, lt-ltb, false_from_ne_true, not_from_false, cases_eq, cases_lt}
 use Rattle.std.proofs.lemmas.List.{get_or-set_other}
 use Rattle.std.proofs.lemmas.List.Elements.{All-get_or}
 use Rattle.std.proofs.lemmas.List.Folds.{list_any_at}
@@ -15,7 +15,7 @@ use Rattle.lv_boxes.specs.Members.{IsSlot, is_left, are_left, choice_cost, choic
 use Rattle.lv_search_walk.specs.Walk.{is_ruled_out}
 use Rattle.lv_search_guide.specs.Boxes.{is_free, CostsAtLeast}
 use Rattle.lv_search_guide.proofs.BoxLemmas.{free_is_left}
-use Rattle.lv_search_guide.specs.Prices.{IsAtLeast, BesideTells, lesser_of, least_after, is_beside, price_after, lowered_from, lowered_at, lowered_all, FallsBy, FallsTo, RaisesBy, BreaksEach, IsBound}
+use Rattle.lv_search_guide.specs.Prices.{IsAtLeast, BesideTells, AreLeast, lesser_of, lesser_after, price_at, is_less, is_beside, price_after, lowered_from, lowered_at, lowered_all, FallsBy, FallsTo, RaisesBy, BreaksEach, IsBound}
 
 pub length-lowered : (n mask except by : ℕ) (prices : List Cost) → length (lowered_from n mask except by prices) ≡ length prices
 length-lowered n mask except by [] = refl
@@ -268,13 +268,70 @@ beside_taken prices mask except n before least t =
     by choice below beside (inl same) = subst (λ k. IsAtLeast (Some (lesser_of least (choice_cost prices n))) (choice_cost prices k)) (sym same) (at_least_lesser least (choice_cost prices n))
     by choice below beside (inr other) = lesser_weaker least (choice_cost prices n) (choice_cost prices choice) (t.each choice (omega (arith, below, other)) beside)
 
-pub beside_more : (prices : List Cost) (mask except n : ℕ) (before least now : Option ℕ) → now ≡ least_after (is_beside mask except n) least (choice_cost prices n) → BesideTells prices mask except n before least
-    → BesideTells prices mask except (n + 1) before now
-beside_more prices mask except n before least now is t = subst (BesideTells prices mask except (n + 1) before) (sym is) (by (is_beside mask except n) refl)
+-- the least of those gone through, by the choice that has it
+price_there : (prices : List Cost) (choice : ℕ) → choice < length prices → price_at prices choice ≡ Some (choice_cost prices choice)
+price_there prices choice below = ap (λ b. cond b (Some (choice_cost prices choice)) None) (lt-ltb choice (length prices) below)
+
+not_below : (a b : ℕ) → nat_lt a b ≡ false → b ≤ a
+not_below a b e = by (cases_lt a b)
   where
-    by : (b : Bool) → is_beside mask except n ≡ b → BesideTells prices mask except (n + 1) before (least_after b least (choice_cost prices n))
-    by true e = beside_taken prices mask except n before least t
-    by false e = beside_passed prices mask except n before least e t
+    by : (a < b) ⊎ (b ≤ a) → b ≤ a
+    by (inl less) = let yes : nat_lt a b ≡ true = lt-ltb a b less in absurd (cc (sym yes ∙ e))
+    by (inr more) = more
+
+pub least_begins : (prices : List Cost) (mask except : ℕ) → BesideTells prices mask except 0 None (price_at prices (length prices))
+least_begins prices mask except = subst (BesideTells prices mask except 0 None) (sym none) (beside_begins prices mask except None)
+  where
+    none : price_at prices (length prices) ≡ None
+    none = ap (λ b. cond b (Some (choice_cost prices (length prices))) None) (false_from_ne_true (nat_lt (length prices) (length prices)) (λ e. let less = ltb-true (length prices) (length prices) e in omega (arith, less)))
+
+pub least_more : (prices : List Cost) (mask except n least : ℕ) → n < length prices → BesideTells prices mask except n None (price_at prices least)
+    → BesideTells prices mask except (n + 1) None (price_at prices (cond (is_beside mask except n && is_less prices n least) n least))
+least_more prices mask except n least within t = by (is_beside mask except n) refl (nat_lt least (length prices)) refl (nat_lt (choice_cost prices n) (choice_cost prices least)) refl
+  where
+    taken : BesideTells prices mask except (n + 1) None (Some (lesser_of (price_at prices least) (choice_cost prices n)))
+    taken = beside_taken prices mask except n None (price_at prices least) t
+
+    by : (b : Bool) → is_beside mask except n ≡ b → (there : Bool) → nat_lt least (length prices) ≡ there → (less : Bool) → nat_lt (choice_cost prices n) (choice_cost prices least) ≡ less
+        → BesideTells prices mask except (n + 1) None (price_at prices (cond (b && (not there || less)) n least))
+    by false e there f less g = beside_passed prices mask except n None (price_at prices least) e t
+    by true e false f less g = subst (BesideTells prices mask except (n + 1) None) (ap (λ (o : Option ℕ). Some (lesser_of o (choice_cost prices n))) (ap (λ b. cond b (Some (choice_cost prices least)) None) f) ∙ sym (price_there prices n within)) taken
+    by true e true f true g =
+        let less : choice_cost prices n < choice_cost prices least = ltb-true _ _ g in
+        let is : min (choice_cost prices least) (choice_cost prices n) ≡ choice_cost prices n = omega (arith, less) in
+        subst (BesideTells prices mask except (n + 1) None) (ap (λ (o : Option ℕ). Some (lesser_of o (choice_cost prices n))) (ap (λ b. cond b (Some (choice_cost prices least)) None) f) ∙ ap Some is ∙ sym (price_there prices n within)) taken
+    by true e true f false g =
+        let more : choice_cost prices least ≤ choice_cost prices n = not_below (choice_cost prices n) (choice_cost prices least) g in
+        let is : min (choice_cost prices least) (choice_cost prices n) ≡ choice_cost prices least = omega (arith, more) in
+        subst (BesideTells prices mask except (n + 1) None) (ap (λ (o : Option ℕ). Some (lesser_of o (choice_cost prices n))) (ap (λ b. cond b (Some (choice_cost prices least)) None) f) ∙ ap Some is ∙ sym (ap (λ b. cond b (Some (choice_cost prices least)) None) f)) taken
+
+-- the lesser of what was found before and the least price beside a choice
+lesser_tells : (prices : List Cost) (mask except : ℕ) (before price : Option ℕ) → ((choice : ℕ) → choice < length prices → is_beside mask except choice ≡ true → IsAtLeast price (choice_cost prices choice))
+    → BesideTells prices mask except (length prices) before (lesser_after before price)
+lesser_tells prices mask except before None each = record { each = λ choice below beside. absurd (each choice below beside); weaker = λ other h. h }
+lesser_tells prices mask except before (Some price) each =
+    record {
+      each = λ choice below beside.
+          let here : price ≤ choice_cost prices choice = each choice below beside in
+          let lesser : lesser_of before price ≤ price = at_least_lesser before price in
+          omega (arith, here, lesser);
+      weaker = λ other h. lesser_weaker before price other h;
+    }
+
+module _ (prices : List Cost) (mask least second except : ℕ) (before : Option ℕ) (a : AreLeast prices mask least second) where
+  pub least_is_other : least ≢ except → BesideTells prices mask except (length prices) before (lesser_after before (price_at prices least))
+  least_is_other other = lesser_tells prices mask except before (price_at prices least) (λ choice below beside. a.first.each choice below (anywhere choice below beside))
+    where
+      anywhere : (choice : ℕ) → choice < length prices → is_beside mask except choice ≡ true → is_beside mask (length prices) choice ≡ true
+      anywhere choice below beside =
+          let parts = and_parts (has_choice mask choice) (not (nat_eq choice except)) beside in
+          and_from (has_choice mask choice) (not (nat_eq choice (length prices))) parts.0 (not_from_false (nat_eq choice (length prices)) (false_from_ne_true (nat_eq choice (length prices)) (λ e. let same = eqb-true choice (length prices) e in omega (arith, same, below))))
+
+  pub least_is_it : least ≡ except → BesideTells prices mask except (length prices) before (lesser_after before (price_at prices second))
+  least_is_it same = lesser_tells prices mask except before (price_at prices second) (λ choice below beside. a.next.each choice below (subst (λ n. is_beside mask n choice ≡ true) (sym same) beside))
+
+pub nothing_is_known : (prices : List Cost) (mask except : ℕ) (before : Option ℕ) → BesideTells prices mask except (length prices) before (Some 0)
+nothing_is_known prices mask except before = record { each = λ choice below beside. omega arith; weaker = λ price h. omega arith }
 
 -- the pairs that were looked at
 pub record FallSoFar (masks : List ℕ) (rows : List (List Cost)) (least : Option ℕ) (pairs : List Pair) (i : ℕ) : Type 0 where

@@ -1,5 +1,5 @@
 -- Prices of the choices of each slot, and the bound that they leave of what a member without conflict costs.
-use Rattle.std.specs.Prelude.{◌≡◌, ℕ, ◌+◌, ◌-◌, ◌<◌, ◌≤◌, Bool, true, false, not, nat_eq, min, ◌&&◌, List, [], ◌∷◌, length, slice_index, slice_index_or, slice_set, if◌then◌else◌, Option, Some, None}
+use Rattle.std.specs.Prelude.{◌≡◌, ℕ, ◌+◌, ◌-◌, ◌<◌, ◌≤◌, Bool, true, false, not, nat_lt, nat_eq, min, ◌&&◌, ◌||◌, List, [], ◌∷◌, length, slice_index, slice_index_or, slice_set, if◌then◌else◌, Option, Some, None}
 use Rattle.lv_base.specs.declared.ids.Cost.{Cost}
 use Rattle.lv_base.specs.declared.search.Pair.{Pair}
 use Rattle.lv_base.specs.Choices.{contains_all}
@@ -34,9 +34,18 @@ abbrev pub lesser_of : Option ℕ → ℕ → ℕ
 lesser_of None price = price
 lesser_of (Some least) price = min least price
 
--- the least with one more price, where that counts
-abbrev pub least_after : Bool → Option ℕ → ℕ → Option ℕ
-least_after counts least price = if counts then Some (lesser_of least price) else least
+-- the lesser of both, as far as there are two
+abbrev pub lesser_after : Option ℕ → Option ℕ → Option ℕ
+lesser_after least None = least
+lesser_after least (Some price) = Some (lesser_of least price)
+
+-- a choice's price, if there is that choice
+abbrev pub price_at : List Cost → ℕ → Option ℕ
+price_at prices choice = if nat_lt choice (length prices) then Some (choice_cost prices choice) else None
+
+-- a choice is priced less than another, or there isn't that one
+abbrev pub is_less : List Cost → ℕ → ℕ → Bool
+is_less prices choice other = not (nat_lt other (length prices)) || nat_lt (choice_cost prices choice) (choice_cost prices other)
 
 -- a price that is no less than the least, where there is one
 abbrev pub IsAtLeast : Option ℕ → ℕ → Type 0
@@ -47,6 +56,11 @@ IsAtLeast (Some least) price = least ≤ price
 pub record BesideTells (prices : List Cost) (mask except n : ℕ) (before least : Option ℕ) : Type 0 where
   pub each : (choice : ℕ) → choice < n → is_beside mask except choice ≡ true → IsAtLeast least (choice_cost prices choice)
   pub weaker : (price : ℕ) → IsAtLeast before price → IsAtLeast least price
+
+-- of the choices that the mask has this one is a least priced, and that one of the others
+pub record AreLeast (prices : List Cost) (mask least second : ℕ) : Type 0 where
+  pub first : BesideTells prices mask (length prices) (length prices) None (price_at prices least)
+  pub next : BesideTells prices mask least (length prices) None (price_at prices second)
 
 -- whatever breaks the conflict at this pair is priced at the least or more
 pub record FallsTo (masks : List ℕ) (rows : List (List Cost)) (least : Option ℕ) (p : Pair) : Type 0 where

@@ -1,12 +1,12 @@
-//! A cheapest member of a box that contains no conflict. A stack holds the boxes that are still to be looked at; what
-//! was found last is the cheapest so far, and only members that cost less are still looked for.
+//! A cheapest member of a box that contains no conflict. A stack holds the boxes that are still to be looked at, each
+//! without what can't lead to a cheaper member than was found so far, and with what its members cost at least.
 #![tactic(auto)]
 
-ghost use Rattle.std.specs.Prelude.{◌≡◌, ◌≤◌, ◌∷◌, ◌++◌, [], IfOk, OnOk};
-ghost use Rattle.lv_boxes.specs.Parts.{masks_with, masks_without};
+ghost use Rattle.std.specs.Prelude.{◌≡◌, ◌≤◌, ◌++◌, IfOk, OnOk, IfSome, option_to_list};
 ghost use Rattle.lv_search_guide.specs.Boxes.{CostsAtLeast};
-ghost use Rattle.lv_search_guide.specs.Cheapest.{CheapestTells, TakesBox};
+ghost use Rattle.lv_search_guide.specs.Cheapest.{FallsApart, CheapestTells, BranchTells, PushesBoth, PushesParts, TakesBox};
 
+use super::dear::drop_dear;
 use super::look::{Looked, Member, look};
 use super::masks::Masks;
 use super::narrow::narrow;
@@ -19,6 +19,13 @@ use std::alloc::{AllocError, Global};
 pub(crate) struct Best {
     under: u64,
     member: Option<Member>,
+}
+
+/// A box that is still to be looked at, and what its members cost at least that contain no conflict.
+#[derive(Debug, Drop)]
+pub(crate) struct Branch {
+    masks: Masks,
+    low: u64,
 }
 
 /// A cheapest member of a box that contains no conflict, if one costs less than `under`. None is known to cost less than
@@ -34,51 +41,82 @@ pub(crate) fn cheapest(
     requires { CostsAtLeast grid.now conflicts.now masks.now least }
     ensures { IfOk result (λ member. CheapestTells grid.now conflicts.now masks.now under member) }
 {
+    let whole = Masks::from_slice(alloc, masks.as_slice())?;
+    match branch_of(alloc, grid, conflicts, whole, under)? {
+        Some(first) => cheapest_of(alloc, grid, conflicts, first, least, under),
+        None => Ok(None),
+    }
+}
+
+/// As `cheapest`, by what of the box is to be looked at.
+fn cheapest_of(
+    alloc: Global,
+    grid: &Grid,
+    conflicts: &[Conflict],
+    first: Branch,
+    least: u64,
+    under: u64,
+) -> Result<Option<Member>, AllocError>
+    requires least { CostsAtLeast grid.now conflicts.now first.masks least }
+    requires low { CostsAtLeast grid.now conflicts.now first.masks first.low }
+    ensures { IfOk result (λ member. CheapestTells grid.now conflicts.now first.masks under member) }
+{
+    let floor = least.max(first.low);
     let mut boxes = Vec::new(alloc);
-    boxes.push(Masks::from_slice(alloc, masks.as_slice())?)?;
+    boxes.push(first)?;
     let mut best = Best {
         under,
         member: None,
     };
-    while let Some(mut next) = boxes.pop() {
-        if best.under <= least {
+    while let Some(next) = boxes.pop() {
+        if best.under <= floor {
             return Ok(best.member);
         }
-        take_box(alloc, grid, conflicts, &mut next, &mut best, &mut boxes)?;
+        take_box(alloc, grid, conflicts, &next, &mut best, &mut boxes)?;
     }
     Ok(best.member)
 }
 
-/// Takes out of a box that was taken off the stack what conflicts rule out, and looks at what is left.
+/// What of a box is still to be looked at for a member that contains no conflict and costs less than `under`: the choices
+/// that conflicts leave and that aren't too dear. `None` where there is no such member.
+fn branch_of(
+    alloc: Global,
+    grid: &Grid,
+    conflicts: &[Conflict],
+    masks: Masks,
+    under: u64,
+) -> Result<Option<Branch>, AllocError>
+    ensures { IfOk result (λ branch. BranchTells grid.now conflicts.now masks under branch) }
+{
+    let mut masks = masks;
+    if !narrow(conflicts, &mut masks) {
+        return Ok(None);
+    }
+    let low = drop_dear(alloc, grid, conflicts, &mut masks, under)?;
+    if low >= under {
+        return Ok(None);
+    }
+    if !narrow(conflicts, &mut masks) {
+        return Ok(None);
+    }
+    Ok(Some(Branch { masks, low }))
+}
+
+/// Looks at a box that was taken off the stack: gives it up, or finds a cheaper member, or puts its two parts on the stack.
 fn take_box(
     alloc: Global,
     grid: &Grid,
     conflicts: &[Conflict],
-    masks: &mut Masks,
+    next: &Branch,
     best: &mut Best,
-    boxes: &mut Vec<Masks>,
+    boxes: &mut Vec<Branch>,
 ) -> Result<(), AllocError>
-    ensures { IfOk result (λ _. TakesBox grid.now conflicts.now masks.old best.old boxes.old.items best.new boxes.new.items) }
+    ensures { OnOk result (TakesBox grid.now conflicts.now next.now best.old boxes.old.items best.new boxes.new.items) }
 {
-    if !narrow(conflicts, masks) {
+    if best.under <= next.low {
         return Ok(());
     }
-    take_narrowed(alloc, grid, conflicts, masks, best, boxes)?;
-    Ok(())
-}
-
-/// Looks at a box: gives it up, or finds a cheaper member, or puts its two parts on the stack.
-fn take_narrowed(
-    alloc: Global,
-    grid: &Grid,
-    conflicts: &[Conflict],
-    masks: &Masks,
-    best: &mut Best,
-    boxes: &mut Vec<Masks>,
-) -> Result<(), AllocError>
-    ensures { IfOk result (λ _. TakesBox grid.now conflicts.now masks.now best.old boxes.old.items best.new boxes.new.items) }
-{
-    match look(alloc, grid, conflicts, masks, best.under)? {
+    match look(alloc, grid, conflicts, &next.masks, best.under)? {
         Looked::Nothing => Ok(()),
         Looked::Found(member) => {
             best.under = member.cost;
@@ -86,22 +124,66 @@ fn take_narrowed(
             Ok(())
         }
         Looked::Splits(pair) => {
-            push_parts(alloc, masks, pair, boxes)?;
+            push_parts(alloc, grid, conflicts, &next.masks, pair, best.under, boxes)?;
             Ok(())
         }
     }
 }
 
-/// Puts the two parts of a box on the stack, on top those members that haven't the pair's choice.
+/// Puts what is to be looked at of the two parts of a box on the stack: the members that have the pair's choice, and those
+/// that haven't.
 fn push_parts(
     alloc: Global,
+    grid: &Grid,
+    conflicts: &[Conflict],
     masks: &Masks,
     pair: Pair,
-    boxes: &mut Vec<Masks>,
+    under: u64,
+    boxes: &mut Vec<Branch>,
 ) -> Result<(), AllocError>
-    ensures { OnOk result (boxes.new.items ≡ boxes.old.items ++ masks_with masks.now pair ∷ masks_without masks.now pair ∷ []) }
+    requires { FallsApart masks.now pair }
+    ensures { OnOk result (PushesParts grid.now conflicts.now masks.now under boxes.old.items boxes.new.items) }
 {
-    boxes.push(masks.with(alloc, pair)?)?;
-    boxes.push(masks.without(alloc, pair)?)?;
+    let with = branch_of(alloc, grid, conflicts, masks.with(alloc, pair)?, under)?;
+    let without = branch_of(alloc, grid, conflicts, masks.without(alloc, pair)?, under)?;
+    push_both(with, without, boxes)?;
     Ok(())
+}
+
+/// Puts both on the stack, as far as there are some, the one on top that may cost less.
+fn push_both(
+    one: Option<Branch>,
+    other: Option<Branch>,
+    boxes: &mut Vec<Branch>,
+) -> Result<(), AllocError>
+    ensures { OnOk result (PushesBoth one other boxes.old.items boxes.new.items) }
+{
+    if low_of(&other) < low_of(&one) {
+        push_some(one, boxes)?;
+        push_some(other, boxes)
+    } else {
+        push_some(other, boxes)?;
+        push_some(one, boxes)
+    }
+}
+
+/// Puts a box on the stack, if there is one.
+fn push_some(branch: Option<Branch>, boxes: &mut Vec<Branch>) -> Result<(), AllocError>
+    ensures { OnOk result (boxes.new.items ≡ boxes.old.items ++ option_to_list branch) }
+{
+    match branch {
+        Some(branch) => {
+            boxes.push(branch)?;
+            Ok(())
+        }
+        None => Ok(()),
+    }
+}
+
+/// What the members of a box cost at least, if there is one.
+fn low_of(branch: &Option<Branch>) -> u64 {
+    match branch {
+        Some(branch) => branch.low,
+        None => 0,
+    }
 }

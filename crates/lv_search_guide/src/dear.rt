@@ -2,10 +2,11 @@
 //! may cost, no member that is cheap enough has the choice.
 #![tactic(auto)]
 
-ghost use Rattle.std.specs.Prelude.{◌≡◌, ◌<◌, ◌≤◌, ◌+◌, ℕ, true, [], List, length, slice_index_or, IfOk, if◌then◌else◌};
+ghost use Rattle.std.specs.Prelude.{◌≡◌, ◌<◌, ◌≤◌, ◌+◌, ℕ, true, [], List, length, slice_index_or, IfOk, OnOk, if◌then◌else◌};
 ghost use Rattle.lv_base.specs.declared.ids.Cost.{Cost};
 ghost use Rattle.lv_base.specs.declared.search.Pair.{Pair};
 ghost use Rattle.lv_boxes.specs.Parts.{masks_without};
+ghost use Rattle.lv_search_guide.specs.Boxes.{CostsAtLeast};
 ghost use Rattle.lv_search_guide.specs.Dear.{KeepsUnder};
 ghost use Rattle.lv_search_guide.specs.Prices.{IsBound};
 
@@ -15,19 +16,21 @@ use lv_base::{Conflict, Cost, Pair};
 use lv_boxes::Grid;
 use std::alloc::{AllocError, Global};
 
-/// Takes out of a box choices that no member has that contains no conflict and costs less than `under`.
+/// Takes out of a box choices that no member has that contains no conflict and costs less than `under`. Answers what such
+/// members of it cost at least.
 pub(crate) fn drop_dear(
     alloc: Global,
     grid: &Grid,
     conflicts: &[Conflict],
     masks: &mut Masks,
     under: u64,
-) -> Result<(), AllocError>
-    ensures { IfOk result (λ _. KeepsUnder grid.now conflicts.now under masks.old masks.new) }
+) -> Result<u64, AllocError>
+    ensures keeps { OnOk result (KeepsUnder grid.now conflicts.now under masks.old masks.new) }
+    ensures low { IfOk result (λ low. CostsAtLeast grid.now conflicts.now masks.old low) }
 {
     let priced = priced_in(alloc, grid, conflicts, masks.as_slice(), under)?;
     drop_priced(priced.rows.as_slice(), priced.low, under, masks);
-    Ok(())
+    Ok(priced.low)
 }
 
 /// Takes out of a box the choices of all slots whose price and the bound come to this.

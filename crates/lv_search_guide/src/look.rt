@@ -7,14 +7,14 @@ ghost use Rattle.std.specs.List.{find};
 ghost use Rattle.std.specs.Option.{option_copied};
 ghost use Rattle.lv_base.specs.declared.ids.Cost.{Cost};
 ghost use Rattle.lv_base.specs.Choices.{contains_all};
-ghost use Rattle.lv_search_guide.specs.Boxes.{is_open, CostsAtLeast};
-ghost use Rattle.lv_search_guide.specs.Cheapest.{CheapestLeftTells, IsCheapestLeft, HasNoneLeft, LookTells, splits_of};
+ghost use Rattle.lv_search_guide.specs.Boxes.{is_open};
+ghost use Rattle.lv_search_guide.specs.Cheapest.{CheapestLeftTells, IsCheapestLeft, HasNoneLeft, LookTells, OpenTells, SplitTells};
 
 use super::masks::Masks;
-use super::prices::low_of;
 use lv_base::{Conflict, Pair, Seq, contains};
 use lv_boxes::least::write_least;
 use lv_boxes::{Grid, mask};
+use lv_search_parts::live::are_there;
 use std::alloc::{AllocError, Global};
 
 /// More than any member costs: a choice costs at most 1,000,000, and there are at most 4,096 slots.
@@ -38,8 +38,7 @@ pub(crate) enum Looked {
     Splits(Pair),
 }
 
-/// Looks at a box for a cheapest member that contains no conflict and costs less than `under`. Prices mostly tell that
-/// there is none before its cheapest member is looked at.
+/// Looks at a box for a cheapest member that contains no conflict and costs less than `under`.
 pub(crate) fn look(
     alloc: Global,
     grid: &Grid,
@@ -49,29 +48,10 @@ pub(crate) fn look(
 ) -> Result<Looked, AllocError>
     ensures { IfOk result (λ looked. LookTells grid.now conflicts.now masks.now under looked) }
 {
-    if is_too_dear(alloc, grid, conflicts, masks, under)? {
-        return Ok(Looked::Nothing);
-    }
     match cheapest_left(alloc, grid, masks)? {
         Some(member) if member.cost < under => Ok(look_at(conflicts, masks, member)),
         _ => Ok(Looked::Nothing),
     }
-}
-
-/// Whether prices tell that no member costs less than `under`. They aren't asked where any member costs less.
-fn is_too_dear(
-    alloc: Global,
-    grid: &Grid,
-    conflicts: &[Conflict],
-    masks: &Masks,
-    under: u64,
-) -> Result<bool, AllocError>
-    ensures { IfOk result (λ dear. dear ≡ true → CostsAtLeast grid.now conflicts.now masks.now under) }
-{
-    if under >= ABOVE_ALL {
-        return Ok(false);
-    }
-    Ok(low_of(alloc, grid, conflicts, masks, under)? >= under)
 }
 
 /// A cheapest member of a box, whatever the conflicts.
@@ -102,18 +82,18 @@ fn look_at(conflicts: &[Conflict], masks: &Masks, member: Member) -> Looked
     ensures { (slots : List (List Cost)) (under : ℕ) → IsCheapestLeft slots masks.now member → member.cost < under → LookTells slots conflicts.now masks.now under result }
 {
     match first_contained(conflicts, member.choices.as_slice()) {
-        Some(conflict) => split_by(conflict, masks),
+        Some(conflict) => split_by(conflicts, conflict.pairs(), masks),
         None => Looked::Found(member),
     }
 }
 
-/// Looks at a box whose cheapest member contains this conflict: it falls apart by a pair whose choice is not all that
-/// its slot has left. Without such a pair each member contains the conflict.
-fn split_by(conflict: &Conflict, masks: &Masks) -> Looked
-    ensures { result ≡ splits_of (find (is_open masks.now) conflict.now) }
+/// Looks at a box whose cheapest member contains the conflict of these pairs: it falls apart by a pair whose choice is not all
+/// that its slot has left. Without such a pair each member contains the conflict.
+fn split_by(conflicts: &[Conflict], pairs: &[Pair], masks: &Masks) -> Looked
+    ensures { SplitTells masks.now pairs.now result }
 {
-    match first_open(masks.as_slice(), conflict.pairs()) {
-        Some(pair) => Looked::Splits(*pair),
+    match busiest_open(conflicts, masks.as_slice(), pairs) {
+        Some(pair) => Looked::Splits(pair),
         None => Looked::Nothing,
     }
 }
@@ -127,11 +107,30 @@ fn first_contained<'a>(conflicts: &'a [Conflict], choices: &[u32]) -> Option<&'a
         .find(|conflict| contains(choices, conflict.pairs()))
 }
 
-/// The first pair whose choice is not all that its slot has left.
-fn first_open<'a>(masks: &[u64], pairs: &'a [Pair]) -> Option<&'a Pair>
-    ensures { option_copied result ≡ find (is_open masks.now) pairs.now }
+/// Of the pairs whose choices are not all that their slots have left the one that stands in most conflicts.
+fn busiest_open(conflicts: &[Conflict], masks: &[u64], pairs: &[Pair]) -> Option<Pair>
+    ensures { OpenTells masks.now pairs.now (length pairs.now) result }
 {
-    pairs.iter().find(|pair| leaves_open(masks, **pair))
+    let mut busiest: Option<Pair> = None;
+    let mut most = 0;
+    for pair in pairs {
+        if leaves_open(masks, *pair) {
+            let count = count_with(conflicts, masks, *pair);
+            if busiest.is_none() || count > most {
+                busiest = Some(*pair);
+                most = count;
+            }
+        }
+    }
+    busiest
+}
+
+/// In how many conflicts that a member of the box may contain the pair stands.
+fn count_with(conflicts: &[Conflict], masks: &[u64], pair: Pair) -> usize {
+    conflicts
+        .iter()
+        .filter(|conflict| conflict.pairs().contains(&pair) && are_there(masks, conflict.pairs()))
+        .count()
 }
 
 /// Whether the pair's choice is not all that its slot has left.

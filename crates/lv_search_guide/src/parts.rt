@@ -12,7 +12,6 @@ use super::cheapest::cheapest;
 use super::look::{ABOVE_ALL, Looked, Member, look};
 use super::lowest::lowest;
 use super::masks::Masks;
-use super::prices::low_of;
 use lv_base::{Conflict, Pair};
 use lv_boxes::Grid;
 use lv_search_parts::labels::joined_with;
@@ -115,8 +114,7 @@ fn first_found(
     ensures bound { IfOk result (λ first. IfSome first (λ member. member.cost ≤ 4096 * 1000000)) }
 {
     let _slots = grid.slots();
-    let low = low_of(alloc, grid, conflicts, masks, ABOVE_ALL)?;
-    match cheapest(alloc, grid, conflicts, masks, low, ABOVE_ALL)? {
+    match cheapest(alloc, grid, conflicts, masks, 0, ABOVE_ALL)? {
         Some(member) => Ok(Some(lowest(alloc, grid, conflicts, masks, member)?)),
         None => Ok(None),
     }

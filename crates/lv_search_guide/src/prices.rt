@@ -4,14 +4,13 @@
 //! Bound and prices of a member together never pass what it costs.
 #![tactic(auto)]
 
-ghost use Rattle.std.specs.Prelude.{◌≡◌, ◌<◌, ◌≤◌, ◌∷◌, [], ℕ, List, length, slice_index, slice_index_or, All, IfOk, IfSome, IsTrue};
+ghost use Rattle.std.specs.Prelude.{◌≡◌, ◌<◌, ◌≤◌, ◌∷◌, [], ℕ, List, length, slice_index, slice_index_or, All, None, IfOk, IfSome, IsTrue};
 ghost use Rattle.std.specs.List.{AllByRecursion};
 ghost use Rattle.lv_base.specs.declared.ids.Cost.{Cost};
 ghost use Rattle.lv_base.specs.Choices.{slots_rise};
 ghost use Rattle.lv_base.specs.declared.search.Pair.{Pair};
 ghost use Rattle.lv_boxes.specs.Members.{IsSlot};
-ghost use Rattle.lv_search_guide.specs.Boxes.{CostsAtLeast};
-ghost use Rattle.lv_search_guide.specs.Prices.{lowered_from, lowered_at, lowered_all, is_beside, price_after, least_after, lesser_of, BesideTells, FallsBy, RaisesBy, BreaksEach, IsBound};
+ghost use Rattle.lv_search_guide.specs.Prices.{lowered_from, lowered_at, lowered_all, is_beside, is_less, price_after, price_at, lesser_of, lesser_after, BesideTells, FallsBy, RaisesBy, BreaksEach, IsBound};
 
 use super::masks::Masks;
 use lv_base::{Conflict, Cost, Pair, Seq};
@@ -26,9 +25,11 @@ const NO_CHOICE: u32 = 64;
 #[derive(Debug, Drop)]
 pub(crate) struct Row {
     prices: Vec<Cost>,
+    /// The choices left.
+    mask: u64,
     /// The least priced of the choices left, and the next, as far as there are some.
-    least: u32,
-    second: u32,
+    least: usize,
+    second: usize,
 }
 
 /// A bound of what members cost, and of each slot what its choices are still priced at.
@@ -41,21 +42,28 @@ pub(crate) struct Priced {
 impl Model for Row {
     ghost use Rattle.std.specs.Prelude.{List};
     ghost use Rattle.lv_base.specs.declared.ids.Cost.{Cost};
+    ghost use Rattle.lv_search_guide.specs.Prices.{AreLeast};
 
     ghost Value = { List Cost };
 
     ghost view = { λ r. r.prices.items };
+
+    ghost invariant = { λ r. AreLeast r.prices.items r.mask r.least r.second };
 }
 
 impl Row {
+    /// What the choices cost, of which the mask has those left.
     fn new(alloc: Global, costs: &[Cost], mask: u64) -> Result<Row, AllocError>
         ensures { IfOk result (λ row. row ≡ costs.now) }
     {
-        let least = least_choice(costs, mask, NO_CHOICE);
+        let prices = Vec::from_slice(alloc, costs)?;
+        let least = least_choice(prices.as_slice(), mask, costs.len());
+        let second = least_choice(prices.as_slice(), mask, least);
         Ok(Row {
-            prices: Vec::from_slice(alloc, costs)?,
+            prices,
+            mask,
             least,
-            second: least_choice(costs, mask, least),
+            second,
         })
     }
 
@@ -69,42 +77,61 @@ impl Row {
     fn lower(&mut self, mask: u64, except: u32, by: u64)
         ensures { self.new ≡ lowered_from 0 mask except by self.old }
     {
-        lower_each(&mut self.prices, mask, except, by);
-        self.least = least_choice(self.prices.as_slice(), mask, NO_CHOICE);
-        self.second = least_choice(self.prices.as_slice(), mask, self.least);
+        lower_each(&mut self.prices, mask, except as usize, by);
+        self.least = least_choice(self.prices.as_slice(), self.mask, self.prices.len());
+        self.second = least_choice(self.prices.as_slice(), self.mask, self.least);
     }
 
-    /// Whether a choice that the mask has beside this one is free, as far as the least priced tell.
-    fn has_free_beside(&self, mask: u64, except: u32) -> bool {
-        let prices = self.prices.as_slice();
-        is_free_beside(prices, mask, except, self.least as usize)
-            || is_free_beside(prices, mask, except, self.second as usize)
+    /// The least of what was found before and the prices of the choices that the mask has, except this one. Of other choices
+    /// than those left nothing is known.
+    fn least_beside(&self, mask: u64, except: u32, before: Option<u64>) -> Option<u64>
+        ensures { BesideTells self.now mask except (length self.now) before result }
+    {
+        if mask != self.mask {
+            return Some(0);
+        }
+        let choice = if self.least == except as usize {
+            self.second
+        } else {
+            self.least
+        };
+        self.lesser_at(choice, before)
+    }
+
+    /// The lesser of what was found before and a choice's price, as far as there are these.
+    fn lesser_at(&self, choice: usize, before: Option<u64>) -> Option<u64>
+        ensures { result ≡ lesser_after before (price_at self.now choice) }
+    {
+        match self.prices.get(choice) {
+            Some(price) => Some(lesser(before, price.0)),
+            None => before,
+        }
     }
 }
 
-/// The first of the least priced choices that the mask has beside this one, if there is one.
-fn least_choice(prices: &[Cost], mask: u64, except: u32) -> u32 {
-    let mut least = NO_CHOICE;
-    for choice in 0..prices.len().min(64) {
-        if is_beside(mask, choice, except) && is_less(prices, choice, least as usize) {
-            least = choice as u32;
+/// The first of the least priced choices that the mask has beside this one; the number of choices, where there is none.
+fn least_choice(prices: &[Cost], mask: u64, except: usize) -> usize
+    ensures { BesideTells prices.now mask except (length prices.now) None (price_at prices.now result) }
+{
+    let mut least = prices.len();
+    for choice in 0..prices.len() {
+        if is_beside(mask, choice, except) && is_less(prices, choice, least) {
+            least = choice;
         }
     }
     least
 }
 
 /// Whether a choice is priced less than another, or there isn't that one.
-fn is_less(prices: &[Cost], choice: usize, other: usize) -> bool {
-    other >= prices.len() || (choice < prices.len() && prices[choice].0 < prices[other].0)
-}
-
-/// Whether there is this choice, the mask has it beside the other one, and it is free.
-fn is_free_beside(prices: &[Cost], mask: u64, except: u32, choice: usize) -> bool {
-    choice < prices.len() && is_beside(mask, choice, except) && prices[choice].0 == 0
+fn is_less(prices: &[Cost], choice: usize, other: usize) -> bool
+    requires { choice < length prices.now }
+    ensures { result ≡ is_less prices.now choice other }
+{
+    other >= prices.len() || prices[choice].0 < prices[other].0
 }
 
 /// Prices each choice that the mask has at so much less, except this one.
-fn lower_each(prices: &mut [Cost], mask: u64, except: u32, by: u64)
+fn lower_each(prices: &mut [Cost], mask: u64, except: usize, by: u64)
     ensures { prices.new ≡ lowered_from 0 mask except by prices.old }
 {
     for choice in 0..prices.len() {
@@ -114,10 +141,10 @@ fn lower_each(prices: &mut [Cost], mask: u64, except: u32, by: u64)
 }
 
 /// Whether the mask has this choice, and it is not the one excepted.
-fn is_beside(mask: u64, choice: usize, except: u32) -> bool
+fn is_beside(mask: u64, choice: usize, except: usize) -> bool
     ensures { result ≡ is_beside mask except choice }
 {
-    mask::has(mask, choice) && choice != except as usize
+    mask::has(mask, choice) && choice != except
 }
 
 /// A price, or so much less, as far as it goes.
@@ -128,29 +155,6 @@ fn price_after(lowers: bool, by: u64, price: u64) -> u64
         price.saturating_sub(by)
     } else {
         price
-    }
-}
-
-/// The least of what was found before and the prices of the choices that the mask has, except this one.
-fn least_beside(prices: &[Cost], mask: u64, except: u32, before: Option<u64>) -> Option<u64>
-    ensures { BesideTells prices.now mask except (length prices.now) before result }
-{
-    let mut least = before;
-    for choice in 0..prices.len() {
-        let counts = is_beside(mask, choice, except);
-        least = least_after(counts, least, prices[choice].0);
-    }
-    least
-}
-
-/// The least with one more price, where that counts.
-fn least_after(counts: bool, least: Option<u64>, price: u64) -> Option<u64>
-    ensures { result ≡ least_after counts least price }
-{
-    if counts {
-        Some(lesser(least, price))
-    } else {
-        least
     }
 }
 
@@ -190,10 +194,7 @@ fn least_at(masks: &[u64], pair: Pair, rows: &[Row], before: Option<u64>) -> Opt
     ensures { BesideTells (slice_index_or rows.now pair.slot []) (slice_index masks.now pair.slot) pair.choice (length (slice_index_or rows.now pair.slot [])) before result }
 {
     let slot = pair.slot as usize;
-    if rows[slot].has_free_beside(masks[slot], pair.choice) {
-        return Some(0);
-    }
-    least_beside(rows[slot].as_slice(), masks[slot], pair.choice, before)
+    rows[slot].least_beside(masks[slot], pair.choice, before)
 }
 
 /// Prices what breaks a conflict at so much less.
@@ -292,20 +293,6 @@ fn rows_of(alloc: Global, slots: &[Seq<Cost>], masks: &[u64]) -> Result<Vec<Row>
         rows.push(Row::new(alloc, costs.as_slice(), mask)?)?;
     }
     Ok(rows)
-}
-
-/// What a member of a box that contains no conflict costs at least; no more is found out once that is enough.
-pub(crate) fn low_of(
-    alloc: Global,
-    grid: &Grid,
-    conflicts: &[Conflict],
-    masks: &Masks,
-    enough: u64,
-) -> Result<u64, AllocError>
-    ensures { IfOk result (λ low. CostsAtLeast grid.now conflicts.now masks.now low) }
-{
-    let priced = priced_in(alloc, grid, conflicts, masks.as_slice(), enough)?;
-    Ok(priced.low)
 }
 
 /// What a member of a box that contains no conflict costs at least, and what its choices cost beside that; no more is

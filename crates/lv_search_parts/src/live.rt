@@ -70,7 +70,7 @@ fn push_open(pair: Pair, masks: &[u64], left: &mut Vec<Pair>) -> Result<(), Allo
 }
 
 /// Whether the box has the choices of all these pairs.
-fn are_there(masks: &[u64], pairs: &[Pair]) -> bool
+pub fn are_there(masks: &[u64], pairs: &[Pair]) -> bool
     ensures { result ≡ list_all (is_there masks.now) pairs.now }
 {
     pairs.iter().all(|pair| is_there(masks, *pair))

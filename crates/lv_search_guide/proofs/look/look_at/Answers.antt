@@ -5,7 +5,7 @@ use Rattle.lv_search_guide.proofs.look.look_at.Goals as goal
 
 pub returns-in-Some : goal.returns-in-Some
 returns-in-Some c slots under m less =
-    look_contained slots c.args.masks.now under c.args.member c.args.conflicts.now c.in-Some.conflict.now _ m (search rules) c.split_by.ensures
+    look_contained slots c.args.masks.now under c.args.member c.args.conflicts.now c.in-Some.conflict.now c.pairs.result.now _ m (search rules) c.pairs.ensures.pairs c.split_by.ensures
 
 pub returns-in-None : goal.returns-in-None
 returns-in-None c slots under m less =

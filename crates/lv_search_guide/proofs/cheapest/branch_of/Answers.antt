@@ -1,0 +1,19 @@
+-- no member that is cheap enough goes
+use Rattle.lv_search_guide.proofs.SearchLemmas.{none_by_low, branch_none, branch_some, branch_dear}
+use Rattle.lv_search_guide.proofs.cheapest.branch_of.Goals as goal
+
+pub returns-then-not-narrow : goal.returns-then-not-narrow
+returns-then-not-narrow c = none_by_low c.args.grid.now c.args.conflicts.now c.args.masks c.args.under (rw c.if-not-narrow.true at c.narrow.ensures)
+
+pub returns-then-low-under : goal.returns-then-low-under
+returns-then-low-under c =
+    branch_dear c.args.grid.now c.args.conflicts.now c.args.masks c.narrow.new.masks c.in_ok-low.low c.args.under (rw c.if-not-narrow.false at c.narrow.ensures) c.in_ok-low.ensures.low c.if-low-under.true
+
+pub returns-then-not-narrow-2 : goal.returns-then-not-narrow-2
+returns-then-not-narrow-2 c =
+    branch_none c.args.grid.now c.args.conflicts.now c.args.masks c.narrow.new.masks c.drop_dear.new.masks c.args.under (rw c.if-not-narrow.false at c.narrow.ensures) c.in_ok-low.ensures.keeps (rw c.if-not-narrow-2.true at c.narrow-2.ensures)
+
+pub returns : goal.returns
+returns c =
+    branch_some c.args.grid.now c.args.conflicts.now c.args.masks c.narrow.new.masks c.drop_dear.new.masks c.args.under (rw c.if-not-narrow.false at c.narrow.ensures) c.in_ok-low.ensures.keeps c.narrow-2.new.masks c.in_ok-low.low
+    c.in_ok-low.ensures.low c.if-low-under.false (rw c.if-not-narrow-2.false at c.narrow-2.ensures)
