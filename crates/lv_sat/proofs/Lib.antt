@@ -8,4 +8,5 @@ mod CutLemmas
 mod MeasureLemmas
 mod SearchLemmas
 mod FrontLemmas
+mod LastValuesLemmas
 pub use Rattle.lv_reflog.proofs as lv_reflog

@@ -3,4 +3,5 @@ pub mod Trail
 pub mod Analysis
 pub mod Measure
 pub mod Front
+pub mod Occurrences
 pub use Rattle.lv_reflog.specs as lv_reflog

@@ -15,6 +15,7 @@
 //! | what clauses force | `propagation` |
 //! | the assumptions on the trail | `front` |
 //! | the search | `search` |
+//! | the last values that satisfied all clauses | `last_values`, `occurrences` |
 #![tactic(auto)]
 
 mod analysis;
@@ -22,7 +23,9 @@ pub mod answer;
 pub mod effort;
 mod front;
 mod guide;
+mod last_values;
 mod notes;
+mod occurrences;
 mod order;
 mod pace;
 mod propagation;

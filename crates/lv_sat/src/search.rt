@@ -6,24 +6,26 @@
 ghost use Rattle.std.specs.Prelude.{◌≡◌, ◌<◌, ◌≤◌, ◌-◌, ◌+◌, ◌++◌, ◌∷◌, [], true, false, List, length, map, None, count_by, IsTrue, IfOk, OnOk, IfSome, IfNone, is_some, is_none, ℕ};
 ghost use Rattle.std.specs.List.{list_all};
 ghost use Rattle.lv_clauses.specs.Literals.{neg, is_clause};
-ghost use Rattle.lv_clauses.specs.ClauseMap.{ClauseMap, satisfies};
+ghost use Rattle.lv_clauses.specs.ClauseMap.{ClauseMap};
 ghost use Rattle.lv_reflog.specs.Following.{first_bad_step};
 ghost use Rattle.lv_sat.specs.Answers.{Answers, last_clause};
 ghost use Rattle.lv_sat.specs.Front.{Finds, IsKept, IsRefuted};
 ghost use Rattle.lv_reflog.specs.declared.log.Step.{Step};
 ghost use Rattle.lv_sat.specs.Measure.{trails_left};
-ghost use Rattle.lv_sat.specs.Trail.{is_open, IsSearch, IsTrail, IsReached, IsFalsified, IsGrown, TellsFalse, Reaches};
+ghost use Rattle.lv_sat.specs.Occurrences.{IsUpToDate};
+ghost use Rattle.lv_sat.specs.Trail.{is_open, IsSearch, IsTrail, IsReached, IsGrown, Reaches};
 
 use super::analysis::derive;
 use super::answer::Answer;
 use super::front::{Front, forget, stand};
 use super::guide::{Guide, learn, note_base, note_call, take_back};
+use super::last_values::LastValues;
 use super::order::Order;
 use super::pace::Pace;
 use super::propagation::propagate;
 use super::trail::{Entry, Trail};
-use lv_base::{ClauseId, Lit, Seq};
-use lv_clauses::{ClauseSet, clause_holds, negation};
+use lv_base::{Lit, Seq};
+use lv_clauses::{ClauseSet, negation};
 use lv_reflog::{Hint, Log};
 use std::alloc::{AllocError, Global};
 
@@ -42,15 +44,17 @@ pub fn search(
     set: &ClauseSet,
     guide: &mut Guide,
     front: &mut Front,
+    last: &LastValues,
     assumptions: &[Lit],
 ) -> Result<Answer, AllocError>
     requires clause { IsTrue (is_clause set.now.bools assumptions.now) }
     requires kept { IsKept set.now front.old.levels.items front.old.trail.marks.items front.old.trail.entries.items }
+    requires last { IsUpToDate set.now last.now.values last.now.occurrences }
     ensures answer { IfOk result (λ answer. Answers set.now assumptions.now answer) }
     ensures kept { IsKept set.now front.new.levels.items front.new.trail.marks.items front.new.trail.entries.items }
 {
     note_call(guide);
-    match find_answer(alloc, set, guide, front, assumptions) {
+    match find_answer(alloc, set, guide, front, last, assumptions) {
         Ok(answer) => Ok(answer),
         Err(error) => {
             forget(guide, front);
@@ -65,10 +69,12 @@ fn find_answer(
     set: &ClauseSet,
     guide: &mut Guide,
     front: &mut Front,
+    last: &LastValues,
     assumptions: &[Lit],
 ) -> Result<Answer, AllocError>
     requires clause { IsTrue (is_clause set.now.bools assumptions.now) }
     requires kept { IsKept set.now front.old.levels.items front.old.trail.marks.items front.old.trail.entries.items }
+    requires last { IsUpToDate set.now last.now.values last.now.occurrences }
     ensures answer { IfOk result (λ answer. Answers set.now assumptions.now answer) }
     ensures kept { OnOk result (IsKept set.now front.new.levels.items front.new.trail.marks.items front.new.trail.entries.items) }
 {
@@ -76,7 +82,7 @@ fn find_answer(
     if !stand(alloc, set, &mut log, guide, front, assumptions)? {
         return refutation(alloc, log);
     }
-    match complete(alloc, set, &mut log, guide, &mut front.trail)? {
+    match complete(alloc, set, &mut log, guide, &mut front.trail, last)? {
         Some(values) => Ok(Answer::Sat(values)),
         None => refutation(alloc, log),
     }
@@ -98,15 +104,17 @@ fn complete(
     log: &mut Log,
     guide: &mut Guide,
     trail: &mut Trail,
+    last: &LastValues,
 ) -> Result<Option<Seq<bool>>, AllocError>
     requires trail { IsTrail set.now log.old trail.old.marks.items trail.old.entries.items }
     requires log { log.old ≡ [] }
+    requires last { IsUpToDate set.now last.now.values last.now.occurrences }
     ensures found { IfOk result (λ found. Finds set.now trail.old.entries.items log.new found) }
     ensures entries { OnOk result (trail.new.entries.items ≡ trail.old.entries.items) }
     ensures trail { OnOk result (IsTrail set.now [] trail.new.marks.items trail.new.entries.items) }
 {
     let len = trail.entries().len();
-    let found = seek(alloc, set, log, guide, trail)?;
+    let found = seek(alloc, set, log, guide, trail, last)?;
     take_back(guide, trail, len);
     Ok(found)
 }
@@ -119,9 +127,11 @@ fn seek(
     log: &mut Log,
     guide: &mut Guide,
     trail: &mut Trail,
+    last: &LastValues,
 ) -> Result<Option<Seq<bool>>, AllocError>
     requires trail { IsTrail set.now log.old trail.old.marks.items trail.old.entries.items }
     requires valid { first_bad_step set.now log.old ≡ None }
+    requires last { IsUpToDate set.now last.now.values last.now.occurrences }
     ensures found { IfOk result (λ found. Finds set.now trail.old.entries.items log.new found) }
     ensures trail { OnOk result (IsGrown set.now trail.old.entries.items trail.new.marks.items trail.new.entries.items) }
 {
@@ -131,7 +141,7 @@ fn seek(
     let mut from = floor;
     'conflicts: loop {
         from = rest(guide, trail, floor, from, &mut pace);
-        match extend(alloc, set, log, guide, from, trail)? {
+        match extend(alloc, set, log, guide, from, trail, last)? {
             Reached::Values(values) => return Ok(Some(values)),
             Reached::False(hint) => {
                 let (notes, seen) = (&mut guide.notes, &mut guide.seen);
@@ -191,8 +201,10 @@ fn extend(
     guide: &mut Guide,
     from: usize,
     trail: &mut Trail,
+    last: &LastValues,
 ) -> Result<Reached, AllocError>
-    requires { IsTrail set.now log.now trail.old.marks.items trail.old.entries.items }
+    requires trail { IsTrail set.now log.now trail.old.marks.items trail.old.entries.items }
+    requires last { IsUpToDate set.now last.now.values last.now.occurrences }
     ensures { IfOk result (λ reached. IsReached set.now log.now trail.old.entries.items trail.new.marks.items trail.new.entries.items reached) }
 {
     let mut from = from;
@@ -203,7 +215,7 @@ fn extend(
         from = trail.entries().len();
         match choose(&mut guide.notes.order, trail, set.bools()) {
             Some(lit) => trail.push(Entry { lit, reason: None })?,
-            None => return judge(alloc, set, log, trail),
+            None => return judge(alloc, set, log, trail, last),
         }
     }
 }
@@ -227,38 +239,22 @@ fn choose(order: &mut Order, trail: &Trail, bools: u32) -> Option<Lit>
 }
 
 /// What the trail comes to where each boolean is marked.
-fn judge(alloc: Global, set: &ClauseSet, log: &Log, trail: &Trail) -> Result<Reached, AllocError>
+fn judge(
+    alloc: Global,
+    set: &ClauseSet,
+    log: &Log,
+    trail: &Trail,
+    last: &LastValues,
+) -> Result<Reached, AllocError>
     requires trail { IsTrail set.now log.now trail.now.marks.items trail.now.entries.items }
     requires full { list_all is_some trail.now.marks.items ≡ true }
+    requires last { IsUpToDate set.now last.now.values last.now.occurrences }
     ensures { IfOk result (λ reached. Reaches set.now log.now trail.now.marks.items trail.now.entries.items reached) }
 {
     let values = trail.values(alloc)?;
-    match first_false(set, values.as_slice()) {
+    match last.first_false(set, values.as_slice()) {
         Some(id) => Ok(Reached::False(Hint::Given(id))),
         None => Ok(Reached::Values(values)),
-    }
-}
-
-/// A clause that the values make false; None exactly where they satisfy all.
-fn first_false(set: &ClauseSet, values: &[bool]) -> Option<ClauseId>
-    ensures some { IfSome result (λ id. IsFalsified set.now values.now id.0) }
-    ensures none { IfNone result (satisfies values.now set.now.slots ≡ true) }
-{
-    for key in 0..set.bound() {
-        if is_false(set, values, ClauseId(key)) {
-            return Some(ClauseId(key));
-        }
-    }
-    None
-}
-
-/// Whether a clause of this number is present and the values make it false.
-fn is_false(set: &ClauseSet, values: &[bool], id: ClauseId) -> bool
-    ensures { TellsFalse set.now values.now id.0 result }
-{
-    match set.find(id) {
-        Some(clause) => !clause_holds(values, clause),
-        None => false,
     }
 }
 

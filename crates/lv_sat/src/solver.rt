@@ -10,6 +10,7 @@ use super::answer::Answer;
 use super::effort::Effort;
 use super::front::{Front, forget};
 use super::guide::{FIRST_ROOM, Guide};
+use super::last_values::LastValues;
 use super::notes::Notes;
 use super::search::search;
 use super::trail::Trail;
@@ -20,24 +21,30 @@ use std::alloc::{AllocError, Global};
 use std::marker::Model;
 
 /// The clauses present over booleans counted from 0, seen by contracts as the map from their numbers. What else it keeps
-/// is the lead of its searches, and the assumptions of the last one with what they force, from one to the next.
+/// is the lead of its searches, the assumptions of the last one with what they force, and the last values, from one to the
+/// next.
 #[derive(Drop)]
 pub struct Solver {
     alloc: Global,
     set: ClauseSet,
     guide: Guide,
     front: Front,
+    last: LastValues,
 }
 
 impl Model for Solver {
     ghost use Rattle.lv_clauses.specs.ClauseMap.{ClauseMap};
     ghost use Rattle.lv_sat.specs.Front.{IsKept};
+    ghost use Rattle.lv_sat.specs.Occurrences.{IsUpToDate};
 
     ghost Value = { ClauseMap };
 
     ghost view = { λ s. s.set };
 
-    ghost invariant = { λ s. IsKept s.set s.front.levels.items s.front.trail.marks.items s.front.trail.entries.items };
+    ghost invariant = { λ s. record {
+      front : IsKept s.set s.front.levels.items s.front.trail.marks.items s.front.trail.entries.items;
+      last : IsUpToDate s.set s.last.values s.last.occurrences;
+    } };
 }
 
 impl Solver {
@@ -61,6 +68,7 @@ impl Solver {
                 trail: Trail::new(alloc, set.bools())?,
                 levels: Vec::new(alloc),
             },
+            last: LastValues::new(),
         })
     }
 
@@ -74,6 +82,7 @@ impl Solver {
     {
         forget(&mut self.guide, &mut self.front);
         let id = self.set.add(lits)?;
+        self.last.add(self.alloc, lits, id);
         match self.guide.watches.add_given(lits, id) {
             Ok(()) | Err(_) => Ok(id),
         }
@@ -103,13 +112,18 @@ impl Solver {
         ensures answer { IfOk result (λ answer. Answers self.old assumptions.now answer) }
         ensures kept { self.new ≡ self.old }
     {
-        search(
+        let answer = search(
             self.alloc,
             &self.set,
             &mut self.guide,
             &mut self.front,
+            &self.last,
             assumptions,
-        )
+        )?;
+        if let Answer::Sat(values) = &answer {
+            self.last.keep(self.alloc, &self.set, values.as_slice());
+        }
+        Ok(answer)
     }
 
     /// What its searches did, all together.

@@ -50,8 +50,8 @@ conflicts-preserved c =
     (c.in_ok-turn-in-Some.ensures.entries blank ∙ ap (λ n. take c.in-Some.flip.cut c.extend.new.trail.entries.items ++ turned (get_or c.extend.new.trail.entries.items c.in-Some.flip.place blank) (Earlier (n - 1)) ∷ []) c.len-last.ensures)
     c.turn.new.self.marks.items (λ sets steps trail turn. c.in_ok-turn-in-Some.ensures.trail sets steps trail (subst (λ n. IsTurned sets steps c.extend.new.trail.entries.items c.in-Some.flip (Earlier (n - 1))) (sym c.len-last.ensures) turn))
 
-pub extend-requires : goal.extend-requires
-extend-requires c =
+pub extend-requires-clause-trail : goal.extend-requires-clause-trail
+extend-requires-clause-trail c =
     let here : IsSearch c.args.set.now c.args.trail.now.entries.items c.conflicts.log c.rest-from.new.trail.marks.items c.rest-from.new.trail.entries.items
     = c.rest-from.ensures.search c.args.set.now c.args.trail.now.entries.items c.conflicts.log (ap (λ (es : List Entry). length es) (sym c.entries-floor.ensures)) c.conflicts.invariant in
     here.trail

@@ -1,7 +1,7 @@
 -- no clause present has a number from the bound on
 use Rattle.std.proofs.Common.{sym, ◌∙◌, arith}
 use Rattle.lv_clauses.proofs.BoundLemmas.{none_left}
-use Rattle.lv_sat.proofs.search.first_false.Goals as goal
+use Rattle.lv_sat.proofs.last_values.first_of_all.Goals as goal
 
 pub returns-clause-none : goal.returns-clause-none
 returns-clause-none c =

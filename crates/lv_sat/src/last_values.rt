@@ -1,0 +1,196 @@
+//! The values of the last satisfiable answer. They satisfy all clauses, so that of new values only what turned has to be
+//! judged: each clause that holds a literal that was true and is false.
+#![tactic(auto)]
+
+ghost use Rattle.std.specs.Prelude.{◌≡◌, ℕ, [], true, length, Some, IfSome, IfNone};
+ghost use Rattle.std.specs.List.{list_all};
+ghost use Rattle.lv_clauses.specs.ClauseMap.{ClauseMap, Puts, satisfies};
+ghost use Rattle.lv_sat.specs.Answers.{IsModel};
+ghost use Rattle.lv_sat.specs.Occurrences as Occurring;
+ghost use Rattle.lv_sat.specs.Occurrences.{IsUpToDate, NamesAll, id_holds, is_settled};
+ghost use Rattle.lv_sat.specs.Trail.{IsFalsified, TellsFalse};
+
+use super::occurrences::Occurrences;
+use lv_base::{BoolId, ClauseId, Lit, Seq};
+use lv_clauses::{ClauseSet, clause_holds, lit_holds};
+use std::alloc::Global;
+
+/// Values that satisfy the clauses present, and which clauses hold each literal; none of either where it isn't known.
+#[derive(Drop)]
+pub struct LastValues {
+    values: Option<Seq<bool>>,
+    occurrences: Option<Occurrences>,
+}
+
+impl LastValues {
+    /// Where there was no answer yet.
+    pub fn new() -> LastValues
+        ensures { (set : ClauseMap) → IsUpToDate set result.values result.occurrences }
+    {
+        LastValues {
+            values: None,
+            occurrences: None,
+        }
+    }
+
+    /// Keeps values, as far as memory suffices.
+    pub fn keep(&mut self, alloc: Global, set: &ClauseSet, values: &[bool])
+        requires kept { IsUpToDate set.now self.old.values self.old.occurrences }
+        requires model { IsModel set.now [] values.now }
+        ensures { IsUpToDate set.now self.new.values self.new.occurrences }
+    {
+        fill(alloc, &mut self.occurrences, set);
+        self.values = copied(alloc, values);
+    }
+
+    /// Takes a clause in that was added.
+    pub fn add(&mut self, alloc: Global, lits: &[Lit], id: ClauseId)
+        ensures { (old new : ClauseMap) → IsUpToDate old self.old.values self.old.occurrences → Puts old new id.0 (Some lits.now)
+            → IsUpToDate new self.new.values self.new.occurrences }
+    {
+        judge_by(&mut self.values, lits);
+        enter(alloc, &mut self.occurrences, lits, id);
+    }
+
+    /// A clause that the values make false; None exactly where they satisfy all.
+    pub fn first_false(&self, set: &ClauseSet, values: &[bool]) -> Option<ClauseId>
+        requires kept { IsUpToDate set.now self.now.values self.now.occurrences }
+        requires len { length values.now ≡ set.now.bools }
+        ensures some { IfSome result (λ id. IsFalsified set.now values.now id.0) }
+        ensures none { IfNone result (satisfies values.now set.now.slots ≡ true) }
+    {
+        match (&self.values, &self.occurrences) {
+            (Some(last), Some(occurrences)) => {
+                first_turned(set, occurrences, last.as_slice(), values)
+            }
+            _ => first_of_all(set, values),
+        }
+    }
+}
+
+/// Finds the occurrences where they aren't known, if memory suffices.
+fn fill(alloc: Global, occurrences: &mut Option<Occurrences>, set: &ClauseSet)
+    requires { IfSome occurrences.old (NamesAll set.now.slots) }
+    ensures { IfSome occurrences.new (NamesAll set.now.slots) }
+{
+    if occurrences.is_none() {
+        *occurrences = Occurrences::of(alloc, set).ok();
+    }
+}
+
+/// A copy, if memory suffices.
+fn copied(alloc: Global, values: &[bool]) -> Option<Seq<bool>>
+    ensures { IfSome result (λ copy. copy ≡ values.now) }
+{
+    Seq::from_slice(alloc, values).ok()
+}
+
+/// Lets go of values that make a clause false that was added.
+fn judge_by(values: &mut Option<Seq<bool>>, lits: &[Lit])
+    ensures { (old new : ClauseMap) (id : ℕ) → Puts old new id (Some lits.now) → IfSome values.old (IsModel old []) → IfSome values.new (IsModel new []) }
+{
+    let Some(kept) = values else {
+        return;
+    };
+    if !clause_holds(kept.as_slice(), lits) {
+        *values = None;
+    }
+}
+
+/// Enters a clause that was added, or lets go of the occurrences where memory is wanting.
+fn enter(alloc: Global, occurrences: &mut Option<Occurrences>, lits: &[Lit], id: ClauseId)
+    ensures { (old new : ClauseMap) → Puts old new id.0 (Some lits.now) → IfSome occurrences.old (NamesAll old.slots) → IfSome occurrences.new (NamesAll new.slots) }
+{
+    let Some(rows) = occurrences else {
+        return;
+    };
+    if rows.add(alloc, lits, id).is_err() {
+        *occurrences = None;
+    }
+}
+
+/// The same where the last values satisfied all.
+fn first_turned(
+    set: &ClauseSet,
+    occurrences: &Occurrences,
+    last: &[bool],
+    values: &[bool],
+) -> Option<ClauseId>
+    requires names { NamesAll set.now.slots occurrences.now }
+    requires last { IsModel set.now [] last.now }
+    requires len { length values.now ≡ set.now.bools }
+    ensures some { IfSome result (λ id. IsFalsified set.now values.now id.0) }
+    ensures none { IfNone result (satisfies values.now set.now.slots ≡ true) }
+{
+    for var in 0..set.bools() {
+        if let Some(id) = first_at(set, occurrences, last, values, var) {
+            return Some(id);
+        }
+    }
+    None
+}
+
+/// A clause that became false with a boolean's literal.
+fn first_at(
+    set: &ClauseSet,
+    occurrences: &Occurrences,
+    last: &[bool],
+    values: &[bool],
+    var: u32,
+) -> Option<ClauseId>
+    ensures some { IfSome result (λ id. IsFalsified set.now values.now id.0) }
+    ensures none { IfNone result (is_settled set.now.slots occurrences.now last.now values.now var ≡ true) }
+{
+    let lit = true_lit(last, var);
+    if lit_holds(values, lit) {
+        return None;
+    }
+    first_in(set, occurrences.row(lit), values)
+}
+
+/// The literal of the boolean that the values make true.
+fn true_lit(values: &[bool], var: u32) -> Lit
+    ensures { result ≡ Occurring.true_lit values.now var }
+{
+    let index = var as usize;
+    Lit {
+        var: BoolId(var),
+        sign: index < values.len() && values[index],
+    }
+}
+
+/// A clause of the row that the values make false.
+fn first_in(set: &ClauseSet, row: &[ClauseId], values: &[bool]) -> Option<ClauseId>
+    ensures some { IfSome result (λ id. IsFalsified set.now values.now id.0) }
+    ensures none { IfNone result (list_all (id_holds values.now set.now.slots) row.now ≡ true) }
+{
+    for id in row {
+        if is_false(set, values, *id) {
+            return Some(*id);
+        }
+    }
+    None
+}
+
+/// A clause of all that the values make false.
+fn first_of_all(set: &ClauseSet, values: &[bool]) -> Option<ClauseId>
+    ensures some { IfSome result (λ id. IsFalsified set.now values.now id.0) }
+    ensures none { IfNone result (satisfies values.now set.now.slots ≡ true) }
+{
+    for key in 0..set.bound() {
+        if is_false(set, values, ClauseId(key)) {
+            return Some(ClauseId(key));
+        }
+    }
+    None
+}
+
+/// Whether a clause of this number is present and the values make it false.
+fn is_false(set: &ClauseSet, values: &[bool], id: ClauseId) -> bool
+    ensures { TellsFalse set.now values.now id.0 result }
+{
+    match set.find(id) {
+        Some(clause) => !clause_holds(values, clause),
+        None => false,
+    }
+}
