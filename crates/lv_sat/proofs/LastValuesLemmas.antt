@@ -1,6 +1,5 @@
 -- What the last values leave to be judged, and how they and the rows are kept up to date.
-use Rattle.std.proofs.Common.{◌≡◌, ◌≢◌, ◌⊎◌, ℕ, suc, ◌+◌, ◌<◌, ◌≤◌, Bool, true, false, ◌||◌, List, [], ◌∷◌, ◌++◌, length, take, get_or, set, Option, Some, None, IfSome, IsSome, Result, Ok, Err, OnOk, IfOk, refl, sym, ap, subst, ◌∙◌, arith, inl, inr, Contains}
-use Rattle.std.specs.List.{list_all}
+use Rattle.std.proofs.Common.{◌≡◌, ◌≢◌, ◌⊎◌, ℕ, suc, ◌+◌, ◌<◌, ◌≤◌, Bool, true, false, List, [], ◌∷◌, ◌++◌, length, take, get_or, set, Option, Some, None, IfSome, IsSome, Result, Ok, Err, OnOk, IfOk, refl, sym, ap, subst, ◌∙◌, arith, inl, inr, Contains}
 use Rattle.std.specs.Result.{is_err, result_ok}
 use Rattle.std.proofs.lemmas.Bool.{cases_eq, cases_lt}
 use Rattle.std.proofs.lemmas.List.{take_more, get_or_past, get_or-set_same, get_or-set_other}
@@ -12,7 +11,8 @@ use Rattle.lv_clauses.specs.ClauseMap.{ClauseMap, Slots, Puts, IsBound, clause_a
 use Rattle.lv_clauses.proofs.LiteralLemmas.{lit_of, and_both, any_member, member_any, all_member, present_holds, Contains-nil, Contains-head, Contains-cases}
 use Rattle.lv_clauses.proofs.MarkLemmas.{same_truth-equal}
 use Rattle.lv_sat.specs.Answers.{IsModel}
-use Rattle.lv_sat.specs.Occurrences.{Rows, place_of, row_of, NamesBelow, NamesAll, Names, id_holds, true_lit, is_settled, IsUpToDate}
+use Rattle.lv_sat.specs.Rows.{Rows, Names, IsIn}
+use Rattle.lv_sat.specs.Occurrences.{NamesBelow, NamesAll, RowHolds, id_holds, true_lit, IsSettled, IsUpToDate}
 
 satisfies_from : (values : List Bool) (slots : Slots) → ((id : ℕ) (c : List Lit) → clause_at slots id ≡ Some c → clause_holds values c ≡ true) → satisfies values slots ≡ true
 satisfies_from values [] each = refl
@@ -22,21 +22,16 @@ satisfies_from values (Some c ∷ ss) each = and_both (clause_holds values c) (s
 true_is : (values : List Bool) (l : Lit) → lit_holds values l ≡ true → true_lit values l.var.0 ≡ l
 true_is values l e = lit_of (true_lit values l.var.0) l refl (same_truth-equal (get_or values l.var.0 false) l.sign e)
 
-or_rest : (a b : Bool) → a ≡ false → (a || b) ≡ true → b ≡ true
-or_rest true b p q = absurd (cc)
-or_rest false b p q = q
-
 module _ (cs : ClauseMap) (rows : Rows) (last values : List Bool) (named : NamesAll cs.slots rows) (model : IsModel cs [] last) (len : length values ≡ cs.bools)
-    (settled : (var : ℕ) → var < cs.bools → is_settled cs.slots rows last values var ≡ true) where
+    (settled : (var : ℕ) → var < cs.bools → IsSettled cs.slots rows last values var) where
   -- a clause with a literal that was true is true
   still_true : (id : ℕ) (c : List Lit) (l : Lit) → clause_at cs.slots id ≡ Some c → Contains c l → lit_holds last l ≡ true → (b : Bool) → lit_holds values l ≡ b → clause_holds values c ≡ true
   still_true id c l at has was true now = member_any (lit_holds values) c l has now
   still_true id c l at has was false now = elim (cases_lt l.var.0 cs.bools) [
     | inl within ↦
-        let here : (lit_holds values l || list_all (id_holds values cs.slots) (row_of rows l)) ≡ true =
-        subst (λ (k : Lit). (lit_holds values k || list_all (id_holds values cs.slots) (row_of rows k)) ≡ true) (true_is last l was) (settled l.var.0 within) in
-        sym (ap (slot_holds values) at)
-        ∙ all_member (id_holds values cs.slots) (row_of rows l) (record { 0 = id }) (or_rest (lit_holds values l) (list_all (id_holds values cs.slots) (row_of rows l)) now here) (named (record { 0 = id }) c l at has)
+        let here : RowHolds cs.slots rows values l =
+        subst (λ (k : Lit). lit_holds values k ≡ false → RowHolds cs.slots rows values k) (true_is last l was) (settled l.var.0 within) now in
+        sym (ap (slot_holds values) at) ∙ here (record { 0 = id }) (named (record { 0 = id }) c l at has)
     | inr past ↦
         let same : lit_holds last l ≡ lit_holds values l =
         ap (λ b. same_truth b l.sign) (get_or_past last l.var.0 false (omega (arith, model.len, past)) ∙ sym (get_or_past values l.var.0 false (omega (arith, len, past)))) in
@@ -59,52 +54,13 @@ model_kept old new id slot values puts holds model =
     by_id k c at (inl same) = sym (ap (slot_holds values) at) ∙ ap (slot_holds values) (ap (clause_at new.slots) same ∙ puts.changed) ∙ holds
     by_id k c at (inr differs) = present_holds values old.slots k c model.all_clauses (sym (puts.others k differs) ∙ at)
 
-names_put : (old new : Rows) (l : Lit) (id : ClauseId) → place_of l < length old → new ≡ set old (place_of l) (row_of old l ++ id ∷ []) → Names (l ∷ []) id old new
-names_put old new l id within is = record { kept = λ m k h. by_place m k h (cases_eq (place_of m) (place_of l)); added = λ m h. by_lit m (Contains-cases l m [] h) }
-  where
-    here : row_of new l ≡ row_of old l ++ id ∷ []
-    here = ap (λ (rows : Rows). row_of rows l) is ∙ get_or-set_same old (place_of l) (row_of old l ++ id ∷ []) [] within
-
-    by_place : (m : Lit) (k : ClauseId) → Contains (row_of old m) k → (place_of m ≡ place_of l) ⊎ (place_of m ≢ place_of l) → Contains (row_of new m) k
-    by_place m k h (inl same) =
-        subst (λ row. Contains row k) (sym (ap (λ p. get_or new p []) same ∙ here))
-        (Contains-append_left (row_of old l) (id ∷ []) k (subst (λ row. Contains row k) (ap (λ p. get_or old p []) same) h))
-    by_place m k h (inr differs) =
-        subst (λ row. Contains row k) (sym (ap (λ (rows : Rows). row_of rows m) is ∙ get_or-set_other old (place_of l) (place_of m) (row_of old l ++ id ∷ []) [] differs)) h
-
-    by_lit : (m : Lit) → (l ≡ m) ⊎ Contains [] m → Contains (row_of new m) id
-    by_lit m (inl same) = subst (λ k. Contains (row_of new k) id) same (subst (λ row. Contains row id) (sym here) (Contains-append_right (row_of old l) (id ∷ []) id (Contains-head id [])))
-    by_lit m (inr h) = absurd (Contains-nil m h)
-
-pub names_self : (id : ClauseId) (rows : Rows) → Names [] id rows rows
-names_self id rows = record { kept = λ l k h. h; added = λ l h. absurd (Contains-nil l h) }
-
--- one literal more
-pub names_then : (lits : List Lit) (at place : ℕ) (d : Lit) (id : ClauseId) (old mid fitted new : Rows) → at < length lits → place ≡ place_of (get_or lits at d) → Names (take at lits) id old mid
-    → ((k : ℕ) → get_or fitted k [] ≡ get_or mid k []) → place < length fitted → new ≡ set fitted place (get_or fitted place [] ++ id ∷ []) → Names (take (at + 1) lits) id old new
-names_then lits at place d id old mid fitted new below here first same within is =
-    subst (λ ls. Names ls id old new) (sym (take_more lits at d below))
-    (record {
-      kept = λ m k h. on m k (first.kept m k h);
-      added = λ m h. elim (Contains-append_cases (take at lits) (l ∷ []) m h) [ inl before ↦ on m id (first.added m before) | inr last ↦ put.added m last ];
-    })
-  where
-    l : Lit
-    l = get_or lits at d
-
-    put : Names (l ∷ []) id fitted new
-    put = names_put fitted new l id (subst (λ p. p < length fitted) here within) (is ∙ ap (λ p. set fitted p (get_or fitted p [] ++ id ∷ [])) here)
-
-    on : (m : Lit) (k : ClauseId) → Contains (row_of mid m) k → Contains (row_of new m) k
-    on m k h = put.kept m k (subst (λ row. Contains row k) (sym (same (place_of m))) h)
-
 -- one number more
 pub below_then : (key : ℕ) (slots : Slots) (c : List Lit) (old new : Rows) → NamesBelow key slots old → ((d : List Lit) → clause_at slots key ≡ Some d → c ≡ d) → Names c (record { 0 = key }) old new → NamesBelow (key + 1) slots new
 below_then key slots c old new below is names id d l within at has = elim (cases_lt id.0 key) [
   | inl before ↦ names.kept l id (below id d l before at has)
   | inr past ↦
       let same : id.0 ≡ key = omega (arith, within, past) in
-      subst (λ (k : ℕ). Contains (row_of new l) (record { 0 = k })) (sym same) (names.added l (subst (λ (ls : List Lit). Contains ls l) (sym (is d (ap (clause_at slots) (sym same) ∙ at))) has))
+      subst (λ (k : ℕ). IsIn new l (record { 0 = k })) (sym same) (names.added l (subst (λ (ls : List Lit). Contains ls l) (sym (is d (ap (clause_at slots) (sym same) ∙ at))) has))
 ]
 
 pub names_all : (bound key : ℕ) (slots : Slots) (rows : Rows) → IsBound slots bound → bound ≤ key → NamesBelow key slots rows → NamesAll slots rows
@@ -115,7 +71,7 @@ pub names_added : (old new : ClauseMap) (id : ClauseId) (c : List Lit) (rows mor
 names_added old new id c rows more puts all names k d l at has = elim (cases_eq k.0 id.0) [
   | inl same ↦
       let is : Some c ≡ Some d = sym puts.changed ∙ ap (clause_at new.slots) (sym same) ∙ at in
-      subst (λ (n : ℕ). Contains (row_of more l) (record { 0 = n })) (sym same) (names.added l (subst (λ (ls : List Lit). Contains ls l) (sym (cc (is))) has))
+      subst (λ (n : ℕ). IsIn more l (record { 0 = n })) (sym same) (names.added l (subst (λ (ls : List Lit). Contains ls l) (sym (cc (is))) has))
   | inr differs ↦ names.kept l k (all k d l (sym (puts.others k.0 differs) ∙ at) has)
 ]
 

@@ -8,5 +8,6 @@ mod CutLemmas
 mod MeasureLemmas
 mod SearchLemmas
 mod FrontLemmas
+mod RowLemmas
 mod LastValuesLemmas
 pub use Rattle.lv_reflog.proofs as lv_reflog

@@ -3,5 +3,6 @@ pub mod Trail
 pub mod Analysis
 pub mod Measure
 pub mod Front
+pub mod Rows
 pub mod Occurrences
 pub use Rattle.lv_reflog.specs as lv_reflog

@@ -3,11 +3,10 @@
 #![tactic(auto)]
 
 ghost use Rattle.std.specs.Prelude.{◌≡◌, ℕ, [], true, length, Some, IfSome, IfNone};
-ghost use Rattle.std.specs.List.{list_all};
 ghost use Rattle.lv_clauses.specs.ClauseMap.{ClauseMap, Puts, satisfies};
 ghost use Rattle.lv_sat.specs.Answers.{IsModel};
 ghost use Rattle.lv_sat.specs.Occurrences as Occurring;
-ghost use Rattle.lv_sat.specs.Occurrences.{IsUpToDate, NamesAll, id_holds, is_settled};
+ghost use Rattle.lv_sat.specs.Occurrences.{IsSettled, IsUpToDate, NamesAll, RowHolds};
 ghost use Rattle.lv_sat.specs.Trail.{IsFalsified, TellsFalse};
 
 use super::occurrences::Occurrences;
@@ -33,23 +32,26 @@ impl LastValues {
         }
     }
 
-    /// Keeps values, as far as memory suffices.
+    /// Keeps values, as far as memory suffices. Only behind other values the occurrences are found, since for a single
+    /// answer they would cost more than they save.
     pub fn keep(&mut self, alloc: Global, set: &ClauseSet, values: &[bool])
         requires kept { IsUpToDate set.now self.old.values self.old.occurrences }
         requires model { IsModel set.now [] values.now }
         ensures { IsUpToDate set.now self.new.values self.new.occurrences }
     {
-        fill(alloc, &mut self.occurrences, set);
+        if self.values.is_some() {
+            fill(alloc, &mut self.occurrences, set);
+        }
         self.values = copied(alloc, values);
     }
 
     /// Takes a clause in that was added.
-    pub fn add(&mut self, alloc: Global, lits: &[Lit], id: ClauseId)
+    pub fn add(&mut self, lits: &[Lit], id: ClauseId)
         ensures { (old new : ClauseMap) → IsUpToDate old self.old.values self.old.occurrences → Puts old new id.0 (Some lits.now)
             → IsUpToDate new self.new.values self.new.occurrences }
     {
         judge_by(&mut self.values, lits);
-        enter(alloc, &mut self.occurrences, lits, id);
+        enter(&mut self.occurrences, lits, id);
     }
 
     /// A clause that the values make false; None exactly where they satisfy all.
@@ -98,13 +100,13 @@ fn judge_by(values: &mut Option<Seq<bool>>, lits: &[Lit])
 }
 
 /// Enters a clause that was added, or lets go of the occurrences where memory is wanting.
-fn enter(alloc: Global, occurrences: &mut Option<Occurrences>, lits: &[Lit], id: ClauseId)
+fn enter(occurrences: &mut Option<Occurrences>, lits: &[Lit], id: ClauseId)
     ensures { (old new : ClauseMap) → Puts old new id.0 (Some lits.now) → IfSome occurrences.old (NamesAll old.slots) → IfSome occurrences.new (NamesAll new.slots) }
 {
     let Some(rows) = occurrences else {
         return;
     };
-    if rows.add(alloc, lits, id).is_err() {
+    if rows.add(lits, id).is_err() {
         *occurrences = None;
     }
 }
@@ -139,13 +141,13 @@ fn first_at(
     var: u32,
 ) -> Option<ClauseId>
     ensures some { IfSome result (λ id. IsFalsified set.now values.now id.0) }
-    ensures none { IfNone result (is_settled set.now.slots occurrences.now last.now values.now var ≡ true) }
+    ensures none { IfNone result (IsSettled set.now.slots occurrences.now last.now values.now var) }
 {
     let lit = true_lit(last, var);
     if lit_holds(values, lit) {
         return None;
     }
-    first_in(set, occurrences.row(lit), values)
+    first_in(set, occurrences, lit, values)
 }
 
 /// The literal of the boolean that the values make true.
@@ -159,15 +161,23 @@ fn true_lit(values: &[bool], var: u32) -> Lit
     }
 }
 
-/// A clause of the row that the values make false.
-fn first_in(set: &ClauseSet, row: &[ClauseId], values: &[bool]) -> Option<ClauseId>
+/// A clause of the literal's row that the values make false.
+fn first_in(
+    set: &ClauseSet,
+    occurrences: &Occurrences,
+    lit: Lit,
+    values: &[bool],
+) -> Option<ClauseId>
     ensures some { IfSome result (λ id. IsFalsified set.now values.now id.0) }
-    ensures none { IfNone result (list_all (id_holds values.now set.now.slots) row.now ≡ true) }
+    ensures none { IfNone result (RowHolds set.now.slots occurrences.now values.now lit) }
 {
-    for id in row {
-        if is_false(set, values, *id) {
-            return Some(*id);
+    let mut place = occurrences.head(lit);
+    while place > 0 {
+        let link = occurrences.link(place);
+        if is_false(set, values, link.id) {
+            return Some(link.id);
         }
+        place = link.next;
     }
     None
 }

@@ -1,28 +1,40 @@
 //! Which clauses hold each literal, so that where a literal became false only these need a look.
 #![tactic(auto)]
 
-ghost use Rattle.std.specs.Prelude.{◌≡◌, ◌<◌, ◌++◌, ◌∷◌, [], length, IfOk, OnOk, slice_index_or, slice_set, unwrap_or, ℕ};
+ghost use Rattle.std.specs.Prelude.{◌≡◌, ◌<◌, ◌≤◌, ◌∷◌, [], length, IfOk, OnOk, slice_index_or, unwrap_or, ℕ};
 ghost use Rattle.lv_clauses.specs.ClauseMap.{clause_at};
-ghost use Rattle.lv_sat.specs.Occurrences as Occurring;
-ghost use Rattle.lv_sat.specs.Occurrences.{NamesAll, Names, row_of};
+ghost use Rattle.lv_sat.specs.Occurrences.{NamesAll};
+ghost use Rattle.lv_sat.specs.Rows as Rows;
+ghost use Rattle.lv_sat.specs.Rows.{AreRows, Names, head_of, link_at};
 
-use lv_base::{ClauseId, Lit, Seq};
+use lv_base::{ClauseId, Lit};
 use lv_clauses::ClauseSet;
 use std::alloc::{AllocError, Global};
 use std::marker::Model;
 
+/// A clause in a literal's row, and the place of the link behind it. Places are counted from 1; 0 ends the row.
+#[derive(Clone, Copy, Debug)]
+pub struct Link {
+    pub id: ClauseId,
+    pub next: usize,
+}
+
 /// For each literal the clauses that hold it, and maybe such as held it before they were taken away.
 #[derive(Drop)]
 pub struct Occurrences {
-    rows: Vec<Seq<ClauseId>>,
+    heads: Vec<usize>,
+    links: Vec<Link>,
 }
 
 impl Model for Occurrences {
-    ghost use Rattle.lv_sat.specs.Occurrences.{Rows};
+    ghost use Rattle.lv_sat.specs.Rows.{AreRows};
+    ghost use Rattle.lv_sat.specs.Rows as Rows;
 
-    ghost Value = { Rows };
+    ghost Value = { Rows.Rows };
 
-    ghost view = { λ o. o.rows.items };
+    ghost view = { λ o. record { heads = o.heads.items; links = o.links.items } };
+
+    ghost invariant = { λ o. AreRows o.heads.items o.links.items };
 }
 
 impl Occurrences {
@@ -31,75 +43,95 @@ impl Occurrences {
         ensures { IfOk result (λ o. NamesAll set.now.slots o) }
     {
         let mut occurrences = Occurrences {
-            rows: Vec::new(alloc),
+            heads: Vec::new(alloc),
+            links: Vec::new(alloc),
         };
         for key in 0..set.bound() {
-            occurrences.add_present(alloc, set, ClauseId(key))?;
+            occurrences.add_present(set, ClauseId(key))?;
         }
         Ok(occurrences)
     }
 
     /// Adds the clause of this number, if it is present.
-    fn add_present(
-        &mut self,
-        alloc: Global,
-        set: &ClauseSet,
-        id: ClauseId,
-    ) -> Result<(), AllocError>
+    fn add_present(&mut self, set: &ClauseSet, id: ClauseId) -> Result<(), AllocError>
         ensures { OnOk result (Names (unwrap_or (clause_at set.now.slots id.0) []) id self.old self.new) }
     {
         match set.find(id) {
-            Some(lits) => self.add(alloc, lits, id),
+            Some(lits) => self.add(lits, id),
             None => Ok(()),
         }
     }
 
     /// Adds a clause to the rows of its literals.
-    pub fn add(&mut self, alloc: Global, lits: &[Lit], id: ClauseId) -> Result<(), AllocError>
+    pub fn add(&mut self, lits: &[Lit], id: ClauseId) -> Result<(), AllocError>
         ensures { OnOk result (Names lits.now id self.old self.new) }
     {
         for lit in lits {
-            let place = place_of(*lit);
-            fit(alloc, &mut self.rows, place)?;
-            put(&mut self.rows, place, id)?;
+            enter(&mut self.heads, &mut self.links, *lit, id)?;
         }
         Ok(())
     }
 
-    /// The clauses in the row of a literal.
-    pub fn row(&self, lit: Lit) -> &[ClauseId]
-        ensures { result.now ≡ row_of self.now lit }
+    /// The place at which a literal's row begins.
+    pub fn head(&self, lit: Lit) -> usize
+        ensures value { result ≡ head_of self.now.heads lit }
+        ensures within { result ≤ length self.now.links }
     {
-        match self.rows.get(place_of(lit)) {
-            Some(row) => row.as_slice(),
-            None => &[],
+        let row = row_of(lit);
+        if row < self.heads.len() {
+            self.heads[row]
+        } else {
+            0
         }
+    }
+
+    /// The link at a place.
+    pub fn link(&self, place: usize) -> Link
+        requires some { 0 < place }
+        requires within { place ≤ length self.now.links }
+        ensures value { result ≡ link_at self.now.links place }
+        ensures before { result.next < place }
+    {
+        self.links[place - 1]
     }
 }
 
-/// The place of a literal's row.
-fn place_of(lit: Lit) -> usize
-    ensures { result ≡ Occurring.place_of lit }
+/// The number of a literal's row.
+fn row_of(lit: Lit) -> usize
+    ensures { result ≡ Rows.row_of lit }
 {
     let first = 2 * lit.var.0 as usize;
     if lit.sign { first + 1 } else { first }
 }
 
-/// Has a row at the place, by adding empty ones.
-fn fit(alloc: Global, rows: &mut Vec<Seq<ClauseId>>, place: usize) -> Result<(), AllocError>
-    ensures within { OnOk result (place < length rows.new.items) }
-    ensures same { OnOk result ((k : ℕ) → slice_index_or rows.new.items k [] ≡ slice_index_or rows.old.items k []) }
+/// Adds a clause to the row of a literal.
+fn enter(
+    heads: &mut Vec<usize>,
+    links: &mut Vec<Link>,
+    lit: Lit,
+    id: ClauseId,
+) -> Result<(), AllocError>
+    requires { AreRows heads.old.items links.old.items }
+    ensures rows { AreRows heads.new.items links.new.items }
+    ensures names { OnOk result (Names (lit ∷ []) id (record { heads = heads.old.items; links = links.old.items }) (record { heads = heads.new.items; links = links.new.items })) }
 {
-    while rows.len() <= place {
-        rows.push(Seq::new(alloc))?;
-    }
+    let row = row_of(lit);
+    fit(heads, row)?;
+    links.push(Link {
+        id,
+        next: heads[row],
+    })?;
+    heads[row] = links.len();
     Ok(())
 }
 
-/// Adds a clause to the row at the place.
-fn put(rows: &mut Vec<Seq<ClauseId>>, place: usize, id: ClauseId) -> Result<(), AllocError>
-    requires { place < length rows.old.items }
-    ensures { OnOk result (rows.new.items ≡ slice_set rows.old.items place (slice_index_or rows.old.items place [] ++ id ∷ [])) }
+/// Has a row of this number, by adding empty ones.
+fn fit(heads: &mut Vec<usize>, row: usize) -> Result<(), AllocError>
+    ensures within { OnOk result (row < length heads.new.items) }
+    ensures same { (k : ℕ) → slice_index_or heads.new.items k 0 ≡ slice_index_or heads.old.items k 0 }
 {
-    rows[place].push(id)
+    while heads.len() <= row {
+        heads.push(0)?;
+    }
+    Ok(())
 }

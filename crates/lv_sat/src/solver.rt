@@ -82,7 +82,7 @@ impl Solver {
     {
         forget(&mut self.guide, &mut self.front);
         let id = self.set.add(lits)?;
-        self.last.add(self.alloc, lits, id);
+        self.last.add(lits, id);
         match self.guide.watches.add_given(lits, id) {
             Ok(()) | Err(_) => Ok(id),
         }

@@ -1,6 +1,7 @@
 -- the clause is in the rows of its literals
 use Rattle.std.proofs.Common.{IfSome, Option, sym, subst, ◌∙◌}
-use Rattle.lv_sat.specs.Occurrences.{Rows, NamesAll}
+use Rattle.lv_sat.specs.Occurrences.{NamesAll}
+use Rattle.lv_sat.specs.Rows.{Rows}
 use Rattle.lv_sat.proofs.LastValuesLemmas.{names_added, with_no_error}
 use Rattle.lv_sat.proofs.last_values.enter.Goals as goal
 

@@ -1,8 +1,16 @@
--- what is left holds exactly where all of the row does
-use Rattle.std.proofs.Common.{◌≡◌, drop}
-use Rattle.std.specs.List.{list_all}
+-- each clause of the row is true, or in what is left of it
+use Rattle.std.proofs.Common.{◌≡◌, ◌≤◌, ◌⊎◌, true, length}
+use Rattle.lv_base.specs.declared.ids.ClauseId.{ClauseId}
+use Rattle.lv_sat.specs.Rows.{Holds, IsIn}
 use Rattle.lv_sat.specs.Occurrences.{id_holds}
 use Rattle.lv_sat.proofs.last_values.first_in.Given as goal
 
-abbrev pub invariant-loop-id : goal.invariant-loop-id
-invariant-loop-id l = list_all (id_holds l.values l.set.slots) (drop l.id-index l.row) ≡ list_all (id_holds l.values l.set.slots) l.row
+abbrev pub invariant-loop-place : goal.invariant-loop-place
+invariant-loop-place l =
+    record {
+      within : l.place ≤ length l.occurrences.links;
+      left : (id : ClauseId) → IsIn l.occurrences l.fn.lit id → Holds l.occurrences.links id l.place ⊎ (id_holds l.values l.set.slots id ≡ true);
+    }
+
+abbrev pub decreases-loop-place : goal.decreases-loop-place
+decreases-loop-place l = l.place
