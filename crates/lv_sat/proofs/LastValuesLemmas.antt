@@ -1,18 +1,17 @@
 -- What the last values leave to be judged, and how they and the rows are kept up to date.
-use Rattle.std.proofs.Common.{◌≡◌, ◌≢◌, ◌⊎◌, ℕ, suc, ◌+◌, ◌<◌, ◌≤◌, Bool, true, false, List, [], ◌∷◌, ◌++◌, length, take, get_or, set, Option, Some, None, IfSome, IsSome, Result, Ok, Err, OnOk, IfOk, refl, sym, ap, subst, ◌∙◌, arith, inl, inr, Contains}
+use Rattle.std.proofs.Common.{◌≡◌, ◌≢◌, ◌⊎◌, ℕ, suc, ◌+◌, ◌<◌, ◌≤◌, Bool, true, false, List, [], ◌∷◌, length, get_or, Option, Some, None, IfSome, IsSome, Result, Ok, Err, OnOk, IfOk, refl, sym, ap, subst, ◌∙◌, arith, inl, inr, Contains}
 use Rattle.std.specs.Result.{is_err, result_ok}
 use Rattle.std.proofs.lemmas.Bool.{cases_eq, cases_lt}
-use Rattle.std.proofs.lemmas.List.{take_more, get_or_past, get_or-set_same, get_or-set_other}
-use Rattle.std.proofs.lemmas.List.Elements.{Contains-append_left, Contains-append_right, Contains-append_cases}
+use Rattle.std.proofs.lemmas.List.{get_or_past}
 use Rattle.lv_base.specs.declared.ids.Lit.{Lit}
 use Rattle.lv_base.specs.declared.ids.ClauseId.{ClauseId}
 use Rattle.lv_clauses.specs.Literals.{same_truth, lit_holds, clause_holds}
 use Rattle.lv_clauses.specs.ClauseMap.{ClauseMap, Slots, Puts, IsBound, clause_at, slot_holds, satisfies}
-use Rattle.lv_clauses.proofs.LiteralLemmas.{lit_of, and_both, any_member, member_any, all_member, present_holds, Contains-nil, Contains-head, Contains-cases}
+use Rattle.lv_clauses.proofs.LiteralLemmas.{lit_of, and_both, any_member, member_any, present_holds}
 use Rattle.lv_clauses.proofs.MarkLemmas.{same_truth-equal}
 use Rattle.lv_sat.specs.Answers.{IsModel}
 use Rattle.lv_sat.specs.Rows.{Rows, Names, IsIn}
-use Rattle.lv_sat.specs.Occurrences.{NamesBelow, NamesAll, RowHolds, id_holds, true_lit, IsSettled, IsUpToDate}
+use Rattle.lv_sat.specs.Occurrences.{NamesBelow, NamesAll, RowHolds, true_lit, IsSettled, IsUpToDate}
 
 satisfies_from : (values : List Bool) (slots : Slots) → ((id : ℕ) (c : List Lit) → clause_at slots id ≡ Some c → clause_holds values c ≡ true) → satisfies values slots ≡ true
 satisfies_from values [] each = refl

@@ -1,5 +1,5 @@
 -- What a link more does to the rows.
-use Rattle.std.proofs.Common.{◌≡◌, ◌≢◌, ◌⊎◌, ℕ, ◌+◌, ◌-◌, ◌<◌, ◌≤◌, Bool, true, List, [], ◌∷◌, ◌++◌, length, take, get_or, set, refl, sym, ap, subst, ◌∙◌, arith, inl, inr, Contains}
+use Rattle.std.proofs.Common.{◌≡◌, ◌≢◌, ◌⊎◌, ℕ, ◌+◌, ◌-◌, ◌<◌, ◌≤◌, Bool, true, List, [], ◌∷◌, ◌++◌, length, take, get_or, set, sym, ap, subst, ◌∙◌, arith, inl, inr, Contains}
 use Rattle.std.proofs.lemmas.Bool.{cases_eq, cases_lt}
 use Rattle.std.proofs.lemmas.List.{take_more, length-append, get_or_append_left, get_or_push, get_or-set_same, get_or-set_other}
 use Rattle.std.proofs.lemmas.List.Elements.{Contains-append_cases}
@@ -7,7 +7,7 @@ use Rattle.lv_base.specs.declared.ids.Lit.{Lit}
 use Rattle.lv_base.specs.declared.ids.ClauseId.{ClauseId}
 use Rattle.lv_clauses.proofs.LiteralLemmas.{Contains-nil, Contains-cases}
 use Rattle.lv_sat.specs.declared.occurrences.Link.{Link}
-use Rattle.lv_sat.specs.Rows.{Rows, row_of, head_of, link_at, Holds, here, later, AreRows, IsIn, Names}
+use Rattle.lv_sat.specs.Rows.{Rows, row_of, head_of, link_at, Holds, here, later, AreRows, Names}
 
 pub rows_fitted : (heads fitted : List ℕ) (links : List Link) → ((k : ℕ) → get_or fitted k 0 ≡ get_or heads k 0) → AreRows heads links → AreRows fitted links
 rows_fitted heads fitted links same rows = record { begin = λ k. omega (arith, same k, rows.begin k); follow = rows.follow }

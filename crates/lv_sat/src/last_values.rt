@@ -2,7 +2,7 @@
 //! judged: each clause that holds a literal that was true and is false.
 #![tactic(auto)]
 
-ghost use Rattle.std.specs.Prelude.{◌≡◌, ℕ, [], true, length, Some, IfSome, IfNone};
+ghost use Rattle.std.specs.Prelude.{◌≡◌, ℕ, [], true, length, None, Some, IfSome, IfNone};
 ghost use Rattle.lv_clauses.specs.ClauseMap.{ClauseMap, Puts, satisfies};
 ghost use Rattle.lv_sat.specs.Answers.{IsModel};
 ghost use Rattle.lv_sat.specs.Occurrences as Occurring;
@@ -14,11 +14,16 @@ use lv_base::{BoolId, ClauseId, Lit, Seq};
 use lv_clauses::{ClauseSet, clause_holds, lit_holds};
 use std::alloc::Global;
 
+/// After so many clauses taken away the occurrences are found anew, without them.
+const MOST_GONE: u32 = 1000;
+
 /// Values that satisfy the clauses present, and which clauses hold each literal; none of either where it isn't known.
 #[derive(Drop)]
 pub struct LastValues {
     values: Option<Seq<bool>>,
     occurrences: Option<Occurrences>,
+    /// How many clauses were taken away that the occurrences may still name.
+    gone: u32,
 }
 
 impl LastValues {
@@ -29,6 +34,7 @@ impl LastValues {
         LastValues {
             values: None,
             occurrences: None,
+            gone: 0,
         }
     }
 
@@ -52,6 +58,19 @@ impl LastValues {
     {
         judge_by(&mut self.values, lits);
         enter(&mut self.occurrences, lits, id);
+    }
+
+    /// Takes note that a clause was taken away.
+    pub fn remove(&mut self)
+        ensures { (old new : ClauseMap) (id : ℕ) → IsUpToDate old self.old.values self.old.occurrences → Puts old new id None
+            → IsUpToDate new self.new.values self.new.occurrences }
+    {
+        if self.gone < MOST_GONE {
+            self.gone += 1;
+            return;
+        }
+        self.gone = 0;
+        self.occurrences = None;
     }
 
     /// A clause that the values make false; None exactly where they satisfy all.

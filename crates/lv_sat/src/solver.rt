@@ -95,6 +95,7 @@ impl Solver {
     {
         forget(&mut self.guide, &mut self.front);
         self.set.remove(id);
+        self.last.remove();
         self.guide.watches.remove_given(id);
     }
 
