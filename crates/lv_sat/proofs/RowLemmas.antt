@@ -1,16 +1,13 @@
 -- What a link more does to the rows.
 use Rattle.std.proofs.Common.{◌≡◌, ◌≢◌, ◌⊎◌, ℕ, ◌+◌, ◌-◌, ◌<◌, ◌≤◌, Bool, true, List, [], ◌∷◌, ◌++◌, length, take, get_or, set, sym, ap, subst, ◌∙◌, arith, inl, inr, Contains}
-use Rattle.std.proofs.lemmas.Bool.{cases_eq, cases_lt}
+use Rattle.std.proofs.lemmas.Bool.{cases_eq}
 use Rattle.std.proofs.lemmas.List.{take_more, length-append, get_or_append_left, get_or_push, get_or-set_same, get_or-set_other}
 use Rattle.std.proofs.lemmas.List.Elements.{Contains-append_cases}
 use Rattle.lv_base.specs.declared.ids.Lit.{Lit}
 use Rattle.lv_base.specs.declared.ids.ClauseId.{ClauseId}
 use Rattle.lv_clauses.proofs.LiteralLemmas.{Contains-nil, Contains-cases}
 use Rattle.lv_sat.specs.declared.occurrences.Link.{Link}
-use Rattle.lv_sat.specs.Rows.{Rows, row_of, head_of, link_at, Holds, here, later, AreRows, Names}
-
-pub rows_fitted : (heads fitted : List ℕ) (links : List Link) → ((k : ℕ) → get_or fitted k 0 ≡ get_or heads k 0) → AreRows heads links → AreRows fitted links
-rows_fitted heads fitted links same rows = record { begin = λ k. omega (arith, same k, rows.begin k); follow = rows.follow }
+use Rattle.lv_sat.specs.Rows.{Rows, row_of, head_of, link_at, Holds, here, later, Names}
 
 abbrev link_blank : Link
 link_blank = record { id = record { 0 = 0 }; next = 0 }
@@ -47,19 +44,6 @@ module _ (heads fitted : List ℕ) (links : List Link) (row : ℕ) (id : ClauseI
   at_other : (k : ℕ) → k ≢ row → get_or entered k 0 ≡ get_or heads k 0
   at_other k differs = get_or-set_other fitted row k (length more) 0 differs ∙ same k
 
-  rows_more : AreRows heads links → AreRows entered more
-  rows_more rows = record { begin = λ k. begins k (cases_eq k row); follow = λ place some here_too. follows place some here_too (cases_lt (length links) place) }
-    where
-      begins : (k : ℕ) → (k ≡ row) ⊎ (k ≢ row) → get_or entered k 0 ≤ length more
-      begins k (inl is) = omega (arith, ap (λ j. get_or entered j 0) is, at_row)
-      begins k (inr differs) = omega (arith, at_other k differs, rows.begin k, longer)
-
-      follows : (place : ℕ) → 0 < place → place ≤ length more → (length links < place) ⊎ (place ≤ length links) → (link_at more place).next < place
-      follows place some below (inl past) =
-          let is : place ≡ length more = omega (arith, past, below, longer) in
-          omega (arith, ap (λ p. (link_at more p).next) is, ap (λ (k : Link). k.next) last_link, same row, rows.begin row, past)
-      follows place some below (inr before) = omega (arith, ap (λ (k : Link). k.next) (link_kept links link place some before), rows.follow place some before)
-
   names_more : (l : Lit) → row ≡ row_of l → Names (l ∷ []) id (record { heads = heads; links = links }) (record { heads = entered; links = more })
   names_more l is = record { kept = λ m k h. by_row m k h (cases_eq (row_of m) row); added = λ m h. by_lit m (Contains-cases l m [] h) }
     where
@@ -76,11 +60,6 @@ module _ (heads fitted : List ℕ) (links : List Link) (row : ℕ) (id : ClauseI
       by_lit m (inl this) =
           subst (Holds more id) (sym (ap (λ j. get_or entered j 0) (ap row_of (sym this) ∙ sym is) ∙ at_row)) (here some (omega arith) (ap (λ (j : Link). j.id) last_link))
       by_lit m (inr h) = absurd (Contains-nil m h)
-
-pub entered_rows : (heads fitted now : List ℕ) (links new : List Link) (row : ℕ) (id : ClauseId) → ((k : ℕ) → get_or fitted k 0 ≡ get_or heads k 0) → row < length fitted → new ≡ links ++ record { id = id; next = get_or fitted row 0 } ∷ []
-    → now ≡ set fitted row (length new) → AreRows heads links → AreRows now new
-entered_rows heads fitted now links new row id same within is made rows =
-    subst (λ (hs : List ℕ). AreRows hs new) (sym made) (subst (λ (ls : List Link). AreRows (set fitted row (length ls)) ls) (sym is) (rows_more heads fitted links row id same within rows))
 
 pub entered_names : (heads fitted now : List ℕ) (links new : List Link) (row : ℕ) (id : ClauseId) (l : Lit) → ((k : ℕ) → get_or fitted k 0 ≡ get_or heads k 0) → row < length fitted → new ≡ links ++ record { id = id; next = get_or fitted row 0 } ∷ []
     → now ≡ set fitted row (length new) → row ≡ row_of l → Names (l ∷ []) id (record { heads = heads; links = links }) (record { heads = now; links = new })
