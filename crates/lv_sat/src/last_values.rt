@@ -130,7 +130,7 @@ fn enter(occurrences: &mut Option<Occurrences>, lits: &[Lit], id: ClauseId)
     }
 }
 
-/// The same where the last values satisfied all.
+/// A clause that the values make false, found from the last ones, which satisfied all; None where there is none.
 fn first_turned(
     set: &ClauseSet,
     occurrences: &Occurrences,
