@@ -1,6 +1,5 @@
 //! Small texts, with the verdict that an independent reference program gives.
 
-use crate::refusals::{Refusal, is_refused};
 use lv_base::{PartId, ValId, VarId};
 use lv_checker::model_of;
 use lv_model::Model;
@@ -60,59 +59,4 @@ fn tells_moves_prices_and_lists(rt: HostRuntime) -> Result<(), AllocError> {
     assert_eq!(rt; moves_and_prices(&model), ((0, 4), (7, 0)));
     assert!(rt; lists_are_those_of_one_valve(alloc, &model)?);
     Ok(())
-}
-
-const REFUSALS: [Refusal; 9] = [
-    Refusal {
-        text: b"",
-        code: 15,
-        line: 1,
-    },
-    Refusal {
-        text: b"domain d a a\n",
-        code: 7,
-        line: 1,
-    },
-    Refusal {
-        text: b"type t\nend\n",
-        code: 11,
-        line: 2,
-    },
-    Refusal {
-        text: b"type t\nmode m\n",
-        code: 11,
-        line: 3,
-    },
-    Refusal {
-        text: b"domain d a\nmodel m\n",
-        code: 10,
-        line: 2,
-    },
-    Refusal {
-        text: b"type t\nmode m\nend\npart p t n\n",
-        code: 8,
-        line: 4,
-    },
-    Refusal {
-        text: b"type t\nmode m\nend\npart p t m\nlaw p.mode = n\n",
-        code: 9,
-        line: 5,
-    },
-    Refusal {
-        text: b"type t\nmode m\nlaw mode = mode <=> (mode = mode <=> mode = mode)\nend\npart p t m\n",
-        code: 14,
-        line: 3,
-    },
-    Refusal {
-        text: b"domain d a b\ntype t\ncontrol c d\nmode m\nend\npart p t m\nprice p.c = a 3\n",
-        code: 9,
-        line: 7,
-    },
-];
-
-#[test]
-fn refuses_other_texts(rt: HostRuntime) {
-    for refusal in &REFUSALS {
-        assert!(rt; is_refused(rt.alloc(), refusal));
-    }
 }

@@ -1,7 +1,6 @@
 //! Lines of the second version in a type, with the verdict that an independent reference program gives, and the moves of
 //! both versions.
 
-use crate::refusals::{Refusal, is_refused};
 use lv_checker::model_of;
 use lv_model::Model;
 use lv_reader::ModelFault;
@@ -376,71 +375,6 @@ fn judges_lines_of_the_second_version(rt: HostRuntime) -> Result<(), AllocError>
         assert!(rt; has_verdict(rt.alloc(), row)?);
     }
     Ok(())
-}
-
-const REFUSALS: [Refusal; 11] = [
-    Refusal {
-        text: b"version 2\n",
-        code: 15,
-        line: 2,
-    },
-    Refusal {
-        text: b"model m\nversion 2\n",
-        code: 10,
-        line: 2,
-    },
-    Refusal {
-        text: b"version 2\nversion 2\n",
-        code: 10,
-        line: 2,
-    },
-    Refusal {
-        text: b"version 2\ndomain d a\nversion 1\n",
-        code: 10,
-        line: 3,
-    },
-    Refusal {
-        text: b"type t\nversion 1\n",
-        code: 10,
-        line: 2,
-    },
-    Refusal {
-        text: b"version 2\nmodel m\nmodel m\n",
-        code: 10,
-        line: 3,
-    },
-    Refusal {
-        text: b"version 2\ndomain d a\nmodel m\n",
-        code: 10,
-        line: 3,
-    },
-    Refusal {
-        text: b"version 1\nmodel m\ntype t\nin m | n c = a\n",
-        code: 5,
-        line: 4,
-    },
-    Refusal {
-        text: b"version 2\nin m | n c = a\n",
-        code: 10,
-        line: 2,
-    },
-    Refusal {
-        text: b"version 2\nfault -> m cost 1\n",
-        code: 10,
-        line: 2,
-    },
-    Refusal {
-        text: b"version 2\nfault m -> n cost 1 repair c = a\n",
-        code: 10,
-        line: 2,
-    },
-];
-
-#[test]
-fn judges_places_of_the_version(rt: HostRuntime) {
-    for refusal in &REFUSALS {
-        assert!(rt; is_refused(rt.alloc(), refusal));
-    }
 }
 
 /// A type with every form of move, in the second version.

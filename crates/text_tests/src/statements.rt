@@ -31,7 +31,8 @@ fn is_refused(alloc: Global, row: &Row) -> bool {
     }
 }
 
-const ROWS: [Row; 6] = [
+/// What a text may not say, of either version.
+const ROWS: [Row; 40] = [
     Row {
         text: b"model m\nend \xff\n",
         code: ModelCode::BadByte,
@@ -62,17 +63,6 @@ const ROWS: [Row; 6] = [
         code: ModelCode::Form,
         line: 1,
     },
-];
-
-#[test]
-fn refuses_other_lines(rt: HostRuntime) {
-    for row in &ROWS {
-        assert!(rt; is_refused(rt.alloc(), row));
-    }
-}
-
-/// What a text of either version may not say.
-const VERSION_ROWS: [Row; 34] = [
     Row {
         text: b"version 0\n",
         code: ModelCode::NumberOutOfRange,
@@ -246,8 +236,8 @@ const VERSION_ROWS: [Row; 34] = [
 ];
 
 #[test]
-fn refuses_lines_by_the_version(rt: HostRuntime) {
-    for row in &VERSION_ROWS {
+fn refuses_other_lines(rt: HostRuntime) {
+    for row in &ROWS {
         assert!(rt; is_refused(rt.alloc(), row));
     }
 }
