@@ -221,7 +221,7 @@ fn query_comes_to(
     requires states { All (IsTracked (length model.now.parts)) tracked.now }
 {
     let facts = facts_of(alloc, model, told)?;
-    let mut query = identify(alloc, model, system, tracked, facts, 4)?;
+    let mut query = identify(alloc, model, system, tracked, facts, 4, false)?;
     let right = comes_to(&mut query, runs, wanted);
     drop(query);
     right

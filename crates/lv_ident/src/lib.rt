@@ -15,5 +15,5 @@ pub mod literals;
 pub mod query;
 pub mod trial;
 
-pub use query::{Query, QueryEffort, identify, identify_distinct};
+pub use query::{Query, QueryEffort, identify};
 pub use trial::IdentTrial;

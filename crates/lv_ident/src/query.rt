@@ -1,7 +1,7 @@
 //! A query: the search for the first candidates that are possible under facts, which can be gone on with.
 #![tactic(auto)]
 
-ghost use Rattle.std.specs.Prelude.{◌≡◌, ◌+◌, ◌<◌, ◌≤◌, ◌^◌, [], true, false, List, All, IfOk, length};
+ghost use Rattle.std.specs.Prelude.{◌≡◌, ◌+◌, ◌<◌, ◌≤◌, ◌^◌, [], true, List, All, IfOk, length};
 ghost use Rattle.lv_base.specs.declared.limits.TheConstants.{TRACKED};
 ghost use Rattle.lv_model.specs.declared.state.TrackedState.{TrackedState};
 ghost use Rattle.lv_system.specs.System.{IsSystemOf};
@@ -123,7 +123,7 @@ fn started<'a>(
 }
 
 /// A query that has tried nothing, for the first `k` candidates of the tracked states that are possible under the facts,
-/// which may contradict each other.
+/// which may contradict each other. A `distinct` one passes over a candidate which leads to the state of a listed one.
 pub fn identify<'a>(
     alloc: Global,
     model: &'a Model,
@@ -131,38 +131,18 @@ pub fn identify<'a>(
     tracked: &[TrackedState],
     facts: Facts,
     k: u32,
+    distinct: bool,
 ) -> Result<Query<'a>, AllocError>
     requires system { IsSystemOf model.now system.now }
     requires few { length tracked.now ≤ TRACKED }
     requires states { All (IsTracked (length model.now.parts)) tracked.now }
     requires fit { FactsFit model.now facts }
     requires in_range { FactsInRange model.now facts }
-    ensures start { IfOk result (λ query. query ≡ record { plant = model.now; facts = facts; distinct = false; standing = record { k = k; groups = groups_for false model.now; listed = []; kept = []; left = candidates model.now tracked.now } }) }
+    ensures start { IfOk result (λ query. query ≡ record { plant = model.now; facts = facts; distinct = distinct; standing = record { k = k; groups = groups_for distinct model.now; listed = []; kept = []; left = candidates model.now tracked.now } }) }
     ensures query { IfOk result (λ query. IsQueryOf tracked.now query) }
 {
-    let search = search_of(alloc, model, tracked, k, false)?;
-    started(alloc, model, system, facts, false, search)
-}
-
-/// As `identify`, of a query that passes over a candidate which leads to the state of a listed one.
-pub fn identify_distinct<'a>(
-    alloc: Global,
-    model: &'a Model,
-    system: &StepSystem,
-    tracked: &[TrackedState],
-    facts: Facts,
-    k: u32,
-) -> Result<Query<'a>, AllocError>
-    requires system { IsSystemOf model.now system.now }
-    requires few { length tracked.now ≤ TRACKED }
-    requires states { All (IsTracked (length model.now.parts)) tracked.now }
-    requires fit { FactsFit model.now facts }
-    requires in_range { FactsInRange model.now facts }
-    ensures start { IfOk result (λ query. query ≡ record { plant = model.now; facts = facts; distinct = true; standing = record { k = k; groups = groups_for true model.now; listed = []; kept = []; left = candidates model.now tracked.now } }) }
-    ensures query { IfOk result (λ query. IsQueryOf tracked.now query) }
-{
-    let search = search_of(alloc, model, tracked, k, true)?;
-    started(alloc, model, system, facts, true, search)
+    let search = search_of(alloc, model, tracked, k, distinct)?;
+    started(alloc, model, system, facts, distinct, search)
 }
 
 impl<'a> Query<'a> {

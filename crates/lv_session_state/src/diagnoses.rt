@@ -13,7 +13,7 @@ use crate::running::{Running, unrun};
 use crate::state::{State, resting_values};
 use lv_base::Rank;
 use lv_base::limits::COMMITS;
-use lv_ident::{Query as Identified, identify, identify_distinct};
+use lv_ident::{Query as Identified, identify};
 use lv_meaning::Facts;
 use lv_model::Model;
 use lv_reply::{Refusal, Reply};
@@ -43,11 +43,15 @@ impl State {
         ensures query { IfOk result (λ query. IsQueryOf self.now.tracked query) }
     {
         let facts = self.facts(alloc)?;
-        if self.distinct {
-            identify_distinct(alloc, model, system, self.tracked.as_slice(), facts, self.k)
-        } else {
-            identify(alloc, model, system, self.tracked.as_slice(), facts, self.k)
-        }
+        identify(
+            alloc,
+            model,
+            system,
+            self.tracked.as_slice(),
+            facts,
+            self.k,
+            self.distinct,
+        )
     }
 
     /// A diagnosis with so many trials, which becomes the current query.

@@ -4,12 +4,6 @@ use Rattle.lv_meaning.specs.Facts.{FactsFit, FactsInRange}
 use Rattle.lv_session_state.proofs.Asking.{facts_fit, facts_in_range}
 use Rattle.lv_session_state.proofs.state.State.untried.Goals as goal
 
-pub identify_distinct-requires-clause-fit : goal.identify_distinct-requires-clause-fit
-identify_distinct-requires-clause-fit c = subst (FactsFit c.args.model.now) (sym c.in_ok-facts.ensures) (facts_fit c.args.model.now c.args.self.now c.requires.state)
-
-pub identify_distinct-requires-clause-in_range : goal.identify_distinct-requires-clause-in_range
-identify_distinct-requires-clause-in_range c = subst (FactsInRange c.args.model.now) (sym c.in_ok-facts.ensures) (facts_in_range c.args.model.now c.args.self.now c.requires.state)
-
 pub identify-requires-clause-fit : goal.identify-requires-clause-fit
 identify-requires-clause-fit c = subst (FactsFit c.args.model.now) (sym c.in_ok-facts.ensures) (facts_fit c.args.model.now c.args.self.now c.requires.state)
 
