@@ -1,5 +1,5 @@
 -- What the session's state gives for a certificate of its current query.
-use Rattle.std.proofs.Common.{◌≡◌, ℕ, ◌≤◌, Bool, true, cond, nat_eq, List, [], ◌∷◌, length, map, Option, None, Some, All, refl, rules, sym, ap, ap₂, subst, ◌∙◌, arith}
+use Rattle.std.proofs.Common.{◌≡◌, ℕ, ◌≤◌, Bool, true, cond, nat_eq, List, [], ◌∷◌, length, map, Option, None, Some, All, refl, rules, ap, ap₂, subst, ◌∙◌, arith}
 use Rattle.std.specs.List.{list_all}
 use Rattle.std.specs.Cmp.Derive.{both_true}
 use Rattle.std.specs.Cmp.Lexicographic.{pointwise}
@@ -7,7 +7,6 @@ use Rattle.std.specs.Option.{option_and_then}
 use Rattle.std.proofs.lemmas.List.{length-map}
 use Rattle.std.proofs.lemmas.List.Elements.{All-cons, All-head, All-tail, All-nil}
 use Rattle.lv_base.specs.declared.limits.TheConstants.{TRACKED}
-use Rattle.lv_base.specs.declared.rank.Rank.{Rank}
 use Rattle.lv_text.proofs.ReadBack.{lexemes_have}
 use Rattle.lv_formula.specs.Tree.{Tree}
 use Rattle.lv_model.specs.declared.plant.Plant.{Plant}
@@ -21,11 +20,9 @@ use Rattle.lv_search_walk.specs.declared.outcome.Outcome.TheVariants.{Settled, U
 use Rattle.lv_search_walk.specs.Walk.{Walked}
 use Rattle.lv_session_state.specs.lv_meaning.Ranges.{StateFits}
 use Rattle.lv_session_state.specs.lv_tracker.Tracked.{IsWithinCost}
-use Rattle.lv_cert.specs.declared.line.Line.{Line}
 use Rattle.lv_cert.specs.Words.{is_word}
-use Rattle.lv_cert.specs.Texts.{text_of}
 use Rattle.lv_cert_diagnosis.specs.lv_cert_meaning.Stated.{simple_goal, goal_as, goal_in, goal_of}
-use Rattle.lv_cert_diagnosis.specs.lv_cert_meaning.Certifying.{CertifiesDiagnosis, CertifiesRecovery, StateStands, IsSeen, AreStates, AreFacts, IsSettledDiagnosis, IsAsked, IsSettledRecovery, AreTexts, AreFormed}
+use Rattle.lv_cert_diagnosis.specs.lv_cert_meaning.Certifying.{StateStands, IsSeen, AreStates, AreFacts, IsSettledDiagnosis, IsAsked, IsSettledRecovery, AreTexts}
 use Rattle.lv_session_state.specs.lv_session_request.Held.{observation_of}
 use Rattle.lv_session_state.specs.lv_session_request.declared.goals.Goal.{Goal}
 use Rattle.lv_session_state.specs.lv_session_request.declared.request.Sighting.{Sighting}
@@ -34,8 +31,6 @@ use Rattle.lv_session_state.specs.lv_session_request.Requests.{IsSightingIn}
 use Rattle.lv_session_state.proofs.lv_session_request.WordLaws.{formula_is_one}
 use Rattle.lv_session_state.specs.State.{SessionState, facts_of, aim_of, formula_of, text_of_goal, walked, recovery, is_settled_by}
 use Rattle.lv_session_state.specs.States.{IsStateOf}
-use Rattle.lv_session_state.specs.Current.{Diagnosed, Recovering, IsDiagnosisAt, IsRecoveryAt}
-use Rattle.lv_session.specs.Certificates.{CertifiesWalked, CertifiesRecovered}
 use Rattle.lv_session_state.proofs.Asking.{facts_fit, facts_in_range}
 use Rattle.lv_session_state.proofs.RecoveriesAsked.{aim_fits}
 
@@ -124,36 +119,17 @@ settled_is : (o p : Outcome) → p ≡ o → is_settled_by p ≡ true → o ≡ 
 settled_is Settled p same settled = refl
 settled_is Unsettled p same settled = let clash : is_settled_by Unsettled ≡ true = subst (λ (x : Outcome). is_settled_by x ≡ true) same settled in absurd (cc clash)
 
--- the walk that a search has come to, where it is settled
-module _ (plant : Plant) (state : SessionState) (sum : ℕ) where
-  pub settled_diagnosis : (d : Diagnosed) → IsDiagnosisAt plant state sum d → is_settled_by (walked plant state sum).outcome ≡ true
-      → IsSettledDiagnosis plant state.tracked (facts_of state) state.k state.distinct d.query.standing.listed d.query.standing.kept
+-- what a search has come to that stands at the end of a settled walk
+module _ (plant : Plant) (state : SessionState) (sum : ℕ) (w : Walked) where
+  pub settled_diagnosis : walked plant state sum ≡ w → is_settled_by (walked plant state sum).outcome ≡ true
+      → IsSettledDiagnosis plant state.tracked (facts_of state) state.k state.distinct w.listed w.kept
   unfolding walked
-  settled_diagnosis d at settled =
-      let o : d.outcome ≡ Settled = settled_is d.outcome (walked plant state sum).outcome (ap (λ (w : Walked). w.outcome) at.came_to) settled in
-      record { budget = sum; settled = at.came_to ∙ ap (λ (x : Outcome). record { outcome = x; listed = d.query.standing.listed; kept = d.query.standing.kept }) o }
+  settled_diagnosis came settled =
+      let o : w.outcome ≡ Settled = settled_is w.outcome (walked plant state sum).outcome (ap (λ (v : Walked). v.outcome) came) settled in
+      record { budget = sum; settled = came ∙ ap (λ (x : Outcome). record { outcome = x; listed = w.listed; kept = w.kept }) o }
 
-  pub settled_recovery : (r : Recovering) → IsRecoveryAt plant state sum r → is_settled_by (recovery plant state sum).outcome ≡ true
-      → IsSettledRecovery plant (aim_of state) r.query.standing.listed r.query.standing.kept
+  pub settled_recovery : recovery plant state sum ≡ w → is_settled_by (recovery plant state sum).outcome ≡ true → IsSettledRecovery plant (aim_of state) w.listed w.kept
   unfolding recovery
-  settled_recovery r at settled =
-      let o : r.outcome ≡ Settled = settled_is r.outcome (recovery plant state sum).outcome (ap (λ (w : Walked). w.outcome) at.came_to) settled in
-      record { budget = sum; settled = at.came_to ∙ ap (λ (x : Outcome). record { outcome = x; listed = r.query.standing.listed; kept = r.query.standing.kept }) o }
-
-  pub certifies_walked : (d : Diagnosed) (lines : List Line) (text : List ℕ) → IsDiagnosisAt plant state sum d
-      → CertifiesDiagnosis plant state.tracked (facts_of state) state.k state.distinct d.query.standing.listed lines → AreFormed plant lines → text ≡ text_of lines → CertifiesWalked plant state sum text
-  certifies_walked d lines text at certifies formed is = record {
-    lines = lines;
-    certifies = subst (λ (rs : List Rank). CertifiesDiagnosis plant state.tracked (facts_of state) state.k state.distinct rs lines) (sym (ap (λ (w : Walked). w.listed) at.came_to)) certifies;
-    formed = formed;
-    is = is;
-  }
-
-  pub certifies_recovered : (r : Recovering) (lines : List Line) (text : List ℕ) → IsRecoveryAt plant state sum r
-      → CertifiesRecovery plant (aim_of state) r.query.standing.listed lines → AreFormed plant lines → text ≡ text_of lines → CertifiesRecovered plant state sum text
-  certifies_recovered r lines text at certifies formed is = record {
-    lines = lines;
-    certifies = subst (λ (rs : List Rank). CertifiesRecovery plant (aim_of state) rs lines) (sym (ap (λ (w : Walked). w.listed) at.came_to)) certifies;
-    formed = formed;
-    is = is;
-  }
+  settled_recovery came settled =
+      let o : w.outcome ≡ Settled = settled_is w.outcome (recovery plant state sum).outcome (ap (λ (v : Walked). v.outcome) came) settled in
+      record { budget = sum; settled = came ∙ ap (λ (x : Outcome). record { outcome = x; listed = w.listed; kept = w.kept }) o }

@@ -20,8 +20,12 @@ use Rattle.lv_reply.specs.declared.reply.Reply.TheVariants.{Refused}
 use Rattle.lv_session_state.specs.lv_session_request.Held.{observation_of}
 use Rattle.lv_session_state.specs.lv_session_request.declared.request.Sighting.{Sighting}
 use Rattle.lv_session_state.specs.State.{SessionState, unchanged, cleared, facts_of, walked, is_held, has_no_room, observe}
-use Rattle.lv_session_state.specs.Current.{Diagnosed, IsDiagnosisAt}
+use Rattle.lv_session_state.specs.declared.query.Query.{Query}
+use Rattle.lv_session_state.specs.declared.query.Query.TheVariants.{Diagnosis}
+use Rattle.lv_session_state.specs.declared.running.Running.{Running}
+use Rattle.lv_session_state.specs.Current.{kept_walk, IsKeptOf}
 use Rattle.lv_session.specs.Laws.{is_refused}
+use Rattle.lv_session_state.proofs.Kept.{diagnosis_came_to}
 use Rattle.lv_session_state.proofs.Listed.{listed_all}
 
 -- the candidate of the rank has a move for each part
@@ -47,8 +51,8 @@ walked_full plant state n =
     (ranks_full plant (candidates plant state.tracked) (candidates_are_full plant state.tracked)))
 
 -- what is kept of a diagnosis lists candidates that have a move for each part
-pub full_at : (plant : Plant) (state : SessionState) (sum : ℕ) (d : Diagnosed) → IsDiagnosisAt plant state sum d → All (IsFull plant) (map candidate_of d.query.standing.listed)
-full_at plant state sum d at = subst (λ (w : Walked). All (IsFull plant) (map candidate_of w.listed)) at.came_to (walked_full plant state sum)
+pub listed_full : (q : Query) (plant : Plant) (state : SessionState) (r : Running) (sum : ℕ) → q ≡ Diagnosis sum → IsKeptOf q plant state r → All (IsFull plant) (map candidate_of (kept_walk r).listed)
+listed_full q plant state r sum asked at = subst (λ (w : Walked). All (IsFull plant) (map candidate_of w.listed)) (diagnosis_came_to q plant state r sum asked at) (walked_full plant state sum)
 
 module _ (plant : Plant) (state : SessionState) (s : Sighting) (plain : state.distinct ≡ false) where
   -- the walk of a diagnosis once the observation is held

@@ -6,11 +6,10 @@
 ghost use Rattle.std.specs.Prelude.{◌≡◌, ◌≤◌, ℕ, IfOk, length, true};
 ghost use Rattle.lv_session_state.specs.lv_system.System.{IsSystemOf};
 ghost use Rattle.lv_cert_diagnosis.specs.lv_cert_meaning.Certifying.{CertifiesDiagnosis, CertifiesRecovery, IsSettledDiagnosis, IsSettledRecovery, AreFormed};
-ghost use Rattle.lv_session_state.specs.State.{facts_of, aim_of, is_settled_by, is_settled};
+ghost use Rattle.lv_session_state.specs.State.{facts_of, aim_of, walked, recovery};
 ghost use Rattle.lv_session.specs.Session.{is_certifiable, certificate};
 ghost use Rattle.lv_session_state.specs.States.{IsStateOf};
-ghost use Rattle.lv_session_state.specs.Current.{IsDiagnosisAt, IsRecoveryAt, IsCurrent};
-ghost use Rattle.lv_session_state.specs.State.{is_asked, is_unsettled};
+ghost use Rattle.lv_session_state.specs.Current.{kept_walk, IsCurrent};
 ghost use Rattle.lv_session.specs.Certificates.{CertifiesWalked, CertifiesRecovered, Certifies};
 
 use lv_cert::{Cert, write_cert};
@@ -18,7 +17,7 @@ use lv_cert_diagnosis::{Limit, Settled as SettledDiagnosis, certify_diagnosis};
 use lv_cert_recovery::{Settled as SettledRecovery, certify_recovery};
 use lv_model::Model;
 use lv_reply::{Refusal, Reply};
-use lv_session_state::{Diagnosed, Query, Recovering, Running, State, StepSystem, texts_of};
+use lv_session_state::{Query, Running, State, StepSystem, texts_of};
 use std::alloc::{AllocError, Global};
 
 /// Whether there are certificates of the current query, where this is kept of it.
@@ -53,18 +52,18 @@ fn diagnosis_certificate(
     alloc: Global,
     model: &Model,
     system: &StepSystem,
-    run: &Diagnosed<'_>,
+    running: &Running<'_>,
 ) -> Result<Cert, AllocError>
     requires state { IsStateOf model.now state.now }
     requires system { IsSystemOf model.now system.now }
-    requires settled { IsSettledDiagnosis model.now state.now.tracked (facts_of state.now) state.now.k state.now.distinct run.now.query.standing.listed run.now.query.standing.kept }
-    ensures certifies { IfOk result (λ cert. CertifiesDiagnosis model.now state.now.tracked (facts_of state.now) state.now.k state.now.distinct run.now.query.standing.listed cert.lines) }
+    requires settled { IsSettledDiagnosis model.now state.now.tracked (facts_of state.now) state.now.k state.now.distinct (kept_walk running.now).listed (kept_walk running.now).kept }
+    ensures certifies { IfOk result (λ cert. CertifiesDiagnosis model.now state.now.tracked (facts_of state.now) state.now.k state.now.distinct (kept_walk running.now).listed cert.lines) }
     ensures formed { IfOk result (λ cert. AreFormed model.now cert.lines) }
 {
     let facts = state.facts(alloc)?;
     let answer = SettledDiagnosis {
-        listed: run.query.listed(),
-        kept: run.query.conflicts(),
+        listed: running.listed(),
+        kept: running.conflicts(),
     };
     let cert = certify_diagnosis(
         alloc,
@@ -88,14 +87,14 @@ fn diagnosis_text(
     alloc: Global,
     model: &Model,
     system: &StepSystem,
-    run: &Diagnosed<'_>,
+    running: &Running<'_>,
 ) -> Result<Vec<u8>, AllocError>
     requires state { IsStateOf model.now state.now }
     requires system { IsSystemOf model.now system.now }
-    requires settled { IsSettledDiagnosis model.now state.now.tracked (facts_of state.now) state.now.k state.now.distinct run.now.query.standing.listed run.now.query.standing.kept }
-    ensures { (sum : ℕ) → IsDiagnosisAt model.now state.now sum run.now → IfOk result (λ text. CertifiesWalked model.now state.now sum text.items) }
+    requires settled { IsSettledDiagnosis model.now state.now.tracked (facts_of state.now) state.now.k state.now.distinct (kept_walk running.now).listed (kept_walk running.now).kept }
+    ensures { (sum : ℕ) → walked model.now state.now sum ≡ kept_walk running.now → IfOk result (λ text. CertifiesWalked model.now state.now sum text.items) }
 {
-    let cert = diagnosis_certificate(state, alloc, model, system, run)?;
+    let cert = diagnosis_certificate(state, alloc, model, system, running)?;
     write_cert(alloc, &cert)
 }
 
@@ -105,21 +104,21 @@ fn recovery_certificate(
     alloc: Global,
     model: &Model,
     system: &StepSystem,
-    run: &Recovering<'_>,
+    running: &Running<'_>,
 ) -> Result<Cert, AllocError>
     requires state { IsStateOf model.now state.now }
     requires system { IsSystemOf model.now system.now }
     requires some { 1 ≤ length state.now.goals }
-    requires settled { IsSettledRecovery model.now (aim_of state.now) run.now.query.standing.listed run.now.query.standing.kept }
-    ensures certifies { IfOk result (λ cert. CertifiesRecovery model.now (aim_of state.now) run.now.query.standing.listed cert.lines) }
+    requires settled { IsSettledRecovery model.now (aim_of state.now) (kept_walk running.now).listed (kept_walk running.now).kept }
+    ensures certifies { IfOk result (λ cert. CertifiesRecovery model.now (aim_of state.now) (kept_walk running.now).listed cert.lines) }
     ensures formed { IfOk result (λ cert. AreFormed model.now cert.lines) }
 {
     let _tracked = state.tracked().as_slice();
     let aim = state.aim(alloc)?;
     let texts = texts_of(alloc, state.goals())?;
     let answer = SettledRecovery {
-        listed: run.query.listed(),
-        kept: run.query.conflicts(),
+        listed: running.listed(),
+        kept: running.conflicts(),
     };
     let cert = certify_recovery(alloc, model, system, &aim, texts.as_slice(), &answer);
     let SettledRecovery { listed: _, kept: _ } = answer;
@@ -132,15 +131,15 @@ fn recovery_text(
     alloc: Global,
     model: &Model,
     system: &StepSystem,
-    run: &Recovering<'_>,
+    running: &Running<'_>,
 ) -> Result<Vec<u8>, AllocError>
     requires state { IsStateOf model.now state.now }
     requires system { IsSystemOf model.now system.now }
     requires some { 1 ≤ length state.now.goals }
-    requires settled { IsSettledRecovery model.now (aim_of state.now) run.now.query.standing.listed run.now.query.standing.kept }
-    ensures { (sum : ℕ) → IsRecoveryAt model.now state.now sum run.now → IfOk result (λ text. CertifiesRecovered model.now state.now sum text.items) }
+    requires settled { IsSettledRecovery model.now (aim_of state.now) (kept_walk running.now).listed (kept_walk running.now).kept }
+    ensures { (sum : ℕ) → recovery model.now state.now sum ≡ kept_walk running.now → IfOk result (λ text. CertifiesRecovered model.now state.now sum text.items) }
 {
-    let cert = recovery_certificate(state, alloc, model, system, run)?;
+    let cert = recovery_certificate(state, alloc, model, system, running)?;
     write_cert(alloc, &cert)
 }
 
@@ -159,21 +158,9 @@ pub(crate) fn certificate_text(
     ensures { IfOk result (λ text. Certifies state.now.query model.now state.now text.items) }
 {
     match state.query() {
+        Query::Diagnosis(_) => diagnosis_text(state, alloc, model, system, running),
+        Query::Recovery(_) => recovery_text(state, alloc, model, system, running),
         Query::Absent => unreachable!(),
-        Query::Diagnosis(_) => match running {
-            Running::Diagnosis(run) => diagnosis_text(state, alloc, model, system, run),
-            Running::Recovery(_) => unreachable!(),
-            Running::Test(_) => unreachable!(),
-            Running::Window(_) => unreachable!(),
-            Running::Nothing => unreachable!(),
-        },
-        Query::Recovery(_) => match running {
-            Running::Recovery(run) => recovery_text(state, alloc, model, system, run),
-            Running::Diagnosis(_) => unreachable!(),
-            Running::Test(_) => unreachable!(),
-            Running::Window(_) => unreachable!(),
-            Running::Nothing => unreachable!(),
-        },
         Query::Test(_, _) => unreachable!(),
         Query::Window(_, _) => unreachable!(),
     }

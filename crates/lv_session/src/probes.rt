@@ -67,17 +67,9 @@ pub(crate) fn probe(
 {
     match state.query() {
         Query::Absent => Ok(Reply::Refused(Refusal::NoQuery)),
-        Query::Diagnosis(_) => match running {
-            Running::Diagnosis(run) => match run.outcome {
-                Outcome::Settled => {
-                    probed(state, alloc, model, system, lists, run.query.listed())
-                }
-                Outcome::Unsettled => Ok(Reply::Refused(Refusal::NoQuery)),
-            },
-            Running::Recovery(_) => Ok(Reply::Refused(Refusal::NoQuery)),
-            Running::Test(_) => Ok(Reply::Refused(Refusal::NoQuery)),
-            Running::Window(_) => Ok(Reply::Refused(Refusal::NoQuery)),
-            Running::Nothing => Ok(Reply::Refused(Refusal::NoQuery)),
+        Query::Diagnosis(_) => match running.outcome() {
+            Outcome::Settled => probed(state, alloc, model, system, lists, running.listed()),
+            Outcome::Unsettled => Ok(Reply::Refused(Refusal::NoQuery)),
         },
         Query::Recovery(_) => Ok(Reply::Refused(Refusal::NoQuery)),
         Query::Test(_, _) => Ok(Reply::Refused(Refusal::NoQuery)),

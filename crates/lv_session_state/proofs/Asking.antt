@@ -1,7 +1,5 @@
 -- What a diagnosis of the state needs, and what its walk says of the current query.
-use Rattle.std.proofs.Common.{◌≡◌, ℕ, zero, suc, ◌+◌, ◌<◌, ◌≤◌, Bool, true, List, [], ◌∷◌, length, map, sym, ◌∙◌, subst, arith, All}
-use Rattle.std.specs.declared.alloc.Global.{Global}
-use Rattle.std.specs.declared.boxed.Box.{Box}
+use Rattle.std.proofs.Common.{◌≡◌, ℕ, zero, suc, ◌+◌, ◌<◌, ◌≤◌, Bool, true, List, [], ◌∷◌, length, map, sym, ◌∙◌, arith, All}
 use Rattle.std.proofs.lemmas.List.Elements.{All-cons, All-append, All-head, All-tail, All-nil}
 use Rattle.lv_base.specs.declared.limits.TheConstants.{COMMITS}
 use Rattle.lv_model.specs.declared.plant.Plant.{Plant}
@@ -22,11 +20,7 @@ use Rattle.lv_ident.specs.Query.{QueryValue, IsQueryOf}
 use Rattle.lv_tracker.specs.Tracked.{HasModes}
 use Rattle.lv_session_request.specs.declared.request.Sighting.{Sighting}
 use Rattle.lv_session_request.specs.Requests.{IsSightingIn}
-use Rattle.lv_session_state.specs.declared.query.Query.{Query}
-use Rattle.lv_session_state.specs.declared.query.Query.TheVariants.{Diagnosis}
-use Rattle.lv_session_state.specs.declared.running.Running.{Running}
-use Rattle.lv_session_state.specs.declared.running.Running.TheVariants as kept
-use Rattle.lv_session_state.specs.Current.{Diagnosed, come_to, IsDiagnosisOf, IsDiagnosisAt, IsKeptOf}
+use Rattle.lv_session_state.specs.Current.{come_to, IsDiagnosisOf, IsDiagnosisAt}
 use Rattle.lv_session_request.specs.Held.{observation_of}
 use Rattle.lv_session_state.specs.State.{SessionState, facts_of, walked}
 use Rattle.lv_session_history.specs.Pasts.{StateCosts}
@@ -93,9 +87,3 @@ has_run plant state n sum old new o is sum_is on walk plant_same facts_same k_sa
   };
   came_to = sym (walked_at plant state old.plant old.facts old.standing.k old.distinct (trials_of old.standing + n) sum is.plant_is is.facts_are is.k_is is.distinct_is sum_is) ∙ walk;
 }
-
--- what is kept of a query that is a diagnosis
-pub kept_is : (q : Query) (plant : Plant) (state : SessionState) (running : Running) (sum : ℕ) (d : Box Diagnosed Global) → q ≡ Diagnosis sum → running ≡ kept.Diagnosis d → IsKeptOf q plant state running
-    → IsDiagnosisAt plant state sum d.value
-kept_is q plant state running sum d is runs at =
-    subst (λ (r : Running). IsKeptOf (Diagnosis sum) plant state r) runs (subst (λ (x : Query). IsKeptOf x plant state running) is at)

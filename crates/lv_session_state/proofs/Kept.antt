@@ -55,7 +55,20 @@ came_to (Test x sum) plant state (kept.Test t) current is = is.came_to
 came_to (Window steps sum) plant state (kept.Window w) current is = is.came_to
 came_to q plant state r current is = absurd is
 
--- and is on the walk of the query with more trials
+-- the same where the query is known to be a diagnosis or a recovery
+module _ (q : Query) (plant : Plant) (state : SessionState) (r : Running) (sum : ℕ) where
+  pub diagnosis_came_to : q ≡ Diagnosis sum → IsKeptOf q plant state r → walked plant state sum ≡ kept_walk r
+  diagnosis_came_to asked at = came_to (Diagnosis sum) plant state r refl (subst (λ (x : Query). IsKeptOf x plant state r) asked at)
+
+  pub recovery_came_to : q ≡ Recovery sum → IsKeptOf q plant state r → recovery plant state sum ≡ kept_walk r
+  recovery_came_to asked at = came_to (Recovery sum) plant state r refl (subst (λ (x : Query). IsKeptOf x plant state r) asked at)
+
+-- for a recovery some goal is held
+pub some_goal : (plant : Plant) (state : SessionState) (sum : ℕ) (r : Running) → IsKeptOf (Recovery sum) plant state r → 1 ≤ length state.goals
+some_goal plant state sum (kept.Recovery r) is = is.on.some
+some_goal plant state sum r is = absurd is
+
+-- what is kept is on the walk of the query with more trials
 pub goes_on : (q : Query) (n : ℕ) (plant : Plant) (state : SessionState) (r : Running) → is_asked q ≡ true → IsKeptOf q plant state r → IsOn (with_more q n) plant state r
 goes_on Absent n plant state r current is = absurd (cc current)
 goes_on (Diagnosis sum) n plant state (kept.Diagnosis d) current is = is.on
@@ -121,8 +134,7 @@ has_room q plant state r n made h is current at unsettled made_is fits few =
 -- what a settled query lists can be taken over
 module _ (plant : Plant) (state : SessionState) (r : Running) (sum : ℕ) (h : is_well_formed plant ≡ true) (is : IsStateOf plant state) where
   pub diagnosis_listed : (q : Query) → q ≡ Diagnosis sum → IsKeptOf q plant state r → IsListOf plant state (kept_walk r).listed
-  diagnosis_listed q asked at =
-      subst (λ (w : Walked). IsListOf plant state w.listed) (came_to (Diagnosis sum) plant state r refl (subst (λ (x : Query). IsKeptOf x plant state r) asked at)) (list_of plant state h is sum)
+  diagnosis_listed q asked at = subst (λ (w : Walked). IsListOf plant state w.listed) (diagnosis_came_to q plant state r sum asked at) (list_of plant state h is sum)
 
   pub window_listed : (q : Query) (steps : ℕ) → q ≡ Window steps sum → IsKeptOf q plant state r → IsListOf plant state (map (last_step plant) (kept_walk r).listed)
   window_listed q steps asked at =

@@ -1,7 +1,5 @@
 -- What a recovery from the state needs, and what its walk says of the current query.
-use Rattle.std.proofs.Common.{◌≡◌, ℕ, ◌+◌, ◌≤◌, List, [], ◌∷◌, length, map, sym, ◌∙◌, subst, arith, All}
-use Rattle.std.specs.declared.alloc.Global.{Global}
-use Rattle.std.specs.declared.boxed.Box.{Box}
+use Rattle.std.proofs.Common.{◌≡◌, ℕ, ◌+◌, ◌≤◌, List, [], ◌∷◌, length, map, sym, ◌∙◌, arith, All}
 use Rattle.std.proofs.lemmas.List.Elements.{All-cons, All-head, All-tail, All-nil}
 use Rattle.lv_model.specs.declared.plant.Plant.{Plant}
 use Rattle.lv_search_walk.specs.declared.outcome.Outcome.{Outcome}
@@ -18,11 +16,7 @@ use Rattle.lv_session_request.specs.declared.goals.Goal.{Goal}
 use Rattle.lv_session_request.specs.declared.request.Sighting.{Sighting}
 use Rattle.lv_session_request.specs.Goals.{IsGoalIn}
 use Rattle.lv_session_request.specs.Requests.{IsSightingIn}
-use Rattle.lv_session_state.specs.declared.query.Query.{Query}
-use Rattle.lv_session_state.specs.declared.query.Query.TheVariants.{Recovery}
-use Rattle.lv_session_state.specs.declared.running.Running.{Running}
-use Rattle.lv_session_state.specs.declared.running.Running.TheVariants as kept
-use Rattle.lv_session_state.specs.Current.{Recovering, come_to, IsRecoveryOf, IsRecoveryAt, IsKeptOf}
+use Rattle.lv_session_state.specs.Current.{come_to, IsRecoveryOf, IsRecoveryAt}
 use Rattle.lv_session_request.specs.Held.{observation_of}
 use Rattle.lv_session_state.specs.State.{SessionState, formula_of, aim_of, recovery, trials}
 use Rattle.lv_session_state.specs.States.{IsStateOf}
@@ -68,9 +62,3 @@ recovery_has_run plant state n sum old new o is sum_is on walk plant_same aim_sa
   on = record { plant_is = plant_same ∙ is.plant_is; aim_is = aim_same ∙ is.aim_is; some = is.some; on_walk = on };
   came_to = sym (recovery_at plant state old.plant old.aim (trials_of old.standing + n) sum is.plant_is is.aim_is sum_is) ∙ walk;
 }
-
--- what is kept of a query that is a recovery
-pub kept_recovery : (q : Query) (plant : Plant) (state : SessionState) (running : Running) (sum : ℕ) (r : Box Recovering Global) → q ≡ Recovery sum → running ≡ kept.Recovery r → IsKeptOf q plant state running
-    → IsRecoveryAt plant state sum r.value
-kept_recovery q plant state running sum r is runs at =
-    subst (λ (x : Running). IsKeptOf (Recovery sum) plant state x) runs (subst (λ (x : Query). IsKeptOf x plant state running) is at)

@@ -46,5 +46,5 @@ pub use lv_session_request::{
 };
 pub use lv_system::{StepSystem, compile};
 pub use query::Query;
-pub use running::{Asked, Diagnosed, Recovering, Running, Testing, Tracing};
+pub use running::Running;
 pub use state::State;

@@ -53,7 +53,7 @@ pub(crate) fn unrun<Q: Drop>(alloc: Global, query: Q) -> Result<Box<Asked<Q>>, A
 
 impl Running<'_> {
     /// What its last run came to.
-    pub(crate) fn outcome(&self) -> Outcome
+    pub fn outcome(&self) -> Outcome
         ensures { result ≡ (kept_walk self.now).outcome }
     {
         match self {
@@ -65,8 +65,8 @@ impl Running<'_> {
         }
     }
 
-    /// What it listed.
-    pub(crate) fn listed(&self) -> &[Rank]
+    /// What it listed. Takes no memory.
+    pub fn listed(&self) -> &[Rank]
         ensures { result.now ≡ (kept_walk self.now).listed }
     {
         match self {
@@ -78,8 +78,8 @@ impl Running<'_> {
         }
     }
 
-    /// The conflicts that it kept.
-    pub(crate) fn conflicts(&self) -> &[Conflict]
+    /// The conflicts that it kept. Takes no memory.
+    pub fn conflicts(&self) -> &[Conflict]
         ensures { result.now ≡ (kept_walk self.now).kept }
     {
         match self {

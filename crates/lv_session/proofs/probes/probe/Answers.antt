@@ -3,15 +3,10 @@ use Rattle.std.proofs.Common.{List, All, map, sym, subst, ◌∙◌}
 use Rattle.lv_base.specs.declared.rank.Rank.{Rank}
 use Rattle.lv_search_walk.specs.Walk.{candidate_of}
 use Rattle.lv_probe.specs.Probing.{IsFull}
-use Rattle.lv_session_state.specs.Current.{Diagnosed, IsDiagnosisAt}
-use Rattle.lv_session_state.proofs.Asking.{kept_is}
-use Rattle.lv_session.proofs.Probing.{full_at}
+use Rattle.lv_session.proofs.Probing.{listed_full}
 use Rattle.lv_session.proofs.probes.probe.Goals as goal
 
 pub probed-requires-clause-full : goal.probed-requires-clause-full
 probed-requires-clause-full c =
-    let query = sym c.query.ensures ∙ c.in-Diagnosis.is in
-    let at = subst (λ (d : Diagnosed). IsDiagnosisAt c.args.model.now c.args.state.now c.in-Diagnosis.field-0 d) (sym c.deref-in-Settled.ensures)
-    (kept_is c.args.state.now.query c.args.model.now c.args.state.now c.args.running.now c.in-Diagnosis.field-0 c.in-Diagnosis-running.run' query c.in-Diagnosis-running.is c.requires.running) in
     subst (λ (rs : List Rank). All (IsFull c.args.model.now) (map candidate_of rs)) (sym c.listed.ensures)
-    (full_at c.args.model.now c.args.state.now c.in-Diagnosis.field-0 c.deref-in-Settled.result.now at)
+    (listed_full c.args.state.now.query c.args.model.now c.args.state.now c.args.running.now c.in-Diagnosis.field-0 (sym c.query.ensures ∙ c.in-Diagnosis.is) c.requires.running)
