@@ -172,9 +172,10 @@ fn are_listed(listed: &[Rank], wanted: &[(u64, u32)]) -> bool {
 }
 
 fn has_come_to(query: &Query<'_>, wanted: &Diagnosis) -> bool {
-    query.trials() == 4
-        && are_listed(query.listed(), wanted.listed)
-        && are_reasons(query.conflicts(), wanted.refused)
+    let search = query.search();
+    search.trials() == 4
+        && are_listed(search.listed(), wanted.listed)
+        && are_reasons(search.conflicts(), wanted.refused)
 }
 
 /// Whether it isn't settled after one trial, but with further ones.
@@ -183,9 +184,10 @@ fn settles_later(query: &mut Query<'_>) -> Result<bool, AllocError>
     requires start { trials_of query.old.standing ≡ 0 }
 {
     let before = query.run(1)?;
-    let is_under_way = query.trials() == 1
-        && query.listed().is_empty()
-        && are_reasons(query.conflicts(), &[OPENS]);
+    let search = query.search();
+    let is_under_way = search.trials() == 1
+        && search.listed().is_empty()
+        && are_reasons(search.conflicts(), &[OPENS]);
     let after = query.run(3)?;
     Ok(before == Outcome::Unsettled && is_under_way && after == Outcome::Settled)
 }

@@ -108,9 +108,10 @@ fn is_listed(listed: &[Rank], values: &[u32]) -> bool {
 
 fn has_come_to(query: &Query<'_>, wanted: &Recovery) -> bool {
     let found = if wanted.values.is_empty() { 0 } else { 1 };
-    query.trials() == wanted.reasons.len() as u64 + found
-        && are_reasons(query.conflicts(), wanted.reasons)
-        && is_listed(query.listed(), wanted.values)
+    let search = query.search();
+    search.trials() == wanted.reasons.len() as u64 + found
+        && are_reasons(search.conflicts(), wanted.reasons)
+        && is_listed(search.listed(), wanted.values)
 }
 
 /// One trial, and then as many as it takes; whether it is settled then, and has come to what is wanted.

@@ -13,7 +13,7 @@ ghost use Rattle.lv_ident.specs.Query.{groups_for, IsQueryOf};
 ghost use Rattle.lv_search_zones.specs.Moves.{is_full_choice};
 
 use crate::trial::IdentTrial;
-use lv_base::{Conflict, Rank, Seq};
+use lv_base::Seq;
 use lv_guide::Guide;
 use lv_meaning::Facts;
 use lv_model::{Model, TrackedState};
@@ -164,25 +164,11 @@ impl<'a> Query<'a> {
         self.search.run(&mut self.trial, more)
     }
 
-    /// The candidates listed, in the order of their ranks. Takes no memory.
-    pub fn listed(&self) -> &[Rank]
-        ensures { result.now ≡ self.now.standing.listed }
+    /// The search, which tells what is listed and kept, and how many candidates were tried. Takes no memory.
+    pub fn search(&self) -> &Search<Guide>
+        ensures { result.now.standing ≡ self.now.standing }
     {
-        self.search.listed()
-    }
-
-    /// The conflicts kept, in the order in which they were found. Takes no memory.
-    pub fn conflicts(&self) -> &[Conflict]
-        ensures { result.now ≡ self.now.standing.kept }
-    {
-        self.search.conflicts()
-    }
-
-    /// How many candidates were tried. Takes no memory.
-    pub fn trials(&self) -> u64
-        ensures { result ≡ trials_of self.now.standing }
-    {
-        self.search.trials()
+        &self.search
     }
 
     /// What it did so far. Takes no memory.

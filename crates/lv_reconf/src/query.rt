@@ -12,7 +12,6 @@ ghost use Rattle.lv_reconf.specs.Query.{IsQuery};
 
 use super::setting::Setting;
 use super::trial::ReconfTrial;
-use lv_base::{Conflict, Rank};
 use lv_guide::Guide;
 use lv_meaning::Aim;
 use lv_model::Model;
@@ -95,24 +94,10 @@ impl<'a> Query<'a> {
         self.search.run(&mut trial, more)
     }
 
-    /// The command set listed, if one is, as its rank. Takes no memory.
-    pub fn listed(&self) -> &[Rank]
-        ensures { result.now ≡ self.now.standing.listed }
+    /// The search, which tells what is listed and kept, and how many command sets were tried. Takes no memory.
+    pub fn search(&self) -> &Search<Guide>
+        ensures { result.now.standing ≡ self.now.standing }
     {
-        self.search.listed()
-    }
-
-    /// The conflicts kept, in the order in which they were found. Takes no memory.
-    pub fn conflicts(&self) -> &[Conflict]
-        ensures { result.now ≡ self.now.standing.kept }
-    {
-        self.search.conflicts()
-    }
-
-    /// How many command sets were tried. Takes no memory.
-    pub fn trials(&self) -> u64
-        ensures { result ≡ trials_of self.now.standing }
-    {
-        self.search.trials()
+        &self.search
     }
 }

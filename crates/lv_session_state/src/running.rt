@@ -70,10 +70,10 @@ impl Running<'_> {
         ensures { result.now ≡ (kept_walk self.now).listed }
     {
         match self {
-            Running::Diagnosis(run) => run.query.listed(),
-            Running::Recovery(run) => run.query.listed(),
-            Running::Test(run) => run.query.listed(),
-            Running::Window(run) => run.query.listed(),
+            Running::Diagnosis(run) => run.query.search().listed(),
+            Running::Recovery(run) => run.query.search().listed(),
+            Running::Test(run) => run.query.search().listed(),
+            Running::Window(run) => run.query.search().listed(),
             Running::Nothing => &[],
         }
     }
@@ -83,10 +83,10 @@ impl Running<'_> {
         ensures { result.now ≡ (kept_walk self.now).kept }
     {
         match self {
-            Running::Diagnosis(run) => run.query.conflicts(),
-            Running::Recovery(run) => run.query.conflicts(),
-            Running::Test(run) => run.query.conflicts(),
-            Running::Window(run) => run.query.conflicts(),
+            Running::Diagnosis(run) => run.query.search().conflicts(),
+            Running::Recovery(run) => run.query.search().conflicts(),
+            Running::Test(run) => run.query.search().conflicts(),
+            Running::Window(run) => run.query.search().conflicts(),
             Running::Nothing => &[],
         }
     }

@@ -17,7 +17,7 @@ ghost use Rattle.lv_window_query.specs.Query.{IsWindowQueryOf};
 use crate::joints::joints;
 use crate::trial::WindowTrial;
 use crate::zones::{window_grid, window_zones};
-use lv_base::{Conflict, Rank, Seq};
+use lv_base::Seq;
 use lv_guide::Guide;
 use lv_meaning::Facts;
 use lv_model::{Model, TrackedState};
@@ -167,25 +167,11 @@ impl<'a> WindowQuery<'a> {
         self.search.run(&mut self.trial, more)
     }
 
-    /// The trajectories listed, in the order of their ranks. Takes no memory.
-    pub fn listed(&self) -> &[Rank]
-        ensures { result.now ≡ self.now.standing.listed }
+    /// The search, which tells what is listed and kept, and how many trajectories were tried. Takes no memory.
+    pub fn search(&self) -> &Search<Guide>
+        ensures { result.now.standing ≡ self.now.standing }
     {
-        self.search.listed()
-    }
-
-    /// The conflicts kept, in the order in which they were found. Takes no memory.
-    pub fn conflicts(&self) -> &[Conflict]
-        ensures { result.now ≡ self.now.standing.kept }
-    {
-        self.search.conflicts()
-    }
-
-    /// How many trajectories were tried. Takes no memory.
-    pub fn trials(&self) -> u64
-        ensures { result ≡ trials_of self.now.standing }
-    {
-        self.search.trials()
+        &self.search
     }
 
     /// What its solver did so far. Takes no memory.
