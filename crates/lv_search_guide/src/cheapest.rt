@@ -6,10 +6,10 @@ ghost use Rattle.std.specs.Prelude.{◌≡◌, ◌≤◌, ◌++◌, IfOk, OnOk, 
 ghost use Rattle.lv_search_guide.specs.Boxes.{CostsAtLeast};
 ghost use Rattle.lv_search_guide.specs.Cheapest.{FallsApart, CheapestTells, BranchTells, PushesBoth, PushesParts, TakesBox};
 
-use super::dear::drop_dear;
+use super::dear::{Dropped, drop_dear};
 use super::look::{Looked, Member, look};
 use super::masks::Masks;
-use super::narrow::narrow;
+use super::narrow::{narrow, narrow_if};
 use lv_base::{Conflict, Pair};
 use lv_boxes::Grid;
 use std::alloc::{AllocError, Global};
@@ -92,11 +92,11 @@ fn branch_of(
     if !narrow(conflicts, &mut masks) {
         return Ok(None);
     }
-    let low = drop_dear(alloc, grid, conflicts, &mut masks, under)?;
+    let Dropped { low, some } = drop_dear(alloc, grid, conflicts, &mut masks, under)?;
     if low >= under {
         return Ok(None);
     }
-    if !narrow(conflicts, &mut masks) {
+    if !narrow_if(some, conflicts, &mut masks) {
         return Ok(None);
     }
     Ok(Some(Branch { masks, low }))

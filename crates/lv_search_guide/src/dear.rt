@@ -16,45 +16,62 @@ use lv_base::{Conflict, Cost, Pair};
 use lv_boxes::Grid;
 use std::alloc::{AllocError, Global};
 
-/// Takes out of a box choices that no member has that contains no conflict and costs less than `under`. Answers what such
-/// members of it cost at least.
+/// What was found out of a box when choices were taken out that are too dear.
+#[derive(Clone, Copy, Debug)]
+pub(crate) struct Dropped {
+    /// What its members cost at least that contain no conflict.
+    pub(crate) low: u64,
+    /// Whether choices were taken out.
+    pub(crate) some: bool,
+}
+
+/// Takes out of a box choices that no member has that contains no conflict and costs less than `under`.
 pub(crate) fn drop_dear(
     alloc: Global,
     grid: &Grid,
     conflicts: &[Conflict],
     masks: &mut Masks,
     under: u64,
-) -> Result<u64, AllocError>
+) -> Result<Dropped, AllocError>
     ensures keeps { OnOk result (KeepsUnder grid.now conflicts.now under masks.old masks.new) }
-    ensures low { IfOk result (λ low. CostsAtLeast grid.now conflicts.now masks.old low) }
+    ensures low { IfOk result (λ dropped. CostsAtLeast grid.now conflicts.now masks.old dropped.low) }
 {
     let priced = priced_in(alloc, grid, conflicts, masks.as_slice(), under)?;
-    drop_priced(priced.rows.as_slice(), priced.low, under, masks);
-    Ok(priced.low)
+    let some = drop_priced(priced.rows.as_slice(), priced.low, under, masks);
+    Ok(Dropped {
+        low: priced.low,
+        some,
+    })
 }
 
-/// Takes out of a box the choices of all slots whose price and the bound come to this.
-fn drop_priced(rows: &[Row], low: u64, under: u64, masks: &mut Masks)
+/// Takes out of a box the choices of all slots whose price and the bound come to this. Answers whether there were some.
+fn drop_priced(rows: &[Row], low: u64, under: u64, masks: &mut Masks) -> bool
     ensures { (slots : List (List Cost)) (conflicts : List (List Pair)) → IsBound slots conflicts masks.old low rows.now → KeepsUnder slots conflicts under masks.old masks.new }
 {
+    let mut some = false;
     for slot in 0..rows.len().min(4096) {
-        drop_at(rows[slot].as_slice(), slot, low, under, masks);
+        let more = drop_at(rows[slot].as_slice(), slot, low, under, masks);
+        some = some || more;
     }
+    some
 }
 
-/// Takes out of a box the choices of a slot whose price and the bound come to this.
-fn drop_at(prices: &[Cost], slot: usize, low: u64, under: u64, masks: &mut Masks)
+/// Takes out of a box the choices of a slot whose price and the bound come to this. Answers whether there were some.
+fn drop_at(prices: &[Cost], slot: usize, low: u64, under: u64, masks: &mut Masks) -> bool
     requires { slot < 4096 }
     ensures { (slots : List (List Cost)) (conflicts : List (List Pair)) (whole : List ℕ) (rows : List (List Cost)) → slot < length rows → slice_index_or rows slot [] ≡ prices.now → IsBound slots conflicts whole low rows → KeepsUnder slots conflicts under whole masks.old → KeepsUnder slots conflicts under whole masks.new }
 {
+    let mut some = false;
     for choice in 0..prices.len().min(64) {
         let dear = is_dear(low, prices[choice].0, under);
         let pair = Pair {
             slot: slot as u32,
             choice: choice as u32,
         };
+        some = some || (dear && masks.has(pair));
         exclude_if(dear, pair, masks);
     }
+    some
 }
 
 /// Whether a bound and a price come to this.

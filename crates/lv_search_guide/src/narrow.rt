@@ -56,6 +56,13 @@ pub(crate) fn narrow(conflicts: &[Conflict], masks: &mut Masks) -> bool
     }
 }
 
+/// As `narrow`, where that is so.
+pub(crate) fn narrow_if(is: bool, conflicts: &[Conflict], masks: &mut Masks) -> bool
+    ensures { NarrowedTells conflicts.now masks.old masks.new result }
+{
+    !is || narrow(conflicts, masks)
+}
+
 /// Goes through the conflicts once.
 fn narrow_once(conflicts: &[Conflict], masks: &mut Masks) -> Narrowing
     ensures { NarrowsTells conflicts.now masks.old masks.new result }
@@ -90,6 +97,7 @@ pub(crate) fn narrow_by(pairs: &[Pair], masks: &mut Masks) -> Narrowing
 }
 
 /// What a box leaves open of a conflict.
+#[inline(always)]
 fn left_of(masks: &[u64], pairs: &[Pair]) -> Left
     ensures { LeftTells masks.now pairs.now result }
 {
@@ -111,6 +119,7 @@ fn left_of(masks: &[u64], pairs: &[Pair]) -> Left
 }
 
 /// How a pair stands in a box.
+#[inline(always)]
 fn stands_in(masks: &[u64], pair: Pair) -> Stands
     ensures { StandsTells masks.now pair result }
 {

@@ -84,6 +84,7 @@ impl Row {
 
     /// The least of what was found before and the prices of the choices that the mask has, except this one. Of other choices
     /// than those left nothing is known.
+    #[inline(always)]
     fn least_beside(&self, mask: u64, except: u32, before: Option<u64>) -> Option<u64>
         ensures { BesideTells self.now mask except (length self.now) before result }
     {
@@ -99,6 +100,7 @@ impl Row {
     }
 
     /// The lesser of what was found before and a choice's price, as far as there are these.
+    #[inline(always)]
     fn lesser_at(&self, choice: usize, before: Option<u64>) -> Option<u64>
         ensures { result ≡ lesser_after before (price_at self.now choice) }
     {
@@ -123,6 +125,7 @@ fn least_choice(prices: &[Cost], mask: u64, except: usize) -> usize
 }
 
 /// Whether a choice is priced less than another, or there isn't that one.
+#[inline(always)]
 fn is_less(prices: &[Cost], choice: usize, other: usize) -> bool
     requires { choice < length prices.now }
     ensures { result ≡ is_less prices.now choice other }
@@ -141,6 +144,7 @@ fn lower_each(prices: &mut [Cost], mask: u64, except: usize, by: u64)
 }
 
 /// Whether the mask has this choice, and it is not the one excepted.
+#[inline(always)]
 fn is_beside(mask: u64, choice: usize, except: usize) -> bool
     ensures { result ≡ is_beside mask except choice }
 {
@@ -159,6 +163,7 @@ fn price_after(lowers: bool, by: u64, price: u64) -> u64
 }
 
 /// The lesser of two numbers, or the second where there is no first.
+#[inline(always)]
 fn lesser(least: Option<u64>, price: u64) -> u64
     ensures { result ≡ lesser_of least price }
 {
@@ -188,6 +193,7 @@ fn least_break(masks: &[u64], pairs: &[Pair], rows: &[Row]) -> Option<u64>
 }
 
 /// The least of what was found before and the prices of what breaks a conflict at this pair.
+#[inline(always)]
 fn least_at(masks: &[u64], pair: Pair, rows: &[Row], before: Option<u64>) -> Option<u64>
     requires long { length masks.now ≡ length rows.now }
     requires within { pair.slot < length rows.now }

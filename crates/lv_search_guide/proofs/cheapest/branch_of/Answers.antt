@@ -9,11 +9,11 @@ pub returns-then-low-under : goal.returns-then-low-under
 returns-then-low-under c =
     branch_dear c.args.grid.now c.args.conflicts.now c.args.masks c.narrow.new.masks c.in_ok-low.low c.args.under (rw c.if-not-narrow.false at c.narrow.ensures) c.in_ok-low.ensures.low c.if-low-under.true
 
-pub returns-then-not-narrow-2 : goal.returns-then-not-narrow-2
-returns-then-not-narrow-2 c =
-    branch_none c.args.grid.now c.args.conflicts.now c.args.masks c.narrow.new.masks c.drop_dear.new.masks c.args.under (rw c.if-not-narrow.false at c.narrow.ensures) c.in_ok-low.ensures.keeps (rw c.if-not-narrow-2.true at c.narrow-2.ensures)
+pub returns-then-not-narrow_if : goal.returns-then-not-narrow_if
+returns-then-not-narrow_if c =
+    branch_none c.args.grid.now c.args.conflicts.now c.args.masks c.narrow.new.masks c.drop_dear.new.masks c.args.under (rw c.if-not-narrow.false at c.narrow.ensures) c.in_ok-low.ensures.keeps (rw c.if-not-narrow_if.true at c.narrow_if.ensures)
 
 pub returns : goal.returns
 returns c =
-    branch_some c.args.grid.now c.args.conflicts.now c.args.masks c.narrow.new.masks c.drop_dear.new.masks c.args.under (rw c.if-not-narrow.false at c.narrow.ensures) c.in_ok-low.ensures.keeps c.narrow-2.new.masks c.in_ok-low.low
-    c.in_ok-low.ensures.low c.if-low-under.false (rw c.if-not-narrow-2.false at c.narrow-2.ensures)
+    branch_some c.args.grid.now c.args.conflicts.now c.args.masks c.narrow.new.masks c.drop_dear.new.masks c.args.under (rw c.if-not-narrow.false at c.narrow.ensures) c.in_ok-low.ensures.keeps c.narrow_if.new.masks c.in_ok-low.low
+    c.in_ok-low.ensures.low c.if-low-under.false (rw c.if-not-narrow_if.false at c.narrow_if.ensures)
