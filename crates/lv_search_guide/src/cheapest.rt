@@ -6,7 +6,7 @@ ghost use Rattle.std.specs.Prelude.{◌≡◌, ◌≤◌, ◌++◌, IfOk, OnOk, 
 ghost use Rattle.lv_search_guide.specs.Boxes.{CostsAtLeast};
 ghost use Rattle.lv_search_guide.specs.Cheapest.{FallsApart, CheapestTells, BranchTells, PushesBoth, PushesParts, TakesBox};
 
-use super::dear::{Dropped, drop_dear};
+use super::dear::drop_dear;
 use super::look::{Looked, Member, look};
 use super::masks::Masks;
 use super::narrow::{narrow, narrow_if};
@@ -92,14 +92,17 @@ fn branch_of(
     if !narrow(conflicts, &mut masks) {
         return Ok(None);
     }
-    let Dropped { low, some } = drop_dear(alloc, grid, conflicts, &mut masks, under)?;
-    if low >= under {
+    let dropped = drop_dear(alloc, grid, conflicts, &mut masks, under)?;
+    if dropped.low >= under {
         return Ok(None);
     }
-    if !narrow_if(some, conflicts, &mut masks) {
+    if !narrow_if(dropped.some, conflicts, &mut masks) {
         return Ok(None);
     }
-    Ok(Some(Branch { masks, low }))
+    Ok(Some(Branch {
+        masks,
+        low: dropped.low,
+    }))
 }
 
 /// Looks at a box that was taken off the stack: gives it up, or finds a cheaper member, or puts its two parts on the stack.
