@@ -122,17 +122,10 @@ places_more marks i places place is a = record { long = let long = a.long in let
             at_end places place slot (omega (arith, same, long)) ∙ is ∙ ap (place_of marks) (sym same)
 
 -- pairs inside, with the numbers that their slots have in the part
-marked_within : (marks : List Bool) (slot : ℕ) → is_marked marks slot ≡ true → slot < length marks
+pub marked_within : (marks : List Bool) (slot : ℕ) → is_marked marks slot ≡ true → slot < length marks
 marked_within [] slot h = absurd (cc h)
 marked_within (mark ∷ marks) zero h = omega arith
 marked_within (mark ∷ marks) (suc slot) h = let rest = marked_within marks slot h in omega (arith, rest)
-
-pub renumbered_inside : (marks : List Bool) (places : List ℕ) (pairs : List Pair) → ArePlaces marks (length marks) places → is_inside marks pairs ≡ true
-    → map (λ (p : Pair). record { slot = slice_index places p.slot; choice = p.choice }) pairs ≡ map (pair_in marks) pairs
-renumbered_inside marks places [] a inside = refl
-renumbered_inside marks places (p ∷ ps) a inside =
-    let parts = and_parts (is_marked marks p.slot) (is_inside marks ps) inside in
-    ap₂ (λ (n : ℕ) (qs : List Pair). record { slot = n; choice = p.choice } ∷ qs) (a.each p.slot (marked_within marks p.slot parts.0)) (renumbered_inside marks places ps a parts.1)
 
 place_rises : (marks : List Bool) (low slot : ℕ) → low ≤ slot → place_of marks low ≤ place_of marks slot
 place_rises [] low slot less = omega arith
@@ -286,10 +279,12 @@ mark_at [] (suc slot) = refl
 mark_at (mark ∷ marks) zero = refl
 mark_at (mark ∷ marks) (suc slot) = mark_at marks slot
 
+pub not_marked_past : (marks : List Bool) (slot : ℕ) → length marks ≤ slot → is_marked marks slot ≡ false
+not_marked_past marks slot past = false_from_ne_true (is_marked marks slot) (λ has. let below : slot < length marks = marked_within marks slot has in absurd (omega (arith, below, past)))
+
 pub mark_past : (marks : List Bool) (slot : ℕ) → length marks ≤ slot → nat_lt slot (length marks) ≡ is_marked marks slot
 mark_past marks slot past =
-    false_from_ne_true (nat_lt slot (length marks)) (λ less. let below : slot < length marks = ltb-true slot (length marks) less in absurd (omega (arith, below, past)))
-    ∙ sym (false_from_ne_true (is_marked marks slot) (λ has. let below : slot < length marks = marked_within marks slot has in absurd (omega (arith, below, past))))
+    false_from_ne_true (nat_lt slot (length marks)) (λ less. let below : slot < length marks = ltb-true slot (length marks) less in absurd (omega (arith, below, past))) ∙ sym (not_marked_past marks slot past)
 
 -- items as the code reads them
 pub same_at : (xs : List ℕ) (i d : ℕ) → get_or xs i (get_or xs i d) ≡ get_or xs i d

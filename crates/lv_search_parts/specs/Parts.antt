@@ -7,7 +7,7 @@ use Rattle.lv_base.specs.Choices.{contains_all, slots_rise}
 use Rattle.lv_boxes.specs.Masks.{has_choice, only_choice}
 use Rattle.lv_boxes.specs.Members.{are_left}
 use Rattle.lv_search_walk.specs.Walk.{is_ruled_out}
-use Rattle.lv_search_parts.specs.Slots.{is_inside, is_outside, pair_in, place_of}
+use Rattle.lv_search_parts.specs.Slots.{is_marked, is_inside, is_outside, pair_in, place_of}
 
 -- the box has the pair's choice
 abbrev pub is_there : List ℕ → Pair → Bool
@@ -43,6 +43,10 @@ pub record IsPartWith (conflicts : List (List Pair)) (slots : ℕ) (pairs : List
 -- the conflicts inside, as those of the part
 abbrev pub inner_of : List Bool → List (List Pair) → List (List Pair)
 inner_of marks conflicts = map (λ pairs. map (pair_in marks) pairs) (filter (is_inside marks) conflicts)
+
+-- the pair's slot is marked, and the part, which has these masks, has its choice
+abbrev pub is_held : List Bool → List ℕ → Pair → Bool
+is_held marks masks p = is_marked marks p.slot && is_there masks (pair_in marks p)
 
 -- of each slot before this one, how many marked ones come before it
 pub record ArePlaces (marks : List Bool) (slots : ℕ) (places : List ℕ) : Type 0 where

@@ -28,7 +28,7 @@ pub fn live_in(
 }
 
 /// Adds what a box leaves of one more conflict, whose pairs these are. What it leaves is written first into `left`.
-pub(crate) fn push_live(
+fn push_live(
     alloc: Global,
     pairs: &[Pair],
     masks: &[u64],
@@ -59,7 +59,7 @@ fn write_open(pairs: &[Pair], masks: &[u64], left: &mut Vec<Pair>) -> Result<(),
 }
 
 /// Adds a pair, if not each member has it.
-fn push_open(pair: Pair, masks: &[u64], left: &mut Vec<Pair>) -> Result<(), AllocError>
+pub(crate) fn push_open(pair: Pair, masks: &[u64], left: &mut Vec<Pair>) -> Result<(), AllocError>
     ensures { OnOk result ((pairs rest : List Pair) → IsOpenOf masks.now pairs (left.old.items ++ pair ∷ rest) → IsOpenOf masks.now pairs (left.new.items ++ rest)) }
 {
     if is_forced(masks, pair) {

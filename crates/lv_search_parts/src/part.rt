@@ -1,15 +1,15 @@
 //! The smaller box of the slots that are marked, numbered anew.
 #![tactic(auto)]
 
-ghost use Rattle.std.specs.Prelude.{◌≡◌, ◌<◌, ◌≤◌, ◌^◌, true, List, length, map, nat_lt, ◌&&◌, ◌++◌, ◌∷◌, [], slice_index, IfOk, OnOk, if◌then◌else◌};
+ghost use Rattle.std.specs.Prelude.{◌≡◌, ◌<◌, ◌^◌, true, length, map, nat_lt, ◌&&◌, ◌++◌, ◌∷◌, [], slice_index, IfOk, OnOk, IsTrue, Some, None, if◌then◌else◌};
+ghost use Rattle.std.specs.List.{list_all};
+ghost use Rattle.lv_base.specs.Choices.{slots_rise};
 ghost use Rattle.lv_boxes.specs.Masks.{only_choice};
 ghost use Rattle.lv_boxes.specs.Members.{IsSlot};
-ghost use Rattle.lv_base.specs.declared.search.Pair.{Pair};
-ghost use Rattle.lv_search_parts.specs.Slots.{only, put_in};
-ghost use Rattle.lv_search_parts.specs.Parts.{inner_of, IsLiveOf, ArePlaces, fixed};
+ghost use Rattle.lv_search_parts.specs.Slots.{only, put_in, pair_in};
+ghost use Rattle.lv_search_parts.specs.Parts.{inner_of, is_held, IsOpenOf, IsLiveOf, ArePlaces, fixed};
 
-use super::live::push_live;
-use super::marks::is_inside;
+use super::live::{is_there, push_open};
 use lv_base::{Conflict, Cost, Pair};
 use lv_boxes::{Grid, mask};
 use std::alloc::{AllocError, Global};
@@ -75,17 +75,58 @@ pub fn part_conflicts(
     ensures { IfOk result (λ inner. IsLiveOf (inner_of marks.now conflicts.now) masks.now inner.items) }
 {
     let places = places_of(alloc, marks)?;
-    let mut placed = Vec::new(alloc);
     let mut left = Vec::new(alloc);
     let mut inner = Vec::new(alloc);
     for conflict in conflicts {
-        let pairs = conflict.pairs();
-        if is_inside(marks, pairs) {
-            place(pairs, places.as_slice(), &mut placed)?;
-            push_live(alloc, placed.as_slice(), masks, &mut left, &mut inner)?;
+        if write_live(conflict.pairs(), marks, places.as_slice(), masks, &mut left)? {
+            inner.push(Conflict::from_pairs(alloc, left.as_slice())?)?;
         }
     }
     Ok(inner)
+}
+
+/// Whether these pairs are all at slots that are marked, with choices that the part has. Where they are, what the part
+/// leaves of them is written, with the numbers that the slots have in the part. The masks are the part's.
+fn write_live(
+    pairs: &[Pair],
+    marks: &[bool],
+    places: &[u32],
+    masks: &[u64],
+    left: &mut Vec<Pair>,
+) -> Result<bool, AllocError>
+    requires rising { IsTrue (slots_rise pairs.now) }
+    requires places { ArePlaces marks.now (length marks.now) places.now }
+    ensures held { IfOk result (λ is. is ≡ list_all (is_held marks.now masks.now) pairs.now) }
+    ensures left { IfOk result (λ is. is ≡ true → IsOpenOf masks.now (map (pair_in marks.now) pairs.now) left.new.items) }
+{
+    left.clear();
+    for pair in pairs {
+        match held(*pair, marks, places, masks) {
+            Some(placed) => push_open(placed, masks, left)?,
+            None => return Ok(false),
+        }
+    }
+    Ok(true)
+}
+
+/// The pair as one of the part, where its slot is marked, and the part has its choice.
+fn held(pair: Pair, marks: &[bool], places: &[u32], masks: &[u64]) -> Option<Pair>
+    requires { ArePlaces marks.now (length marks.now) places.now }
+    ensures { result ≡ (if is_held marks.now masks.now pair then Some (pair_in marks.now pair) else None) }
+{
+    let slot = pair.slot as usize;
+    if slot >= marks.len() || !marks[slot] {
+        return None;
+    }
+    let placed = Pair {
+        slot: places[slot],
+        choice: pair.choice,
+    };
+    if is_there(masks, placed) {
+        Some(placed)
+    } else {
+        None
+    }
 }
 
 /// Of each slot how many marked ones come before it.
@@ -100,31 +141,6 @@ fn places_of(alloc: Global, marks: &[bool]) -> Result<Vec<u32>, AllocError>
         place += one_if(*mark);
     }
     Ok(places)
-}
-
-/// Writes the pairs with the numbers of their slots looked up.
-fn place(pairs: &[Pair], places: &[u32], placed: &mut Vec<Pair>) -> Result<(), AllocError>
-    ensures { OnOk result (placed.new.items ≡ map (λ (p : Pair). record { slot = slice_index places.now p.slot; choice = p.choice }) pairs.now) }
-{
-    placed.clear();
-    for pair in pairs {
-        placed.push(Pair {
-            slot: number_at(places, pair.slot as usize),
-            choice: pair.choice,
-        })?;
-    }
-    Ok(())
-}
-
-/// A number of a list, or 0, where there isn't one.
-fn number_at(numbers: &[u32], place: usize) -> u32
-    ensures { result ≡ slice_index numbers.now place }
-{
-    if place < numbers.len() {
-        numbers[place]
-    } else {
-        0
-    }
 }
 
 /// The masks with these choices alone at the slots that are marked.
