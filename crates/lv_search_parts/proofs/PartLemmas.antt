@@ -1,10 +1,9 @@
 -- The part of a box at the slots that are marked, made slot by slot and conflict by conflict.
-use Rattle.std.proofs.Common.{◌≡◌, ℕ, zero, suc, ◌+◌, ◌<◌, ◌≤◌, Bool, true, false, nat_lt, ◌&&◌, List, [], ◌∷◌, ◌++◌, length, map, drop, drop-cons, get_or, cond, ◌⊎◌, inl, inr, refl, sym, ◌∙◌, ap, ap₂, subst, add-one, arith}
-use Rattle.std.specs.Prelude.{slice_index}
-use Rattle.std.proofs.Math.ListN.{drop_of_length-le}
+use Rattle.std.proofs.Common.{◌≡◌, ℕ, zero, suc, ◌+◌, ◌<◌, ◌≤◌, Bool, true, false, nat_lt, List, [], ◌∷◌, ◌++◌, length, map, drop, drop-cons, get_or, Option, None, cond, ◌⊎◌, inl, inr, refl, sym, ◌∙◌, ap, ap₂, subst, add-one, arith}
+use Rattle.std.specs.Prelude.{slice_index, slice_get}
+use Rattle.std.specs.Option.{option_map_or, unwrap_or}
 use Rattle.std.proofs.lemmas.Bool.{and_from, and_parts, lt-ltb, ltb-true, false_from_ne_true, cases_lt}
 use Rattle.std.proofs.lemmas.List.{append_assoc}
-use Rattle.std.proofs.Math.Seq.{drop-drop}
 use Rattle.lv_base.specs.declared.search.Pair.{Pair}
 use Rattle.lv_base.specs.Choices.{slots_rise, slots_rise_from}
 use Rattle.lv_boxes.specs.Masks.{only_choice}
@@ -121,6 +120,13 @@ places_more marks i places place is a = record { long = let long = a.long in let
             let long = a.long in
             at_end places place slot (omega (arith, same, long)) ∙ is ∙ ap (place_of marks) (sym same)
 
+pub few_more : (mark : Bool) (place slot step : ℕ) → step ≡ cond mark 1 0 → place ≤ slot → place + step ≤ slot + 1
+few_more true place slot step is few = let one : step ≡ 1 = is in omega (arith, one, few)
+few_more false place slot step is few = let none : step ≡ 0 = is in omega (arith, none, few)
+
+pub place_next : (marks : List Bool) (i place step : ℕ) (m : Bool) → i < length marks → place ≡ place_of marks i → step ≡ cond (get_or marks i m) 1 0 → place + step ≡ place_of marks (i + 1)
+place_next marks i place step m within is step_is = let more = place_more marks i m within in omega (arith, more, is, step_is)
+
 -- pairs inside, with the numbers that their slots have in the part
 pub marked_within : (marks : List Bool) (slot : ℕ) → is_marked marks slot ≡ true → slot < length marks
 marked_within [] slot h = absurd (cc h)
@@ -168,109 +174,45 @@ place_zero (mark ∷ marks) = refl
 pub placed_rise : (marks : List Bool) (pairs : List Pair) → is_inside marks pairs ≡ true → slots_rise pairs ≡ true → slots_rise (map (pair_in marks) pairs) ≡ true
 placed_rise marks pairs inside h = subst (λ n. slots_rise_from n (map (pair_in marks) pairs) ≡ true) (place_zero marks) (placed_rise_from marks 0 pairs inside h)
 
--- masks with choices fixed
+-- of each slot that is marked something by one of the choices, of the others what there was
 fixed_none : (marks : List Bool) (masks : List ℕ) → fixed marks [] masks ≡ masks
 fixed_none [] masks = refl
 fixed_none (true ∷ marks) masks = refl
 fixed_none (false ∷ marks) [] = refl
 fixed_none (false ∷ marks) (mask ∷ masks) = ap (λ ms. mask ∷ ms) (fixed_none marks masks)
 
-abbrev fixed_word : Bool → ℕ → List ℕ → ℕ
-fixed_word true mask (choice ∷ choices) = only_choice mask choice
-fixed_word true mask [] = mask
-fixed_word false mask choices = mask
-
-fixed_cons : (mark : Bool) (marks : List Bool) (choices : List ℕ) (mask : ℕ) (masks : List ℕ)
-    → fixed (mark ∷ marks) choices (mask ∷ masks) ≡ fixed_word mark mask choices ∷ fixed marks (drop (cond mark 1 0) choices) masks
+pub fixed_cons : (mark : Bool) (marks : List Bool) (choices : List ℕ) (mask : ℕ) (masks : List ℕ)
+    → fixed (mark ∷ marks) choices (mask ∷ masks) ≡ option_map_or (only_choice mask) (cond mark (slice_get choices 0) None) mask ∷ fixed marks (cond mark (drop 1 choices) choices) masks
 fixed_cons true marks [] mask masks = ap (λ ms. mask ∷ ms) (sym (fixed_none marks masks))
 fixed_cons true marks (choice ∷ choices) mask masks = refl
 fixed_cons false marks choices mask masks = refl
 
-word_at : (mark : Bool) (mask : ℕ) (choices : List ℕ) (place : ℕ) → cond (mark && nat_lt place (length choices)) (only_choice mask (slice_index choices place)) mask ≡ fixed_word mark mask (drop place choices)
-word_at false mask choices place = by (drop place choices)
-  where
-    by : (cs : List ℕ) → mask ≡ fixed_word false mask cs
-    by cs = refl
-word_at true mask choices place = by (cases_lt place (length choices))
-  where
-    by : (place < length choices) ⊎ (length choices ≤ place) → cond (nat_lt place (length choices)) (only_choice mask (slice_index choices place)) mask ≡ fixed_word true mask (drop place choices)
-    by (inl here) =
-        ap (λ b. cond b (only_choice mask (slice_index choices place)) mask) (lt-ltb place (length choices) here) ∙ ap (fixed_word true mask) (sym (drop-cons choices place 0 here))
-    by (inr past) =
-        ap (λ b. cond b (only_choice mask (slice_index choices place)) mask) (false_from_ne_true (nat_lt place (length choices)) (λ less. let below : place < length choices = ltb-true place (length choices) less in absurd (omega (arith, below, past))))
-        ∙ ap (fixed_word true mask) (sym (drop_of_length-le choices past))
-
-pub few_more : (mark : Bool) (place slot step : ℕ) → step ≡ cond mark 1 0 → place ≤ slot → place + step ≤ slot + 1
-few_more true place slot step is few = let one : step ≡ 1 = is in omega (arith, one, few)
-few_more false place slot step is few = let none : step ≡ 0 = is in omega (arith, none, few)
-
-pub place_next : (marks : List Bool) (i place step : ℕ) (m : Bool) → i < length marks → place ≡ place_of marks i → step ≡ cond (get_or marks i m) 1 0 → place + step ≡ place_of marks (i + 1)
-place_next marks i place step m within is step_is = let more = place_more marks i m within in omega (arith, more, is, step_is)
-
-pub fixed_more : (made new : List ℕ) (marks : List Bool) (choices masks whole : List ℕ) (i place word step : ℕ) (mark : Bool) (m : Bool) (d : ℕ) → i < length marks → i < length masks → mark ≡ get_or marks i m
-    → word ≡ cond (mark && nat_lt place (length choices)) (only_choice (get_or masks i d) (slice_index choices place)) (get_or masks i d) → step ≡ cond mark 1 0 → new ≡ made ++ word ∷ []
-    → made ++ fixed (drop i marks) (drop place choices) (drop i masks) ≡ whole
-    → new ++ fixed (drop (i + 1) marks) (drop (place + step) choices) (drop (i + 1) masks) ≡ whole
-fixed_more made new marks choices masks whole i place word step mark m d within within_too mark_is word_is step_is new_is e =
-    ap₂ (λ (ns : List ℕ) (n : ℕ). ns ++ fixed (drop n marks) (drop (place + step) choices) (drop n masks)) new_is (add-one i)
-    ∙ one_more made word (fixed (drop (suc i) marks) (drop (place + step) choices) (drop (suc i) masks)) whole
-    (ap (λ ms. made ++ ms) (sym here) ∙ e)
-  where
-    here : fixed (drop i marks) (drop place choices) (drop i masks) ≡ word ∷ fixed (drop (suc i) marks) (drop (place + step) choices) (drop (suc i) masks)
-    here =
-        ap₂ (λ (bs : List Bool) (ws : List ℕ). fixed bs (drop place choices) ws) (drop-cons marks i m within ∙ ap (λ b. b ∷ drop (suc i) marks) (sym mark_is)) (drop-cons masks i d within_too)
-        ∙ fixed_cons mark (drop (suc i) marks) (drop place choices) (get_or masks i d) (drop (suc i) masks)
-        ∙ ap₂ (λ (w : ℕ) (cs : List ℕ). w ∷ fixed (drop (suc i) marks) cs (drop (suc i) masks))
-        (sym (word_is ∙ word_at mark (get_or masks i d) choices place))
-        (drop-drop (cond mark 1 0) place choices ∙ ap (λ n. drop n choices) (ap (λ n. place + n) (sym step_is)))
-
--- choices put in
 put_none : (marks : List Bool) (outer : List ℕ) → put_in marks [] outer ≡ outer
 put_none [] outer = refl
 put_none (true ∷ marks) outer = refl
 put_none (false ∷ marks) [] = refl
 put_none (false ∷ marks) (x ∷ outer) = ap (λ xs. x ∷ xs) (put_none marks outer)
 
-abbrev put_word : Bool → ℕ → List ℕ → ℕ
-put_word true outer (choice ∷ choices) = choice
-put_word true outer [] = outer
-put_word false outer choices = outer
-
-put_cons : (mark : Bool) (marks : List Bool) (inner : List ℕ) (x : ℕ) (outer : List ℕ)
-    → put_in (mark ∷ marks) inner (x ∷ outer) ≡ put_word mark x inner ∷ put_in marks (drop (cond mark 1 0) inner) outer
+pub put_cons : (mark : Bool) (marks : List Bool) (inner : List ℕ) (x : ℕ) (outer : List ℕ)
+    → put_in (mark ∷ marks) inner (x ∷ outer) ≡ unwrap_or (cond mark (slice_get inner 0) None) x ∷ put_in marks (cond mark (drop 1 inner) inner) outer
 put_cons true marks [] x outer = ap (λ xs. x ∷ xs) (sym (put_none marks outer))
 put_cons true marks (choice ∷ inner) x outer = refl
 put_cons false marks inner x outer = refl
 
-put_word_at : (mark : Bool) (outer : ℕ) (choices : List ℕ) (place : ℕ) → cond (mark && nat_lt place (length choices)) (slice_index choices place) outer ≡ put_word mark outer (drop place choices)
-put_word_at false outer choices place = by (drop place choices)
+pub taken_more : (put : List Bool → List ℕ → List ℕ → List ℕ) (word_of : Option ℕ → ℕ → ℕ)
+    → ((mark : Bool) (marks : List Bool) (choices : List ℕ) (x : ℕ) (xs : List ℕ) → put (mark ∷ marks) choices (x ∷ xs) ≡ word_of (cond mark (slice_get choices 0) None) x ∷ put marks (cond mark (drop 1 choices) choices) xs)
+    → (made new : List ℕ) (marks : List Bool) (choices more xs whole : List ℕ) (i word : ℕ) (first : Option ℕ) (m : Bool) (d : ℕ) → i < length marks → length marks ≡ length xs
+    → first ≡ cond (get_or marks i m) (slice_get choices 0) None → more ≡ cond (get_or marks i m) (drop 1 choices) choices → word ≡ word_of first (get_or xs i d) → new ≡ made ++ word ∷ []
+    → made ++ put (drop i marks) choices (drop i xs) ≡ whole → new ++ put (drop (i + 1) marks) more (drop (i + 1) xs) ≡ whole
+taken_more put word_of cons made new marks choices more xs whole i word first m d within same first_is more_is word_is new_is e =
+    ap₂ (λ (ns : List ℕ) (n : ℕ). ns ++ put (drop n marks) more (drop n xs)) new_is (add-one i)
+    ∙ one_more made word (put (drop (suc i) marks) more (drop (suc i) xs)) whole (ap (λ ms. made ++ ms) (sym here) ∙ e)
   where
-    by : (cs : List ℕ) → outer ≡ put_word false outer cs
-    by cs = refl
-put_word_at true outer choices place = by (cases_lt place (length choices))
-  where
-    by : (place < length choices) ⊎ (length choices ≤ place) → cond (nat_lt place (length choices)) (slice_index choices place) outer ≡ put_word true outer (drop place choices)
-    by (inl here) = ap (λ b. cond b (slice_index choices place) outer) (lt-ltb place (length choices) here) ∙ ap (put_word true outer) (sym (drop-cons choices place 0 here))
-    by (inr past) =
-        ap (λ b. cond b (slice_index choices place) outer) (false_from_ne_true (nat_lt place (length choices)) (λ less. let below : place < length choices = ltb-true place (length choices) less in absurd (omega (arith, below, past))))
-        ∙ ap (put_word true outer) (sym (drop_of_length-le choices past))
-
-pub put_more : (made new : List ℕ) (marks : List Bool) (inner outer whole : List ℕ) (i place word step : ℕ) (mark : Bool) (m : Bool) (d : ℕ) → i < length marks → i < length outer → mark ≡ get_or marks i m
-    → word ≡ cond (mark && nat_lt place (length inner)) (slice_index inner place) (get_or outer i d) → step ≡ cond mark 1 0 → new ≡ made ++ word ∷ []
-    → made ++ put_in (drop i marks) (drop place inner) (drop i outer) ≡ whole
-    → new ++ put_in (drop (i + 1) marks) (drop (place + step) inner) (drop (i + 1) outer) ≡ whole
-put_more made new marks inner outer whole i place word step mark m d within within_too mark_is word_is step_is new_is e =
-    ap₂ (λ (ns : List ℕ) (n : ℕ). ns ++ put_in (drop n marks) (drop (place + step) inner) (drop n outer)) new_is (add-one i)
-    ∙ one_more made word (put_in (drop (suc i) marks) (drop (place + step) inner) (drop (suc i) outer)) whole
-    (ap (λ xs. made ++ xs) (sym here) ∙ e)
-  where
-    here : put_in (drop i marks) (drop place inner) (drop i outer) ≡ word ∷ put_in (drop (suc i) marks) (drop (place + step) inner) (drop (suc i) outer)
+    here : put (drop i marks) choices (drop i xs) ≡ word ∷ put (drop (suc i) marks) more (drop (suc i) xs)
     here =
-        ap₂ (λ (bs : List Bool) (ws : List ℕ). put_in bs (drop place inner) ws) (drop-cons marks i m within ∙ ap (λ b. b ∷ drop (suc i) marks) (sym mark_is)) (drop-cons outer i d within_too)
-        ∙ put_cons mark (drop (suc i) marks) (drop place inner) (get_or outer i d) (drop (suc i) outer)
-        ∙ ap₂ (λ (w : ℕ) (cs : List ℕ). w ∷ put_in (drop (suc i) marks) cs (drop (suc i) outer))
-        (sym (word_is ∙ put_word_at mark (get_or outer i d) inner place))
-        (drop-drop (cond mark 1 0) place inner ∙ ap (λ n. drop n inner) (ap (λ n. place + n) (sym step_is)))
+        ap₂ (λ (bs : List Bool) (ws : List ℕ). put bs choices ws) (drop-cons marks i m within) (drop-cons xs i d (omega (arith, within, same)))
+        ∙ cons (get_or marks i m) (drop (suc i) marks) choices (get_or xs i d) (drop (suc i) xs)
+        ∙ ap₂ (λ (w : ℕ) (cs : List ℕ). w ∷ put (drop (suc i) marks) cs (drop (suc i) xs)) (sym (word_is ∙ ap (λ o. word_of o (get_or xs i d)) first_is)) (sym more_is)
 
 -- a mark as the code reads it
 pub mark_at : (marks : List Bool) (slot : ℕ) → get_or marks slot false ≡ is_marked marks slot

@@ -1,10 +1,9 @@
 //! The smaller box of the slots that are marked, numbered anew.
 #![tactic(auto)]
 
-ghost use Rattle.std.specs.Prelude.{◌≡◌, ◌<◌, ◌^◌, true, length, map, nat_lt, ◌&&◌, ◌++◌, ◌∷◌, [], slice_index, IfOk, OnOk, IsTrue, Some, None, if◌then◌else◌};
+ghost use Rattle.std.specs.Prelude.{◌≡◌, ◌<◌, ◌^◌, true, length, map, drop, ◌++◌, ◌∷◌, [], slice_get, IfOk, OnOk, IsTrue, Some, None, if◌then◌else◌};
 ghost use Rattle.std.specs.List.{list_all};
 ghost use Rattle.lv_base.specs.Choices.{slots_rise};
-ghost use Rattle.lv_boxes.specs.Masks.{only_choice};
 ghost use Rattle.lv_boxes.specs.Members.{IsSlot};
 ghost use Rattle.lv_search_parts.specs.Slots.{only, put_in, pair_in};
 ghost use Rattle.lv_search_parts.specs.Parts.{inner_of, is_held, IsOpenOf, IsLiveOf, ArePlaces, fixed};
@@ -155,23 +154,16 @@ pub fn fixed(
     ensures { IfOk result (λ new. new.items ≡ fixed marks.now choices.now masks.now) }
 {
     let mut new = Vec::new(alloc);
-    let mut place: u32 = 0;
+    let mut rest = choices;
     for (slot, mark) in marks.iter().enumerate() {
-        new.push(fixed_at(*mark, masks[slot], choices, place as usize))?;
-        place += one_if(*mark);
+        let (choice, more) = taken(*mark, rest);
+        new.push(match choice {
+            Some(choice) => mask::only(masks[slot], choice),
+            None => masks[slot],
+        })?;
+        rest = more;
     }
     Ok(new)
-}
-
-/// The mask with the choice at this place alone, where the slot is marked and there is that choice.
-fn fixed_at(mark: bool, mask: u64, choices: &[u32], place: usize) -> u64
-    ensures { result ≡ (if mark && nat_lt place (length choices.now) then only_choice mask (slice_index choices.now place) else mask) }
-{
-    if mark && place < choices.len() {
-        mask::only(mask, choices[place])
-    } else {
-        mask
-    }
 }
 
 /// The outer choices, with the inner ones at the slots that are marked.
@@ -186,22 +178,23 @@ pub fn put_in(
     ensures { IfOk result (λ new. new.items ≡ put_in marks.now inner.now outer.now) }
 {
     let mut new = Vec::new(alloc);
-    let mut place: u32 = 0;
+    let mut rest = inner;
     for (slot, mark) in marks.iter().enumerate() {
-        new.push(put_at(*mark, outer[slot], inner, place as usize))?;
-        place += one_if(*mark);
+        let (choice, more) = taken(*mark, rest);
+        new.push(choice.unwrap_or(outer[slot]))?;
+        rest = more;
     }
     Ok(new)
 }
 
-/// The inner choice at this place, where the slot is marked and there is one, else the outer one.
-fn put_at(mark: bool, outer: u32, inner: &[u32], place: usize) -> u32
-    ensures { result ≡ (if mark && nat_lt place (length inner.now) then slice_index inner.now place else outer) }
+/// The first of the choices, where the slot is marked and there is one, and those that are left for the slots behind it.
+fn taken(mark: bool, choices: &[u32]) -> (Option<u32>, &[u32])
+    ensures first { result.0 ≡ (if mark then slice_get choices.now 0 else None) }
+    ensures rest { result.1.now ≡ (if mark then drop 1 choices.now else choices.now) }
 {
-    if mark && place < inner.len() {
-        inner[place]
-    } else {
-        outer
+    match choices.split_first() {
+        Some((choice, more)) if mark => (Some(*choice), more),
+        _ => (None, choices),
     }
 }
 

@@ -1,13 +1,10 @@
--- one choice more
-use Rattle.std.proofs.Common.{refl, subst, ◌<◌}
-use Rattle.lv_search_parts.proofs.PartLemmas.{put_more, few_more}
+-- one slot more
+use Rattle.std.specs.Option.{unwrap_or}
+use Rattle.lv_search_parts.specs.Slots.{put_in}
+use Rattle.lv_search_parts.proofs.PartLemmas.{put_cons, taken_more}
 use Rattle.lv_search_parts.proofs.part.put_in.Goals as goal
 
 pub loop-slot-preserved : goal.loop-slot-preserved
 loop-slot-preserved c =
-    record {
-      rest =
-          put_more c.loop-slot.new.items c.push.new.self.items c.args.marks.now c.args.inner.now c.args.outer.now _ c.loop-slot.slot c.loop-slot.place c.put_at.result c.one_if-place.result _ _ _
-          c.loop-slot-test.true (subst (λ n. c.loop-slot.slot < n) c.requires.long c.loop-slot-test.true) refl c.put_at.ensures c.one_if-place.ensures c.in_ok-push.ensures.items c.loop-slot.invariant.rest;
-      few = few_more _ c.loop-slot.place c.loop-slot.slot c.one_if-place.result c.one_if-place.ensures c.loop-slot.invariant.few;
-    }
+    taken_more put_in unwrap_or put_cons c.loop-slot.new.items c.push.new.self.items c.args.marks.now c.loop-slot.rest.now c.taken-choice.result.1.now c.args.outer.now _ c.loop-slot.slot c.unwrap_or.result c.taken-choice.result.0 _ _ c.loop-slot-test.true
+    c.requires.long c.taken-choice.ensures.first c.taken-choice.ensures.rest c.unwrap_or.ensures c.in_ok-push.ensures.items c.loop-slot.invariant
