@@ -1,11 +1,9 @@
 -- A box without choices that are too dear, and without what conflicts then rule out, has the cheapest members of the whole.
-use Rattle.std.proofs.Common.{◌≡◌, ℕ, ◌+◌, ◌<◌, ◌≤◌, Bool, true, false, not, ◌&&◌, List, refl, sym, ◌∙◌, ap, subst, arith}
+use Rattle.std.proofs.Common.{◌≡◌, ℕ, ◌+◌, ◌<◌, ◌≤◌, Bool, true, false, List, sym, ◌∙◌, subst, arith}
 use Rattle.std.specs.Prelude.{Some, Result, Ok, Err, IfOk}
 use Rattle.lv_base.specs.declared.ids.Cost.{Cost}
 use Rattle.lv_base.specs.declared.search.Pair.{Pair}
-use Rattle.lv_boxes.specs.Members.{are_left, choices_cost}
-use Rattle.lv_search_walk.specs.Walk.{is_ruled_out}
-use Rattle.lv_search_parts.specs.Parts.{IsLiveOf}
+use Rattle.lv_boxes.specs.Members.{choices_cost}
 use Rattle.lv_search_guide.specs.declared.look.Member.{Member}
 use Rattle.lv_search_guide.specs.Boxes.{is_free}
 use Rattle.lv_search_guide.specs.Cheapest.{IsCheapest}
@@ -13,21 +11,16 @@ use Rattle.lv_search_guide.specs.Dear.{KeepsUnder}
 use Rattle.lv_search_guide.specs.Lowest.{IsLowest}
 use Rattle.lv_search_guide.specs.Narrow.{IsNoMoreBy, HasNoneBy}
 use Rattle.lv_search_guide.proofs.FreeLemmas.{lowest_by_narrowed}
-use Rattle.lv_search_guide.proofs.PartLemmas.{live_free, live_lowest}
 
 -- of one result both
 pub both_told : {T E : Type 0} (r : Result T E) (P Q R : T → Type 0) → ((x : T) → P x → Q x → R x) → IfOk r P → IfOk r Q → IfOk r R
 both_told (Ok x) P Q R f p q = f x p q
 both_told (Err e) P Q R f p q = tt
 
-pub live_at : (conflicts : List (List Pair)) (read masks : List ℕ) (live then : List (List Pair)) → read ≡ masks → then ≡ live → IsLiveOf conflicts read live → IsLiveOf conflicts masks then
-live_at conflicts read masks live then read_is then_is l =
-    subst (λ (ks : List (List Pair)). IsLiveOf conflicts masks ks) (sym then_is) (subst (λ (ms : List ℕ). IsLiveOf conflicts ms live) read_is l)
-
 clash : (b : Bool) → b ≡ true → b ≡ false → ⊥
 clash b p q = cc
 
-module _ (slots : List (List Cost)) (conflicts live : List (List Pair)) (masks read cheap part : List ℕ) (member : Member) (read_is : read ≡ masks) (k : KeepsUnder slots conflicts (member.cost + 1) read cheap) (m : IsCheapest slots conflicts masks member) where
+module _ (slots : List (List Cost)) (conflicts : List (List Pair)) (masks read cheap : List ℕ) (member : Member) (read_is : read ≡ masks) (k : KeepsUnder slots conflicts (member.cost + 1) read cheap) (m : IsCheapest slots conflicts masks member) where
   kept : KeepsUnder slots conflicts (member.cost + 1) masks cheap
   kept = subst (λ (ms : List ℕ). KeepsUnder slots conflicts (member.cost + 1) ms cheap) read_is k
 
@@ -37,17 +30,17 @@ module _ (slots : List (List Cost)) (conflicts live : List (List Pair)) (masks r
   pub none_is_left : HasNoneBy conflicts cheap → ⊥
   none_is_left n = clash (is_free slots conflicts cheap member.choices) stays ((n.none slots).none member.choices)
 
-  module _ (less : IsNoMoreBy conflicts cheap part) (l : IsLiveOf conflicts part live) where
-    pub cheapest_left : IsCheapest slots live part member
+  module _ (part : List ℕ) (less : IsNoMoreBy conflicts cheap part) where
+    pub cheapest_left : IsCheapest slots conflicts part member
     cheapest_left =
         record {
-          free = live_free slots conflicts live part member.choices l ∙ less.free.same slots member.choices ∙ stays;
+          free = less.free.same slots member.choices ∙ stays;
           costs = m.costs;
-          least = record { least = λ xs free. m.least.least xs (kept.inside xs (sym (less.free.same slots xs) ∙ sym (live_free slots conflicts live part xs l) ∙ free)) };
+          least = record { least = λ xs free. m.least.least xs (kept.inside xs (sym (less.free.same slots xs) ∙ free)) };
         }
 
-    pub lowest_left : (lowest : Member) → lowest.cost ≡ member.cost → IsLowest slots live part lowest → IsLowest slots conflicts masks lowest
-    lowest_left lowest same found = whole (lowest_by_narrowed slots conflicts cheap part (Some lowest) less (live_lowest slots conflicts live part (Some lowest) l found))
+    pub lowest_left : (lowest : Member) → lowest.cost ≡ member.cost → IsLowest slots conflicts part lowest → IsLowest slots conflicts masks lowest
+    lowest_left lowest same found = whole (lowest_by_narrowed slots conflicts cheap part (Some lowest) less found)
       where
         whole : IsLowest slots conflicts cheap lowest → IsLowest slots conflicts masks lowest
         whole here =

@@ -1,162 +1,183 @@
 -- What conflicts leave of a box: the members without conflict stay.
-use Rattle.std.proofs.Common.{◌≡◌, ℕ, suc, ◌+◌, ◌*◌, ◌^◌, ◌<◌, ◌≤◌, Bool, true, false, not, ◌&&◌, ◌||◌, List, [], ◌∷◌, Option, Some, None, length, get_or, drop, drop-cons, refl, sym, ◌∙◌, ap, subst, add-one, arith}
-use Rattle.std.specs.Prelude.{slice_index, sum, IfSome}
-use Rattle.std.specs.Int.{bit_at}
+use Rattle.std.proofs.Common.{◌≡◌, ◌≢◌, ℕ, zero, suc, ◌+◌, ◌*◌, ◌<◌, ◌≤◌, Bool, true, false, not, nat_lt, ◌&&◌, ◌||◌, List, [], ◌∷◌, Option, Some, None, length, get_or, drop, drop-cons, refl, sym, ◌∙◌, ap, subst, add-one, arith}
+use Rattle.std.specs.Prelude.{slice_index, slice_set, sum, bit_and, bit_xor, IfSome}
+use Rattle.std.specs.Int.Bits.{xor_add_and, and_self}
 use Rattle.std.proofs.Math.ListN.{drop_of_length-le}
-use Rattle.std.proofs.lemmas.Nat.{pow_pos}
-use Rattle.std.proofs.lemmas.Nat.Bits.{and_pow}
-use Rattle.std.proofs.lemmas.Bool.{and_from, and_parts, or_left, eqb-true, false_from_ne_true}
+use Rattle.std.proofs.lemmas.Nat.{and_assoc}
+use Rattle.std.proofs.lemmas.Bool.{and_from, and_parts, lt-ltb, ltb-true, false_from_ne_true}
 use Rattle.std.proofs.lemmas.List.Folds.{list_any_at}
 use Rattle.lv_base.specs.declared.ids.Cost.{Cost}
 use Rattle.lv_base.specs.declared.search.Pair.{Pair}
-use Rattle.lv_base.specs.Choices.{picks, contains_all}
-use Rattle.lv_boxes.specs.Masks.{only_choice, without_choice}
-use Rattle.lv_boxes.specs.Members.{are_left}
-use Rattle.lv_boxes.specs.Parts.{masks_with, masks_without}
+use Rattle.lv_boxes.specs.Masks.{has_choice}
+use Rattle.lv_boxes.specs.Members.{is_left, are_left}
 use Rattle.lv_search_walk.specs.Walk.{is_ruled_out}
+use Rattle.lv_search_guide.specs.declared.bans.Choices.{Choices}
+use Rattle.lv_search_guide.specs.Bans.{without_these, masks_less, has_some, meets, AreBans}
 use Rattle.lv_search_guide.specs.Boxes.{is_free}
-use Rattle.lv_search_guide.specs.Narrow.{IsForced, IsThere, has_last, LeavesLast, LeavesOne, IsLessBy, IsNoMoreBy, HasNoneBy, ChangedTells}
-use Rattle.lv_search_guide.proofs.BoxLemmas.{left_with, free_without, without_and_only, smaller, with_all}
+use Rattle.lv_search_guide.specs.Narrow.{IsForced, IsThere, has_last, LeavesLast, LeavesOne, RulesOut, IsLessBy, IsNoMoreBy, HasNoneBy, ChangedTells}
+use Rattle.lv_search_guide.proofs.BoxLemmas.{none_of_zero, smaller}
+use Rattle.lv_search_guide.proofs.BanLemmas.{has_choice-beside}
+use Rattle.lv_search_guide.proofs.SlotLemmas.{lt_suc}
 
 clash : (b : Bool) → b ≡ true → b ≡ false → ⊥
 clash b p q = cc
 
--- each member has a forced pair's choice
-pub forced_is_picked : (slots : List (List Cost)) (masks choices : List ℕ) (p : Pair) → IsForced masks p → are_left slots masks choices ≡ true → picks choices p ≡ true
-forced_is_picked slots masks choices p f left =
-    let part : are_left slots (masks_with masks p) choices ≡ true = rw (with_all masks p f.all) left in
-    (and_parts (are_left slots masks choices) (picks choices p) (sym (left_with slots masks choices p f.within) ∙ part)).1
+-- each member has one of the choices that are all its slot has left
+choice_left : (slots : List (List Cost)) (s : ℕ) (masks choices : List ℕ) → s < length masks → are_left slots masks choices ≡ true → (nat_lt s (length choices) ≡ true) × (has_choice (slice_index masks s) (slice_index choices s) ≡ true)
+choice_left slots s [] choices within left = absurd (omega (arith, within))
+choice_left [] s (mask ∷ masks) choices within left = absurd (cc left)
+choice_left (row ∷ slots) s (mask ∷ masks) [] within left = absurd (cc left)
+choice_left (row ∷ slots) zero (mask ∷ masks) (choice ∷ choices) within left =
+    (lt-ltb 0 (length (choice ∷ choices)) (omega arith), (and_parts (nat_lt choice (length row)) (has_choice mask choice) (and_parts (is_left row mask choice) (are_left slots masks choices) left).0).1)
+choice_left (row ∷ slots) (suc s) (mask ∷ masks) (choice ∷ choices) within left =
+    let rest = choice_left slots s masks choices (omega (arith, within)) (and_parts (is_left row mask choice) (are_left slots masks choices) left).1 in
+    (lt-ltb (suc s) (length (choice ∷ choices)) (let below : s < length choices = ltb-true s (length choices) rest.0 in omega (arith, below)), rest.1)
 
--- going through the pairs of a conflict: what those left say is what all say
-pub record IsLeaving (masks : List ℕ) (pairs : List Pair) (i : ℕ) (last : Option Pair) : Type 0 where
-  pub rest : (slots : List (List Cost)) (choices : List ℕ) → are_left slots masks choices ≡ true → has_last last choices ≡ true → contains_all choices (drop i pairs) ≡ contains_all choices pairs
+pub forced_is_had : (slots : List (List Cost)) (masks choices : List ℕ) (set : Choices) → IsForced masks set → are_left slots masks choices ≡ true → has_some choices set ≡ true
+forced_is_had slots masks choices set f left = by (has_choice set.mask (slice_index choices set.slot)) refl
+  where
+    here : (nat_lt set.slot (length choices) ≡ true) × (has_choice (slice_index masks set.slot) (slice_index choices set.slot) ≡ true)
+    here = choice_left slots set.slot masks choices f.within left
+
+    by : (b : Bool) → has_choice set.mask (slice_index choices set.slot) ≡ b → has_some choices set ≡ true
+    by true e = and_from (nat_lt set.slot (length choices)) (has_choice set.mask (slice_index choices set.slot)) here.0 e
+    by false e =
+        let beside : has_choice (without_these (slice_index masks set.slot) set.mask) (slice_index choices set.slot) ≡ true = has_choice-beside (slice_index masks set.slot) set.mask (slice_index choices set.slot) ∙ and_from (has_choice (slice_index masks set.slot) (slice_index choices set.slot)) (not (has_choice set.mask (slice_index choices set.slot))) here.1 (ap not e) in
+        let none : has_choice 0 (slice_index choices set.slot) ≡ true = subst (λ n. has_choice n (slice_index choices set.slot) ≡ true) f.all beside in
+        absurd (clash _ none (none_of_zero (slice_index choices set.slot)))
+
+-- going through the slots of a ban: what those left say is what all say
+pub record IsLeaving (masks : List ℕ) (sets : List Choices) (i : ℕ) (last : Option Choices) : Type 0 where
+  pub rest : (slots : List (List Cost)) (choices : List ℕ) → are_left slots masks choices ≡ true → has_last last choices ≡ true → meets choices (drop i sets) ≡ meets choices sets
   pub there : IfSome last (IsThere masks)
 
-pub leaving_begins : (masks : List ℕ) (pairs : List Pair) → IsLeaving masks pairs 0 None
-leaving_begins masks pairs = record { rest = λ slots choices left has. refl; there = tt }
+pub leaving_begins : (masks : List ℕ) (sets : List Choices) → IsLeaving masks sets 0 None
+leaving_begins masks sets = record { rest = λ slots choices left has. refl; there = tt }
 
-one_less : (pairs : List Pair) (i : ℕ) (d : Pair) (choices : List ℕ) → i < length pairs → picks choices (get_or pairs i d) ≡ true → contains_all choices (drop (i + 1) pairs) ≡ contains_all choices (drop i pairs)
-one_less pairs i d choices within has =
-    let split : drop i pairs ≡ get_or pairs i d ∷ drop (suc i) pairs = drop-cons pairs i d within in
-    ap (λ n. contains_all choices (drop n pairs)) (add-one i)
-    ∙ sym (ap (contains_all choices) split ∙ ap (λ b. b && contains_all choices (drop (suc i) pairs)) has)
+one_less : (sets : List Choices) (i : ℕ) (d : Choices) (choices : List ℕ) → i < length sets → has_some choices (get_or sets i d) ≡ true → meets choices (drop (i + 1) sets) ≡ meets choices (drop i sets)
+one_less sets i d choices within has =
+    let split : drop i sets ≡ get_or sets i d ∷ drop (suc i) sets = drop-cons sets i d within in
+    ap (λ n. meets choices (drop n sets)) (add-one i)
+    ∙ sym (ap (meets choices) split ∙ ap (λ b. b && meets choices (drop (suc i) sets)) has)
 
-pub leaving_forced : (masks : List ℕ) (pairs : List Pair) (i : ℕ) (d : Pair) (last : Option Pair) → i < length pairs → IsForced masks (get_or pairs i d) → IsLeaving masks pairs i last → IsLeaving masks pairs (i + 1) last
-leaving_forced masks pairs i d last within f l =
+pub leaving_forced : (masks : List ℕ) (sets : List Choices) (i : ℕ) (d : Choices) (last : Option Choices) → i < length sets → IsForced masks (get_or sets i d) → IsLeaving masks sets i last → IsLeaving masks sets (i + 1) last
+leaving_forced masks sets i d last within f l =
     record {
-      rest = λ slots choices left has. one_less pairs i d choices within (forced_is_picked slots masks choices (get_or pairs i d) f left) ∙ l.rest slots choices left has;
+      rest = λ slots choices left has. one_less sets i d choices within (forced_is_had slots masks choices (get_or sets i d) f left) ∙ l.rest slots choices left has;
       there = l.there;
     }
 
-pub leaving_open : (masks : List ℕ) (pairs : List Pair) (i : ℕ) (d : Pair) → i < length pairs → IsThere masks (get_or pairs i d) → IsLeaving masks pairs i None → IsLeaving masks pairs (i + 1) (Some (get_or pairs i d))
-leaving_open masks pairs i d within t l =
-    record { rest = λ slots choices left has. one_less pairs i d choices within has ∙ l.rest slots choices left refl; there = t }
+pub leaving_open : (masks : List ℕ) (sets : List Choices) (i : ℕ) (d : Choices) → i < length sets → IsThere masks (get_or sets i d) → IsLeaving masks sets i None → IsLeaving masks sets (i + 1) (Some (get_or sets i d))
+leaving_open masks sets i d within t l =
+    record { rest = λ slots choices left has. one_less sets i d choices within has ∙ l.rest slots choices left refl; there = t }
 
-leaving_ends : (masks : List ℕ) (pairs : List Pair) (i : ℕ) (last : Option Pair) → length pairs ≤ i → IsLeaving masks pairs i last → LeavesLast masks pairs last
-leaving_ends masks pairs i last past l =
-    record { contains = λ slots choices left has. sym (l.rest slots choices left has) ∙ ap (contains_all choices) (drop_of_length-le pairs past) }
+leaving_ends : (masks : List ℕ) (sets : List Choices) (i : ℕ) (last : Option Choices) → length sets ≤ i → IsLeaving masks sets i last → LeavesLast masks sets last
+leaving_ends masks sets i last past l =
+    record { contains = λ slots choices left has. sym (l.rest slots choices left has) ∙ ap (meets choices) (drop_of_length-le sets past) }
 
-pub leaving_none : (masks : List ℕ) (pairs : List Pair) (i : ℕ) (last : Option Pair) → length pairs ≤ i → IsLeaving masks pairs i last → last ≡ None → LeavesLast masks pairs None
-leaving_none masks pairs i last past l is = subst (LeavesLast masks pairs) is (leaving_ends masks pairs i last past l)
+pub leaving_none : (masks : List ℕ) (sets : List Choices) (i : ℕ) (last : Option Choices) → length sets ≤ i → IsLeaving masks sets i last → last ≡ None → LeavesLast masks sets None
+leaving_none masks sets i last past l is = subst (LeavesLast masks sets) is (leaving_ends masks sets i last past l)
 
-pub leaving_some : (masks : List ℕ) (pairs : List Pair) (i : ℕ) (last : Option Pair) (p : Pair) → length pairs ≤ i → IsLeaving masks pairs i last → last ≡ Some p → LeavesOne masks pairs p
-leaving_some masks pairs i last p past l is =
+pub leaving_some : (masks : List ℕ) (sets : List Choices) (i : ℕ) (last : Option Choices) (set : Choices) → length sets ≤ i → IsLeaving masks sets i last → last ≡ Some set → LeavesOne masks sets set
+leaving_some masks sets i last set past l is =
     record {
-      leaves = subst (LeavesLast masks pairs) is (leaving_ends masks pairs i last past l);
-      there = (subst (λ (o : Option Pair). IfSome o (IsThere masks)) is l.there);
+      leaves = subst (LeavesLast masks sets) is (leaving_ends masks sets i last past l);
+      there = (subst (λ (o : Option Choices). IfSome o (IsThere masks)) is l.there);
     }
 
--- a conflict without open pair leaves no member
-pub one_leaves_none : (masks : List ℕ) (pairs : List Pair) → LeavesLast masks pairs None → HasNoneBy (pairs ∷ []) masks
-one_leaves_none masks pairs l = record { none = λ slots. record { none = λ choices. false_from_ne_true (is_free slots (pairs ∷ []) masks choices) (λ free. not_free slots choices free) } }
-  where
-    not_free : (slots : List (List Cost)) (choices : List ℕ) → is_free slots (pairs ∷ []) masks choices ≡ true → ⊥
-    not_free slots choices free =
-        let parts = and_parts (are_left slots masks choices) (not (is_ruled_out (pairs ∷ []) choices)) free in
-        let ruled : is_ruled_out (pairs ∷ []) choices ≡ true = or_left (contains_all choices pairs) false (l.contains slots choices parts.0 refl) in
-        let not_ruled : not true ≡ true = rw ruled at parts.1 in
-        cc not_ruled
-
--- a box without a choice has no new member
-left_without : (slots : List (List Cost)) (masks choices : List ℕ) (p : Pair) → p.slot < length masks → are_left slots (masks_without masks p) choices ≡ true → are_left slots masks choices ≡ true
-left_without slots masks choices p within left =
-    (and_parts (are_left slots masks choices) (not (is_ruled_out [] choices))
-    (and_parts (is_free slots [] masks choices) (not (picks choices p))
-    (sym (free_without slots [] masks choices p within) ∙ and_from (are_left slots (masks_without masks p) choices) (not (is_ruled_out [] choices)) left refl)).0).0
-
--- the choice of the last open pair is taken out
-pub one_takes_out : (masks new : List ℕ) (pairs : List Pair) (p : Pair) → LeavesOne masks pairs p → new ≡ masks_without masks p → IsLessBy (pairs ∷ []) masks new
-one_takes_out masks new pairs p l is =
-    subst (IsLessBy (pairs ∷ []) masks) (sym is)
-    (record {
-      free = record {
-        same = λ slots choices. free_without slots (pairs ∷ []) masks choices p l.there.within ∙ stays slots choices;
-        inside = λ slots choices left. left_without slots masks choices p l.there.within left;
-      };
-      less = less;
-    })
-  where
-    stays : (slots : List (List Cost)) (choices : List ℕ) → (is_free slots (pairs ∷ []) masks choices && not (picks choices p)) ≡ is_free slots (pairs ∷ []) masks choices
-    stays slots choices = by (is_free slots (pairs ∷ []) masks choices) (picks choices p) refl refl
-      where
-        by : (f k : Bool) → is_free slots (pairs ∷ []) masks choices ≡ f → picks choices p ≡ k → (f && not k) ≡ f
-        by false k e h = refl
-        by true false e h = refl
-        by true true e h =
-            let parts = and_parts (are_left slots masks choices) (not (is_ruled_out (pairs ∷ []) choices)) e in
-            let ruled : is_ruled_out (pairs ∷ []) choices ≡ true = or_left (contains_all choices pairs) false (l.leaves.contains slots choices parts.0 h) in
-            let not_ruled : not true ≡ true = rw ruled at parts.1 in
-            absurd (cc not_ruled)
-
-    taken : 1 ≤ only_choice (slice_index masks p.slot) p.choice
-    taken =
-        let one : bit_at (slice_index masks p.slot) p.choice ≡ 1 = eqb-true (bit_at (slice_index masks p.slot) p.choice) 1 l.there.has in
-        let is : only_choice (slice_index masks p.slot) p.choice ≡ bit_at (slice_index masks p.slot) p.choice * 2 ^ p.choice = and_pow (slice_index masks p.slot) p.choice in
-        let alone : only_choice (slice_index masks p.slot) p.choice ≡ 1 * 2 ^ p.choice = rw one at is in
-        let some : 0 < 2 ^ p.choice = pow_pos p.choice in
-        omega (arith, alone, some)
-
-    less : sum (masks_without masks p) < sum masks
-    less =
-        let sums : without_choice (slice_index masks p.slot) p.choice + only_choice (slice_index masks p.slot) p.choice ≡ (slice_index masks p.slot) = without_and_only (slice_index masks p.slot) p.choice in
-        let some : 1 ≤ only_choice (slice_index masks p.slot) p.choice = taken in
-        smaller masks p.slot (without_choice (slice_index masks p.slot) p.choice) l.there.within (omega (arith, sums, some)) (λ e. absurd (omega (arith, sums, some, e)))
-
--- what one of the conflicts takes out all take out
-pub less_by_all : (conflicts : List (List Pair)) (i : ℕ) (d : List Pair) (old new : List ℕ) → i < length conflicts → IsLessBy (get_or conflicts i d ∷ []) old new → IsLessBy conflicts old new
-less_by_all conflicts i d old new within l = record { free = record { same = same; inside = l.free.inside }; less = l.less }
-  where
-    same : (slots : List (List Cost)) (choices : List ℕ) → is_free slots conflicts new choices ≡ is_free slots conflicts old choices
-    same slots choices = by (is_ruled_out conflicts choices) (contains_all choices (get_or conflicts i d)) (list_any_at (contains_all choices) conflicts i d within) (l.free.same slots choices)
-      where
-        by : (ruled contained : Bool) → (contained ≡ true → ruled ≡ true)
-            → (are_left slots new choices && not (contained || false)) ≡ (are_left slots old choices && not (contained || false))
-            → (are_left slots new choices && not ruled) ≡ (are_left slots old choices && not ruled)
-        by true contained up e = and_false (are_left slots new choices) ∙ sym (and_false (are_left slots old choices))
-          where
-            and_false : (b : Bool) → (b && false) ≡ false
-            and_false true = refl
-            and_false false = refl
-        by false true up e = absurd (cc (up refl))
-        by false false up e = e
-
-pub none_by_all : (conflicts : List (List Pair)) (i : ℕ) (d : List Pair) (masks : List ℕ) → i < length conflicts → HasNoneBy (get_or conflicts i d ∷ []) masks → HasNoneBy conflicts masks
-none_by_all conflicts i d masks within n = record { none = λ slots. record { none = λ choices. false_from_ne_true (is_free slots conflicts masks choices) (λ free. not_free slots choices free) } }
+-- a ban without open slot leaves no member
+pub one_leaves_none : (conflicts : List (List Pair)) (masks : List ℕ) (sets : List Choices) → RulesOut conflicts sets → LeavesLast masks sets None → HasNoneBy conflicts masks
+one_leaves_none conflicts masks sets r l = record { none = λ slots. record { none = λ choices. false_from_ne_true (is_free slots conflicts masks choices) (λ free. not_free slots choices free) } }
   where
     not_free : (slots : List (List Cost)) (choices : List ℕ) → is_free slots conflicts masks choices ≡ true → ⊥
     not_free slots choices free =
         let parts = and_parts (are_left slots masks choices) (not (is_ruled_out conflicts choices)) free in
-        by (contains_all choices (get_or conflicts i d)) refl parts.0 parts.1 ((n.none slots).none choices)
+        let ruled : is_ruled_out conflicts choices ≡ true = r choices (l.contains slots choices parts.0 refl) in
+        let not_ruled : not true ≡ true = rw ruled at parts.1 in
+        cc not_ruled
+
+-- the members of a box without some choices are its members that have none of them
+pub left_less : (slots : List (List Cost)) (masks choices : List ℕ) (s these : ℕ) → s < length masks
+    → are_left slots (slice_set masks s (without_these (slice_index masks s) these)) choices ≡ (are_left slots masks choices && not (has_some choices (record { slot = s; mask = these })))
+left_less slots [] choices s these within = absurd (omega (arith, within))
+left_less [] (mask ∷ masks) choices zero these within = refl
+left_less [] (mask ∷ masks) choices (suc s) these within = refl
+left_less (row ∷ slots) (mask ∷ masks) [] zero these within = refl
+left_less (row ∷ slots) (mask ∷ masks) [] (suc s) these within = refl
+left_less (row ∷ slots) (mask ∷ masks) (choice ∷ choices) zero these within =
+    ap (λ b. (nat_lt choice (length row) && b) && are_left slots masks choices) (has_choice-beside mask these choice)
+    ∙ sorted (nat_lt choice (length row)) (has_choice mask choice) (has_choice these choice) (are_left slots masks choices)
+    ∙ ap (λ b. is_left row mask choice && are_left slots masks choices && not (b && has_choice these choice)) (sym (lt-ltb 0 (length (choice ∷ choices)) (omega arith)))
+  where
+    sorted : (a b t l : Bool) → ((a && (b && not t)) && l) ≡ (((a && b) && l) && not (true && t))
+    sorted true true true true = refl
+    sorted true true true false = refl
+    sorted true true false true = refl
+    sorted true true false false = refl
+    sorted true false t l = refl
+    sorted false b t l = refl
+left_less (row ∷ slots) (mask ∷ masks) (choice ∷ choices) (suc s) these within =
+    ap (λ b. is_left row mask choice && b) (left_less slots masks choices s these (omega (arith, within)))
+    ∙ and_in_turn (is_left row mask choice) (are_left slots masks choices) (not (has_some choices (record { slot = s; mask = these })))
+    ∙ ap (λ b. (is_left row mask choice && are_left slots masks choices) && not (b && has_choice these (slice_index choices s))) (sym (lt_suc s (length choices)))
+  where
+    and_in_turn : (a b d : Bool) → (a && (b && d)) ≡ ((a && b) && d)
+    and_in_turn true b d = refl
+    and_in_turn false b d = refl
+
+free_less : (slots : List (List Cost)) (conflicts : List (List Pair)) (masks choices : List ℕ) (set : Choices) → set.slot < length masks
+    → is_free slots conflicts (masks_less masks set) choices ≡ (is_free slots conflicts masks choices && not (has_some choices set))
+free_less slots conflicts masks choices set within =
+    ap (λ b. b && not (is_ruled_out conflicts choices)) (left_less slots masks choices set.slot set.mask within)
+    ∙ and_last (are_left slots masks choices) (not (has_some choices set)) (not (is_ruled_out conflicts choices))
+  where
+    and_last : (l k r : Bool) → ((l && k) && r) ≡ ((l && r) && k)
+    and_last true true true = refl
+    and_last true true false = refl
+    and_last true false true = refl
+    and_last true false false = refl
+    and_last false k r = refl
+
+-- what of a mask is among some choices and what is not are the mask
+beside_and_these : (m k : ℕ) → without_these m k + bit_and m k ≡ m
+beside_and_these m k =
+    let both : bit_xor m (bit_and m k) + bit_and m (bit_and m k) * 2 ≡ m + bit_and m k = xor_add_and m (bit_and m k) in
+    let once : bit_and m (bit_and m k) ≡ bit_and m k = sym (and_assoc k m m) ∙ ap (λ n. bit_and n k) (and_self m) in
+    omega (arith, both, once)
+
+-- the choices of the last open slot are taken out
+pub one_takes_out : (conflicts : List (List Pair)) (masks new : List ℕ) (sets : List Choices) (set : Choices) → RulesOut conflicts sets → LeavesOne masks sets set → new ≡ masks_less masks set → IsLessBy conflicts masks new
+one_takes_out conflicts masks new sets set r l is =
+    subst (IsLessBy conflicts masks) (sym is)
+    (record {
+      free = record {
+        same = λ slots choices. free_less slots conflicts masks choices set l.there.within ∙ stays slots choices;
+        inside = λ slots choices left. (and_parts (are_left slots masks choices) (not (has_some choices set)) (sym (left_less slots masks choices set.slot set.mask l.there.within) ∙ left)).0;
+      };
+      less = less;
+    })
+  where
+    stays : (slots : List (List Cost)) (choices : List ℕ) → (is_free slots conflicts masks choices && not (has_some choices set)) ≡ is_free slots conflicts masks choices
+    stays slots choices = by (is_free slots conflicts masks choices) (has_some choices set) refl refl
       where
-        by : (contained : Bool) → contains_all choices (get_or conflicts i d) ≡ contained → are_left slots masks choices ≡ true → not (is_ruled_out conflicts choices) ≡ true
-            → (are_left slots masks choices && not (contains_all choices (get_or conflicts i d) || false)) ≡ false → ⊥
-        by true e left misses none =
-            let ruled : is_ruled_out conflicts choices ≡ true = list_any_at (contains_all choices) conflicts i d within e in
-            let not_ruled : not true ≡ true = rw ruled at misses in
-            cc not_ruled
-        by false e left misses none =
-            let free : (true && not (false || false)) ≡ false = rw (left, e) at none in
-            cc free
+        by : (f k : Bool) → is_free slots conflicts masks choices ≡ f → has_some choices set ≡ k → (f && not k) ≡ f
+        by false k e h = refl
+        by true false e h = refl
+        by true true e h =
+            let parts = and_parts (are_left slots masks choices) (not (is_ruled_out conflicts choices)) e in
+            let ruled : is_ruled_out conflicts choices ≡ true = r choices (l.leaves.contains slots choices parts.0 h) in
+            let not_ruled : not true ≡ true = rw ruled at parts.1 in
+            absurd (cc not_ruled)
+
+    less : sum (masks_less masks set) < sum masks
+    less =
+        let sums : without_these (slice_index masks set.slot) set.mask + bit_and (slice_index masks set.slot) set.mask ≡ slice_index masks set.slot = beside_and_these (slice_index masks set.slot) set.mask in
+        let some : bit_and (slice_index masks set.slot) set.mask ≢ 0 = l.there.has in
+        smaller masks set.slot (without_these (slice_index masks set.slot) set.mask) l.there.within (omega (arith, sums, some)) (λ e. absurd (omega (arith, sums, some, e)))
+
+-- a ban among those of some conflicts
+pub ruled_by_ban : (conflicts : List (List Pair)) (bans : List (List Choices)) (i : ℕ) (d sets : List Choices) → i < length bans → sets ≡ get_or bans i d → AreBans conflicts bans → RulesOut conflicts sets
+ruled_by_ban conflicts bans i d sets within is a choices h = a.barred choices (list_any_at (meets choices) bans i d within (subst (λ ss. meets choices ss ≡ true) is h))
 
 -- one step after another
 pub less_after : (conflicts : List (List Pair)) (old mid new : List ℕ) (changed : Bool) → ChangedTells conflicts old mid changed → IsLessBy conflicts mid new → IsLessBy conflicts old new

@@ -5,6 +5,7 @@ pub mod Boxes
 pub mod Cheapest
 pub mod Lowest
 pub mod First
+pub mod Bans
 pub mod Narrow
 pub mod Narrowed
 pub mod Prices

@@ -1,10 +1,11 @@
 -- What conflicts leave of a box.
-use Rattle.std.specs.Prelude.{◌≡◌, ℕ, ◌<◌, ◌≤◌, Bool, true, false, List, length, slice_index, sum, Option, Some, None}
+use Rattle.std.specs.Prelude.{◌≡◌, ℕ, ◌<◌, ◌≤◌, Bool, true, false, List, length, slice_index, sum, bit_and, Option, Some, None}
 use Rattle.lv_base.specs.declared.ids.Cost.{Cost}
 use Rattle.lv_base.specs.declared.search.Pair.{Pair}
-use Rattle.lv_base.specs.Choices.{picks, contains_all}
-use Rattle.lv_boxes.specs.Masks.{has_choice, only_choice}
 use Rattle.lv_boxes.specs.Members.{are_left}
+use Rattle.lv_search_walk.specs.Walk.{is_ruled_out}
+use Rattle.lv_search_guide.specs.declared.bans.Choices.{Choices}
+use Rattle.lv_search_guide.specs.Bans.{without_these, has_some, meets}
 use Rattle.lv_search_guide.specs.Boxes.{is_free, HasNone}
 use Rattle.lv_search_guide.specs.declared.narrow.Stands.{Stands}
 use Rattle.lv_search_guide.specs.declared.narrow.Stands.TheVariants.{Out, Forced, Open}
@@ -13,38 +14,38 @@ use Rattle.lv_search_guide.specs.declared.narrow.Left.TheVariants.{Broken, Last,
 use Rattle.lv_search_guide.specs.declared.narrow.Narrowing.{Narrowing}
 use Rattle.lv_search_guide.specs.declared.narrow.Narrowing.TheVariants.{Same, Less, Empty}
 
--- the pair's choice is all that its slot has left
-pub record IsForced (masks : List ℕ) (p : Pair) : Type 0 where
-  pub within : p.slot < length masks
-  pub all : only_choice (slice_index masks p.slot) p.choice ≡ slice_index masks p.slot
+-- these choices are all that their slot has left
+pub record IsForced (masks : List ℕ) (set : Choices) : Type 0 where
+  pub within : set.slot < length masks
+  pub all : without_these (slice_index masks set.slot) set.mask ≡ 0
 
--- its slot has its choice
-pub record IsThere (masks : List ℕ) (p : Pair) : Type 0 where
-  pub within : p.slot < length masks
-  pub has : has_choice (slice_index masks p.slot) p.choice ≡ true
+-- the slot has some of them
+pub record IsThere (masks : List ℕ) (set : Choices) : Type 0 where
+  pub within : set.slot < length masks
+  pub has : bit_and (slice_index masks set.slot) set.mask ≡ 0 → ⊥
 
-abbrev pub StandsTells : List ℕ → Pair → Stands → Type 0
-StandsTells masks p Out = Unit {0}
-StandsTells masks p Forced = IsForced masks p
-StandsTells masks p Open = IsThere masks p
+abbrev pub StandsTells : List ℕ → Choices → Stands → Type 0
+StandsTells masks set Out = Unit {0}
+StandsTells masks set Forced = IsForced masks set
+StandsTells masks set Open = IsThere masks set
 
--- a member has the pair's choice, where there is a pair
-abbrev pub has_last : Option Pair → List ℕ → Bool
+-- a member has one of these choices, where there are some
+abbrev pub has_last : Option Choices → List ℕ → Bool
 has_last None choices = true
-has_last (Some p) choices = picks choices p
+has_last (Some set) choices = has_some choices set
 
--- each member that has the last pair's choice contains these pairs
-pub record LeavesLast (masks : List ℕ) (pairs : List Pair) (last : Option Pair) : Type 0 where
-  pub contains : (slots : List (List Cost)) (choices : List ℕ) → are_left slots masks choices ≡ true → has_last last choices ≡ true → contains_all choices pairs ≡ true
+-- each member that has one of the last has one of each
+pub record LeavesLast (masks : List ℕ) (sets : List Choices) (last : Option Choices) : Type 0 where
+  pub contains : (slots : List (List Cost)) (choices : List ℕ) → are_left slots masks choices ≡ true → has_last last choices ≡ true → meets choices sets ≡ true
 
-pub record LeavesOne (masks : List ℕ) (pairs : List Pair) (p : Pair) : Type 0 where
-  pub leaves : LeavesLast masks pairs (Some p)
-  pub there : IsThere masks p
+pub record LeavesOne (masks : List ℕ) (sets : List Choices) (set : Choices) : Type 0 where
+  pub leaves : LeavesLast masks sets (Some set)
+  pub there : IsThere masks set
 
-abbrev pub LeftTells : List ℕ → List Pair → Left → Type 0
-LeftTells masks pairs Broken = LeavesLast masks pairs None
-LeftTells masks pairs (Last p) = LeavesOne masks pairs p
-LeftTells masks pairs Other = Unit {0}
+abbrev pub LeftTells : List ℕ → List Choices → Left → Type 0
+LeftTells masks sets Broken = LeavesLast masks sets None
+LeftTells masks sets (Last set) = LeavesOne masks sets set
+LeftTells masks sets Other = Unit {0}
 
 -- the members without conflict are the same ones in both boxes, and no member is new
 pub record HasSameFree (conflicts : List (List Pair)) (old new : List ℕ) : Type 0 where
@@ -68,6 +69,13 @@ abbrev pub NarrowsTells : List (List Pair) → List ℕ → List ℕ → Narrowi
 NarrowsTells conflicts old new Same = new ≡ old
 NarrowsTells conflicts old new Less = IsLessBy conflicts old new
 NarrowsTells conflicts old new Empty = HasNoneBy conflicts old
+
+-- and so by any conflicts that rule out what has one of each of these
+abbrev pub RulesOut : List (List Pair) → List Choices → Type 0
+RulesOut conflicts sets = (choices : List ℕ) → meets choices sets ≡ true → is_ruled_out conflicts choices ≡ true
+
+abbrev pub TakesOutTells : List Choices → List ℕ → List ℕ → Narrowing → Type 0
+TakesOutTells sets old new narrowing = (conflicts : List (List Pair)) → RulesOut conflicts sets → NarrowsTells conflicts old new narrowing
 
 -- whether a choice was taken out so far
 abbrev pub ChangedTells : List (List Pair) → List ℕ → List ℕ → Bool → Type 0

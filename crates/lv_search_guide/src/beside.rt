@@ -56,7 +56,7 @@ fn without_ends(
     narrowed(
         alloc,
         zone,
-        known.as_slice(),
+        known.conflicts(),
         known.ends_at_first(lost.as_slice()),
     )
 }

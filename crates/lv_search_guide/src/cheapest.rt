@@ -6,11 +6,12 @@ ghost use Rattle.std.specs.Prelude.{◌≡◌, ◌≤◌, ◌++◌, IfOk, OnOk, 
 ghost use Rattle.lv_search_guide.specs.Boxes.{CostsAtLeast};
 ghost use Rattle.lv_search_guide.specs.Cheapest.{FallsApart, CheapestTells, BranchTells, PushesBoth, PushesParts, TakesBox};
 
+use super::conflicts::Conflicts;
 use super::dear::drop_dear;
 use super::look::{Looked, Member, look};
 use super::masks::Masks;
 use super::narrow::{narrow, narrow_if};
-use lv_base::{Conflict, Pair};
+use lv_base::Pair;
 use lv_boxes::Grid;
 use std::alloc::{AllocError, Global};
 
@@ -33,7 +34,7 @@ pub(crate) struct Branch {
 pub(crate) fn cheapest(
     alloc: Global,
     grid: &Grid,
-    conflicts: &[Conflict],
+    conflicts: &Conflicts,
     masks: &Masks,
     least: u64,
     under: u64,
@@ -52,7 +53,7 @@ pub(crate) fn cheapest(
 fn cheapest_of(
     alloc: Global,
     grid: &Grid,
-    conflicts: &[Conflict],
+    conflicts: &Conflicts,
     first: Branch,
     least: u64,
     under: u64,
@@ -82,7 +83,7 @@ fn cheapest_of(
 fn branch_of(
     alloc: Global,
     grid: &Grid,
-    conflicts: &[Conflict],
+    conflicts: &Conflicts,
     masks: Masks,
     under: u64,
 ) -> Result<Option<Branch>, AllocError>
@@ -109,7 +110,7 @@ fn branch_of(
 fn take_box(
     alloc: Global,
     grid: &Grid,
-    conflicts: &[Conflict],
+    conflicts: &Conflicts,
     next: &Branch,
     best: &mut Best,
     boxes: &mut Vec<Branch>,
@@ -138,7 +139,7 @@ fn take_box(
 fn push_parts(
     alloc: Global,
     grid: &Grid,
-    conflicts: &[Conflict],
+    conflicts: &Conflicts,
     masks: &Masks,
     pair: Pair,
     under: u64,

@@ -10,9 +10,10 @@ ghost use Rattle.lv_search_guide.specs.Boxes.{CostsAtLeast};
 ghost use Rattle.lv_search_guide.specs.Dear.{KeepsUnder};
 ghost use Rattle.lv_search_guide.specs.Prices.{IsBound};
 
+use super::conflicts::Conflicts;
 use super::masks::Masks;
 use super::prices::{Row, priced_in};
-use lv_base::{Conflict, Cost, Pair};
+use lv_base::{Cost, Pair};
 use lv_boxes::Grid;
 use std::alloc::{AllocError, Global};
 
@@ -29,7 +30,7 @@ pub(crate) struct Dropped {
 pub(crate) fn drop_dear(
     alloc: Global,
     grid: &Grid,
-    conflicts: &[Conflict],
+    conflicts: &Conflicts,
     masks: &mut Masks,
     under: u64,
 ) -> Result<Dropped, AllocError>

@@ -6,7 +6,9 @@ ghost use Rattle.lv_base.specs.declared.search.Pair.{Pair};
 ghost use Rattle.lv_search_parts.specs.Parts.{IsPartWith};
 ghost use Rattle.lv_search_guide.specs.Beside.{AreJoined};
 
-use lv_base::{Conflict, Pair};
+use super::bans::Ban;
+use super::conflicts::Conflicts;
+use lv_base::Pair;
 use lv_search_parts::labels::{are_labels, join, labels_of, part_with};
 use std::alloc::{AllocError, Global};
 use std::marker::Model;
@@ -16,7 +18,7 @@ use std::marker::Model;
 pub(crate) struct Joined {
     /// Of each slot a label, one for those that conflicts join.
     labels: Vec<usize>,
-    /// Of each slot the places of the conflicts of which it is the last.
+    /// Of each slot the places of the bans of which it is the last.
     ends: Vec<Vec<usize>>,
 }
 
@@ -32,14 +34,14 @@ impl Joined {
     /// The conflicts by so many slots; `None` where one speaks of a slot that there isn't.
     pub(crate) fn new(
         alloc: Global,
-        conflicts: &[Conflict],
+        conflicts: &Conflicts,
         slots: usize,
     ) -> Result<Option<Joined>, AllocError>
         ensures { IfOk result (λ found. IfSome found (λ labels. AreJoined conflicts.now slots labels)) }
     {
-        match labels_of(alloc, conflicts, slots)? {
+        match labels_of(alloc, conflicts.as_slice(), slots)? {
             Some(labels) => {
-                let ends = ends_of(alloc, slots, conflicts)?;
+                let ends = ends_of(alloc, slots, conflicts.bans())?;
                 Ok(Some(Joined { labels, ends }))
             }
             None => Ok(None),
@@ -49,18 +51,20 @@ impl Joined {
     /// As `new`, where these are all conflicts but the last. `None` also where they aren't.
     pub(crate) fn with_last(
         self,
-        conflicts: &[Conflict],
+        conflicts: &Conflicts,
         slots: usize,
     ) -> Result<Option<Joined>, AllocError>
         ensures { IfOk result (λ found. IfSome found (λ labels. AreJoined conflicts.now slots labels)) }
     {
         let mut labels = self.labels;
         let mut ends = self.ends;
-        if let Some(conflict) = conflicts.last() {
+        if let Some(conflict) = conflicts.as_slice().last() {
             join(conflict.pairs(), &mut labels);
-            push_end(conflict, conflicts.len() - 1, &mut ends)?;
         }
-        if are_labels(conflicts, slots, &labels) {
+        if let Some(ban) = conflicts.bans().last() {
+            push_end(ban, conflicts.bans().len().saturating_sub(1), &mut ends)?;
+        }
+        if are_labels(conflicts.as_slice(), slots, &labels) {
             Ok(Some(Joined { labels, ends }))
         } else {
             Ok(None)
@@ -78,7 +82,7 @@ impl Joined {
         part_with(alloc, self.labels.as_slice(), pairs)
     }
 
-    /// The places of the conflicts of which the pair's slot is the last.
+    /// The places of the bans of which the pair's slot is the last.
     pub(crate) fn ends_at(&self, pair: Pair) -> &[usize] {
         let slot = pair.slot as usize;
         if slot < self.ends.len() {
@@ -89,26 +93,22 @@ impl Joined {
     }
 }
 
-/// Of so many slots the places of the conflicts of which each is the last.
-fn ends_of(
-    alloc: Global,
-    slots: usize,
-    conflicts: &[Conflict],
-) -> Result<Vec<Vec<usize>>, AllocError> {
+/// Of so many slots the places of the bans of which each is the last.
+fn ends_of(alloc: Global, slots: usize, bans: &[Ban]) -> Result<Vec<Vec<usize>>, AllocError> {
     let mut ends = Vec::new(alloc);
     for _slot in 0..slots {
         ends.push(Vec::new(alloc))?;
     }
-    for (place, conflict) in conflicts.iter().enumerate() {
-        push_end(conflict, place, &mut ends)?;
+    for (place, ban) in bans.iter().enumerate() {
+        push_end(ban, place, &mut ends)?;
     }
     Ok(ends)
 }
 
-/// Adds the place of a conflict to those of its last slot.
-fn push_end(conflict: &Conflict, place: usize, ends: &mut [Vec<usize>]) -> Result<(), AllocError> {
-    if let Some(pair) = conflict.pairs().last() {
-        let slot = pair.slot as usize;
+/// Adds the place of a ban to those of its last slot.
+fn push_end(ban: &Ban, place: usize, ends: &mut [Vec<usize>]) -> Result<(), AllocError> {
+    if let Some(set) = ban.sets().last() {
+        let slot = set.slot as usize;
         if slot < ends.len() {
             ends[slot].push(place)?;
         }

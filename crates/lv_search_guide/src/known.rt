@@ -5,8 +5,9 @@ ghost use Rattle.std.specs.Prelude.{◌≡◌, ◌++◌, ◌∷◌, [], IfOk, If
 ghost use Rattle.lv_search_parts.specs.Parts.{IsPartWith};
 ghost use Rattle.lv_search_guide.specs.Beside.{AreJoined};
 
+use super::conflicts::Conflicts;
 use super::joined::Joined;
-use lv_base::{Conflict, Pair, Seq};
+use lv_base::{Conflict, Pair};
 use std::alloc::{AllocError, Global};
 use std::marker::Model;
 use std::mem;
@@ -14,7 +15,8 @@ use std::mem;
 /// The known conflicts over the choices of so many slots. Contracts see the list of them.
 #[derive(Drop)]
 pub struct Known {
-    conflicts: Seq<Conflict>,
+    alloc: Global,
+    conflicts: Conflicts,
     slots: usize,
     /// The slots that they join, where each speaks of slots that there are.
     joined: Option<Joined>,
@@ -37,9 +39,11 @@ impl Known {
     pub fn new(alloc: Global, slots: usize, conflicts: Vec<Conflict>) -> Result<Known, AllocError>
         ensures { IfOk result (λ known. known ≡ conflicts.items) }
     {
-        let joined = Joined::new(alloc, conflicts.as_slice(), slots)?;
+        let conflicts = Conflicts::new(alloc, conflicts)?;
+        let joined = Joined::new(alloc, &conflicts, slots)?;
         Ok(Known {
-            conflicts: Seq::from_vec(conflicts),
+            alloc,
+            conflicts,
             slots,
             joined,
         })
@@ -50,9 +54,9 @@ impl Known {
         ensures { OnOk result (self.new ≡ self.old ++ conflict ∷ []) }
     {
         let before = mem::replace(&mut self.joined, None);
-        self.conflicts.push(conflict)?;
+        self.conflicts.push(self.alloc, conflict)?;
         if let Some(joined) = before {
-            self.joined = joined.with_last(self.conflicts.as_slice(), self.slots)?;
+            self.joined = joined.with_last(&self.conflicts, self.slots)?;
         }
         Ok(())
     }
@@ -63,7 +67,13 @@ impl Known {
         self.conflicts.as_slice()
     }
 
-    /// The places of those that end at the slot of the first of these pairs, as far as they are known.
+    pub(crate) fn conflicts(&self) -> &Conflicts
+        ensures { result.now ≡ self.now }
+    {
+        &self.conflicts
+    }
+
+    /// The places of the bans that end at the slot of the first of these pairs, as far as they are known.
     pub(crate) fn ends_at_first(&self, pairs: &[Pair]) -> &[usize] {
         match (pairs.first(), self.joined.as_ref()) {
             (Some(pair), Some(joined)) => joined.ends_at(*pair),

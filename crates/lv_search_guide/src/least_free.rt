@@ -6,6 +6,7 @@ ghost use Rattle.lv_search_guide.specs.Free.{LeastFreeTells};
 ghost use Rattle.lv_search_guide.specs.Lowest.{LowestTells};
 
 use super::behind::drop_behind;
+use super::conflicts::Conflicts;
 use super::look::Member;
 use super::masks::Masks;
 use super::narrow::narrow;
@@ -26,7 +27,8 @@ pub fn least_free(
     ensures { IfOk result (λ least. LeastFreeTells grid.now zone.now conflicts.now least) }
 {
     let masks = Masks::from_slice(alloc, zone.masks())?;
-    match first_in(alloc, grid, conflicts, masks)? {
+    let live = live_in(alloc, conflicts, zone.masks())?;
+    match first_in(alloc, grid, live, masks)? {
         Some(member) => Ok(Some(rank_of(zone, member))),
         None => Ok(None),
     }
@@ -36,17 +38,18 @@ pub fn least_free(
 pub(crate) fn first_in(
     alloc: Global,
     grid: &Grid,
-    conflicts: &[Conflict],
+    conflicts: Vec<Conflict>,
     mut masks: Masks,
 ) -> Result<Option<Member>, AllocError>
-    ensures first { IfOk result (λ first. LowestTells grid.now conflicts.now masks first) }
+    ensures first { IfOk result (λ first. LowestTells grid.now conflicts.items masks first) }
     ensures bound { IfOk result (λ first. IfSome first (λ member. member.cost ≤ 4096 * 1000000)) }
 {
-    if !narrow(conflicts, &mut masks) {
+    let conflicts = Conflicts::new(alloc, conflicts)?;
+    if !narrow(&conflicts, &mut masks) {
         return Ok(None);
     }
-    drop_behind(alloc, grid, conflicts, &mut masks)?;
-    first_left(alloc, grid, conflicts, masks)
+    drop_behind(alloc, grid, conflicts.as_slice(), &mut masks)?;
+    first_left(alloc, grid, conflicts.as_slice(), masks)
 }
 
 /// As `first_in`, of a box from which nothing more can be taken out.
@@ -60,7 +63,8 @@ fn first_left(
     ensures bound { IfOk result (λ first. IfSome first (λ member. member.cost ≤ 4096 * 1000000)) }
 {
     let live = live_in(alloc, conflicts, masks.as_slice())?;
-    first_by_parts(alloc, grid, live.as_slice(), masks)
+    let live = Conflicts::new(alloc, live)?;
+    first_by_parts(alloc, grid, &live, masks)
 }
 
 /// What a member of a zone ranks as.

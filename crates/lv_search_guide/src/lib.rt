@@ -32,9 +32,11 @@
 //! | `laws` | that there is one answer |
 #![tactic(auto)]
 
+mod bans;
 mod behind;
 pub mod beside;
 mod cheapest;
+mod conflicts;
 mod dear;
 mod joined;
 pub mod known;

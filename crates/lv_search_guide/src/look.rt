@@ -10,11 +10,12 @@ ghost use Rattle.lv_base.specs.Choices.{contains_all};
 ghost use Rattle.lv_search_guide.specs.Boxes.{is_open};
 ghost use Rattle.lv_search_guide.specs.Cheapest.{CheapestLeftTells, IsCheapestLeft, HasNoneLeft, LookTells, OpenTells, SplitTells};
 
+use super::bans::{Ban, Choices};
+use super::conflicts::Conflicts;
 use super::masks::Masks;
 use lv_base::{Conflict, Pair, Seq, contains};
 use lv_boxes::least::write_least;
 use lv_boxes::{Grid, mask};
-use lv_search_parts::live::are_there;
 use std::alloc::{AllocError, Global};
 
 /// More than any member costs: a choice costs at most 1,000,000, and there are at most 4,096 slots.
@@ -42,7 +43,7 @@ pub(crate) enum Looked {
 pub(crate) fn look(
     alloc: Global,
     grid: &Grid,
-    conflicts: &[Conflict],
+    conflicts: &Conflicts,
     masks: &Masks,
     under: u64,
 ) -> Result<Looked, AllocError>
@@ -78,21 +79,21 @@ fn write_cheapest(grid: &Grid, masks: &Masks, out: &mut [u32]) -> Option<u64>
 }
 
 /// Looks at a box whose cheapest member this is: it is found, or contains a conflict.
-fn look_at(conflicts: &[Conflict], masks: &Masks, member: Member) -> Looked
+fn look_at(conflicts: &Conflicts, masks: &Masks, member: Member) -> Looked
     ensures { (slots : List (List Cost)) (under : ℕ) → IsCheapestLeft slots masks.now member → member.cost < under → LookTells slots conflicts.now masks.now under result }
 {
-    match first_contained(conflicts, member.choices.as_slice()) {
-        Some(conflict) => split_by(conflicts, conflict.pairs(), masks),
+    match first_contained(conflicts.as_slice(), member.choices.as_slice()) {
+        Some(conflict) => split_by(conflicts.bans(), conflict.pairs(), masks),
         None => Looked::Found(member),
     }
 }
 
 /// Looks at a box whose cheapest member contains the conflict of these pairs: it falls apart by a pair whose choice is not all
 /// that its slot has left. Without such a pair each member contains the conflict.
-fn split_by(conflicts: &[Conflict], pairs: &[Pair], masks: &Masks) -> Looked
+fn split_by(bans: &[Ban], pairs: &[Pair], masks: &Masks) -> Looked
     ensures { SplitTells masks.now pairs.now result }
 {
-    match busiest_open(conflicts, masks.as_slice(), pairs) {
+    match busiest_open(bans, masks.as_slice(), pairs) {
         Some(pair) => Looked::Splits(pair),
         None => Looked::Nothing,
     }
@@ -107,15 +108,15 @@ fn first_contained<'a>(conflicts: &'a [Conflict], choices: &[u32]) -> Option<&'a
         .find(|conflict| contains(choices, conflict.pairs()))
 }
 
-/// Of the pairs whose choices are not all that their slots have left the one that stands in most conflicts.
-fn busiest_open(conflicts: &[Conflict], masks: &[u64], pairs: &[Pair]) -> Option<Pair>
+/// Of the pairs whose choices are not all that their slots have left the one that stands against most choices.
+fn busiest_open(bans: &[Ban], masks: &[u64], pairs: &[Pair]) -> Option<Pair>
     ensures { OpenTells masks.now pairs.now (length pairs.now) result }
 {
     let mut busiest: Option<Pair> = None;
     let mut most = 0;
     for pair in pairs {
         if leaves_open(masks, *pair) {
-            let count = count_with(conflicts, masks, *pair);
+            let count = count_against(bans, masks, *pair);
             if busiest.is_none() || count > most {
                 busiest = Some(*pair);
                 most = count;
@@ -125,12 +126,33 @@ fn busiest_open(conflicts: &[Conflict], masks: &[u64], pairs: &[Pair]) -> Option
     busiest
 }
 
-/// In how many conflicts that a member of the box may contain the pair stands.
-fn count_with(conflicts: &[Conflict], masks: &[u64], pair: Pair) -> usize {
-    conflicts
-        .iter()
-        .filter(|conflict| conflict.pairs().contains(&pair) && are_there(masks, conflict.pairs()))
-        .count()
+/// How many choices of the box the pair's choice can't stand together with, by each ban.
+fn count_against(bans: &[Ban], masks: &[u64], pair: Pair) -> u64 {
+    let mut count: u64 = 0;
+    for ban in bans {
+        if has_pair(ban.sets(), pair) {
+            count = count.saturating_add(count_of(ban.sets(), masks, pair));
+        }
+    }
+    count
+}
+
+/// Whether the pair's choice is among those of its slot.
+fn has_pair(sets: &[Choices], pair: Pair) -> bool {
+    sets.iter()
+        .any(|set| set.slot == pair.slot && mask::has(set.mask, pair.choice as usize))
+}
+
+/// In how many ways a ban can be met beside the pair's slot.
+fn count_of(sets: &[Choices], masks: &[u64], pair: Pair) -> u64 {
+    let mut count: u64 = 1;
+    for set in sets {
+        let slot = set.slot as usize;
+        if slot < masks.len() && set.slot != pair.slot {
+            count = count.saturating_mul((masks[slot] & set.mask).count_ones() as u64);
+        }
+    }
+    count
 }
 
 /// Whether the pair's choice is not all that its slot has left.

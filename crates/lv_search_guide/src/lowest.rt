@@ -10,20 +10,20 @@ ghost use Rattle.lv_search_guide.specs.Cheapest.{IsCheapest};
 ghost use Rattle.lv_search_guide.specs.Lowest.{IsLowest, IsFirstAt, LowerTells, HasTells};
 
 use super::cheapest::cheapest;
+use super::conflicts::Conflicts;
 use super::dear::drop_dear;
 use super::look::Member;
 use super::masks::Masks;
 use super::narrow::narrow;
-use lv_base::{Conflict, Pair, Seq};
+use lv_base::{Pair, Seq};
 use lv_boxes::Grid;
-use lv_search_parts::live::live_in;
 use std::alloc::{AllocError, Global};
 
 /// Of the members that contain no conflict and cost as little as this one, which is a cheapest, the first.
 pub(crate) fn lowest(
     alloc: Global,
     grid: &Grid,
-    conflicts: &[Conflict],
+    conflicts: &Conflicts,
     masks: &Masks,
     member: Member,
 ) -> Result<Member, AllocError>
@@ -37,15 +37,14 @@ pub(crate) fn lowest(
     if !narrow(conflicts, &mut part) {
         return Ok(member);
     }
-    let live = live_in(alloc, conflicts, part.as_slice())?;
-    lowest_in(alloc, grid, live.as_slice(), part, member)
+    lowest_in(alloc, grid, conflicts, part, member)
 }
 
 /// As `lowest`, in a box without choices that are too dear.
 fn lowest_in(
     alloc: Global,
     grid: &Grid,
-    conflicts: &[Conflict],
+    conflicts: &Conflicts,
     masks: Masks,
     member: Member,
 ) -> Result<Member, AllocError>
@@ -73,7 +72,7 @@ fn lowest_in(
 fn first_at(
     alloc: Global,
     grid: &Grid,
-    conflicts: &[Conflict],
+    conflicts: &Conflicts,
     masks: &Masks,
     slot: usize,
     choices: Seq<u32>,
@@ -99,7 +98,7 @@ fn first_at(
 fn lower_at(
     alloc: Global,
     grid: &Grid,
-    conflicts: &[Conflict],
+    conflicts: &Conflicts,
     masks: &Masks,
     slot: usize,
     below: u32,
@@ -128,7 +127,7 @@ fn lower_at(
 fn member_with(
     alloc: Global,
     grid: &Grid,
-    conflicts: &[Conflict],
+    conflicts: &Conflicts,
     masks: &Masks,
     pair: Pair,
     cost: u64,

@@ -3,8 +3,10 @@
 
 ghost use Rattle.std.specs.Prelude.{◌≡◌, slice_index, slice_set, IfOk};
 ghost use Rattle.lv_boxes.specs.Parts.{masks_with, masks_without};
+ghost use Rattle.lv_search_guide.specs.Bans.{masks_less};
 ghost use Rattle.lv_search_guide.specs.Boxes.{has_left};
 
+use super::bans::{Choices, without_these};
 use lv_base::Pair;
 use lv_boxes::mask;
 use std::alloc::{AllocError, Global};
@@ -110,6 +112,16 @@ impl Masks {
         let slot = pair.slot as usize;
         if slot < self.words.len() {
             self.words[slot] = mask::without(self.words[slot], pair.choice);
+        }
+    }
+
+    /// Leaves the members that have none of these choices at their slot. A slot that the box hasn't is passed over.
+    pub(crate) fn exclude_all(&mut self, set: Choices)
+        ensures { self.new ≡ masks_less self.old set }
+    {
+        let slot = set.slot as usize;
+        if slot < self.words.len() {
+            self.words[slot] = without_these(self.words[slot], set.mask);
         }
     }
 }

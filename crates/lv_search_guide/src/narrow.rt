@@ -1,33 +1,35 @@
-//! What conflicts leave of a box. A conflict of which all pairs but one are all that their slots have left takes the
-//! choice of that one out of the box; a conflict without such a pair leaves no member.
+//! What bans leave of a box. A ban of which all sets but one hold all that their slots have left takes the choices of that
+//! one out of the box; a ban without such a set leaves no member.
 #![tactic(auto)]
 
-ghost use Rattle.std.specs.Prelude.{◌∷◌, []};
-ghost use Rattle.lv_search_guide.specs.Narrow.{StandsTells, LeftTells, NarrowsTells, NarrowedTells};
+ghost use Rattle.std.specs.Prelude.{ℕ, List};
+ghost use Rattle.lv_base.specs.declared.search.Pair.{Pair};
+ghost use Rattle.lv_search_guide.specs.Bans.{AreBans};
+ghost use Rattle.lv_search_guide.specs.Narrow.{StandsTells, LeftTells, TakesOutTells, NarrowsTells, NarrowedTells};
 
+use super::bans::{Ban, Choices, without_these};
+use super::conflicts::Conflicts;
 use super::masks::Masks;
-use lv_base::{Conflict, Pair};
-use lv_boxes::mask;
 
-/// How a pair stands in a box.
+/// How a ban's choices at a slot stand in a box.
 #[derive(Clone, Copy, Debug, PartialEq, Eq)]
 enum Stands {
-    /// The box has not its choice.
+    /// The box has none of them.
     Out,
-    /// Its choice is all that its slot has left.
+    /// They are all that the slot has left.
     Forced,
-    /// Its slot has its choice and others.
+    /// The slot has some of them, and others.
     Open,
 }
 
-/// What a box leaves open of a conflict.
+/// What a box leaves open of a ban.
 #[derive(Clone, Copy, Debug, PartialEq, Eq)]
 enum Left {
-    /// Nothing: each member contains it.
+    /// Nothing: each member has one of each.
     Broken,
-    /// This pair alone.
-    Last(Pair),
-    /// More, or no member contains it.
+    /// These alone.
+    Last(Choices),
+    /// More, or no member has one of each.
     Other,
 }
 
@@ -36,7 +38,7 @@ enum Left {
 pub(crate) enum Narrowing {
     /// Nothing.
     Same,
-    /// A choice was taken out, which only members have that contain a conflict.
+    /// Choices were taken out, which only members have that contain a conflict.
     Less,
     /// Nothing; each member contains a conflict.
     Empty,
@@ -44,7 +46,7 @@ pub(crate) enum Narrowing {
 
 /// Takes out of a box what only members have that contain a conflict, until nothing more is found. Answers whether
 /// members may be left.
-pub(crate) fn narrow(conflicts: &[Conflict], masks: &mut Masks) -> bool
+pub(crate) fn narrow(conflicts: &Conflicts, masks: &mut Masks) -> bool
     ensures { NarrowedTells conflicts.now masks.old masks.new result }
 {
     'again: loop {
@@ -57,19 +59,19 @@ pub(crate) fn narrow(conflicts: &[Conflict], masks: &mut Masks) -> bool
 }
 
 /// As `narrow`, where that is so.
-pub(crate) fn narrow_if(is: bool, conflicts: &[Conflict], masks: &mut Masks) -> bool
+pub(crate) fn narrow_if(is: bool, conflicts: &Conflicts, masks: &mut Masks) -> bool
     ensures { NarrowedTells conflicts.now masks.old masks.new result }
 {
     !is || narrow(conflicts, masks)
 }
 
-/// Goes through the conflicts once.
-fn narrow_once(conflicts: &[Conflict], masks: &mut Masks) -> Narrowing
+/// Goes through the bans once.
+fn narrow_once(conflicts: &Conflicts, masks: &mut Masks) -> Narrowing
     ensures { NarrowsTells conflicts.now masks.old masks.new result }
 {
     let mut changed = false;
-    for conflict in conflicts {
-        match narrow_by(conflict.pairs(), masks) {
+    for place in 0..conflicts.bans().len() {
+        match narrow_by(conflicts, place, masks) {
             Narrowing::Same => {}
             Narrowing::Less => changed = true,
             Narrowing::Empty => return Narrowing::Empty,
@@ -82,52 +84,63 @@ fn narrow_once(conflicts: &[Conflict], masks: &mut Masks) -> Narrowing
     }
 }
 
-/// Takes out of a box what only members have that contain this conflict.
-pub(crate) fn narrow_by(pairs: &[Pair], masks: &mut Masks) -> Narrowing
-    ensures { NarrowsTells (pairs.now ∷ []) masks.old masks.new result }
+/// As `narrow_once`, by the ban at this place, if there is one.
+pub(crate) fn narrow_by(conflicts: &Conflicts, place: usize, masks: &mut Masks) -> Narrowing
+    ensures { NarrowsTells conflicts.now masks.old masks.new result }
 {
-    match left_of(masks.as_slice(), pairs) {
+    let bans = conflicts.bans();
+    if place >= bans.len() {
+        return Narrowing::Same;
+    }
+    take_out(bans[place].sets(), masks)
+}
+
+/// Takes out of a box what only members have that have one of each of these.
+fn take_out(sets: &[Choices], masks: &mut Masks) -> Narrowing
+    ensures { TakesOutTells sets.now masks.old masks.new result }
+{
+    match left_of(masks.as_slice(), sets) {
         Left::Broken => Narrowing::Empty,
-        Left::Last(pair) => {
-            masks.exclude(pair);
+        Left::Last(set) => {
+            masks.exclude_all(set);
             Narrowing::Less
         }
         Left::Other => Narrowing::Same,
     }
 }
 
-/// What a box leaves open of a conflict.
+/// What a box leaves open of these.
 #[inline(always)]
-fn left_of(masks: &[u64], pairs: &[Pair]) -> Left
-    ensures { LeftTells masks.now pairs.now result }
+fn left_of(masks: &[u64], sets: &[Choices]) -> Left
+    ensures { LeftTells masks.now sets.now result }
 {
-    let mut last: Option<Pair> = None;
-    for pair in pairs {
-        match stands_in(masks, *pair) {
+    let mut last: Option<Choices> = None;
+    for set in sets {
+        match stands_in(masks, *set) {
             Stands::Out => return Left::Other,
             Stands::Forced => {}
             Stands::Open => match last {
                 Some(_) => return Left::Other,
-                None => last = Some(*pair),
+                None => last = Some(*set),
             },
         }
     }
     match last {
-        Some(pair) => Left::Last(pair),
+        Some(set) => Left::Last(set),
         None => Left::Broken,
     }
 }
 
-/// How a pair stands in a box.
+/// How these stand in a box.
 #[inline(always)]
-fn stands_in(masks: &[u64], pair: Pair) -> Stands
-    ensures { StandsTells masks.now pair result }
+fn stands_in(masks: &[u64], set: Choices) -> Stands
+    ensures { StandsTells masks.now set result }
 {
-    let slot = pair.slot as usize;
-    if slot >= masks.len() || !mask::has(masks[slot], pair.choice as usize) {
+    let slot = set.slot as usize;
+    if slot >= masks.len() || masks[slot] & set.mask == 0 {
         return Stands::Out;
     }
-    if mask::only(masks[slot], pair.choice) == masks[slot] {
+    if without_these(masks[slot], set.mask) == 0 {
         Stands::Forced
     } else {
         Stands::Open

@@ -5,18 +5,18 @@ ghost use Rattle.std.specs.Prelude.{IfOk};
 ghost use Rattle.lv_search_guide.specs.Narrowed.{NarrowedTells};
 ghost use Rattle.lv_search_guide.specs.Narrow.{NarrowedTells as LeavesTells};
 
+use super::conflicts::Conflicts;
 use super::masks::Masks;
 use super::narrow::{Narrowing, narrow_by};
-use lv_base::Conflict;
 use lv_boxes::Zone;
 use std::alloc::{AllocError, Global};
 
-/// The zone without the choices that only members have which contain a conflict, as far as these conflicts, by their places,
+/// The zone without the choices that only members have which contain a conflict, as far as these bans, by their places,
 /// tell one after another; `None` where they leave none of its members.
 pub(crate) fn narrowed(
     alloc: Global,
     zone: &Zone,
-    conflicts: &[Conflict],
+    conflicts: &Conflicts,
     places: &[usize],
 ) -> Result<Option<Zone>, AllocError>
     ensures { IfOk result (λ less. NarrowedTells zone.now conflicts.now less) }
@@ -30,7 +30,7 @@ pub(crate) fn narrowed(
 }
 
 /// Takes out of a box what only members have that contain one of these conflicts. Answers whether members may be left.
-fn narrow_at(conflicts: &[Conflict], places: &[usize], masks: &mut Masks) -> bool
+fn narrow_at(conflicts: &Conflicts, places: &[usize], masks: &mut Masks) -> bool
     ensures { LeavesTells conflicts.now masks.old masks.new result }
 {
     for place in places {
@@ -42,13 +42,10 @@ fn narrow_at(conflicts: &[Conflict], places: &[usize], masks: &mut Masks) -> boo
 }
 
 /// As `narrow_at`, the conflict at one place, if there is that place.
-fn narrow_one(conflicts: &[Conflict], place: usize, masks: &mut Masks) -> bool
+fn narrow_one(conflicts: &Conflicts, place: usize, masks: &mut Masks) -> bool
     ensures { LeavesTells conflicts.now masks.old masks.new result }
 {
-    if place >= conflicts.len() {
-        return true;
-    }
-    match narrow_by(conflicts[place].pairs(), masks) {
+    match narrow_by(conflicts, place, masks) {
         Narrowing::Same => true,
         Narrowing::Less => true,
         Narrowing::Empty => false,

@@ -157,7 +157,7 @@ fn first_of_marked(
     let part = part_grid(alloc, grid, marks)?;
     let masks = part_masks(alloc, zone.masks(), marks)?;
     let inner = part_conflicts(alloc, conflicts, marks, masks.as_slice())?;
-    first_in(alloc, &part, inner.as_slice(), Masks::from_vec(masks))
+    first_in(alloc, &part, inner, Masks::from_vec(masks))
 }
 
 /// What a choice at each slot costs together.

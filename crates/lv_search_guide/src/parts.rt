@@ -9,10 +9,11 @@ ghost use Rattle.lv_search_guide.specs.First.{SettlesTells};
 ghost use Rattle.lv_search_guide.specs.Lowest.{LowestTells};
 
 use super::cheapest::cheapest;
+use super::conflicts::Conflicts;
 use super::look::{ABOVE_ALL, Looked, Member, look};
 use super::lowest::lowest;
 use super::masks::Masks;
-use lv_base::{Conflict, Pair};
+use lv_base::Pair;
 use lv_boxes::Grid;
 use lv_search_parts::labels::joined_with;
 use lv_search_parts::part::{fixed, part_conflicts, part_grid, part_masks};
@@ -22,7 +23,7 @@ use std::alloc::{AllocError, Global};
 pub(crate) fn first_by_parts(
     alloc: Global,
     grid: &Grid,
-    conflicts: &[Conflict],
+    conflicts: &Conflicts,
     masks: Masks,
 ) -> Result<Option<Member>, AllocError>
     ensures first { IfOk result (λ first. LowestTells grid.now conflicts.now masks first) }
@@ -48,13 +49,13 @@ pub(crate) fn first_by_parts(
 fn settled(
     alloc: Global,
     grid: &Grid,
-    conflicts: &[Conflict],
+    conflicts: &Conflicts,
     masks: &Masks,
     pair: Pair,
 ) -> Result<Option<Masks>, AllocError>
     ensures { IfOk result (λ less. SettlesTells grid.now conflicts.now masks.now less) }
 {
-    match joined_with(alloc, conflicts, grid.len(), &[pair])? {
+    match joined_with(alloc, conflicts.as_slice(), grid.len(), &[pair])? {
         Some(marks) if marks.len() == masks.as_slice().len() => {
             settled_part(alloc, grid, conflicts, masks, marks.as_slice())
         }
@@ -66,7 +67,7 @@ fn settled(
 fn settled_part(
     alloc: Global,
     grid: &Grid,
-    conflicts: &[Conflict],
+    conflicts: &Conflicts,
     masks: &Masks,
     marks: &[bool],
 ) -> Result<Option<Masks>, AllocError>
@@ -88,7 +89,7 @@ fn settled_part(
 fn first_of_part(
     alloc: Global,
     grid: &Grid,
-    conflicts: &[Conflict],
+    conflicts: &Conflicts,
     masks: &Masks,
     marks: &[bool],
 ) -> Result<Option<Member>, AllocError>
@@ -99,15 +100,16 @@ fn first_of_part(
     let _slots = grid.slots();
     let part = part_grid(alloc, grid, marks)?;
     let words = part_masks(alloc, masks.as_slice(), marks)?;
-    let inner = part_conflicts(alloc, conflicts, marks, words.as_slice())?;
-    first_found(alloc, &part, inner.as_slice(), &Masks::from_vec(words))
+    let inner = part_conflicts(alloc, conflicts.as_slice(), marks, words.as_slice())?;
+    let inner = Conflicts::new(alloc, inner)?;
+    first_found(alloc, &part, &inner, &Masks::from_vec(words))
 }
 
 /// As `first_by_parts`, searched for in the whole box.
 fn first_found(
     alloc: Global,
     grid: &Grid,
-    conflicts: &[Conflict],
+    conflicts: &Conflicts,
     masks: &Masks,
 ) -> Result<Option<Member>, AllocError>
     ensures first { IfOk result (λ first. LowestTells grid.now conflicts.now masks.now first) }

@@ -1,25 +1,23 @@
 //! Prices: what a member of a box that contains no conflict costs at least. Of each slot the choices begin at what they
-//! cost. A member breaks each conflict, so it has at one of the conflict's slots another choice than the conflict's: where
+//! cost. A member breaks each ban, so it has at one of the ban's slots another choice than the ban's: where
 //! all of these have some price, the bound is raised by the least of their prices, and they are priced at that much less.
 //! Bound and prices of a member together never pass what it costs.
 #![tactic(auto)]
 
-ghost use Rattle.std.specs.Prelude.{◌≡◌, ◌<◌, ◌≤◌, ◌∷◌, [], ℕ, List, length, slice_index, slice_index_or, All, None, IfOk, IfSome, IsTrue};
+ghost use Rattle.std.specs.Prelude.{◌≡◌, ◌<◌, ◌≤◌, ◌∷◌, [], ℕ, List, length, slice_index, slice_index_or, IfOk, IfSome, IsTrue};
 ghost use Rattle.std.specs.List.{AllByRecursion};
 ghost use Rattle.lv_base.specs.declared.ids.Cost.{Cost};
-ghost use Rattle.lv_base.specs.Choices.{slots_rise};
 ghost use Rattle.lv_base.specs.declared.search.Pair.{Pair};
-ghost use Rattle.lv_boxes.specs.Members.{IsSlot};
-ghost use Rattle.lv_search_guide.specs.Prices.{lowered_from, lowered_at, lowered_all, is_beside, is_less, price_after, price_at, lesser_of, lesser_after, BesideTells, FallsBy, RaisesBy, BreaksEach, IsBound};
+ghost use Rattle.lv_search_guide.specs.Bans.{without_these, sets_rise};
+ghost use Rattle.lv_search_guide.specs.Prices.{lowered_from, lowered_at, lowered_all, price_after, lesser_of, LeastTells, FallsBy, RaisesBy, BreaksEach, IsBound};
 
+use super::bans::{Choices, without_these};
+use super::conflicts::Conflicts;
 use super::masks::Masks;
-use lv_base::{Conflict, Cost, Pair, Seq};
+use lv_base::{Cost, Seq};
 use lv_boxes::{Grid, mask};
 use std::alloc::{AllocError, Global};
 use std::marker::Model;
-
-/// No choice of a slot: choices are counted from 0, and a slot has at most 64.
-const NO_CHOICE: u32 = 64;
 
 /// Of a slot what its choices are still priced at.
 #[derive(Debug, Drop)]
@@ -27,9 +25,8 @@ pub(crate) struct Row {
     prices: Vec<Cost>,
     /// The choices left.
     mask: u64,
-    /// The least priced of the choices left, and the next, as far as there are some.
+    /// A least priced of the choices left.
     least: usize,
-    second: usize,
 }
 
 /// A bound of what members cost, and of each slot what its choices are still priced at.
@@ -42,13 +39,10 @@ pub(crate) struct Priced {
 impl Model for Row {
     ghost use Rattle.std.specs.Prelude.{List};
     ghost use Rattle.lv_base.specs.declared.ids.Cost.{Cost};
-    ghost use Rattle.lv_search_guide.specs.Prices.{AreLeast};
 
     ghost Value = { List Cost };
 
     ghost view = { λ r. r.prices.items };
-
-    ghost invariant = { λ r. AreLeast r.prices.items r.mask r.least r.second };
 }
 
 impl Row {
@@ -56,14 +50,11 @@ impl Row {
     fn new(alloc: Global, costs: &[Cost], mask: u64) -> Result<Row, AllocError>
         ensures { IfOk result (λ row. row ≡ costs.now) }
     {
-        let prices = Vec::from_slice(alloc, costs)?;
-        let least = least_choice(prices.as_slice(), mask, costs.len());
-        let second = least_choice(prices.as_slice(), mask, least);
+        let least = least_choice(costs, mask);
         Ok(Row {
-            prices,
+            prices: Vec::from_slice(alloc, costs)?,
             mask,
             least,
-            second,
         })
     }
 
@@ -73,82 +64,36 @@ impl Row {
         self.prices.as_slice()
     }
 
-    /// Prices each choice that the mask has at so much less, except this one.
-    fn lower(&mut self, mask: u64, except: u32, by: u64)
-        ensures { self.new ≡ lowered_from 0 mask except by self.old }
+    /// Prices each choice that the mask has at so much less.
+    fn lower(&mut self, mask: u64, by: u64)
+        ensures { self.new ≡ lowered_from 0 mask by self.old }
     {
-        lower_each(&mut self.prices, mask, except as usize, by);
-        self.least = least_choice(self.prices.as_slice(), self.mask, self.prices.len());
-        self.second = least_choice(self.prices.as_slice(), self.mask, self.least);
-    }
-
-    /// The least of what was found before and the prices of the choices that the mask has, except this one. Of other choices
-    /// than those left nothing is known.
-    #[inline(always)]
-    fn least_beside(&self, mask: u64, except: u32, before: Option<u64>) -> Option<u64>
-        ensures { BesideTells self.now mask except (length self.now) before result }
-    {
-        if mask != self.mask {
-            return Some(0);
-        }
-        let choice = if self.least == except as usize {
-            self.second
-        } else {
-            self.least
-        };
-        self.lesser_at(choice, before)
-    }
-
-    /// The lesser of what was found before and a choice's price, as far as there are these.
-    #[inline(always)]
-    fn lesser_at(&self, choice: usize, before: Option<u64>) -> Option<u64>
-        ensures { result ≡ lesser_after before (price_at self.now choice) }
-    {
-        match self.prices.get(choice) {
-            Some(price) => Some(lesser(before, price.0)),
-            None => before,
-        }
+        lower_each(&mut self.prices, mask, by);
+        self.least = least_choice(self.prices.as_slice(), self.mask);
     }
 }
 
-/// The first of the least priced choices that the mask has beside this one; the number of choices, where there is none.
-fn least_choice(prices: &[Cost], mask: u64, except: usize) -> usize
-    ensures { BesideTells prices.now mask except (length prices.now) None (price_at prices.now result) }
-{
+/// A least priced of the choices that the mask has; the number of choices, where it has none.
+fn least_choice(prices: &[Cost], mask: u64) -> usize {
     let mut least = prices.len();
     for choice in 0..prices.len() {
-        if is_beside(mask, choice, except) && is_less(prices, choice, least) {
+        if mask::has(mask, choice)
+            && (least >= prices.len() || prices[choice].0 < prices[least].0)
+        {
             least = choice;
         }
     }
     least
 }
 
-/// Whether a choice is priced less than another, or there isn't that one.
-#[inline(always)]
-fn is_less(prices: &[Cost], choice: usize, other: usize) -> bool
-    requires { choice < length prices.now }
-    ensures { result ≡ is_less prices.now choice other }
-{
-    other >= prices.len() || prices[choice].0 < prices[other].0
-}
-
-/// Prices each choice that the mask has at so much less, except this one.
-fn lower_each(prices: &mut [Cost], mask: u64, except: usize, by: u64)
-    ensures { prices.new ≡ lowered_from 0 mask except by prices.old }
+/// Prices each choice that the mask has at so much less.
+fn lower_each(prices: &mut [Cost], mask: u64, by: u64)
+    ensures { prices.new ≡ lowered_from 0 mask by prices.old }
 {
     for choice in 0..prices.len() {
-        let lowers = is_beside(mask, choice, except);
+        let lowers = mask::has(mask, choice);
         prices[choice] = Cost(price_after(lowers, by, prices[choice].0));
     }
-}
-
-/// Whether the mask has this choice, and it is not the one excepted.
-#[inline(always)]
-fn is_beside(mask: u64, choice: usize, except: usize) -> bool
-    ensures { result ≡ is_beside mask except choice }
-{
-    mask::has(mask, choice) && choice != except
 }
 
 /// A price, or so much less, as far as it goes.
@@ -162,6 +107,19 @@ fn price_after(lowers: bool, by: u64, price: u64) -> u64
     }
 }
 
+/// The least of what was found before and the prices of the choices that the mask has.
+fn least_in(prices: &[Cost], mask: u64, before: Option<u64>) -> Option<u64>
+    ensures { LeastTells prices.now mask (length prices.now) before result }
+{
+    let mut least = before;
+    for choice in 0..prices.len() {
+        if mask::has(mask, choice) {
+            least = Some(lesser(least, prices[choice].0));
+        }
+    }
+    least
+}
+
 /// The lesser of two numbers, or the second where there is no first.
 #[inline(always)]
 fn lesser(least: Option<u64>, price: u64) -> u64
@@ -173,18 +131,32 @@ fn lesser(least: Option<u64>, price: u64) -> u64
     }
 }
 
-/// The least price of what breaks a conflict, if something in the box breaks it, none of its slots is out of range, and
+/// Whether of each of these slots a choice of these is the least priced, so that what breaks them may all have a price.
+fn are_tight(sets: &[Choices], rows: &[Row]) -> bool {
+    sets.iter().all(|set| is_tight(*set, rows))
+}
+
+/// As `are_tight`, of one slot.
+#[inline(always)]
+fn is_tight(set: Choices, rows: &[Row]) -> bool {
+    match rows.get(set.slot as usize) {
+        Some(row) => mask::has(set.mask, row.least),
+        None => false,
+    }
+}
+
+/// The least price of what breaks a ban, if something in the box breaks it, none of its slots is out of range, and
 /// nothing that breaks it is free.
-fn least_break(masks: &[u64], pairs: &[Pair], rows: &[Row]) -> Option<u64>
+fn least_break(masks: &[u64], sets: &[Choices], rows: &[Row]) -> Option<u64>
     requires { length masks.now ≡ length rows.now }
-    ensures { IfSome result (λ by. AllByRecursion (FallsBy masks.now rows.now by) pairs.now) }
+    ensures { IfSome result (λ by. AllByRecursion (FallsBy masks.now rows.now by) sets.now) }
 {
     let mut least = None;
-    for pair in pairs {
-        if pair.slot as usize >= rows.len() {
+    for set in sets {
+        if set.slot as usize >= rows.len() {
             return None;
         }
-        least = least_at(masks, *pair, rows, least);
+        least = least_at(masks, *set, rows, least);
         if least == Some(0) {
             return None;
         }
@@ -192,86 +164,90 @@ fn least_break(masks: &[u64], pairs: &[Pair], rows: &[Row]) -> Option<u64>
     least
 }
 
-/// The least of what was found before and the prices of what breaks a conflict at this pair.
+/// The least of what was found before and the prices of what breaks a ban at this slot.
 #[inline(always)]
-fn least_at(masks: &[u64], pair: Pair, rows: &[Row], before: Option<u64>) -> Option<u64>
+fn least_at(masks: &[u64], set: Choices, rows: &[Row], before: Option<u64>) -> Option<u64>
     requires long { length masks.now ≡ length rows.now }
-    requires within { pair.slot < length rows.now }
-    ensures { BesideTells (slice_index_or rows.now pair.slot []) (slice_index masks.now pair.slot) pair.choice (length (slice_index_or rows.now pair.slot [])) before result }
+    requires within { set.slot < length rows.now }
+    ensures { LeastTells (slice_index_or rows.now set.slot []) (without_these (slice_index masks.now set.slot) set.mask) (length (slice_index_or rows.now set.slot [])) before result }
 {
-    let slot = pair.slot as usize;
-    rows[slot].least_beside(masks[slot], pair.choice, before)
+    let slot = set.slot as usize;
+    least_in(
+        rows[slot].as_slice(),
+        without_these(masks[slot], set.mask),
+        before,
+    )
 }
 
-/// Prices what breaks a conflict at so much less.
-fn lower_all(masks: &[u64], pairs: &[Pair], by: u64, rows: &mut Vec<Row>)
+/// Prices what breaks a ban at so much less.
+fn lower_all(masks: &[u64], sets: &[Choices], by: u64, rows: &mut Vec<Row>)
     requires { length masks.now ≡ length rows.old.items }
-    ensures { rows.new.items ≡ lowered_all masks.now by rows.old.items pairs.now }
+    ensures { rows.new.items ≡ lowered_all masks.now by rows.old.items sets.now }
 {
-    for pair in pairs {
-        lower_at(masks, *pair, by, rows);
+    for set in sets {
+        lower_at(masks, *set, by, rows);
     }
 }
 
-/// Prices what breaks a conflict at this pair at so much less.
-fn lower_at(masks: &[u64], pair: Pair, by: u64, rows: &mut Vec<Row>)
+/// Prices what breaks a ban at this slot at so much less.
+fn lower_at(masks: &[u64], set: Choices, by: u64, rows: &mut Vec<Row>)
     requires { length masks.now ≡ length rows.old.items }
-    ensures { rows.new.items ≡ lowered_at masks.now by rows.old.items pair }
+    ensures { rows.new.items ≡ lowered_at masks.now by rows.old.items set }
 {
-    let slot = pair.slot as usize;
+    let slot = set.slot as usize;
     if slot < rows.len() {
-        rows[slot].lower(masks[slot], pair.choice, by);
+        rows[slot].lower(without_these(masks[slot], set.mask), by);
     }
 }
 
-/// Prices what breaks a conflict at as much less as all of it is priced at, and answers by how much.
-fn raise(masks: &[u64], pairs: &[Pair], rows: &mut Vec<Row>) -> u64
-    requires rising { IsTrue (slots_rise pairs.now) }
+/// Prices what breaks a ban at as much less as all of it is priced at, and answers by how much.
+fn raise(masks: &[u64], sets: &[Choices], rows: &mut Vec<Row>) -> u64
+    requires rising { IsTrue (sets_rise sets.now) }
     requires long { length masks.now ≡ length rows.old.items }
-    ensures raised { RaisesBy masks.now pairs.now rows.old.items rows.new.items result }
+    ensures raised { RaisesBy masks.now sets.now rows.old.items rows.new.items result }
     ensures long { length rows.new.items ≡ length rows.old.items }
 {
-    match least_break(masks, pairs, rows.as_slice()) {
+    match least_break(masks, sets, rows.as_slice()) {
         Some(by) => {
-            lower_all(masks, pairs, by, rows);
+            lower_all(masks, sets, by, rows);
             by
         }
         None => 0,
     }
 }
 
-/// Raises a bound by what breaks a conflict, and lowers the prices there.
-fn raise_bound(masks: &[u64], pairs: &[Pair], low: u64, rows: &mut Vec<Row>) -> u64
-    requires rising { IsTrue (slots_rise pairs.now) }
+/// Raises a bound by what breaks a ban, and lowers the prices there.
+fn raise_bound(masks: &[u64], sets: &[Choices], low: u64, rows: &mut Vec<Row>) -> u64
+    requires rising { IsTrue (sets_rise sets.now) }
     requires long { length masks.now ≡ length rows.old.items }
-    ensures bound { (slots : List (List Cost)) (conflicts : List (List Pair)) → BreaksEach slots conflicts masks.now pairs.now → IsBound slots conflicts masks.now low rows.old.items → IsBound slots conflicts masks.now result rows.new.items }
+    ensures bound { (slots : List (List Cost)) (conflicts : List (List Pair)) → BreaksEach slots conflicts masks.now sets.now → IsBound slots conflicts masks.now low rows.old.items → IsBound slots conflicts masks.now result rows.new.items }
     ensures long { length rows.new.items ≡ length rows.old.items }
 {
-    low.saturating_add(raise(masks, pairs, rows))
+    low.saturating_add(raise(masks, sets, rows))
 }
 
 /// Raises a bound by the cheapest choice of each slot.
 fn raise_by_slots(masks: &[u64], rows: &mut Vec<Row>) -> u64
     requires few { length rows.old.items ≤ 4096 }
     requires long { length masks.now ≡ length rows.old.items }
-    ensures bound { (slots : List (List Cost)) (conflicts : List (List Pair)) → All IsSlot slots → IsBound slots conflicts masks.now 0 rows.old.items → IsBound slots conflicts masks.now result rows.new.items }
+    ensures bound { (slots : List (List Cost)) (conflicts : List (List Pair)) → IsBound slots conflicts masks.now 0 rows.old.items → IsBound slots conflicts masks.now result rows.new.items }
     ensures long { length rows.new.items ≡ length rows.old.items }
 {
     let mut low = 0;
     for slot in 0..masks.len() {
-        let beside = Pair {
+        let none = Choices {
             slot: slot as u32,
-            choice: NO_CHOICE,
+            mask: 0,
         };
-        low = raise_bound(masks, &[beside], low, rows);
+        low = raise_bound(masks, &[none], low, rows);
     }
     low
 }
 
-/// Raises a bound by each conflict in turn, until it is enough.
-fn raise_by_conflicts(
+/// Raises a bound by each ban in turn, until it is enough.
+fn raise_by_bans(
     masks: &[u64],
-    conflicts: &[Conflict],
+    conflicts: &Conflicts,
     low: u64,
     enough: u64,
     rows: &mut Vec<Row>,
@@ -280,13 +256,32 @@ fn raise_by_conflicts(
     ensures { (slots : List (List Cost)) → IsBound slots conflicts.now masks.now low rows.old.items → IsBound slots conflicts.now masks.now result rows.new.items }
 {
     let mut bound = low;
-    for conflict in conflicts {
+    for place in 0..conflicts.bans().len() {
         if bound >= enough {
             return bound;
         }
-        bound = raise_bound(masks, conflict.pairs(), bound, rows);
+        bound = raise_by_ban(masks, conflicts, place, bound, rows);
     }
     bound
+}
+
+/// Raises a bound by the ban at this place, if there is one.
+fn raise_by_ban(
+    masks: &[u64],
+    conflicts: &Conflicts,
+    place: usize,
+    low: u64,
+    rows: &mut Vec<Row>,
+) -> u64
+    requires long { length masks.now ≡ length rows.old.items }
+    ensures bound { (slots : List (List Cost)) → IsBound slots conflicts.now masks.now low rows.old.items → IsBound slots conflicts.now masks.now result rows.new.items }
+    ensures long { length rows.new.items ≡ length rows.old.items }
+{
+    let bans = conflicts.bans();
+    if place >= bans.len() || !are_tight(bans[place].sets(), rows.as_slice()) {
+        return low;
+    }
+    raise_bound(masks, bans[place].sets(), low, rows)
 }
 
 /// The prices that each slot's choices begin at: what they cost.
@@ -306,7 +301,7 @@ fn rows_of(alloc: Global, slots: &[Seq<Cost>], masks: &[u64]) -> Result<Vec<Row>
 pub(crate) fn priced_in(
     alloc: Global,
     grid: &Grid,
-    conflicts: &[Conflict],
+    conflicts: &Conflicts,
     masks: &[u64],
     enough: u64,
 ) -> Result<Priced, AllocError>
@@ -317,6 +312,6 @@ pub(crate) fn priced_in(
         return Ok(Priced { low: 0, rows });
     }
     let by_slots = raise_by_slots(masks, &mut rows);
-    let low = raise_by_conflicts(masks, conflicts, by_slots, enough, &mut rows);
+    let low = raise_by_bans(masks, conflicts, by_slots, enough, &mut rows);
     Ok(Priced { low, rows })
 }

@@ -1,6 +1,6 @@
--- what the pairs that are left say is what all say
+-- what the slots that are left say is what all say
 use Rattle.lv_search_guide.proofs.NarrowLemmas.{IsLeaving}
 use Rattle.lv_search_guide.proofs.narrow.left_of.Given as goal
 
-abbrev pub invariant-loop-pair : goal.invariant-loop-pair
-invariant-loop-pair l = IsLeaving l.masks l.pairs l.pair-index l.last
+abbrev pub invariant-loop-set : goal.invariant-loop-set
+invariant-loop-set l = IsLeaving l.masks l.sets l.set-index l.last

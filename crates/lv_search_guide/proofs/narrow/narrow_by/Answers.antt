@@ -1,10 +1,9 @@
--- the choice of the last pair is taken out
-use Rattle.std.proofs.Common.{subst}
-use Rattle.lv_search_guide.specs.Narrow.{LeavesOne}
-use Rattle.lv_search_guide.proofs.NarrowLemmas.{one_takes_out}
+-- what one of the bans takes out all conflicts take out
+use Rattle.std.proofs.Common.{◌∙◌}
+use Rattle.lv_search_guide.proofs.NarrowLemmas.{ruled_by_ban}
 use Rattle.lv_search_guide.proofs.narrow.narrow_by.Goals as goal
 
-pub returns-in-Last : goal.returns-in-Last
-returns-in-Last c =
-    one_takes_out c.args.masks.now c.exclude.new.self c.args.pairs.now c.in-Last.pair
-    (subst (λ ms. LeavesOne ms c.args.pairs.now c.in-Last.pair) c.as_slice.ensures (rw c.in-Last.is at c.left_of.ensures)) c.exclude.ensures
+pub returns : goal.returns
+returns c =
+    c.take_out.ensures c.args.conflicts.now
+    (ruled_by_ban c.args.conflicts.now c.bans-bans.result.now c.args.place c.index-bans-place.result c.sets.result.now c.if-place-bans.false (c.sets.ensures.sets ∙ c.index-bans-place.is) c.bans-bans.ensures)

@@ -2,5 +2,5 @@
 use Rattle.lv_search_guide.specs.Narrow.{ChangedTells}
 use Rattle.lv_search_guide.proofs.narrow.narrow_once.Given as goal
 
-abbrev pub invariant-loop-conflict : goal.invariant-loop-conflict
-invariant-loop-conflict l = ChangedTells l.conflicts l.fn.masks l.masks l.changed
+abbrev pub invariant-loop-place : goal.invariant-loop-place
+invariant-loop-place l = ChangedTells l.conflicts l.fn.masks l.masks l.changed

@@ -4,4 +4,4 @@ use Rattle.lv_search_guide.specs.Prices.{lowered_from}
 use Rattle.lv_search_guide.proofs.prices.lower_each.Given as goal
 
 abbrev pub invariant-loop-choice : goal.invariant-loop-choice
-invariant-loop-choice l = take l.choice l.prices ++ lowered_from l.choice l.mask l.except l.by (drop l.choice l.prices) ≡ lowered_from 0 l.mask l.except l.by l.fn.prices
+invariant-loop-choice l = take l.choice l.prices ++ lowered_from l.choice l.mask l.by (drop l.choice l.prices) ≡ lowered_from 0 l.mask l.by l.fn.prices

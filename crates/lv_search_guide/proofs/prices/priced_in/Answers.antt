@@ -1,10 +1,10 @@
--- bound and prices hold from slot to slot and from conflict to conflict
+-- bound and prices hold from slot to slot and from ban to ban
 use Rattle.std.proofs.Common.{◌∙◌}
 use Rattle.lv_search_guide.proofs.PriceLemmas.{bound_begins}
 use Rattle.lv_search_guide.proofs.prices.priced_in.Goals as goal
 
 pub returns : goal.returns
 returns c =
-    c.raise_by_conflicts-low.ensures c.args.grid.now
-    (c.raise_by_slots-by_slots.ensures.bound c.args.grid.now c.args.conflicts.now c.slots.ensures.each
+    c.raise_by_bans-low.ensures c.args.grid.now
+    (c.raise_by_slots-by_slots.ensures.bound c.args.grid.now c.args.conflicts.now
     (bound_begins c.args.grid.now c.args.conflicts.now c.args.masks.now c.in_ok-rows.rows.items (c.in_ok-rows.ensures ∙ c.slots.ensures.slots)))

@@ -1,0 +1,62 @@
+//! Conflicts with the bans that they come to.
+#![tactic(auto)]
+
+ghost use Rattle.std.specs.Prelude.{◌≡◌, ◌++◌, ◌∷◌, [], IfOk, OnOk};
+ghost use Rattle.lv_search_guide.specs.Bans.{AreBans};
+
+use super::bans::{Ban, bans_of};
+use lv_base::Conflict;
+use std::alloc::{AllocError, Global};
+use std::marker::Model;
+
+/// Conflicts, and the same as bans. Contracts see the list of the conflicts.
+#[derive(Debug, Drop)]
+pub(crate) struct Conflicts {
+    all: Vec<Conflict>,
+    bans: Vec<Ban>,
+}
+
+impl Model for Conflicts {
+    ghost use Rattle.std.specs.Prelude.{List};
+    ghost use Rattle.lv_base.specs.declared.search.Pair.{Pair};
+    ghost use Rattle.lv_search_guide.specs.Bans.{AreBans};
+
+    ghost Value = { List (List Pair) };
+
+    ghost view = { λ c. c.all.items };
+
+    ghost invariant = { λ c. AreBans c.all.items c.bans.items };
+}
+
+impl Conflicts {
+    /// These conflicts.
+    pub(crate) fn new(alloc: Global, all: Vec<Conflict>) -> Result<Conflicts, AllocError>
+        ensures { IfOk result (λ conflicts. conflicts ≡ all.items) }
+    {
+        let bans = bans_of(alloc, all.as_slice())?;
+        Ok(Conflicts { all, bans })
+    }
+
+    /// One conflict more.
+    pub(crate) fn push(&mut self, alloc: Global, conflict: Conflict) -> Result<(), AllocError>
+        ensures { OnOk result (self.new ≡ self.old ++ conflict ∷ []) }
+    {
+        let ban = Ban::from_pairs(alloc, conflict.pairs())?;
+        self.all.push(conflict)?;
+        self.bans.push(ban)?;
+        Ok(())
+    }
+
+    pub(crate) fn as_slice(&self) -> &[Conflict]
+        ensures { result.now ≡ self.now }
+    {
+        self.all.as_slice()
+    }
+
+    /// Bans that rule out what some conflict does.
+    pub(crate) fn bans(&self) -> &[Ban]
+        ensures { AreBans self.now result.now }
+    {
+        self.bans.as_slice()
+    }
+}
