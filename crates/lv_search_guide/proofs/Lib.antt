@@ -13,3 +13,4 @@ pub mod PartLemmas
 pub mod NearLemmas
 pub mod BesideLemmas
 pub mod LeftLemmas
+pub mod RememberedLemmas

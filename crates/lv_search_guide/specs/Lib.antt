@@ -10,4 +10,5 @@ pub mod Narrow
 pub mod Narrowed
 pub mod Prices
 pub mod Dear
+pub mod Remembered
 pub use Rattle.lv_boxes.specs as lv_boxes

@@ -10,10 +10,10 @@ ghost use Rattle.lv_search_guide.specs.Near.{IsFirstNear};
 ghost use Rattle.lv_search_guide.specs.Beside.{mixed, LeastInsideTells, FirstBySomeTells, BesideTells};
 
 use super::known::Known;
-use super::least_free::rank_of;
+use super::least_free::{least_free, rank_of};
 use super::look::Member;
 use super::narrowed::narrowed;
-use super::near::{cost_of, least_free_near, lost_pairs};
+use super::near::{cost_of, lost_pairs};
 use lv_base::{Conflict, Rank, Seq};
 use lv_boxes::{Grid, Zone};
 use std::alloc::{AllocError, Global};
@@ -79,7 +79,7 @@ fn first_by_some(
     let lost = lost_pairs(alloc, zone.masks(), choices)?;
     match known.part_with(alloc, grid.len(), lost.as_slice())? {
         Some(part) => least_inside(alloc, grid, zone, part.as_slice(), choices),
-        None => least_free_near(alloc, grid, zone, known, near),
+        None => least_free(alloc, grid, zone, known.as_slice()),
     }
 }
 

@@ -1,12 +1,15 @@
-//! The conflicts that a search knows of, with the slots that they join.
+//! The conflicts that a search knows of, with the slots that they join, and what was found of parts by them.
 #![tactic(auto)]
 
-ghost use Rattle.std.specs.Prelude.{◌≡◌, ◌++◌, ◌∷◌, [], IfOk, IfSome, OnOk};
-ghost use Rattle.lv_search_parts.specs.Parts.{IsPartWith};
+ghost use Rattle.std.specs.Prelude.{◌≡◌, ◌<◌, ◌^◌, ◌++◌, ◌∷◌, [], length, IfOk, IfSome, OnOk};
+ghost use Rattle.lv_search_parts.specs.Parts.{inner_of, IsPartWith};
 ghost use Rattle.lv_search_guide.specs.Beside.{AreJoined};
+ghost use Rattle.lv_search_guide.specs.Lowest.{LowestTells};
 
 use super::conflicts::Conflicts;
 use super::joined::Joined;
+use super::look::Member;
+use super::remembered::{Part, Remembered, first_of};
 use lv_base::{Conflict, Pair};
 use std::alloc::{AllocError, Global};
 use std::marker::Model;
@@ -20,18 +23,21 @@ pub struct Known {
     slots: usize,
     /// The slots that they join, where each speaks of slots that there are.
     joined: Option<Joined>,
+    /// What was found of parts.
+    remembered: Remembered,
 }
 
 impl Model for Known {
     ghost use Rattle.std.specs.Prelude.{List, IfSome};
     ghost use Rattle.lv_base.specs.declared.search.Pair.{Pair};
     ghost use Rattle.lv_search_guide.specs.Beside.{AreJoined};
+    ghost use Rattle.lv_search_guide.specs.Remembered.{AreTrueBy};
 
     ghost Value = { List (List Pair) };
 
     ghost view = { λ known. known.conflicts };
 
-    ghost invariant = { λ known. IfSome known.joined (λ labels. AreJoined known.conflicts known.slots labels) };
+    ghost invariant = { λ known. IfSome known.joined (λ labels. AreJoined known.conflicts known.slots labels) × AreTrueBy known.conflicts known.remembered };
 }
 
 impl Known {
@@ -46,6 +52,7 @@ impl Known {
             conflicts,
             slots,
             joined,
+            remembered: Remembered::new(alloc),
         })
     }
 
@@ -54,11 +61,26 @@ impl Known {
         ensures { OnOk result (self.new ≡ self.old ++ conflict ∷ []) }
     {
         let before = mem::replace(&mut self.joined, None);
+        let remembered = mem::replace(&mut self.remembered, Remembered::new(self.alloc));
         self.conflicts.push(self.alloc, conflict)?;
+        self.remembered = remembered;
         if let Some(joined) = before {
             self.joined = joined.with_last(&self.conflicts, self.slots)?;
         }
         Ok(())
+    }
+
+    /// The first member of a part of a box, by those inside the part.
+    pub(crate) fn first_of(
+        &mut self,
+        alloc: Global,
+        part: Part,
+    ) -> Result<Option<Member>, AllocError>
+        requires { length part.marks < 2 ^ 32 }
+        ensures known { self.new ≡ self.old }
+        ensures first { IfOk result (λ first. LowestTells part.grid (inner_of part.marks self.old) part.masks first) }
+    {
+        first_of(alloc, self.conflicts.as_slice(), &mut self.remembered, part)
     }
 
     pub fn as_slice(&self) -> &[Conflict]

@@ -18,6 +18,7 @@
 //! | `beside` | the first by some of the conflicts, where it is known of a zone that has all its choices |
 //! | `known` | the known conflicts |
 //! | `joined` | conflicts by the slots that they speak of |
+//! | `remembered` | what was found of parts before |
 //! | `parts` | the same part by part of a box |
 //! | `cheapest` | a cheapest member, by a stack of boxes |
 //! | `look` | what is to be done with one box |
@@ -51,5 +52,6 @@ mod narrowed;
 pub mod near;
 mod parts;
 mod prices;
+mod remembered;
 
 pub use laws::least_free_is_one;

@@ -14,13 +14,13 @@ ghost use Rattle.lv_search_guide.specs.Lowest.{LowestTells};
 ghost use Rattle.lv_search_guide.specs.Near.{IsFirstNear, lost_pairs, unsettled};
 
 use super::known::Known;
-use super::least_free::{first_in, least_free, rank_of};
+use super::least_free::{least_free, rank_of};
 use super::look::Member;
-use super::masks::Masks;
+use super::remembered::Part;
 use lv_base::{Conflict, Cost, Pair, Rank, Seq, contains};
 use lv_boxes::{Grid, Zone, choices_as_conflict};
 use lv_search_parts::live::is_there;
-use lv_search_parts::part::{part_conflicts, part_grid, part_masks, put_in};
+use lv_search_parts::part::{part_grid, part_masks, put_in};
 use std::alloc::{AllocError, Global};
 
 /// As `least_free`, where `near` is what ranked first in a zone that has all choices of this one, by some of the known
@@ -29,23 +29,28 @@ pub fn least_free_near(
     alloc: Global,
     grid: &Grid,
     zone: &Zone,
-    known: &Known,
+    known: &mut Known,
     near: &Rank,
 ) -> Result<Option<Rank>, AllocError>
-    requires { IsFirstNear grid.now zone.now known.now near.now }
-    ensures { IfOk result (λ least. LeastFreeTells grid.now zone.now known.now least) }
+    requires { IsFirstNear grid.now zone.now known.old near.now }
+    ensures least { IfOk result (λ least. LeastFreeTells grid.now zone.now known.old least) }
+    ensures known { known.new ≡ known.old }
 {
     if has_empty(zone.masks()) {
         return Ok(None);
     }
     let _slots = grid.slots();
-    let conflicts = known.as_slice();
-    let pairs = unsettled(alloc, zone.masks(), conflicts, near.choices.as_slice())?;
+    let pairs = unsettled(
+        alloc,
+        zone.masks(),
+        known.as_slice(),
+        near.choices.as_slice(),
+    )?;
     match known.part_with(alloc, grid.len(), pairs.as_slice())? {
         Some(marks) if marks.len() == zone.masks().len() => {
-            settled_anew(alloc, grid, zone, conflicts, near, marks.as_slice())
+            settled_anew(alloc, grid, zone, known, near, marks.as_slice())
         }
-        _ => least_free(alloc, grid, zone, conflicts),
+        _ => least_free(alloc, grid, zone, known.as_slice()),
     }
 }
 
@@ -119,17 +124,18 @@ fn settled_anew(
     alloc: Global,
     grid: &Grid,
     zone: &Zone,
-    conflicts: &[Conflict],
+    known: &mut Known,
     near: &Rank,
     marks: &[bool],
 ) -> Result<Option<Rank>, AllocError>
-    requires first { IsFirstNear grid.now zone.now conflicts.now near.now }
-    requires part { IsPartWith conflicts.now (length grid.now) (unsettled zone.now.masks conflicts.now near.now.choices) marks.now }
+    requires first { IsFirstNear grid.now zone.now known.old near.now }
+    requires part { IsPartWith known.old (length grid.now) (unsettled zone.now.masks known.old near.now.choices) marks.now }
     requires long { length marks.now ≡ length zone.now.masks }
-    ensures { IfOk result (λ least. LeastFreeTells grid.now zone.now conflicts.now least) }
+    ensures least { IfOk result (λ least. LeastFreeTells grid.now zone.now known.old least) }
+    ensures known { known.new ≡ known.old }
 {
     let slots = grid.slots();
-    match first_of_marked(alloc, grid, zone, conflicts, marks)? {
+    match first_of_marked(alloc, grid, zone, known, marks)? {
         Some(member) => {
             let inner = member.choices.as_slice();
             let choices = put_in(alloc, marks, inner, near.choices.as_slice())?;
@@ -146,18 +152,31 @@ fn first_of_marked(
     alloc: Global,
     grid: &Grid,
     zone: &Zone,
-    conflicts: &[Conflict],
+    known: &mut Known,
     marks: &[bool],
 ) -> Result<Option<Member>, AllocError>
-    requires part { IsPart conflicts.now (length grid.now) marks.now }
+    requires part { IsPart known.old (length grid.now) marks.now }
     requires long { length marks.now ≡ length zone.now.masks }
-    ensures { IfOk result (λ first. LowestTells (only marks.now grid.now) (inner_of marks.now conflicts.now) (only marks.now zone.now.masks) first) }
+    ensures first { IfOk result (λ first. LowestTells (only marks.now grid.now) (inner_of marks.now known.old) (only marks.now zone.now.masks) first) }
+    ensures known { known.new ≡ known.old }
 {
     let _slots = grid.slots();
-    let part = part_grid(alloc, grid, marks)?;
+    let part = part_of(alloc, grid, zone, marks)?;
+    known.first_of(alloc, part)
+}
+
+/// The part of a zone's box whose slots are marked.
+fn part_of(alloc: Global, grid: &Grid, zone: &Zone, marks: &[bool]) -> Result<Part, AllocError>
+    requires grid { length marks.now ≡ length grid.now }
+    requires long { length marks.now ≡ length zone.now.masks }
+    ensures { IfOk result (λ part. part ≡ record { marks = marks.now; grid = only marks.now grid.now; masks = only marks.now zone.now.masks }) }
+{
     let masks = part_masks(alloc, zone.masks(), marks)?;
-    let inner = part_conflicts(alloc, conflicts, marks, masks.as_slice())?;
-    first_in(alloc, &part, inner, Masks::from_vec(masks))
+    Ok(Part {
+        marks: Seq::from_slice(alloc, marks)?,
+        masks: Seq::from_vec(masks),
+        grid: part_grid(alloc, grid, marks)?,
+    })
 }
 
 /// What a choice at each slot costs together.

@@ -1,6 +1,7 @@
 -- the least choices of a part
 use Rattle.std.proofs.Common.{◌≡◌, ℕ, ◌≤◌, Bool, List, length, sym, ◌∙◌, ap, subst}
 use Rattle.std.proofs.lemmas.Result.{IfOk-weaker}
+use Rattle.lv_search_guide.specs.Free.{LeastFreeTells}
 use Rattle.lv_search_guide.proofs.NearLemmas.{long_near}
 use Rattle.lv_search_guide.proofs.BesideLemmas.{settled_beside, some_of_all}
 use Rattle.lv_base.specs.declared.search.Pair.{Pair}
@@ -29,4 +30,7 @@ returns-in-Some c =
     c.least_inside.ensures
 
 pub returns : goal.returns
-returns c = IfOk-weaker c.least_free_near.result _ _ (λ first told. some_of_all c.args.grid.now c.args.zone.now c.args.known.now first told) c.least_free_near.ensures
+returns c =
+    IfOk-weaker c.least_free.result _ _
+    (λ first told. some_of_all c.args.grid.now c.args.zone.now c.args.known.now first (subst (λ (conflicts : List (List Pair)). LeastFreeTells c.args.grid.now c.args.zone.now conflicts first) c.as_slice-in-None.ensures told))
+    c.least_free.ensures
