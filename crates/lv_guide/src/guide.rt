@@ -121,10 +121,10 @@ impl Guide {
         requires { sources_differ zones.items ≡ true }
         ensures { IfOk result (λ all. all ≡ free_of known.items (ranked_members grid zones.items)) }
     {
-        let known = Known::new(alloc, grid.len(), known)?;
+        let mut known = Known::new(alloc, grid.len(), known)?;
         let mut queue = BTreeMap::new(alloc);
         put_all(alloc, &grid, &mut queue, zones)?;
-        look_ahead(alloc, &grid, &known, &mut queue)?;
+        look_ahead(alloc, &grid, &mut known, &mut queue)?;
         Ok(Guide {
             alloc,
             grid,
@@ -276,12 +276,13 @@ fn contains_some(conflicts: &[Conflict], choices: &[u32]) -> bool
 fn look_again(
     alloc: Global,
     grid: &Grid,
-    known: &Known,
+    known: &mut Known,
     queue: &mut BTreeMap<Rank, Zone>,
 ) -> Result<(), AllocError>
-    requires kept { AreKeptBy grid.now known.now queue.old.entries }
-    requires stale { front_is_free known.now queue.old.entries ≡ false }
-    ensures { OnOk result (LooksAgain grid.now known.now queue.old.entries queue.new.entries) }
+    requires kept { AreKeptBy grid.now known.old queue.old.entries }
+    requires stale { front_is_free known.old queue.old.entries ≡ false }
+    ensures again { OnOk result (LooksAgain grid.now known.old queue.old.entries queue.new.entries) }
+    ensures known { known.new ≡ known.old }
 {
     match queue.pop_first() {
         Some((before, zone)) => match least_free_near(alloc, grid, &zone, known, &before)? {
@@ -299,12 +300,13 @@ fn look_again(
 fn look_ahead(
     alloc: Global,
     grid: &Grid,
-    known: &Known,
+    known: &mut Known,
     queue: &mut BTreeMap<Rank, Zone>,
 ) -> Result<(), AllocError>
-    requires { AreKeptBy grid.now known.now queue.old.entries }
-    ensures same { OnOk result (HasSameFree grid.now known.now queue.old.entries queue.new.entries) }
-    ensures front { OnOk result (front_is_free known.now queue.new.entries ≡ true) }
+    requires { AreKeptBy grid.now known.old queue.old.entries }
+    ensures same { OnOk result (HasSameFree grid.now known.old queue.old.entries queue.new.entries) }
+    ensures front { OnOk result (front_is_free known.old queue.new.entries ≡ true) }
+    ensures known { known.new ≡ known.old }
 {
     while is_stale(queue, known.as_slice()) {
         look_again(alloc, grid, known, queue)?;
@@ -410,15 +412,16 @@ fn end_splits(
 fn go_ahead(
     alloc: Global,
     grid: &Grid,
-    known: &Known,
+    known: &mut Known,
     queue: &mut BTreeMap<Rank, Zone>,
     course: &mut Course,
 ) -> Result<(), AllocError>
-    requires kept { AreKeptBy grid.now known.now queue.old.entries }
-    requires whole { WholeTells grid.now known.now queue.old.entries course.old.whole }
-    ensures same { OnOk result (HasSameFree grid.now known.now queue.old.entries queue.new.entries) }
-    ensures front { OnOk result (front_is_free known.now queue.new.entries ≡ true) }
-    ensures whole { OnOk result (WholeTells grid.now known.now queue.new.entries course.new.whole) }
+    requires kept { AreKeptBy grid.now known.old queue.old.entries }
+    requires whole { WholeTells grid.now known.old queue.old.entries course.old.whole }
+    ensures same { OnOk result (HasSameFree grid.now known.old queue.old.entries queue.new.entries) }
+    ensures front { OnOk result (front_is_free known.old queue.new.entries ≡ true) }
+    ensures whole { OnOk result (WholeTells grid.now known.old queue.new.entries course.new.whole) }
+    ensures known { known.new ≡ known.old }
 {
     course.splits = split_ahead(alloc, grid, known, queue, course.splits)?;
     end_splits(alloc, grid, known, queue, course)?;
@@ -483,9 +486,14 @@ impl Frontier for Guide {
         let mut queue = mem::replace(&mut self.queue, BTreeMap::new(self.alloc));
         let mut course = mem::replace(&mut self.course, Course::over());
         course.whole = None;
-        let known = &self.known;
-        part_first(self.alloc, &self.grid, known, &mut queue)?;
-        go_ahead(self.alloc, &self.grid, known, &mut queue, &mut course)?;
+        part_first(self.alloc, &self.grid, &self.known, &mut queue)?;
+        go_ahead(
+            self.alloc,
+            &self.grid,
+            &mut self.known,
+            &mut queue,
+            &mut course,
+        )?;
         self.queue = queue;
         self.course = course;
         Ok(())
@@ -497,7 +505,13 @@ impl Frontier for Guide {
         course.allow_more();
         self.known
             .push(Conflict::from_pairs(self.alloc, conflict.pairs())?)?;
-        go_ahead(self.alloc, &self.grid, &self.known, &mut queue, &mut course)?;
+        go_ahead(
+            self.alloc,
+            &self.grid,
+            &mut self.known,
+            &mut queue,
+            &mut course,
+        )?;
         self.queue = queue;
         self.course = course;
         Ok(())
@@ -510,9 +524,14 @@ impl Frontier for Guide {
         let mut queue = mem::replace(&mut self.queue, BTreeMap::new(self.alloc));
         let mut course = mem::replace(&mut self.course, Course::over());
         course.whole = None;
-        let known = &self.known;
-        part_alike(self.alloc, &self.grid, known, &mut queue, groups)?;
-        go_ahead(self.alloc, &self.grid, known, &mut queue, &mut course)?;
+        part_alike(self.alloc, &self.grid, &self.known, &mut queue, groups)?;
+        go_ahead(
+            self.alloc,
+            &self.grid,
+            &mut self.known,
+            &mut queue,
+            &mut course,
+        )?;
         self.queue = queue;
         self.course = course;
         Ok(())

@@ -3,6 +3,7 @@ use Rattle.std.proofs.Common.{List, ◌∙◌, ap}
 use Rattle.lv_base.specs.declared.search.Pair.{Pair}
 use Rattle.lv_boxes.specs.RankedMembers.{ranked_members}
 use Rattle.lv_search.specs.Free.{free_of}
+use Rattle.lv_guide.specs.Guide.{left_in}
 use Rattle.lv_guide.proofs.GuideLemmas.{room_in_empty, kept_at_start, known_at_start}
 use Rattle.lv_guide.proofs.guide.Guide.new_with.Goals as goal
 
@@ -15,6 +16,7 @@ look_ahead-requires c =
 
 pub returns : goal.returns
 returns c =
-    known_at_start c.args.grid c.in_ok-known.known c.args.zones.items c.new-queue.result.entries c.put_all.new.queue.entries c.look_ahead.new.queue.entries c.new-queue.ensures.empty c.in_ok-put_all.ensures
+    ap (λ (known : List (List Pair)). left_in c.args.grid known c.look_ahead.new.queue.entries) c.in_ok-look_ahead.ensures.known
+    ∙ known_at_start c.args.grid c.in_ok-known.known c.args.zones.items c.new-queue.result.entries c.put_all.new.queue.entries c.look_ahead.new.queue.entries c.new-queue.ensures.empty c.in_ok-put_all.ensures
     c.in_ok-look_ahead.ensures.same
     ∙ ap (λ (known : List (List Pair)). free_of known (ranked_members c.args.grid c.args.zones.items)) c.in_ok-known.ensures

@@ -25,7 +25,8 @@ go_ahead-requires-clause-whole c =
 pub returns : goal.returns
 returns c =
     let known_now = c.in_ok-push.ensures ∙ ap (λ (pairs : List Pair). c.self.inside.known ++ pairs ∷ []) (c.in_ok-from_pairs.ensures ∙ c.pairs.ensures.pairs) in
-    subst (λ (left : List Rank). Thins c.args.conflict.now left (left_in c.self.inside.grid c.push.new.self c.go_ahead.new.queue.entries)) c.self.view_is
+    subst (λ (known : List (List Pair)). Thins c.args.conflict.now c.args.self.now (left_in c.self.inside.grid known c.go_ahead.new.queue.entries)) (sym c.in_ok-go_ahead.ensures.known)
+    (subst (λ (left : List Rank). Thins c.args.conflict.now left (left_in c.self.inside.grid c.push.new.self c.go_ahead.new.queue.entries)) c.self.view_is
     (split_is c.self.inside.grid c.self.inside.known c.push.new.self c.self.inside.queue.entries c.replace-queue.result.entries c.go_ahead.new.queue.entries
     (ap (λ queue. queue.entries) c.replace-queue.ensures.value) c.args.conflict.now c.push.new.self (known_now) known_now c.in_ok-go_ahead.ensures.same
-    (subst (λ (left : List Rank). FirstContains c.args.conflict.now left) (sym c.self.view_is) c.requires))
+    (subst (λ (left : List Rank). FirstContains c.args.conflict.now left) (sym c.self.view_is) c.requires)))
