@@ -3,7 +3,7 @@
 use Rattle.std.proofs.Common.{◌≡◌, ℕ, suc, ◌+◌, ◌<◌, ◌≤◌, Bool, true, false, not, nat_eq, ◌&&◌, ◌||◌, List, [], ◌∷◌, ◌++◌, length, map, filter, drop, drop-cons, get_or, cond, refl, sym, ◌∙◌, ap, ap₂, subst, add-one, arith}
 use Rattle.std.specs.Prelude.{Option, Some, None}
 use Rattle.std.specs.List.{list_all}
-use Rattle.std.proofs.lemmas.Bool.{and_from, and_parts, or_left, or_right, or_parts, eq-eqb, false_from_ne_true}
+use Rattle.std.proofs.lemmas.Bool.{and_from, and_parts, or_left, or_right, or_parts, false_from_ne_true}
 use Rattle.std.proofs.lemmas.List.{append_assoc}
 use Rattle.std.proofs.lemmas.List.Folds.{list_all-append}
 use Rattle.lv_base.specs.declared.ids.Cost.{Cost}
@@ -21,13 +21,11 @@ use Rattle.lv_search_parts.specs.Parts.{is_whole, inner_of, IsPart, IsPartWith}
 use Rattle.lv_search_guide.specs.declared.look.Member.{Member}
 use Rattle.lv_search_guide.specs.Boxes.{is_free}
 use Rattle.lv_search_guide.specs.Lowest.{IsLowest}
-use Rattle.lv_search_guide.specs.Free.{IsLeastFree, HasNoFree, LeastFreeTells}
-use Rattle.lv_search_guide.specs.Narrow.{HasNoneBy}
-use Rattle.lv_search_guide.specs.Narrowed.{IsNarrowed}
-use Rattle.lv_search_guide.specs.Near.{AreAmong, IsFirstNear, contained_pairs, lost_pairs, unsettled}
+use Rattle.lv_search_guide.specs.Free.{HasNoFree, LeastFreeTells}
+use Rattle.lv_search_guide.specs.Near.{IsFirstNear, contained_pairs, lost_pairs, unsettled}
 use Rattle.lv_search_guide.specs.Beside.{IsFirstBySome, FirstBySomeTells, mixed, IsLeastInside, LeastInsideTells}
 use Rattle.lv_search_guide.proofs.BoxLemmas.{free_is_left, free_from, length-left}
-use Rattle.lv_search_guide.proofs.FreeLemmas.{free_in_box, free_in_zone, none_free}
+use Rattle.lv_search_guide.proofs.FreeLemmas.{none_free}
 use Rattle.lv_search_guide.proofs.PartLemmas.{clear_outside}
 use Rattle.lv_search_guide.proofs.SlotLemmas.{kept_if_left, left_only, left_put, cost_put, before_put}
 use Rattle.lv_search_guide.proofs.NearLemmas.{IsApart, least_is_lowest, long_near, first_anew}
@@ -244,20 +242,3 @@ settled_beside slots zone known near pairs marks masks choices answer masks_are 
 pub some_of_all : (slots : List (List Cost)) (zone : ZoneValue) (known : List (List Pair)) (answer : Option Rank) → LeastFreeTells slots zone known answer → FirstBySomeTells slots zone known answer
 some_of_all slots zone known None none = none
 some_of_all slots zone known (Some rank) first = record { others = known; among = record { each = λ test all. all }; first = first }
-
--- what is told of the zone with fewer choices
-pub near_less : (slots : List (List Cost)) (zone less : ZoneValue) (conflicts : List (List Pair)) (near : Rank) → IsNarrowed zone conflicts less → IsFirstNear slots zone conflicts near → IsFirstNear slots less conflicts near
-near_less slots zone less conflicts near narrowed was =
-    record { whole = was.whole; inside = λ choices left. was.inside choices (narrowed.masks.inside slots choices left); others = was.others; among = was.among; first = was.first }
-
-pub none_narrowed : (slots : List (List Cost)) (zone : ZoneValue) (conflicts : List (List Pair)) → HasNoneBy conflicts zone.masks → HasNoFree slots zone conflicts
-none_narrowed slots zone conflicts none = none_free slots zone conflicts (none.none slots)
-
-pub none_less : (slots : List (List Cost)) (zone less : ZoneValue) (conflicts : List (List Pair)) → IsNarrowed zone conflicts less → HasNoFree slots less conflicts → HasNoFree slots zone conflicts
-none_less slots zone less conflicts narrowed none =
-    none_free slots zone conflicts
-    (record {
-      none = λ xs.
-          sym (narrowed.masks.same slots xs)
-          ∙ false_from_ne_true (is_free slots conflicts less.masks xs) (λ free. clash _ (free_in_zone slots less conflicts xs free) (none.none (record { source = less.source; choices = xs })));
-    })

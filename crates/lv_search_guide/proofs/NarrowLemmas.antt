@@ -1,5 +1,5 @@
 -- What conflicts leave of a box: the members without conflict stay.
-use Rattle.std.proofs.Common.{◌≡◌, ◌≢◌, ℕ, zero, suc, ◌+◌, ◌*◌, ◌<◌, ◌≤◌, Bool, true, false, not, nat_lt, ◌&&◌, ◌||◌, List, [], ◌∷◌, Option, Some, None, length, get_or, drop, drop-cons, refl, sym, ◌∙◌, ap, subst, add-one, arith}
+use Rattle.std.proofs.Common.{◌≡◌, ◌≢◌, ℕ, zero, suc, ◌+◌, ◌*◌, ◌<◌, ◌≤◌, Bool, true, false, not, nat_lt, ◌&&◌, List, [], ◌∷◌, Option, Some, None, length, get_or, drop, drop-cons, refl, sym, ◌∙◌, ap, subst, add-one, arith}
 use Rattle.std.specs.Prelude.{slice_index, slice_set, sum, bit_and, bit_xor, IfSome}
 use Rattle.std.specs.Int.Bits.{xor_add_and, and_self}
 use Rattle.std.proofs.Math.ListN.{drop_of_length-le}

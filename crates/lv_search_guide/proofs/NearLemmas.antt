@@ -1,6 +1,6 @@
 -- The first member of a zone near one that was the first of a zone which has all its choices: the part that is no longer as it was is
 -- settled anew, and the other slots keep their choices.
-use Rattle.std.proofs.Common.{◌≡◌, ℕ, suc, ◌+◌, ◌<◌, ◌≤◌, Bool, true, false, not, nat_lt, nat_eq, ◌&&◌, ◌||◌, List, [], ◌∷◌, ◌++◌, length, filter, cond, drop, drop-cons, get_or, ◌⊎◌, inl, inr, refl, sym, ◌∙◌, ap, ap₂, subst, add-one, arith}
+use Rattle.std.proofs.Common.{◌≡◌, ℕ, Option, Some, None, suc, ◌+◌, ◌<◌, ◌≤◌, Bool, true, false, not, nat_lt, nat_eq, ◌&&◌, ◌||◌, List, [], ◌∷◌, ◌++◌, length, filter, cond, drop, drop-cons, get_or, ◌⊎◌, inl, inr, refl, sym, ◌∙◌, ap, ap₂, subst, add-one, arith}
 use Rattle.std.specs.Prelude.{slice_index}
 use Rattle.std.specs.List.{list_all, list_any}
 use Rattle.std.proofs.lemmas.Bool.{and_from, and_parts, or_left, or_right, or_parts, or_cases, eq-eqb, eqb-true, lt-ltb, ltb-false, false_from_ne_true, not-true}
@@ -22,7 +22,10 @@ use Rattle.lv_search_parts.specs.Parts.{is_there, is_whole, inner_of, IsPartWith
 use Rattle.lv_search_guide.specs.declared.look.Member.{Member}
 use Rattle.lv_search_guide.specs.Boxes.{is_free, HasNone}
 use Rattle.lv_search_guide.specs.Lowest.{IsLowest}
-use Rattle.lv_search_guide.specs.Free.{IsLeastFree, HasNoFree}
+use Rattle.lv_search_guide.specs.Free.{is_free_member, IsLeastFree, HasNoFree, LeastFreeTells}
+use Rattle.lv_search_guide.specs.Narrow.{HasNoneBy}
+use Rattle.lv_search_guide.specs.Narrowed.{IsNarrowed}
+use Rattle.lv_base.specs.declared.search.Candidate.{Candidate}
 use Rattle.lv_search_guide.specs.Near.{IsFirstNear, contained_pairs, lost_pairs, unsettled}
 use Rattle.lv_search_guide.proofs.BoxLemmas.{free_is_left, free_from, length-left, none_of_zero}
 use Rattle.lv_search_guide.proofs.FreeLemmas.{free_in_box, free_in_zone, lowest_is_least, none_free}
@@ -330,3 +333,34 @@ pub cost_next : (slots : List (List Cost)) (choices : List ℕ) (i : ℕ) (d : L
 cost_next slots choices i d e within within_too =
     ap₂ choices_cost (drop-cons slots i d (omega (arith, within))) (drop-cons choices i e (omega (arith, within_too)))
     ∙ ap (λ n. choice_cost (get_or slots i d) (get_or choices i e) + choices_cost (drop n slots) (drop n choices)) (sym (add-one i))
+
+-- what is told of the zone with fewer choices
+pub near_less : (slots : List (List Cost)) (zone less : ZoneValue) (conflicts : List (List Pair)) (near : Rank) → IsNarrowed zone conflicts less → IsFirstNear slots zone conflicts near → IsFirstNear slots less conflicts near
+near_less slots zone less conflicts near narrowed was =
+    record { whole = was.whole; inside = λ choices left. was.inside choices (narrowed.masks.inside slots choices left); others = was.others; among = was.among; first = was.first }
+
+pub none_narrowed : (slots : List (List Cost)) (zone : ZoneValue) (conflicts : List (List Pair)) → HasNoneBy conflicts zone.masks → HasNoFree slots zone conflicts
+none_narrowed slots zone conflicts none = none_free slots zone conflicts (none.none slots)
+
+pub none_less : (slots : List (List Cost)) (zone less : ZoneValue) (conflicts : List (List Pair)) → IsNarrowed zone conflicts less → HasNoFree slots less conflicts → HasNoFree slots zone conflicts
+none_less slots zone less conflicts narrowed none =
+    none_free slots zone conflicts
+    (record {
+      none = λ xs.
+          sym (narrowed.masks.same slots xs)
+          ∙ false_from_ne_true (is_free slots conflicts less.masks xs) (λ free. clash _ (free_in_zone slots less conflicts xs free) (none.none (record { source = less.source; choices = xs })));
+    })
+
+pub least_less : (slots : List (List Cost)) (zone less : ZoneValue) (conflicts : List (List Pair)) (least : Option Rank) → IsNarrowed zone conflicts less → LeastFreeTells slots less conflicts least → LeastFreeTells slots zone conflicts least
+least_less slots zone less conflicts None narrowed none = none_less slots zone less conflicts narrowed none
+least_less slots zone less conflicts (Some rank) narrowed first = record { member = member; is = first.is ∙ same_rank rank.choices; first = λ other free. sym (ap (λ (r : Rank). ranks_before r rank) (same_rank other.choices)) ∙ first.first (record other { source = less.source }) (in_less other free) }
+  where
+    same_rank : (xs : List ℕ) → rank_in slots less xs ≡ rank_in slots zone xs
+    same_rank xs = λ i. record { cost = record { 0 = (narrowed.base i).0 + choices_cost slots xs }; source = narrowed.source i; choices = xs }
+
+    member : is_free_member slots zone conflicts (candidate_of rank) ≡ true
+    member = subst (λ s. is_free_member slots zone conflicts (record { source = s; choices = rank.choices }) ≡ true) (sym (ap (λ (r : Rank). r.source) first.is ∙ narrowed.source))
+        (free_in_zone slots zone conflicts rank.choices (sym (narrowed.masks.same slots rank.choices) ∙ free_in_box slots less conflicts (candidate_of rank) first.member))
+
+    in_less : (other : Candidate) → is_free_member slots zone conflicts other ≡ true → is_free_member slots less conflicts (record { source = less.source; choices = other.choices }) ≡ true
+    in_less other free = free_in_zone slots less conflicts other.choices (narrowed.masks.same slots other.choices ∙ free_in_box slots zone conflicts other free)

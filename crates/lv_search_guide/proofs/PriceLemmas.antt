@@ -1,22 +1,21 @@
 -- Prices are lowered where a conflict is broken, by no more than what is found there, so what a member costs is never passed.
-use Rattle.std.proofs.Common.{◌≡◌, ℕ, zero, suc, ◌+◌, ◌-◌, ◌<◌, ◌≤◌, ◌≢◌, Bool, true, false, not, nat_lt, nat_eq, min, cond, ◌&&◌, ◌||◌, List, [], ◌∷◌, Option, Some, None, length, get_or, ◌⊎◌, inl, inr, refl, sym, ◌∙◌, ap, subst, arith}
-use Rattle.std.specs.Prelude.{slice_index, slice_index_or, slice_set, All, IfSome}
+use Rattle.std.proofs.Common.{◌≡◌, ℕ, zero, suc, ◌+◌, ◌-◌, ◌<◌, ◌≤◌, Bool, true, false, not, nat_lt, ◌&&◌, List, [], ◌∷◌, Option, Some, None, length, get_or, ◌⊎◌, inl, inr, refl, sym, ◌∙◌, ap, subst, arith}
+use Rattle.std.specs.Prelude.{slice_index, slice_index_or, slice_set, IfSome}
 use Rattle.std.specs.List.{AllByRecursion}
-use Rattle.std.proofs.lemmas.Bool.{and_from, and_parts, and_cases, eqb-true, ltb-true, lt-ltb, false_from_ne_true, not_from_false, cases_eq, cases_lt}
+use Rattle.std.proofs.lemmas.Bool.{and_from, and_parts, and_cases, ltb-true, lt-ltb, false_from_ne_true, not_from_false, cases_eq}
 use Rattle.std.proofs.lemmas.List.{get_or-set_other}
-use Rattle.std.proofs.lemmas.List.Elements.{All-get_or}
 use Rattle.std.proofs.lemmas.List.Folds.{list_any_at}
 use Rattle.std.proofs.Math.ListN.{length-set}
 use Rattle.lv_base.specs.declared.ids.Cost.{Cost}
 use Rattle.lv_base.specs.declared.search.Pair.{Pair}
 use Rattle.lv_boxes.specs.Masks.{has_choice}
-use Rattle.lv_boxes.specs.Members.{IsSlot, is_left, are_left, choice_cost, choices_cost}
+use Rattle.lv_boxes.specs.Members.{is_left, are_left, choice_cost, choices_cost}
 use Rattle.lv_search_walk.specs.Walk.{is_ruled_out}
 use Rattle.lv_search_guide.specs.Boxes.{is_free, CostsAtLeast}
 use Rattle.lv_search_guide.proofs.BoxLemmas.{free_is_left, none_of_zero}
 use Rattle.lv_search_guide.proofs.BanLemmas.{has_choice-beside}
 use Rattle.lv_search_guide.specs.declared.bans.Choices.{Choices}
-use Rattle.lv_search_guide.specs.Bans.{without_these, has_some, meets, sets_rise_from, AreBans}
+use Rattle.lv_search_guide.specs.Bans.{has_some, meets, sets_rise_from, AreBans}
 use Rattle.lv_search_guide.specs.Prices.{IsAtLeast, LeastTells, lesser_of, price_after, lowered_from, lowered_at, lowered_all, others_at, FallsBy, FallsTo, RaisesBy, BreaksEach, IsBound}
 
 pub length-lowered : (n mask by : ℕ) (prices : List Cost) → length (lowered_from n mask by prices) ≡ length prices

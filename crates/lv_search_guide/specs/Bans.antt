@@ -1,5 +1,5 @@
 -- Bans: at each of some slots choices that can't stand together. What bans rule out some conflicts do.
-use Rattle.std.specs.Prelude.{◌≡◌, ℕ, zero, suc, ◌+◌, Bool, true, nat_lt, bit_and, bit_xor, bit_or, ◌&&◌, ◌||◌, List, [], ◌∷◌, length, slice_index, slice_set}
+use Rattle.std.specs.Prelude.{◌≡◌, ℕ, zero, suc, ◌+◌, Bool, true, nat_lt, bit_and, bit_xor, ◌&&◌, ◌||◌, List, [], ◌∷◌, length, slice_index, slice_set}
 use Rattle.std.specs.List.{list_all, list_any}
 use Rattle.lv_base.specs.declared.search.Pair.{Pair}
 use Rattle.lv_boxes.specs.Masks.{has_choice, only_choice}

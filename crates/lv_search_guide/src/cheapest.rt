@@ -120,7 +120,8 @@ fn take_box(
     if best.under <= next.low {
         return Ok(());
     }
-    match look(alloc, grid, conflicts, &next.masks, best.under)? {
+    let all = conflicts.as_slice();
+    match look(alloc, grid, all, conflicts.bans(), &next.masks, best.under)? {
         Looked::Nothing => Ok(()),
         Looked::Found(member) => {
             best.under = member.cost;

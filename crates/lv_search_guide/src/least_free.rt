@@ -63,8 +63,7 @@ fn first_left(
     ensures bound { IfOk result (λ first. IfSome first (λ member. member.cost ≤ 4096 * 1000000)) }
 {
     let live = live_in(alloc, conflicts, masks.as_slice())?;
-    let live = Conflicts::new(alloc, live)?;
-    first_by_parts(alloc, grid, &live, masks)
+    first_by_parts(alloc, grid, live.as_slice(), masks)
 }
 
 /// What a member of a zone ranks as.

@@ -11,7 +11,6 @@ ghost use Rattle.lv_search_guide.specs.Boxes.{is_open};
 ghost use Rattle.lv_search_guide.specs.Cheapest.{CheapestLeftTells, IsCheapestLeft, HasNoneLeft, LookTells, OpenTells, SplitTells};
 
 use super::bans::{Ban, Choices};
-use super::conflicts::Conflicts;
 use super::masks::Masks;
 use lv_base::{Conflict, Pair, Seq, contains};
 use lv_boxes::least::write_least;
@@ -39,18 +38,20 @@ pub(crate) enum Looked {
     Splits(Pair),
 }
 
-/// Looks at a box for a cheapest member that contains no conflict and costs less than `under`.
+/// Looks at a box for a cheapest member that contains no conflict and costs less than `under`. The bans tell by which pair it
+/// falls apart best.
 pub(crate) fn look(
     alloc: Global,
     grid: &Grid,
-    conflicts: &Conflicts,
+    conflicts: &[Conflict],
+    bans: &[Ban],
     masks: &Masks,
     under: u64,
 ) -> Result<Looked, AllocError>
     ensures { IfOk result (λ looked. LookTells grid.now conflicts.now masks.now under looked) }
 {
     match cheapest_left(alloc, grid, masks)? {
-        Some(member) if member.cost < under => Ok(look_at(conflicts, masks, member)),
+        Some(member) if member.cost < under => Ok(look_at(conflicts, bans, masks, member)),
         _ => Ok(Looked::Nothing),
     }
 }
@@ -79,11 +80,11 @@ fn write_cheapest(grid: &Grid, masks: &Masks, out: &mut [u32]) -> Option<u64>
 }
 
 /// Looks at a box whose cheapest member this is: it is found, or contains a conflict.
-fn look_at(conflicts: &Conflicts, masks: &Masks, member: Member) -> Looked
+fn look_at(conflicts: &[Conflict], bans: &[Ban], masks: &Masks, member: Member) -> Looked
     ensures { (slots : List (List Cost)) (under : ℕ) → IsCheapestLeft slots masks.now member → member.cost < under → LookTells slots conflicts.now masks.now under result }
 {
-    match first_contained(conflicts.as_slice(), member.choices.as_slice()) {
-        Some(conflict) => split_by(conflicts.bans(), conflict.pairs(), masks),
+    match first_contained(conflicts, member.choices.as_slice()) {
+        Some(conflict) => split_by(bans, conflict.pairs(), masks),
         None => Looked::Found(member),
     }
 }
@@ -139,8 +140,7 @@ fn count_against(bans: &[Ban], masks: &[u64], pair: Pair) -> u64 {
 
 /// Whether the pair's choice is among those of its slot.
 fn has_pair(sets: &[Choices], pair: Pair) -> bool {
-    sets.iter()
-        .any(|set| set.slot == pair.slot && mask::has(set.mask, pair.choice as usize))
+    sets.iter().any(|set| set.slot == pair.slot && mask::has(set.mask, pair.choice as usize))
 }
 
 /// In how many ways a ban can be met beside the pair's slot.

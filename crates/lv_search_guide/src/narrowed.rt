@@ -7,7 +7,7 @@ ghost use Rattle.lv_search_guide.specs.Narrow.{NarrowedTells as LeavesTells};
 
 use super::conflicts::Conflicts;
 use super::masks::Masks;
-use super::narrow::{Narrowing, narrow_by};
+use super::narrow::{Narrowing, narrow, narrow_by};
 use lv_boxes::Zone;
 use std::alloc::{AllocError, Global};
 
@@ -23,6 +23,22 @@ pub(crate) fn narrowed(
 {
     let mut masks = Masks::from_slice(alloc, zone.masks())?;
     if !narrow_at(conflicts, places, &mut masks) {
+        return Ok(None);
+    }
+    let less = Zone::new(alloc, zone.source(), zone.base(), masks.as_slice())?;
+    Ok(Some(less))
+}
+
+/// As `narrowed`, as far as all bans tell.
+pub(crate) fn narrowed_by_all(
+    alloc: Global,
+    zone: &Zone,
+    conflicts: &Conflicts,
+) -> Result<Option<Zone>, AllocError>
+    ensures { IfOk result (λ less. NarrowedTells zone.now conflicts.now less) }
+{
+    let mut masks = Masks::from_slice(alloc, zone.masks())?;
+    if !narrow(conflicts, &mut masks) {
         return Ok(None);
     }
     let less = Zone::new(alloc, zone.source(), zone.base(), masks.as_slice())?;

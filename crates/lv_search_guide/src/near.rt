@@ -16,6 +16,7 @@ ghost use Rattle.lv_search_guide.specs.Near.{IsFirstNear, lost_pairs, unsettled}
 use super::known::Known;
 use super::least_free::{least_free, rank_of};
 use super::look::Member;
+use super::narrowed::narrowed_by_all;
 use super::remembered::Part;
 use lv_base::{Conflict, Cost, Pair, Rank, Seq, contains};
 use lv_boxes::{Grid, Zone, choices_as_conflict};
@@ -26,6 +27,24 @@ use std::alloc::{AllocError, Global};
 /// As `least_free`, where `near` is what ranked first in a zone that has all choices of this one, by some of the known
 /// conflicts.
 pub fn least_free_near(
+    alloc: Global,
+    grid: &Grid,
+    zone: &Zone,
+    known: &mut Known,
+    near: &Rank,
+) -> Result<Option<Rank>, AllocError>
+    requires { IsFirstNear grid.now zone.now known.old near.now }
+    ensures least { IfOk result (λ least. LeastFreeTells grid.now zone.now known.old least) }
+    ensures known { known.new ≡ known.old }
+{
+    match narrowed_by_all(alloc, zone, known.conflicts())? {
+        Some(less) => first_near(alloc, grid, &less, known, near),
+        None => Ok(None),
+    }
+}
+
+/// As `least_free_near`, of a zone from which conflicts take out nothing more.
+fn first_near(
     alloc: Global,
     grid: &Grid,
     zone: &Zone,

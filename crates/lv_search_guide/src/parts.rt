@@ -13,9 +13,10 @@ use super::conflicts::Conflicts;
 use super::look::{ABOVE_ALL, Looked, Member, look};
 use super::lowest::lowest;
 use super::masks::Masks;
-use lv_base::Pair;
+use lv_base::{Conflict, Pair};
 use lv_boxes::Grid;
 use lv_search_parts::labels::joined_with;
+use lv_search_parts::live::live_in;
 use lv_search_parts::part::{fixed, part_conflicts, part_grid, part_masks};
 use std::alloc::{AllocError, Global};
 
@@ -23,7 +24,7 @@ use std::alloc::{AllocError, Global};
 pub(crate) fn first_by_parts(
     alloc: Global,
     grid: &Grid,
-    conflicts: &Conflicts,
+    conflicts: &[Conflict],
     masks: Masks,
 ) -> Result<Option<Member>, AllocError>
     ensures first { IfOk result (λ first. LowestTells grid.now conflicts.now masks first) }
@@ -32,7 +33,7 @@ pub(crate) fn first_by_parts(
     let _slots = grid.slots();
     let mut masks = masks;
     for _part in 0..grid.len() {
-        match look(alloc, grid, conflicts, &masks, ABOVE_ALL)? {
+        match look(alloc, grid, conflicts, &[], &masks, ABOVE_ALL)? {
             Looked::Nothing => return Ok(None),
             Looked::Found(member) => return Ok(Some(member)),
             Looked::Splits(pair) => match settled(alloc, grid, conflicts, &masks, pair)? {
@@ -41,7 +42,7 @@ pub(crate) fn first_by_parts(
             },
         }
     }
-    first_found(alloc, grid, conflicts, &masks)
+    first_in_whole(alloc, grid, conflicts, &masks)
 }
 
 /// The box in which the slots that conflicts join to the pair's keep the choices of the first member of that part; `None`
@@ -49,13 +50,13 @@ pub(crate) fn first_by_parts(
 fn settled(
     alloc: Global,
     grid: &Grid,
-    conflicts: &Conflicts,
+    conflicts: &[Conflict],
     masks: &Masks,
     pair: Pair,
 ) -> Result<Option<Masks>, AllocError>
     ensures { IfOk result (λ less. SettlesTells grid.now conflicts.now masks.now less) }
 {
-    match joined_with(alloc, conflicts.as_slice(), grid.len(), &[pair])? {
+    match joined_with(alloc, conflicts, grid.len(), &[pair])? {
         Some(marks) if marks.len() == masks.as_slice().len() => {
             settled_part(alloc, grid, conflicts, masks, marks.as_slice())
         }
@@ -67,7 +68,7 @@ fn settled(
 fn settled_part(
     alloc: Global,
     grid: &Grid,
-    conflicts: &Conflicts,
+    conflicts: &[Conflict],
     masks: &Masks,
     marks: &[bool],
 ) -> Result<Option<Masks>, AllocError>
@@ -89,7 +90,7 @@ fn settled_part(
 fn first_of_part(
     alloc: Global,
     grid: &Grid,
-    conflicts: &Conflicts,
+    conflicts: &[Conflict],
     masks: &Masks,
     marks: &[bool],
 ) -> Result<Option<Member>, AllocError>
@@ -100,12 +101,27 @@ fn first_of_part(
     let _slots = grid.slots();
     let part = part_grid(alloc, grid, marks)?;
     let words = part_masks(alloc, masks.as_slice(), marks)?;
-    let inner = part_conflicts(alloc, conflicts.as_slice(), marks, words.as_slice())?;
+    let inner = part_conflicts(alloc, conflicts, marks, words.as_slice())?;
     let inner = Conflicts::new(alloc, inner)?;
     first_found(alloc, &part, &inner, &Masks::from_vec(words))
 }
 
 /// As `first_by_parts`, searched for in the whole box.
+fn first_in_whole(
+    alloc: Global,
+    grid: &Grid,
+    conflicts: &[Conflict],
+    masks: &Masks,
+) -> Result<Option<Member>, AllocError>
+    ensures first { IfOk result (λ first. LowestTells grid.now conflicts.now masks.now first) }
+    ensures bound { IfOk result (λ first. IfSome first (λ member. member.cost ≤ 4096 * 1000000)) }
+{
+    let live = live_in(alloc, conflicts, masks.as_slice())?;
+    let live = Conflicts::new(alloc, live)?;
+    first_found(alloc, grid, &live, masks)
+}
+
+/// The first among the cheapest members of a box that contain no conflict, by the bans.
 fn first_found(
     alloc: Global,
     grid: &Grid,

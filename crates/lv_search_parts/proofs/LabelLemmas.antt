@@ -1,7 +1,7 @@
 -- Labels of slots, as marks.
-use Rattle.std.proofs.Common.{◌≡◌, ℕ, zero, suc, ◌<◌, ◌≤◌, Bool, true, false, not, nat_lt, nat_eq, ◌||◌, List, [], ◌∷◌, length, map, get_or, refl, sym, ◌∙◌, ap, arith}
+use Rattle.std.proofs.Common.{◌≡◌, ℕ, zero, suc, ◌<◌, ◌≤◌, Bool, true, false, not, nat_lt, nat_eq, List, [], ◌∷◌, length, map, get_or, refl, sym, ◌∙◌, ap, arith}
 use Rattle.std.specs.List.{list_all}
-use Rattle.std.proofs.lemmas.Bool.{and_from, and_parts, or_left, or_right, eqb-true, ltb-true, eq-eqb, false_from_ne_true}
+use Rattle.std.proofs.lemmas.Bool.{and_from, and_parts, or_left, or_right, eqb-true, ltb-true, false_from_ne_true}
 use Rattle.lv_base.specs.declared.search.Pair.{Pair}
 use Rattle.lv_search_parts.specs.Slots.{is_marked, is_inside, is_outside}
 use Rattle.lv_search_parts.specs.Parts.{is_whole, IsPart}

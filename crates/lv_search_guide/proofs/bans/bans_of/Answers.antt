@@ -1,6 +1,5 @@
 -- one row more
-use Rattle.std.proofs.Common.{List, ◌∙◌, sym, subst}
-use Rattle.lv_search_guide.specs.declared.bans.Choices.{Choices}
+use Rattle.std.proofs.Common.{◌∙◌, sym, subst}
 use Rattle.lv_search_guide.specs.Bans.{AreBans}
 use Rattle.lv_search_guide.proofs.BanLemmas.{bans_on}
 use Rattle.lv_search_guide.proofs.bans.bans_of.Goals as goal

@@ -1,7 +1,6 @@
 -- what is told of the zone with fewer choices is told of the zone
-use Rattle.std.proofs.Common.{ℕ, ◌≤◌, List, length, sym, ◌∙◌, ap, subst}
-use Rattle.lv_search_guide.proofs.NearLemmas.{long_near}
-use Rattle.lv_search_guide.proofs.BesideLemmas.{near_less, none_narrowed, none_less}
+use Rattle.std.proofs.Common.{ℕ, ◌≤◌, sym, subst}
+use Rattle.lv_search_guide.proofs.NearLemmas.{long_near, near_less, none_narrowed, none_less}
 use Rattle.lv_search_guide.proofs.beside.first_beside.Goals as goal
 
 pub without_ends-requires : goal.without_ends-requires

@@ -1,15 +1,15 @@
 -- by what the look tells
 use Rattle.std.proofs.Common.{refl}
-use Rattle.lv_search_guide.proofs.SearchLemmas.{takes-dear, takes-nothing, takes-found, takes-parts, first_is_found}
+use Rattle.lv_search_guide.proofs.SearchLemmas.{takes-dear, takes-nothing, takes-found, first_is_found}
 use Rattle.lv_search_guide.proofs.cheapest.take_box.Goals as goal
 
 pub returns-then-best-next : goal.returns-then-best-next
 returns-then-best-next c = takes-dear c.args.grid.now c.args.conflicts.now c.args.next.now c.args.best.now c.args.boxes.now.items c.if-best-next.true
 
 pub returns-in-Nothing : goal.returns-in-Nothing
-returns-in-Nothing c = takes-nothing c.args.grid.now c.args.conflicts.now c.args.next.now c.args.best.now c.args.boxes.now.items (rw c.in-Nothing.is at c.in_ok-look.ensures)
+returns-in-Nothing c = takes-nothing c.args.grid.now c.args.conflicts.now c.args.next.now c.args.best.now c.args.boxes.now.items (rw (c.in-Nothing.is, c.as_slice-all.ensures) at c.in_ok-look.ensures)
 
 pub returns-in-Found : goal.returns-in-Found
 returns-in-Found c =
     takes-found c.args.grid.now c.args.conflicts.now c.args.next.now c.args.best.now c.args.boxes.now.items _ c.in-Found.member
-    (first_is_found c.args.grid.now c.args.conflicts.now c.args.next.now.masks c.args.best.now.under c.in-Found.member (rw c.in-Found.is at c.in_ok-look.ensures)) refl
+    (first_is_found c.args.grid.now c.args.conflicts.now c.args.next.now.masks c.args.best.now.under c.in-Found.member (rw (c.in-Found.is, c.as_slice-all.ensures) at c.in_ok-look.ensures)) refl

@@ -1,16 +1,16 @@
--- a zone that lacks all choices of a slot has no members
-use Rattle.std.proofs.Common.{ℕ, ◌≤◌, nat_eq, List, length, sym, ◌∙◌, ap, subst}
-use Rattle.std.specs.List.{list_any}
-use Rattle.lv_search_guide.proofs.NearLemmas.{none_if_empty, long_near}
+-- what is told of the zone with fewer choices is told of the zone
+use Rattle.std.proofs.lemmas.Result.{IfOk-weaker}
+use Rattle.lv_search_guide.proofs.NearLemmas.{near_less, least_less, none_narrowed}
 use Rattle.lv_search_guide.proofs.near.least_free_near.Goals as goal
 
-pub returns-then-has_empty-clause-least : goal.returns-then-has_empty-clause-least
-returns-then-has_empty-clause-least c =
-    none_if_empty c.args.grid.now c.args.zone.now c.args.known.now
-    (ap (λ (masks : List ℕ). list_any (λ mask. nat_eq mask 0) masks) (sym c.masks.ensures) ∙ sym (rw c.if-has_empty.true at c.has_empty.ensures))
+pub first_near-requires : goal.first_near-requires
+first_near-requires c = near_less c.args.grid.now c.args.zone.now c.in-Some.less c.args.known.now c.args.near.now (rw (c.in-Some.is, c.conflicts.ensures) at c.in_ok-less.ensures) c.requires
 
-pub unsettled-requires : goal.unsettled-requires
-unsettled-requires c =
-    subst (λ (n : ℕ). n ≤ 4096)
-    (sym (ap (λ (xs : List ℕ). length xs) c.as_slice-2.ensures ∙ long_near c.args.grid.now c.args.zone.now c.args.known.now c.args.near.now c.requires))
-    c.slots-slots.ensures.few
+pub returns-in-Some-clause-least : goal.returns-in-Some-clause-least
+returns-in-Some-clause-least c =
+    IfOk-weaker c.first_near.result _ _
+    (λ least told. least_less c.args.grid.now c.args.zone.now c.in-Some.less c.args.known.now least (rw (c.in-Some.is, c.conflicts.ensures) at c.in_ok-less.ensures) told)
+    c.first_near.ensures.least
+
+pub returns-in-None-clause-least : goal.returns-in-None-clause-least
+returns-in-None-clause-least c = none_narrowed c.args.grid.now c.args.zone.now c.args.known.now (rw (c.in-None.is, c.conflicts.ensures) at c.in_ok-less.ensures)

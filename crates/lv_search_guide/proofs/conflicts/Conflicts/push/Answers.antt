@@ -1,7 +1,6 @@
 -- one conflict more, and its ban
 use Rattle.std.proofs.Common.{List, [], ◌∷◌, ◌++◌, map, sym, ◌∙◌, ap, subst}
 use Rattle.lv_base.specs.declared.search.Pair.{Pair}
-use Rattle.lv_search_guide.specs.declared.bans.Choices.{Choices}
 use Rattle.lv_search_guide.specs.Bans.{set_of, AreBans}
 use Rattle.lv_search_guide.proofs.BanLemmas.{bans_pushed}
 use Rattle.lv_search_guide.proofs.conflicts.Conflicts.push.Goals as goal
