@@ -1,4 +1,4 @@
-//! Conflicts by the slots that they speak of.
+//! The slots that conflicts join, and their bans by the slots that they end at.
 #![tactic(auto)]
 
 ghost use Rattle.std.specs.Prelude.{◌≡◌, ℕ, List, IfOk, IfSome};
@@ -13,7 +13,7 @@ use lv_search_parts::labels::{are_labels, join, labels_of, part_with};
 use std::alloc::{AllocError, Global};
 use std::marker::Model;
 
-/// Conflicts by the slots that they speak of. Contracts see the labels.
+/// Which slots conflicts join, and where their bans end. Contracts see the labels.
 #[derive(Drop)]
 pub(crate) struct Joined {
     /// Of each slot a label, one for those that conflicts join.

@@ -2,8 +2,9 @@
 //! the zone by each conflict. A search for the first candidates that fit asks for it again and again, with more
 //! conflicts each time.
 //!
-//! Choices are taken out first that the member can't have: those that only members have which contain a conflict, and those
-//! that rank after one which stands in no conflict. If the first member of what is left contains no conflict, that is it.
+//! Conflicts that are alike but for the choice at one slot are drawn together into bans. Choices are taken out first that the
+//! member can't have: those that only members have which contain a conflict, and those that rank after one which stands in
+//! no conflict. If the first member of what is left contains no conflict, that is it.
 //!
 //! Else the slots that conflicts join to one that it contains are a part of the box, which is settled apart.
 //!
@@ -16,8 +17,10 @@
 //! | `least_free` | the member that ranks first |
 //! | `near` | the same, where it is known of a zone that has all its choices, by some of the conflicts |
 //! | `beside` | the first by some of the conflicts, where it is known of a zone that has all its choices |
+//! | `conflicts` | conflicts with the bans that they come to |
+//! | `bans` | conflicts drawn together |
 //! | `known` | the known conflicts |
-//! | `joined` | conflicts by the slots that they speak of |
+//! | `joined` | the slots that conflicts join, and bans by the slots that they end at |
 //! | `remembered` | what was found of parts before |
 //! | `parts` | the same part by part of a box |
 //! | `cheapest` | a cheapest member, by a stack of boxes |
@@ -26,7 +29,7 @@
 //! | `behind` | choices that rank after a loose one |
 //! | `lowest` | of the cheapest members the first in the order of slots |
 //! | `masks` | a box: of each slot the choices left |
-//! | `narrow` | what conflicts leave of a box |
+//! | `narrow` | what bans leave of a box |
 //! | `narrowed` | a zone with what they leave of its box |
 //! | `prices` | what a member of a box costs at least |
 //! | `dear` | choices that are too dear |

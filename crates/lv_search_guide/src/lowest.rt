@@ -1,6 +1,6 @@
 //! Of the cheapest members of a box the first in the order of slots. Choices that are too dear are taken out of the box,
-//! with what conflicts then rule out; then, slot by slot, it is asked whether a member as cheap has a lower choice there, and that slot keeps the choice of
-//! the lowest found.
+//! with what conflicts then rule out; then, slot by slot, it is asked whether a member as cheap has a lower choice there,
+//! and that slot keeps the choice of the lowest found.
 #![tactic(auto)]
 
 ghost use Rattle.std.specs.Prelude.{◌≡◌, ◌<◌, ◌≤◌, ◌*◌, true, length, slice_index, IfOk};
