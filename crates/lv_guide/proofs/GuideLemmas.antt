@@ -30,9 +30,9 @@ use Rattle.lv_search_walk.specs.Ranked.{rises, is_rank, is_among}
 use Rattle.lv_search_walk.specs.Walk.{candidate_of, is_ruled_out}
 use Rattle.lv_search_walk.proofs.RankedLemmas.{not_before_itself, not_both_before, same_rank, is_itself, one_list, equal_by_cmp}
 use Rattle.lv_search_guide.specs.Free.{is_free_member, IsLeastFree, HasNoFree}
-use Rattle.lv_search_guide.specs.Narrowed.{IsNarrowed}
-use Rattle.lv_search_guide.specs.Near.{AreAmong, IsFirstNear}
-use Rattle.lv_search_guide.specs.Beside.{IsBeside}
+use Rattle.lv_guide.specs.Narrowed.{IsNarrowed}
+use Rattle.lv_guide.specs.Near.{AreAmong, IsFirstNear}
+use Rattle.lv_guide.specs.Beside.{IsBeside}
 use Rattle.lv_search.specs.Frontier.{FirstContains, LeavesFirst, Thins}
 use Rattle.lv_search.specs.Free.{is_free_rank, free_of}
 use Rattle.lv_guide.specs.Guide.{zones_in, left_in, IsKeyMember, IsKeyFirst, IsQueue, AreKeptBy, front_is_free, IsReady, HasRoomBy, HasMoreBy, HasMore, HasSameFree, stale_in, LooksAgain, DropsFirst}

@@ -1,3 +1,6 @@
+pub mod NearLemmas
+pub mod BesideLemmas
+pub mod RememberedLemmas
 pub mod GuideLemmas
 pub mod AlikeLemmas
 pub mod SplitLemmas

@@ -21,7 +21,7 @@ use Rattle.lv_boxes.proofs.MemberLemmas.{length-are_left, loses_one}
 use Rattle.lv_boxes.proofs.RankedMemberLemmas.{rank_of_member}
 use Rattle.lv_search_walk.specs.Walk.{candidate_of, is_ruled_out}
 use Rattle.lv_search_guide.specs.Free.{IsLeastFree}
-use Rattle.lv_search_guide.specs.Near.{IsFirstNear}
+use Rattle.lv_guide.specs.Near.{IsFirstNear}
 use Rattle.lv_search_guide.proofs.BoxLemmas.{some_pass, found_itself, none_pass}
 use Rattle.lv_search.proofs.LeftLemmas.{parts_times, sources_apart}
 use Rattle.lv_search.specs.Free.{is_free_rank}

@@ -6,8 +6,8 @@ use Rattle.lv_base.specs.declared.rank.Rank.{Rank}
 use Rattle.lv_base.specs.declared.search.Pair.{Pair}
 use Rattle.lv_boxes.specs.Members.{ZoneValue}
 use Rattle.lv_boxes.specs.RankedMembers.{ranked_members, ranks_in, times_in, AreApart}
-use Rattle.lv_search_guide.specs.Near.{IsFirstNear}
-use Rattle.lv_search_guide.specs.Beside.{IsFirstBySome}
+use Rattle.lv_guide.specs.Near.{IsFirstNear}
+use Rattle.lv_guide.specs.Beside.{IsFirstBySome}
 use Rattle.lv_search.specs.Frontier.{LeavesOut}
 use Rattle.lv_search.specs.Free.{is_free_rank, free_of}
 

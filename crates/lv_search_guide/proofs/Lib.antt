@@ -10,7 +10,4 @@ pub mod SlotLemmas
 pub mod FirstLemmas
 pub mod LooseLemmas
 pub mod PartLemmas
-pub mod NearLemmas
-pub mod BesideLemmas
 pub mod LeftLemmas
-pub mod RememberedLemmas

@@ -13,14 +13,14 @@ use std::marker::Model;
 
 /// Some choices of a slot, as a mask.
 #[derive(Clone, Copy, Debug, PartialEq, Eq)]
-pub(crate) struct Choices {
-    pub(crate) slot: u32,
-    pub(crate) mask: u64,
+pub struct Choices {
+    pub slot: u32,
+    pub mask: u64,
 }
 
 /// At each of some slots, which rise, choices that can't stand together. Contracts see the list of them.
 #[derive(Debug, Drop)]
-pub(crate) struct Ban {
+pub struct Ban {
     sets: Vec<Choices>,
 }
 
@@ -48,7 +48,7 @@ impl Ban {
     }
 
     /// The ban that a conflict comes to, whose pairs these are.
-    pub(crate) fn from_pairs(alloc: Global, pairs: &[Pair]) -> Result<Ban, AllocError>
+    pub fn from_pairs(alloc: Global, pairs: &[Pair]) -> Result<Ban, AllocError>
         requires { IsTrue (slots_rise pairs.now) }
         ensures { IfOk result (λ ban. ban ≡ map set_of pairs.now) }
     {
@@ -58,7 +58,7 @@ impl Ban {
     }
 
     /// What it has at its slots, in their order.
-    pub(crate) fn sets(&self) -> &[Choices]
+    pub fn sets(&self) -> &[Choices]
         ensures sets { result.now ≡ self.now }
         ensures rising { IsTrue (sets_rise result.now) }
     {

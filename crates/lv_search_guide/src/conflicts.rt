@@ -11,7 +11,7 @@ use std::marker::Model;
 
 /// Conflicts, and the same as bans. Contracts see the list of the conflicts.
 #[derive(Debug, Drop)]
-pub(crate) struct Conflicts {
+pub struct Conflicts {
     all: Vec<Conflict>,
     bans: Vec<Ban>,
 }
@@ -30,7 +30,7 @@ impl Model for Conflicts {
 
 impl Conflicts {
     /// These conflicts.
-    pub(crate) fn new(alloc: Global, all: Vec<Conflict>) -> Result<Conflicts, AllocError>
+    pub fn new(alloc: Global, all: Vec<Conflict>) -> Result<Conflicts, AllocError>
         ensures { IfOk result (λ conflicts. conflicts ≡ all.items) }
     {
         let bans = bans_of(alloc, all.as_slice())?;
@@ -38,7 +38,7 @@ impl Conflicts {
     }
 
     /// One conflict more.
-    pub(crate) fn push(&mut self, alloc: Global, conflict: Conflict) -> Result<(), AllocError>
+    pub fn push(&mut self, alloc: Global, conflict: Conflict) -> Result<(), AllocError>
         ensures { OnOk result (self.new ≡ self.old ++ conflict ∷ []) }
     {
         let ban = Ban::from_pairs(alloc, conflict.pairs())?;
@@ -47,14 +47,14 @@ impl Conflicts {
         Ok(())
     }
 
-    pub(crate) fn as_slice(&self) -> &[Conflict]
+    pub fn as_slice(&self) -> &[Conflict]
         ensures { result.now ≡ self.now }
     {
         self.all.as_slice()
     }
 
     /// Bans that rule out what some conflict does.
-    pub(crate) fn bans(&self) -> &[Ban]
+    pub fn bans(&self) -> &[Ban]
         ensures { AreBans self.now result.now }
     {
         self.bans.as_slice()

@@ -35,7 +35,7 @@ pub fn least_free(
 }
 
 /// Of the members of a box that contain no conflict the first among the cheapest.
-pub(crate) fn first_in(
+pub fn first_in(
     alloc: Global,
     grid: &Grid,
     conflicts: Vec<Conflict>,
@@ -67,7 +67,7 @@ fn first_left(
 }
 
 /// What a member of a zone ranks as.
-pub(crate) fn rank_of(zone: &Zone, member: Member) -> Rank
+pub fn rank_of(zone: &Zone, member: Member) -> Rank
     requires { member.cost ≤ 4096 * 1000000 }
     ensures { result ≡ record { cost = record { 0 = zone.now.base.0 + member.cost }; source = zone.now.source; choices = member.choices } }
 {

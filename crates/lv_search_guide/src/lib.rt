@@ -15,13 +15,8 @@
 //! | file | what it holds |
 //! |---|---|
 //! | `least_free` | the member that ranks first |
-//! | `near` | the same, where it is known of a zone that has all its choices, by some of the conflicts |
-//! | `beside` | the first by some of the conflicts, where it is known of a zone that has all its choices |
 //! | `conflicts` | conflicts with the bans that they come to |
 //! | `bans` | conflicts drawn together |
-//! | `known` | the known conflicts |
-//! | `joined` | the slots that conflicts join, and bans by the slots that they end at |
-//! | `remembered` | what was found of parts before |
 //! | `parts` | the same part by part of a box |
 //! | `cheapest` | a cheapest member, by a stack of boxes |
 //! | `look` | what is to be done with one box |
@@ -30,31 +25,24 @@
 //! | `lowest` | of the cheapest members the first in the order of slots |
 //! | `masks` | a box: of each slot the choices left |
 //! | `narrow` | what bans leave of a box |
-//! | `narrowed` | a zone with what they leave of its box |
 //! | `prices` | what a member of a box costs at least |
 //! | `dear` | choices that are too dear |
 //! | `laws` | that there is one answer |
 #![tactic(auto)]
 
-mod bans;
+pub mod bans;
 mod behind;
-pub mod beside;
 mod cheapest;
-mod conflicts;
+pub mod conflicts;
 mod dear;
-mod joined;
-pub mod known;
 pub mod laws;
 pub mod least_free;
-mod look;
+pub mod look;
 mod loose;
 mod lowest;
-mod masks;
-mod narrow;
-mod narrowed;
-pub mod near;
+pub mod masks;
+pub mod narrow;
 mod parts;
 mod prices;
-mod remembered;
 
 pub use laws::least_free_is_one;

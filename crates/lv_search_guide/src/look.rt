@@ -22,9 +22,9 @@ pub(crate) const ABOVE_ALL: u64 = 4_096_000_001;
 
 /// A member of a box, and what its choices cost together.
 #[derive(Debug, Drop)]
-pub(crate) struct Member {
-    pub(crate) cost: u64,
-    pub(crate) choices: Seq<u32>,
+pub struct Member {
+    pub cost: u64,
+    pub choices: Seq<u32>,
 }
 
 /// What a look at a box tells.

@@ -14,7 +14,7 @@ use std::marker::Model;
 
 /// The masks of a box. Contracts see the list of them.
 #[derive(Debug, Drop)]
-pub(crate) struct Masks {
+pub struct Masks {
     words: Vec<u64>,
 }
 
@@ -28,7 +28,7 @@ impl Model for Masks {
 
 impl Masks {
     /// The box with these masks, in memory of its own.
-    pub(crate) fn from_slice(alloc: Global, words: &[u64]) -> Result<Masks, AllocError>
+    pub fn from_slice(alloc: Global, words: &[u64]) -> Result<Masks, AllocError>
         ensures { IfOk result (λ masks. masks ≡ words.now) }
     {
         Ok(Masks {
@@ -37,13 +37,13 @@ impl Masks {
     }
 
     /// The box with these masks, in their own memory.
-    pub(crate) fn from_vec(words: Vec<u64>) -> Masks
+    pub fn from_vec(words: Vec<u64>) -> Masks
         ensures { result ≡ words.items }
     {
         Masks { words }
     }
 
-    pub(crate) fn as_slice(&self) -> &[u64]
+    pub fn as_slice(&self) -> &[u64]
         ensures { result.now ≡ self.now }
     {
         self.words.as_slice()

@@ -35,7 +35,7 @@ enum Left {
 
 /// What was done to a box.
 #[derive(Clone, Copy, Debug, PartialEq, Eq)]
-pub(crate) enum Narrowing {
+pub enum Narrowing {
     /// Nothing.
     Same,
     /// Choices were taken out, which only members have that contain a conflict.
@@ -46,7 +46,7 @@ pub(crate) enum Narrowing {
 
 /// Takes out of a box what only members have that contain a conflict, until nothing more is found. Answers whether
 /// members may be left.
-pub(crate) fn narrow(conflicts: &Conflicts, masks: &mut Masks) -> bool
+pub fn narrow(conflicts: &Conflicts, masks: &mut Masks) -> bool
     ensures { NarrowedTells conflicts.now masks.old masks.new result }
 {
     'again: loop {
@@ -85,7 +85,7 @@ fn narrow_once(conflicts: &Conflicts, masks: &mut Masks) -> Narrowing
 }
 
 /// As `narrow_once`, by the ban at this place, if there is one.
-pub(crate) fn narrow_by(conflicts: &Conflicts, place: usize, masks: &mut Masks) -> Narrowing
+pub fn narrow_by(conflicts: &Conflicts, place: usize, masks: &mut Masks) -> Narrowing
     ensures { NarrowsTells conflicts.now masks.old masks.new result }
 {
     let bans = conflicts.bans();
