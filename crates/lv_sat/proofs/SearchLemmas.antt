@@ -1,12 +1,12 @@
 -- What the search keeps at each turn, and what it shows at its ends.
-use Rattle.std.proofs.Common.{◌≡◌, ℕ, suc, zero, ◌+◌, ◌-◌, ◌<◌, ◌≤◌, Bool, true, false, not, List, [], ◌∷◌, ◌++◌, length, map, filter, take, drop, get_or, Option, Some, None, All, IfSome, slice_get, option_map, cond, if◌then◌else◌, append_assoc, refl, sym, ap, ap₂, subst, ◌∙◌, arith, Contains}
+use Rattle.std.proofs.Common.{◌≡◌, ℕ, suc, zero, ◌+◌, ◌-◌, ◌<◌, ◌≤◌, Bool, true, false, not, List, [], ◌∷◌, ◌++◌, length, map, filter, take, drop, get_or, Option, Some, None, All, IfSome, slice_get, option_map, cond, if◌then◌else◌, append_assoc, refl, sym, ap, ap₂, subst, ◌∙◌, add-one, arith, Contains}
 use Rattle.std.proofs.lemmas.List.{append-nil, length-append, take-append-le, take-map, take-take, take_more, map-append, length-take, length-take-le}
 use Rattle.std.proofs.lemmas.List.Elements.{filter-append}
-use Rattle.std.proofs.Math.Seq.{get_or-append_seam, take-length}
+use Rattle.std.proofs.Math.Seq.{get_or-append_seam, take-length, take-suc}
 use Rattle.lv_base.specs.declared.ids.Lit.{Lit}
 use Rattle.lv_clauses.specs.Literals.{neg, same_truth, lit_holds, is_clause}
 use Rattle.lv_clauses.specs.ClauseMap.{ClauseMap, Slots, satisfies}
-use Rattle.lv_clauses.specs.Marks.{Marks, is_marked, marked, mark_is}
+use Rattle.lv_clauses.specs.Marks.{Marks, marked, mark_is}
 use Rattle.lv_clauses.proofs.LiteralLemmas.{neg_neg, any_member, all_member, lit_or_neg}
 use Rattle.lv_reflog.specs.declared.log.Hint.{Hint}
 use Rattle.lv_reflog.specs.declared.log.Hint.TheVariants.{Given, Earlier}
@@ -16,7 +16,7 @@ use Rattle.lv_reflog.proofs.SoundLemmas.{checked}
 use Rattle.lv_sat.specs.declared.trail.Entry.{Entry}
 use Rattle.lv_sat.specs.Answers.{IsModel, IsSublist, IsRefutation, last_clause, nothing as no_literals, left_out, taken}
 use Rattle.lv_sat.specs.Front.{AreValues, IsFront, IsRefuted}
-use Rattle.lv_sat.specs.Trail.{among, lits_of, unforced, left_of, is_open, IsForced, IsChain, IsTrail, IsTurned, IsSearch, IsGrown, IsExtended, IsPropagated, IsReached, Reaches, turned, values_of}
+use Rattle.lv_sat.specs.Trail.{among, lits_of, unforced, left_of, is_open, IsForced, IsChain, IsTrail, IsTurned, IsSearch, IsGrown, IsExtended, IsPropagated, IsReached, Reaches, turned, KeepMarks}
 use Rattle.lv_sat.specs.declared.search.Reached.{Reached}
 use Rattle.lv_sat.specs.declared.search.Reached.TheVariants.{Values, False}
 use Rattle.lv_sat.specs.Analysis.{sees, denial, IsDerived, IsTurning, Derives}
@@ -106,25 +106,43 @@ trail_back cs log before marks after start entries left here blank grown is cut 
       chain = subst (λ (es : List Entry). IsChain cs [] es) (sym (is ∙ grown.begins)) (subst (λ (steps : List Step). IsChain cs steps start) blank here.chain);
     }
 
--- the values of marks
-value_at : (marks : Marks) (v : ℕ) → get_or (values_of marks) v false ≡ mark_is (get_or marks v None) true
-value_at [] v = refl
-value_at (m ∷ ms) zero = refl
-value_at (m ∷ ms) (suc v) = value_at ms v
+-- values that keep marks, each in its place
+abbrev pub AreKept : Marks → List Bool → Type 0
+AreKept [] [] = Unit {0}
+AreKept (m ∷ ms) (v ∷ vs) = (IfSome m (λ b. v ≡ b)) × AreKept ms vs
+AreKept _ _ = ⊥
 
-pub marked_holds : (marks : Marks) (l : Lit) → is_marked marks l ≡ true → lit_holds (values_of marks) l ≡ true
-marked_holds marks l e = ap (λ b. same_truth b l.sign) (value_at marks l.var.0) ∙ by_mark (get_or marks l.var.0 None) l.sign e
+pub kept_more : (ms : Marks) (vs : List Bool) (m : Option Bool) (v : Bool) → AreKept ms vs → IfSome m (λ b. v ≡ b) → AreKept (ms ++ m ∷ []) (vs ++ v ∷ [])
+kept_more [] [] m v kept own = (own, tt)
+kept_more [] (w ∷ vs) m v kept own = absurd kept
+kept_more (n ∷ ms) [] m v kept own = absurd kept
+kept_more (n ∷ ms) (w ∷ vs) m v kept own = (kept.0, kept_more ms vs m v kept.1 own)
+
+kept_len : (ms : Marks) (vs : List Bool) → AreKept ms vs → length vs ≡ length ms
+kept_len [] [] kept = refl
+kept_len [] (v ∷ vs) kept = absurd kept
+kept_len (m ∷ ms) [] kept = absurd kept
+kept_len (m ∷ ms) (v ∷ vs) kept = ap suc (kept_len ms vs kept.1)
+
+kept_holds : (ms : Marks) (vs : List Bool) (n : ℕ) (s : Bool) → AreKept ms vs → mark_is (get_or ms n None) s ≡ true → same_truth (get_or vs n false) s ≡ true
+kept_holds [] vs n s kept e = absurd (cc e)
+kept_holds (m ∷ ms) [] n s kept e = absurd kept
+kept_holds (m ∷ ms) (v ∷ vs) (suc n) s kept e = kept_holds ms vs n s kept.1 e
+kept_holds (m ∷ ms) (v ∷ vs) zero s kept e = by_mark m s kept.0 e
   where
-    by_mark : (o : Option Bool) (s : Bool) → mark_is o s ≡ true → same_truth (mark_is o true) s ≡ true
-    by_mark None s f = absurd (cc)
-    by_mark (Some true) true f = refl
-    by_mark (Some true) false f = absurd (cc)
-    by_mark (Some false) true f = absurd (cc)
-    by_mark (Some false) false f = refl
+    by_mark : (o : Option Bool) (s : Bool) → IfSome o (λ b. v ≡ b) → mark_is o s ≡ true → same_truth v s ≡ true
+    by_mark None s own f = absurd (cc f)
+    by_mark (Some true) true own f = ap (λ b. same_truth b true) own
+    by_mark (Some true) false own f = absurd (cc f)
+    by_mark (Some false) true own f = absurd (cc f)
+    by_mark (Some false) false own f = ap (λ b. same_truth b false) own
 
-values_len : (marks : Marks) → length (values_of marks) ≡ length marks
-values_len [] = refl
-values_len (m ∷ ms) = ap suc (values_len ms)
+pub kept_next : (ms : Marks) (vs : List Bool) (i : ℕ) (v : Bool) → i < length ms → AreKept (take i ms) vs → IfSome (get_or ms i None) (λ b. v ≡ b) → AreKept (take (i + 1) ms) (vs ++ v ∷ [])
+kept_next ms vs i v within kept own =
+    subst (λ (ks : Marks). AreKept ks (vs ++ v ∷ [])) (sym (ap (λ n. take n ms) (add-one i) ∙ take-suc ms i None within)) (kept_more (take i ms) vs (get_or ms i None) v kept own)
+
+pub kept_marks : (ms : Marks) (vs : List Bool) → AreKept ms vs → KeepMarks ms vs
+kept_marks ms vs kept = record { len = kept_len ms vs kept; marked = λ l e. kept_holds ms vs l.var.0 l.sign kept e }
 
 neg_twice : (ls : List Lit) → map neg (map neg ls) ≡ ls
 neg_twice [] = refl
@@ -215,12 +233,12 @@ module _ (cs : ClauseMap) (start : List Entry) (log : List Step) where
   pub floor_fits : (marks : Marks) (entries : List Entry) → IsSearch cs start log marks entries → length start ≤ length entries
   floor_fits marks entries here = long_enough start entries here.begins
 
-  pub values_found : (marks : Marks) (entries : List Entry) (values : List Bool) → IsSearch cs start log marks entries → values ≡ values_of marks → satisfies values cs.slots ≡ true → AreValues cs start values
-  values_found marks entries values here is all_true =
+  pub values_found : (marks : Marks) (entries : List Entry) (values : List Bool) → IsSearch cs start log marks entries → KeepMarks marks values → satisfies values cs.slots ≡ true → AreValues cs start values
+  values_found marks entries values here keeps all_true =
       record {
-        len = ap (λ (vs : List Bool). length vs) is ∙ values_len marks ∙ here.trail.len;
+        len = keeps.len ∙ here.trail.len;
         all_clauses = all_true;
-        all_entries = λ l e. ap (λ vs. lit_holds vs l) is ∙ marked_holds marks l (here.trail.same l ∙ front_among cs log entries here.trail.chain (length start) l (ap (λ (es : List Entry). among (lits_of es) l) here.begins ∙ e));
+        all_entries = λ l e. keeps.marked l (here.trail.same l ∙ front_among cs log entries here.trail.chain (length start) l (ap (λ (es : List Entry). among (lits_of es) l) here.begins ∙ e));
       }
 
   pub refutation_found : (marks : Marks) (entries : List Entry) (new : List Step) → IsSearch cs start log marks entries → IsDerived cs log new (unforced (take (length start) entries)) → IsRefuted cs (lits_of (unforced start)) new
@@ -307,7 +325,7 @@ module _ (cs : ClauseMap) (start : List Entry) (log : List Step) where
     pub values_end : (values : List Bool) (reached : Reached) → reached ≡ Values values → IsReached cs log old marks entries reached → AreValues cs start values
     values_end values reached is told =
         let here : IsReached cs log old marks entries (Values values) = subst (IsReached cs log old marks entries) is told in
-        values_found marks entries values (search_extended a marks old entries before here.trail here.front) here.reaches.0 here.reaches.2
+        values_found marks entries values (search_extended a marks old entries before here.trail here.front) here.reaches.0 here.reaches.1
 
     pub refuted_end : (reached : Reached) (flip : Option Flip) (shown : List Entry) (new : List Step) → IsReached cs log old marks entries reached → shown ≡ entries → flip ≡ None
         → Derives cs log new (length start) shown flip → IsRefuted cs (lits_of (unforced start)) new

@@ -1,11 +1,11 @@
 -- The trail: literals taken as true, in an order in which each that isn't a choice is forced by a clause and those
 -- before it.
-use Rattle.std.specs.Prelude.{◌≡◌, ℕ, ◌+◌, ◌<◌, Bool, true, false, not, ◌&&◌, List, [], ◌∷◌, ◌++◌, length, map, filter, take, drop, Option, Some, None, is_none, is_some, count_by, slice_index_or, Contains}
-use Rattle.std.specs.List.{list_any, list_all}
+use Rattle.std.specs.Prelude.{◌≡◌, ℕ, ◌+◌, ◌<◌, Bool, true, false, not, ◌&&◌, List, [], ◌∷◌, ◌++◌, length, map, filter, take, drop, Option, Some, None, is_none, count_by, slice_index_or, Contains}
+use Rattle.std.specs.List.{list_any}
 use Rattle.lv_base.specs.declared.ids.Lit.{Lit}
-use Rattle.lv_clauses.specs.Literals.{neg, same_truth, same_var, in_range, is_clause, clause_holds}
+use Rattle.lv_clauses.specs.Literals.{neg, same_truth, same_var, in_range, is_clause, lit_holds, clause_holds}
 use Rattle.lv_clauses.specs.ClauseMap.{ClauseMap, Slots, clause_at, slot_holds, satisfies}
-use Rattle.lv_clauses.specs.Marks.{Marks, is_marked, mark_is, is_free}
+use Rattle.lv_clauses.specs.Marks.{Marks, is_marked, is_free}
 use Rattle.lv_reflog.specs.declared.log.Hint.{Hint}
 use Rattle.lv_reflog.specs.declared.log.Step.{Step}
 use Rattle.lv_reflog.specs.Following.{clause_of, first_bad_step}
@@ -93,9 +93,10 @@ pub record IsPropagated (set : ClauseMap) (log : List Step) (old : List Entry) (
   pub extended : IsExtended set log old marks entries found
   pub forced : unforced entries ≡ unforced old
 
--- each boolean's value, false where it has no mark
-abbrev pub values_of : Marks → List Bool
-values_of marks = map (λ m. mark_is m true) marks
+-- values of all booleans, each as it is marked where it is
+pub record KeepMarks (marks : Marks) (values : List Bool) : Type 0 where
+  pub len : length values ≡ length marks
+  pub marked : (l : Lit) → is_marked marks l ≡ true → lit_holds values l ≡ true
 
 -- the clause of this number is over the booleans, and the values make it false
 pub record IsFalsified (set : ClauseMap) (values : List Bool) (id : ℕ) : Type 0 where
@@ -111,7 +112,7 @@ TellsFalse set values id false = slot_holds values (clause_at set.slots id) ≡ 
 
 -- either the marks are values that satisfy the clauses, or a clause is false
 abbrev pub Reaches : ClauseMap → List Step → Marks → List Entry → Reached → Type 0
-Reaches set log marks entries (Values values) = (values ≡ values_of marks) × (list_all is_some marks ≡ true) × (satisfies values set.slots ≡ true)
+Reaches set log marks entries (Values values) = KeepMarks marks values × (satisfies values set.slots ≡ true)
 Reaches set log marks entries (False h) = IsFalse set.slots log (lits_of entries) h
 
 -- the trail goes on from the old entries, to such an end

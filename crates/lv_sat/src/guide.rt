@@ -7,6 +7,7 @@ ghost use Rattle.lv_reflog.specs.declared.log.Step.{Step};
 ghost use Rattle.lv_sat.specs.Trail.{IsTrail};
 
 use super::effort::Effort;
+use super::lead::Trust;
 use super::notes::{Notes, count_base};
 use super::order::Order;
 use super::trail::{Entry, Trail};
@@ -29,11 +30,13 @@ pub struct Guide {
     /// The booleans that an analysis saw: none between two of them.
     pub seen: Vec<bool>,
     pub effort: Effort,
+    pub trust: Trust,
 }
 
 /// Notes that a question is asked.
 pub fn note_call(guide: &mut Guide) {
     guide.effort = guide.effort.with_call();
+    guide.trust = guide.trust.renewed();
     guide.watches.clear_learned();
     guide.room = FIRST_ROOM;
     guide.notes.order.begin();

@@ -20,8 +20,8 @@ const MOST_GONE: u32 = 1000;
 /// Values that satisfy the clauses present, and which clauses hold each literal; none of either where it isn't known.
 #[derive(Drop)]
 pub struct LastValues {
-    values: Option<Seq<bool>>,
-    occurrences: Option<Occurrences>,
+    pub values: Option<Seq<bool>>,
+    pub occurrences: Option<Occurrences>,
     /// How many clauses were taken away that the occurrences may still name.
     gone: u32,
 }
@@ -71,6 +71,14 @@ impl LastValues {
         }
         self.gone = 0;
         self.occurrences = None;
+    }
+
+    /// The values; none where there was no answer yet.
+    pub fn as_slice(&self) -> &[bool] {
+        match &self.values {
+            Some(values) => values.as_slice(),
+            None => &[],
+        }
     }
 
     /// A clause that the values make false; None exactly where they satisfy all.

@@ -16,6 +16,7 @@
 //! | the assumptions on the trail | `front` |
 //! | the search | `search` |
 //! | the last values that satisfied all clauses | `last_values`, `occurrences` |
+//! | what they say of the next choice | `lead` |
 #![tactic(auto)]
 
 mod analysis;
@@ -24,6 +25,7 @@ pub mod effort;
 mod front;
 mod guide;
 mod last_values;
+mod lead;
 mod notes;
 mod occurrences;
 mod order;

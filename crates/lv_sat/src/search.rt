@@ -13,13 +13,15 @@ ghost use Rattle.lv_sat.specs.Front.{Finds, IsKept, IsRefuted};
 ghost use Rattle.lv_reflog.specs.declared.log.Step.{Step};
 ghost use Rattle.lv_sat.specs.Measure.{trails_left};
 ghost use Rattle.lv_sat.specs.Occurrences.{IsUpToDate};
-ghost use Rattle.lv_sat.specs.Trail.{is_open, IsSearch, IsTrail, IsReached, IsGrown, Reaches};
+ghost use Rattle.lv_clauses.specs.ClauseMap.{satisfies};
+ghost use Rattle.lv_sat.specs.Trail.{is_open, KeepMarks, IsSearch, IsTrail, IsReached, IsGrown, Reaches};
 
 use super::analysis::derive;
 use super::answer::Answer;
 use super::front::{Front, forget, stand};
 use super::guide::{Guide, learn, note_base, note_call, take_back};
 use super::last_values::LastValues;
+use super::lead::{Lead, next_lead, no_lead};
 use super::order::Order;
 use super::pace::Pace;
 use super::propagation::propagate;
@@ -28,6 +30,9 @@ use lv_base::{Lit, Seq};
 use lv_clauses::{ClauseSet, negation};
 use lv_reflog::{Hint, Log};
 use std::alloc::{AllocError, Global};
+
+/// After so many clauses learned a question is hard, and the last values don't lead it any more.
+const HARD: usize = 8;
 
 /// Where the choices led.
 #[derive(Drop)]
@@ -208,20 +213,63 @@ fn extend(
     ensures { IfOk result (λ reached. IsReached set.now log.now trail.old.entries.items trail.new.marks.items trail.new.entries.items reached) }
 {
     let mut from = from;
+    let mut place = 0;
     'choices: loop {
         if let Some(hint) = propagate(set, log, &mut guide.watches, from, trail)? {
             return Ok(Reached::False(hint));
         }
         from = trail.entries().len();
-        match choose(&mut guide.notes.order, trail, set.bools()) {
+        let lead = easy_lead(set, log, guide, trail, last, place);
+        place = lead.place;
+        if lead.is_met
+            && let Some(values) = guessed(alloc, set, trail, last)?
+        {
+            guide.trust = guide.trust.met();
+            return Ok(Reached::Values(values));
+        }
+        match choose(lead.lit, &mut guide.notes.order, trail, set.bools()) {
             Some(lit) => trail.push(Entry { lit, reason: None })?,
             None => return judge(alloc, set, log, trail, last),
         }
     }
 }
 
-/// A literal of a boolean that is in range and unmarked; None where there is none.
-fn choose(order: &mut Order, trail: &Trail, bools: u32) -> Option<Lit>
+/// What the last values say of the next choice, while the question isn't hard, and where that is trusted.
+fn easy_lead(
+    set: &ClauseSet,
+    log: &Log,
+    guide: &mut Guide,
+    trail: &Trail,
+    last: &LastValues,
+    place: usize,
+) -> Lead {
+    if log.len() >= HARD || !guide.trust.is_given() {
+        return no_lead(place);
+    }
+    guide.trust = guide.trust.led();
+    next_lead(set, trail, last, place)
+}
+
+/// The last values with the marks in place of theirs, if they satisfy the clauses.
+fn guessed(
+    alloc: Global,
+    set: &ClauseSet,
+    trail: &Trail,
+    last: &LastValues,
+) -> Result<Option<Seq<bool>>, AllocError>
+    requires len { length trail.now.marks.items ≡ set.now.bools }
+    requires last { IsUpToDate set.now last.now.values last.now.occurrences }
+    ensures { IfOk result (λ found. IfSome found (λ values. KeepMarks trail.now.marks.items values × (satisfies values set.now.slots ≡ true))) }
+{
+    let values = trail.values(alloc, last.as_slice())?;
+    match last.first_false(set, values.as_slice()) {
+        Some(_) => Ok(None),
+        None => Ok(Some(values)),
+    }
+}
+
+/// A literal of a boolean that is in range and unmarked, this one if it is; None where there is none.
+fn choose(lead: Option<Lit>, order: &mut Order, trail: &Trail, bools: u32) -> Option<Lit>
     requires len { length trail.now.marks.items ≡ bools }
     requires room { length trail.now.entries.items + count_by is_none trail.now.marks.items ≡ length trail.now.marks.items }
     ensures free { IfSome result (λ lit. IsTrue (is_open trail.now.marks.items lit)) }
@@ -229,6 +277,11 @@ fn choose(order: &mut Order, trail: &Trail, bools: u32) -> Option<Lit>
 {
     if trail.is_full() {
         return None;
+    }
+    if let Some(lit) = lead
+        && trail.is_open(lit)
+    {
+        return Some(lit);
     }
     if let Some(lit) = order.next(trail)
         && trail.is_open(lit)
@@ -251,7 +304,7 @@ fn judge(
     requires last { IsUpToDate set.now last.now.values last.now.occurrences }
     ensures { IfOk result (λ reached. Reaches set.now log.now trail.now.marks.items trail.now.entries.items reached) }
 {
-    let values = trail.values(alloc)?;
+    let values = trail.values(alloc, &[])?;
     match last.first_false(set, values.as_slice()) {
         Some(id) => Ok(Reached::False(Hint::Given(id))),
         None => Ok(Reached::Values(values)),

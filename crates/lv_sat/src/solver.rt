@@ -11,6 +11,7 @@ use super::effort::Effort;
 use super::front::{Front, forget};
 use super::guide::{FIRST_ROOM, Guide};
 use super::last_values::LastValues;
+use super::lead::Trust;
 use super::notes::Notes;
 use super::search::search;
 use super::trail::Trail;
@@ -63,6 +64,7 @@ impl Solver {
                 notes: Notes::new(alloc, set.bools())?,
                 seen: Vec::new(alloc),
                 effort: Effort::new(),
+                trust: Trust::new(),
             },
             front: Front {
                 trail: Trail::new(alloc, set.bools())?,

@@ -8,7 +8,7 @@ ghost use Rattle.lv_clauses.specs.ClauseMap.{ClauseMap};
 ghost use Rattle.lv_clauses.specs.Marks.{nothing, marked};
 ghost use Rattle.lv_reflog.specs.declared.log.Step.{Step};
 ghost use Rattle.lv_sat.specs.Trail as Trails;
-ghost use Rattle.lv_sat.specs.Trail.{IsTrail, IsForced, IsTurned, lits_of, turned, unforced, values_of};
+ghost use Rattle.lv_sat.specs.Trail.{IsTrail, IsForced, IsTurned, lits_of, turned, unforced, KeepMarks};
 
 use super::analysis::Flip;
 use lv_base::{BoolId, Lit, Seq};
@@ -157,13 +157,13 @@ impl Trail {
         None
     }
 
-    /// The values of all booleans, false where there is no mark.
-    pub fn values(&self, alloc: Global) -> Result<Seq<bool>, AllocError>
-        ensures { IfOk result (λ values. values ≡ values_of self.now.marks.items) }
+    /// The values of all booleans: each as it is marked, and as among these where there is no mark.
+    pub fn values(&self, alloc: Global, others: &[bool]) -> Result<Seq<bool>, AllocError>
+        ensures { IfOk result (λ values. KeepMarks self.now.marks.items values) }
     {
         let mut values = Seq::new(alloc);
-        for mark in &self.marks {
-            values.push(*mark == Some(true))?;
+        for (var, mark) in self.marks.iter().enumerate() {
+            values.push(value_of(*mark, others, var))?;
         }
         Ok(values)
     }
@@ -181,5 +181,15 @@ impl Trail {
         if index < self.marks.len() {
             self.marks[index] = None;
         }
+    }
+}
+
+/// The value that a boolean is marked with; where there is no mark, its value among these, or false.
+fn value_of(mark: Option<bool>, others: &[bool], var: usize) -> bool
+    ensures { IfSome mark (λ value. result ≡ value) }
+{
+    match mark {
+        Some(value) => value,
+        None => var < others.len() && others[var],
     }
 }

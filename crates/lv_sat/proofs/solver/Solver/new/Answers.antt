@@ -5,6 +5,6 @@ use Rattle.lv_sat.proofs.solver.Solver.new.Goals as goal
 pub invariant_of-result : goal.invariant_of-result
 invariant_of-result c =
     record {
-      front = kept_nothing c.in_ok-copy.field-0 c.new-6.result.items c.in_ok-new-3.field-0.marks.items c.in_ok-new-3.field-0.entries.items c.new-6.ensures.items c.in_ok-new-3.ensures.entries;
-      last = c.new-7.ensures c.in_ok-copy.field-0;
+      front = kept_nothing c.in_ok-copy.field-0 c.new-7.result.items c.in_ok-new-3.field-0.marks.items c.in_ok-new-3.field-0.entries.items c.new-7.ensures.items c.in_ok-new-3.ensures.entries;
+      last = c.new-8.ensures c.in_ok-copy.field-0;
     }

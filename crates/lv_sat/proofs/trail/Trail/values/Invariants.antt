@@ -1,7 +1,7 @@
--- what is left gives the rest
-use Rattle.std.proofs.Common.{◌≡◌, ◌++◌, drop}
-use Rattle.lv_sat.specs.Trail.{values_of}
+-- the values of the marks gone through keep these
+use Rattle.std.proofs.Common.{take}
+use Rattle.lv_sat.proofs.SearchLemmas.{AreKept}
 use Rattle.lv_sat.proofs.trail.Trail.values.Given as goal
 
-abbrev pub invariant-loop-mark : goal.invariant-loop-mark
-invariant-loop-mark l = l.values ++ values_of (drop l.mark-index l.self.marks.items) ≡ values_of l.self.marks.items
+abbrev pub invariant-loop-var : goal.invariant-loop-var
+invariant-loop-var l = AreKept (take l.var l.self.marks.items) l.values
