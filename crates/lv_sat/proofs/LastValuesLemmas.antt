@@ -1,17 +1,20 @@
 -- What the last values leave to be judged, and how they and the rows are kept up to date.
-use Rattle.std.proofs.Common.{◌≡◌, ◌≢◌, ◌⊎◌, ℕ, suc, ◌+◌, ◌<◌, ◌≤◌, Bool, true, false, List, [], ◌∷◌, length, get_or, Option, Some, None, IfSome, IsSome, Result, Ok, Err, OnOk, IfOk, refl, sym, ap, subst, ◌∙◌, arith, inl, inr, Contains}
+use Rattle.std.proofs.Common.{◌≡◌, ◌≢◌, ◌⊎◌, ℕ, suc, ◌+◌, ◌<◌, ◌≤◌, Bool, true, false, List, [], ◌∷◌, ◌++◌, length, get_or, set, Option, Some, None, IfSome, IsSome, Result, Ok, Err, OnOk, IfOk, if◌then◌else◌, refl, sym, ap, subst, ◌∙◌, arith, inl, inr, Contains}
 use Rattle.std.specs.Result.{is_err, result_ok}
 use Rattle.std.proofs.lemmas.Bool.{cases_eq, cases_lt}
-use Rattle.std.proofs.lemmas.List.{get_or_past}
+use Rattle.std.proofs.lemmas.List.{get_or_past, get_or_append_left, get_or_push, get_or-set_same, get_or-set_other, length-append, length-set}
 use Rattle.lv_base.specs.declared.ids.Lit.{Lit}
+use Rattle.lv_base.specs.declared.ids.BoolId.{BoolId}
 use Rattle.lv_base.specs.declared.ids.ClauseId.{ClauseId}
 use Rattle.lv_clauses.specs.Literals.{same_truth, lit_holds, clause_holds}
 use Rattle.lv_clauses.specs.ClauseMap.{ClauseMap, Slots, Puts, IsBound, clause_at, slot_holds, satisfies}
 use Rattle.lv_clauses.proofs.LiteralLemmas.{lit_of, and_both, any_member, member_any, present_holds}
-use Rattle.lv_clauses.proofs.MarkLemmas.{same_truth-equal}
+use Rattle.lv_clauses.proofs.MarkLemmas.{same_truth-equal, same_truth-self}
 use Rattle.lv_sat.specs.Answers.{IsModel}
 use Rattle.lv_sat.specs.Rows.{Rows, Names, IsIn}
-use Rattle.lv_sat.specs.Occurrences.{NamesBelow, NamesAll, RowHolds, true_lit, IsSettled, IsUpToDate}
+use Rattle.lv_clauses.specs.Marks.{Marks, mark_is, is_marked}
+use Rattle.lv_sat.specs.Trail.{KeepMarks}
+use Rattle.lv_sat.specs.Occurrences.{AreTurned, NamesBelow, NamesAll, RowHolds, true_lit, IsSettled, IsUpToDate}
 
 satisfies_from : (values : List Bool) (slots : Slots) → ((id : ℕ) (c : List Lit) → clause_at slots id ≡ Some c → clause_holds values c ≡ true) → satisfies values slots ≡ true
 satisfies_from values [] each = refl
@@ -102,3 +105,75 @@ where_ok {X} r o P is h = subst (λ (found : Option X). IfSome found P) (sym is)
     by_result : {Y : Type 0} (s : Result X Y) → IfOk s P → IfSome (result_ok s) P
     by_result (Ok x) k = k
     by_result (Err y) k = tt
+
+-- values that keep the marks of the booleans before this one
+pub record KeepBefore (ms : Marks) (vs : List Bool) (at : ℕ) : Type 0 where
+  pub len : length vs ≡ length ms
+  pub marked : (l : Lit) → l.var.0 < at → is_marked ms l ≡ true → lit_holds vs l ≡ true
+
+mark_holds : (o : Option Bool) (v s : Bool) → IfSome o (λ b. v ≡ b) → mark_is o s ≡ true → same_truth v s ≡ true
+mark_holds None v s own e = absurd (cc e)
+mark_holds (Some b) v s own e = ap (λ w. same_truth w s) own ∙ e
+
+pub keep_next : (ms : Marks) (vs : List Bool) (i : ℕ) (v : Bool) → i < length ms → KeepBefore ms vs i → IfSome (get_or ms i None) (λ b. v ≡ b) → KeepBefore ms (set vs i v) (i + 1)
+keep_next ms vs i v within kept own = record { len = length-set vs i v ∙ kept.len; marked = λ l before e. by_place l before e (cases_eq l.var.0 i) }
+  where
+    by_place : (l : Lit) → l.var.0 < i + 1 → is_marked ms l ≡ true → (l.var.0 ≡ i) ⊎ (l.var.0 ≢ i) → lit_holds (set vs i v) l ≡ true
+    by_place l before e (inl same) =
+        ap (λ b. same_truth b l.sign) (ap (λ k. get_or (set vs i v) k false) same ∙ get_or-set_same vs i v false (omega (arith, within, kept.len)))
+        ∙ mark_holds (get_or ms i None) v l.sign own (ap (λ k. mark_is (get_or ms k None) l.sign) (sym same) ∙ e)
+    by_place l before e (inr differs) = ap (λ b. same_truth b l.sign) (get_or-set_other vs i l.var.0 v false differs) ∙ kept.marked l (omega (arith, before, differs)) e
+
+marked_within : (ms : Marks) (l : Lit) → is_marked ms l ≡ true → l.var.0 < length ms
+marked_within ms l e = elim (cases_lt l.var.0 (length ms)) [
+  | inl within ↦ within
+  | inr past ↦ absurd (cc (sym (ap (λ (o : Option Bool). mark_is o l.sign) (get_or_past ms l.var.0 None past)) ∙ e))
+]
+
+pub keep_all : (ms : Marks) (vs : List Bool) (at : ℕ) → length ms ≤ at → KeepBefore ms vs at → KeepMarks ms vs
+keep_all ms vs at past kept = record { len = kept.len; marked = λ l e. kept.marked l (omega (arith, past, marked_within ms l e)) e }
+
+-- those that turned so far are told, of the booleans before this one
+pub record TellTurned (old new : List Bool) (at : ℕ) (turned : List BoolId) : Type 0 where
+  pub told : (var : ℕ) → (get_or new var false ≡ get_or old var false) ⊎ Contains turned (record { 0 = var })
+  pub later : (var : ℕ) → at ≤ var → get_or new var false ≡ get_or old var false
+
+contains_more : {X : Type 0} (xs : List X) (x y : X) → Contains xs x → Contains (xs ++ y ∷ []) x
+contains_more xs x y has = (has.0, omega (arith, has.1, length-append xs (y ∷ [])), get_or_append_left xs (y ∷ []) x has.0 has.1 ∙ has.2)
+
+contains_last : {X : Type 0} (xs : List X) (x : X) → Contains (xs ++ x ∷ []) x
+contains_last xs x = (length xs, omega (arith, length-append xs (x ∷ [])), get_or_push xs x x (length xs) refl)
+
+pub tell_none : (old : List Bool) (turned : List BoolId) → TellTurned old old 0 turned
+tell_none old turned = record { told = λ var. inl refl; later = λ var past. refl }
+
+-- a boolean more, which is told where it turned
+pub tell_next : (old vs : List Bool) (i : ℕ) (v b : Bool) (turned more : List BoolId) → i < length vs → (b ≡ false → v ≡ get_or vs i false) → more ≡ (if b then turned ++ record { 0 = i } ∷ [] else turned)
+    → TellTurned old vs i turned → TellTurned old (set vs i v) (i + 1) more
+tell_next old vs i v b turned more within same is tells =
+    record { told = λ var. by_place var (cases_eq var i); later = λ var past. get_or-set_other vs i var v false (λ e. omega (arith, e, past)) ∙ tells.later var (omega (arith, past)) }
+  where
+    at_place : (c : Bool) → b ≡ c → (get_or (set vs i v) i false ≡ get_or old i false) ⊎ Contains (if c then turned ++ record { 0 = i } ∷ [] else turned) (record { 0 = i })
+    at_place false e = inl (get_or-set_same vs i v false within ∙ same e ∙ tells.later i (omega arith))
+    at_place true e = inr (contains_last turned (record { 0 = i }))
+
+    still : (c : Bool) (x : BoolId) → Contains turned x → Contains (if c then turned ++ record { 0 = i } ∷ [] else turned) x
+    still false x has = has
+    still true x has = contains_more turned x (record { 0 = i }) has
+
+    by_place : (var : ℕ) → (var ≡ i) ⊎ (var ≢ i) → (get_or (set vs i v) var false ≡ get_or old var false) ⊎ Contains more (record { 0 = var })
+    by_place var (inl at) =
+        subst (λ (k : ℕ). (get_or (set vs i v) k false ≡ get_or old k false) ⊎ Contains more (record { 0 = k })) (sym at)
+        (subst (λ (ls : List BoolId). (get_or (set vs i v) i false ≡ get_or old i false) ⊎ Contains ls (record { 0 = i })) (sym is) (at_place b refl))
+    by_place var (inr differs) = elim (tells.told var) [
+      | inl e ↦ inl (get_or-set_other vs i var v false differs ∙ e)
+      | inr has ↦ inr (subst (λ (ls : List BoolId). Contains ls (record { 0 = var })) (sym is) (still b (record { 0 = var }) has))
+    ]
+
+-- all booleans that turned were looked at
+pub each_settled : (slots : Slots) (rows : Rows) (last values : List Bool) (turned : List BoolId) → AreTurned last values turned
+    → ((k : ℕ) (d : BoolId) → k < length turned → IsSettled slots rows last values (get_or turned k d).0) → (var : ℕ) → IsSettled slots rows last values var
+each_settled slots rows last values turned are each var = elim (are var) [
+  | inl same ↦ λ is_false. absurd (cc (sym (ap (λ b. same_truth b (get_or last var false)) same ∙ same_truth-self (get_or last var false)) ∙ is_false))
+  | inr has ↦ subst (λ (x : BoolId). IsSettled slots rows last values x.0) has.2 (each has.0 (record { 0 = var }) has.1)
+]

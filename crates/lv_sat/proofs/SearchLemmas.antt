@@ -1,12 +1,13 @@
 -- What the search keeps at each turn, and what it shows at its ends.
-use Rattle.std.proofs.Common.{◌≡◌, ℕ, suc, zero, ◌+◌, ◌-◌, ◌<◌, ◌≤◌, Bool, true, false, not, List, [], ◌∷◌, ◌++◌, length, map, filter, take, drop, get_or, Option, Some, None, All, IfSome, slice_get, option_map, cond, if◌then◌else◌, append_assoc, refl, sym, ap, ap₂, subst, ◌∙◌, add-one, arith, Contains}
-use Rattle.std.proofs.lemmas.List.{append-nil, length-append, take-append-le, take-map, take-take, take_more, map-append, length-take, length-take-le}
+use Rattle.std.proofs.Common.{◌≡◌, ◌≢◌, ◌⊎◌, inl, inr, set, ℕ, suc, zero, ◌+◌, ◌-◌, ◌<◌, ◌≤◌, Bool, true, false, not, List, [], ◌∷◌, ◌++◌, length, map, filter, take, drop, get_or, Option, Some, None, All, IfSome, slice_get, option_map, cond, if◌then◌else◌, append_assoc, refl, sym, ap, ap₂, subst, ◌∙◌, add-one, arith, Contains}
+use Rattle.std.proofs.lemmas.List.{append-nil, length-append, take-append-le, take-map, take-take, take_more, map-append, length-take, length-take-le, length-set, get_or-set_same, get_or-set_other, get_or_past}
+use Rattle.std.proofs.lemmas.Bool.{cases_eq, cases_lt}
 use Rattle.std.proofs.lemmas.List.Elements.{filter-append}
 use Rattle.std.proofs.Math.Seq.{get_or-append_seam, take-length, take-suc}
 use Rattle.lv_base.specs.declared.ids.Lit.{Lit}
 use Rattle.lv_clauses.specs.Literals.{neg, same_truth, lit_holds, is_clause}
 use Rattle.lv_clauses.specs.ClauseMap.{ClauseMap, Slots, satisfies}
-use Rattle.lv_clauses.specs.Marks.{Marks, marked, mark_is}
+use Rattle.lv_clauses.specs.Marks.{Marks, marked, mark_is, is_marked}
 use Rattle.lv_clauses.proofs.LiteralLemmas.{neg_neg, any_member, all_member, lit_or_neg}
 use Rattle.lv_reflog.specs.declared.log.Hint.{Hint}
 use Rattle.lv_reflog.specs.declared.log.Hint.TheVariants.{Given, Earlier}
@@ -105,44 +106,6 @@ trail_back cs log before marks after start entries left here blank grown is cut 
       room = cut_here.room;
       chain = subst (λ (es : List Entry). IsChain cs [] es) (sym (is ∙ grown.begins)) (subst (λ (steps : List Step). IsChain cs steps start) blank here.chain);
     }
-
--- values that keep marks, each in its place
-abbrev pub AreKept : Marks → List Bool → Type 0
-AreKept [] [] = Unit {0}
-AreKept (m ∷ ms) (v ∷ vs) = (IfSome m (λ b. v ≡ b)) × AreKept ms vs
-AreKept _ _ = ⊥
-
-pub kept_more : (ms : Marks) (vs : List Bool) (m : Option Bool) (v : Bool) → AreKept ms vs → IfSome m (λ b. v ≡ b) → AreKept (ms ++ m ∷ []) (vs ++ v ∷ [])
-kept_more [] [] m v kept own = (own, tt)
-kept_more [] (w ∷ vs) m v kept own = absurd kept
-kept_more (n ∷ ms) [] m v kept own = absurd kept
-kept_more (n ∷ ms) (w ∷ vs) m v kept own = (kept.0, kept_more ms vs m v kept.1 own)
-
-kept_len : (ms : Marks) (vs : List Bool) → AreKept ms vs → length vs ≡ length ms
-kept_len [] [] kept = refl
-kept_len [] (v ∷ vs) kept = absurd kept
-kept_len (m ∷ ms) [] kept = absurd kept
-kept_len (m ∷ ms) (v ∷ vs) kept = ap suc (kept_len ms vs kept.1)
-
-kept_holds : (ms : Marks) (vs : List Bool) (n : ℕ) (s : Bool) → AreKept ms vs → mark_is (get_or ms n None) s ≡ true → same_truth (get_or vs n false) s ≡ true
-kept_holds [] vs n s kept e = absurd (cc e)
-kept_holds (m ∷ ms) [] n s kept e = absurd kept
-kept_holds (m ∷ ms) (v ∷ vs) (suc n) s kept e = kept_holds ms vs n s kept.1 e
-kept_holds (m ∷ ms) (v ∷ vs) zero s kept e = by_mark m s kept.0 e
-  where
-    by_mark : (o : Option Bool) (s : Bool) → IfSome o (λ b. v ≡ b) → mark_is o s ≡ true → same_truth v s ≡ true
-    by_mark None s own f = absurd (cc f)
-    by_mark (Some true) true own f = ap (λ b. same_truth b true) own
-    by_mark (Some true) false own f = absurd (cc f)
-    by_mark (Some false) true own f = absurd (cc f)
-    by_mark (Some false) false own f = ap (λ b. same_truth b false) own
-
-pub kept_next : (ms : Marks) (vs : List Bool) (i : ℕ) (v : Bool) → i < length ms → AreKept (take i ms) vs → IfSome (get_or ms i None) (λ b. v ≡ b) → AreKept (take (i + 1) ms) (vs ++ v ∷ [])
-kept_next ms vs i v within kept own =
-    subst (λ (ks : Marks). AreKept ks (vs ++ v ∷ [])) (sym (ap (λ n. take n ms) (add-one i) ∙ take-suc ms i None within)) (kept_more (take i ms) vs (get_or ms i None) v kept own)
-
-pub kept_marks : (ms : Marks) (vs : List Bool) → AreKept ms vs → KeepMarks ms vs
-kept_marks ms vs kept = record { len = kept_len ms vs kept; marked = λ l e. kept_holds ms vs l.var.0 l.sign kept e }
 
 neg_twice : (ls : List Lit) → map neg (map neg ls) ≡ ls
 neg_twice [] = refl

@@ -1,6 +1,7 @@
 -- What values that turned have to be judged by.
-use Rattle.std.specs.Prelude.{◌≡◌, ℕ, ◌<◌, Bool, true, false, List, [], Option, Some, IfSome, slice_index_or, Contains}
+use Rattle.std.specs.Prelude.{◌≡◌, ◌⊎◌, ℕ, ◌<◌, Bool, true, false, List, [], Option, Some, IfSome, slice_index_or, Contains}
 use Rattle.lv_base.specs.declared.ids.Lit.{Lit}
+use Rattle.lv_base.specs.declared.ids.BoolId.{BoolId}
 use Rattle.lv_base.specs.declared.ids.ClauseId.{ClauseId}
 use Rattle.lv_clauses.specs.Literals.{lit_holds}
 use Rattle.lv_clauses.specs.ClauseMap.{ClauseMap, Slots, clause_at, slot_holds}
@@ -26,6 +27,10 @@ RowHolds slots rows values l = (id : ClauseId) → IsIn rows l id → id_holds v
 -- the literal of the boolean that the values make true
 abbrev pub true_lit : List Bool → ℕ → Lit
 true_lit values var = record { var = record { 0 = var }; sign = slice_index_or values var false }
+
+-- each boolean at which the values differ from the last ones is among these
+abbrev pub AreTurned : List Bool → List Bool → List BoolId → Type 0
+AreTurned last values turned = (var : ℕ) → (slice_index_or values var false ≡ slice_index_or last var false) ⊎ Contains turned (record { 0 = var })
 
 -- where the boolean turned, all is true in the row of its literal that was true
 abbrev pub IsSettled : Slots → Rows → List Bool → List Bool → ℕ → Type 0

@@ -31,6 +31,8 @@ pub struct Guide {
     pub seen: Vec<bool>,
     pub effort: Effort,
     pub trust: Trust,
+    /// So many of the first entries are true by the last values.
+    pub agreed: usize,
 }
 
 /// Notes that a question is asked.
@@ -41,7 +43,11 @@ pub fn note_call(guide: &mut Guide) {
     guide.room = FIRST_ROOM;
     guide.notes.order.begin();
     guide.notes.clear();
-    guide.seen.clear();
+}
+
+/// Notes that the last values are those of the trail.
+pub fn note_values(guide: &mut Guide, trail: &Trail) {
+    guide.agreed = trail.entries().len();
 }
 
 /// Notes up to which entry nothing rests on what was assumed or chosen.
@@ -77,6 +83,7 @@ pub fn take_back(guide: &mut Guide, trail: &mut Trail, len: usize)
         → IsTrail set log trail.new.marks.items trail.new.entries.items }
 {
     note_back(guide, &trail.entries()[len..]);
+    guide.agreed = guide.agreed.min(len);
     trail.cut(len);
 }
 

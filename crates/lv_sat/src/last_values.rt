@@ -2,20 +2,27 @@
 //! judged: each clause that holds a literal that was true and is false.
 #![tactic(auto)]
 
-ghost use Rattle.std.specs.Prelude.{◌≡◌, ℕ, [], true, length, None, Some, IfSome, IfNone};
+ghost use Rattle.std.specs.Prelude.{◌≡◌, ℕ, ◌++◌, ◌∷◌, [], true, false, length, None, Some, IfOk, OnOk, IfSome, IfNone, if◌then◌else◌};
 ghost use Rattle.lv_clauses.specs.ClauseMap.{ClauseMap, Puts, satisfies};
 ghost use Rattle.lv_sat.specs.Answers.{IsModel};
 ghost use Rattle.lv_sat.specs.Occurrences as Occurring;
-ghost use Rattle.lv_sat.specs.Occurrences.{IsSettled, IsUpToDate, NamesAll, RowHolds};
-ghost use Rattle.lv_sat.specs.Trail.{IsFalsified, TellsFalse};
+ghost use Rattle.lv_sat.specs.Occurrences.{AreTurned, IsSettled, IsUpToDate, NamesAll, RowHolds};
+ghost use Rattle.lv_sat.specs.Trail.{IsFalsified, KeepMarks, TellsFalse};
 
 use super::occurrences::Occurrences;
 use lv_base::{BoolId, ClauseId, Lit, Seq};
 use lv_clauses::{ClauseSet, clause_holds, lit_holds};
-use std::alloc::Global;
+use std::alloc::{AllocError, Global};
 
 /// After so many clauses taken away the occurrences are found anew, without them.
 const MOST_GONE: u32 = 1000;
+
+/// Values to be judged, and the booleans at which they differ from the last ones.
+#[derive(Drop)]
+pub struct Guess {
+    pub values: Seq<bool>,
+    turned: Vec<BoolId>,
+}
 
 /// Values that satisfy the clauses present, and which clauses hold each literal; none of either where it isn't known.
 #[derive(Drop)]
@@ -73,28 +80,109 @@ impl LastValues {
         self.occurrences = None;
     }
 
-    /// The values; none where there was no answer yet.
-    pub fn as_slice(&self) -> &[bool] {
+    /// The last values with these marks in place of theirs; false where there is neither.
+    pub fn guess(
+        &self,
+        alloc: Global,
+        set: &ClauseSet,
+        marks: &[Option<bool>],
+    ) -> Result<Guess, AllocError>
+        requires kept { IsUpToDate set.now self.now.values self.now.occurrences }
+        requires len { length marks.now ≡ set.now.bools }
+        ensures keep { IfOk result (λ guess. KeepMarks marks.now guess.values) }
+        ensures turned { IfOk result (λ guess. IfSome self.now.values (λ last. AreTurned last guess.values guess.turned.items)) }
+    {
+        let mut values = self.copied_for(alloc, set)?;
+        let mut turned = Vec::new(alloc);
+        write_marks(marks, set.bools(), &mut values, &mut turned)?;
+        Ok(Guess {
+            values: Seq::from_vec(values),
+            turned,
+        })
+    }
+
+    /// A copy of the values; as many that are false, where there are none.
+    fn copied_for(&self, alloc: Global, set: &ClauseSet) -> Result<Vec<bool>, AllocError>
+        requires { IsUpToDate set.now self.now.values self.now.occurrences }
+        ensures len { IfOk result (λ copy. length copy.items ≡ set.now.bools) }
+        ensures same { IfOk result (λ copy. IfSome self.now.values (λ last. copy.items ≡ last)) }
+    {
         match &self.values {
-            Some(values) => values.as_slice(),
-            None => &[],
+            Some(values) => Ok(Vec::from_slice(alloc, values.as_slice())?),
+            None => Ok(vec![in alloc; false; set.bools() as usize]?),
         }
     }
 
-    /// A clause that the values make false; None exactly where they satisfy all.
-    pub fn first_false(&self, set: &ClauseSet, values: &[bool]) -> Option<ClauseId>
+    /// A clause that a guess makes false; None exactly where it satisfies all.
+    pub fn first_false(&self, set: &ClauseSet, guess: &Guess) -> Option<ClauseId>
         requires kept { IsUpToDate set.now self.now.values self.now.occurrences }
-        requires len { length values.now ≡ set.now.bools }
-        ensures some { IfSome result (λ id. IsFalsified set.now values.now id.0) }
-        ensures none { IfNone result (satisfies values.now set.now.slots ≡ true) }
+        requires len { length guess.now.values ≡ set.now.bools }
+        requires turned { IfSome self.now.values (λ last. AreTurned last guess.now.values guess.now.turned.items) }
+        ensures some { IfSome result (λ id. IsFalsified set.now guess.now.values id.0) }
+        ensures none { IfNone result (satisfies guess.now.values set.now.slots ≡ true) }
     {
+        let values = guess.values.as_slice();
         match (&self.values, &self.occurrences) {
-            (Some(last), Some(occurrences)) => {
-                first_turned(set, occurrences, last.as_slice(), values)
-            }
+            (Some(last), Some(occurrences)) => first_turned(
+                set,
+                occurrences,
+                last.as_slice(),
+                values,
+                guess.turned.as_slice(),
+            ),
             _ => first_of_all(set, values),
         }
     }
+}
+
+/// Writes the marks of so many booleans in place of their values, and adds those booleans whose values turn.
+fn write_marks(
+    marks: &[Option<bool>],
+    bools: u32,
+    values: &mut [bool],
+    turned: &mut Vec<BoolId>,
+) -> Result<(), AllocError>
+    requires marks { length marks.now ≡ bools }
+    requires values { length values.old ≡ bools }
+    ensures keep { OnOk result (KeepMarks marks.now values.new) }
+    ensures turned { OnOk result (AreTurned values.old values.new turned.new.items) }
+{
+    for var in 0..bools {
+        let at = var as usize;
+        let value = marked_or(marks[at], values[at]);
+        add_if(differ(value, values[at]), BoolId(var), turned)?;
+        values[at] = value;
+    }
+    Ok(())
+}
+
+/// The value that a boolean is marked with; where there is no mark, the other one.
+#[inline(always)]
+fn marked_or(mark: Option<bool>, other: bool) -> bool
+    ensures { IfSome mark (λ value. result ≡ value) }
+{
+    match mark {
+        Some(value) => value,
+        None => other,
+    }
+}
+
+#[inline(always)]
+fn differ(one: bool, other: bool) -> bool
+    ensures { result ≡ false → one ≡ other }
+{
+    one != other
+}
+
+/// Adds a boolean, where that is so.
+#[inline(always)]
+fn add_if(is: bool, var: BoolId, vars: &mut Vec<BoolId>) -> Result<(), AllocError>
+    ensures { OnOk result (vars.new.items ≡ (if is then vars.old.items ++ var ∷ [] else vars.old.items)) }
+{
+    if is {
+        vars.push(var)?;
+    }
+    Ok(())
 }
 
 /// Finds the occurrences where they aren't known, if memory suffices.
@@ -144,15 +232,17 @@ fn first_turned(
     occurrences: &Occurrences,
     last: &[bool],
     values: &[bool],
+    turned: &[BoolId],
 ) -> Option<ClauseId>
     requires names { NamesAll set.now.slots occurrences.now }
     requires last { IsModel set.now [] last.now }
     requires len { length values.now ≡ set.now.bools }
+    requires turned { AreTurned last.now values.now turned.now }
     ensures some { IfSome result (λ id. IsFalsified set.now values.now id.0) }
     ensures none { IfNone result (satisfies values.now set.now.slots ≡ true) }
 {
-    for var in 0..set.bools() {
-        if let Some(id) = first_at(set, occurrences, last, values, var) {
+    for at in 0..turned.len() {
+        if let Some(id) = first_at(set, occurrences, last, values, turned[at]) {
             return Some(id);
         }
     }
@@ -165,10 +255,10 @@ fn first_at(
     occurrences: &Occurrences,
     last: &[bool],
     values: &[bool],
-    var: u32,
+    var: BoolId,
 ) -> Option<ClauseId>
     ensures some { IfSome result (λ id. IsFalsified set.now values.now id.0) }
-    ensures none { IfNone result (IsSettled set.now.slots occurrences.now last.now values.now var) }
+    ensures none { IfNone result (IsSettled set.now.slots occurrences.now last.now values.now var.0) }
 {
     let lit = true_lit(last, var);
     if lit_holds(values, lit) {
@@ -178,12 +268,12 @@ fn first_at(
 }
 
 /// The literal of the boolean that the values make true.
-fn true_lit(values: &[bool], var: u32) -> Lit
-    ensures { result ≡ Occurring.true_lit values.now var }
+fn true_lit(values: &[bool], var: BoolId) -> Lit
+    ensures { result ≡ Occurring.true_lit values.now var.0 }
 {
-    let index = var as usize;
+    let index = var.0 as usize;
     Lit {
-        var: BoolId(var),
+        var,
         sign: index < values.len() && values[index],
     }
 }

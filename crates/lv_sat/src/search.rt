@@ -62,6 +62,7 @@ pub fn search(
     match find_answer(alloc, set, guide, front, last, assumptions) {
         Ok(answer) => Ok(answer),
         Err(error) => {
+            guide.seen.clear();
             forget(guide, front);
             Err(error)
         }
@@ -213,7 +214,7 @@ fn extend(
     ensures { IfOk result (λ reached. IsReached set.now log.now trail.old.entries.items trail.new.marks.items trail.new.entries.items reached) }
 {
     let mut from = from;
-    let mut place = 0;
+    let mut place = guide.agreed;
     'choices: loop {
         if let Some(hint) = propagate(set, log, &mut guide.watches, from, trail)? {
             return Ok(Reached::False(hint));
@@ -261,10 +262,10 @@ fn guessed(
     requires last { IsUpToDate set.now last.now.values last.now.occurrences }
     ensures { IfOk result (λ found. IfSome found (λ values. KeepMarks trail.now.marks.items values × (satisfies values set.now.slots ≡ true))) }
 {
-    let values = trail.values(alloc, last.as_slice())?;
-    match last.first_false(set, values.as_slice()) {
+    let guess = last.guess(alloc, set, trail.marks())?;
+    match last.first_false(set, &guess) {
         Some(_) => Ok(None),
-        None => Ok(Some(values)),
+        None => Ok(Some(guess.values)),
     }
 }
 
@@ -304,10 +305,10 @@ fn judge(
     requires last { IsUpToDate set.now last.now.values last.now.occurrences }
     ensures { IfOk result (λ reached. Reaches set.now log.now trail.now.marks.items trail.now.entries.items reached) }
 {
-    let values = trail.values(alloc, &[])?;
-    match last.first_false(set, values.as_slice()) {
+    let guess = last.guess(alloc, set, trail.marks())?;
+    match last.first_false(set, &guess) {
         Some(id) => Ok(Reached::False(Hint::Given(id))),
-        None => Ok(Reached::Values(values)),
+        None => Ok(Reached::Values(guess.values)),
     }
 }
 

@@ -9,7 +9,7 @@ ghost use Rattle.lv_clauses.specs.ClauseMap.{clause_at, Puts};
 use super::answer::Answer;
 use super::effort::Effort;
 use super::front::{Front, forget};
-use super::guide::{FIRST_ROOM, Guide};
+use super::guide::{FIRST_ROOM, Guide, note_values};
 use super::last_values::LastValues;
 use super::lead::Trust;
 use super::notes::Notes;
@@ -65,6 +65,7 @@ impl Solver {
                 seen: Vec::new(alloc),
                 effort: Effort::new(),
                 trust: Trust::new(),
+                agreed: 0,
             },
             front: Front {
                 trail: Trail::new(alloc, set.bools())?,
@@ -125,6 +126,7 @@ impl Solver {
         )?;
         if let Answer::Sat(values) = &answer {
             self.last.keep(self.alloc, &self.set, values.as_slice());
+            note_values(&mut self.guide, &self.front.trail);
         }
         Ok(answer)
     }

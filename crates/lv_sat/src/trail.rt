@@ -8,10 +8,10 @@ ghost use Rattle.lv_clauses.specs.ClauseMap.{ClauseMap};
 ghost use Rattle.lv_clauses.specs.Marks.{nothing, marked};
 ghost use Rattle.lv_reflog.specs.declared.log.Step.{Step};
 ghost use Rattle.lv_sat.specs.Trail as Trails;
-ghost use Rattle.lv_sat.specs.Trail.{IsTrail, IsForced, IsTurned, lits_of, turned, unforced, KeepMarks};
+ghost use Rattle.lv_sat.specs.Trail.{IsTrail, IsForced, IsTurned, lits_of, turned, unforced};
 
 use super::analysis::Flip;
-use lv_base::{BoolId, Lit, Seq};
+use lv_base::{BoolId, Lit};
 use lv_clauses::negation;
 use lv_reflog::Hint;
 use std::alloc::{AllocError, Global};
@@ -157,17 +157,6 @@ impl Trail {
         None
     }
 
-    /// The values of all booleans: each as it is marked, and as among these where there is no mark.
-    pub fn values(&self, alloc: Global, others: &[bool]) -> Result<Seq<bool>, AllocError>
-        ensures { IfOk result (λ values. KeepMarks self.now.marks.items values) }
-    {
-        let mut values = Seq::new(alloc);
-        for (var, mark) in self.marks.iter().enumerate() {
-            values.push(value_of(*mark, others, var))?;
-        }
-        Ok(values)
-    }
-
     /// Takes back the last entry.
     fn pop(&mut self)
         requires { 0 < length self.old.entries.items }
@@ -181,15 +170,5 @@ impl Trail {
         if index < self.marks.len() {
             self.marks[index] = None;
         }
-    }
-}
-
-/// The value that a boolean is marked with; where there is no mark, its value among these, or false.
-fn value_of(mark: Option<bool>, others: &[bool], var: usize) -> bool
-    ensures { IfSome mark (λ value. result ≡ value) }
-{
-    match mark {
-        Some(value) => value,
-        None => var < others.len() && others[var],
     }
 }
