@@ -11,7 +11,7 @@ ghost use Rattle.lv_guide.specs.Beside.{mixed, LeastInsideTells, FirstBySomeTell
 
 use super::known::Known;
 use super::narrowed::narrowed;
-use super::near::{cost_of, lost_pairs};
+use super::near::{cost_of, first_lost, lost_pairs};
 use lv_base::{Conflict, Rank, Seq};
 use lv_boxes::{Grid, Zone};
 use lv_search_guide::least_free::{least_free, rank_of};
@@ -49,16 +49,10 @@ fn without_ends(
     known: &Known,
     near: &Rank,
 ) -> Result<Option<Zone>, AllocError>
-    requires { length near.now.choices ≤ 4096 }
     ensures { IfOk result (λ less. NarrowedTells zone.now known.now less) }
 {
-    let lost = lost_pairs(alloc, zone.masks(), near.choices.as_slice())?;
-    narrowed(
-        alloc,
-        zone,
-        known.conflicts(),
-        known.ends_at_first(lost.as_slice()),
-    )
+    let lost = first_lost(zone.masks(), near.choices.as_slice());
+    narrowed(alloc, zone, known.conflicts(), known.ends_at(lost))
 }
 
 /// The zone's first member by those conflicts that speak of no slot which conflicts join to one at which it lacks the

@@ -51,9 +51,9 @@ struct Course {
 }
 
 /// How often zones may be split by conflicts at first, and how often more with each conflict.
-const SPLITS_AT_FIRST: u64 = 64;
+const SPLITS_AT_FIRST: u64 = 16;
 
-const SPLITS_BY_CONFLICT: u64 = 8;
+const SPLITS_BY_CONFLICT: u64 = 2;
 
 impl Course {
     /// That of a frontier which is only dropped.

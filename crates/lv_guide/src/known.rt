@@ -95,10 +95,10 @@ impl Known {
         &self.conflicts
     }
 
-    /// The places of the bans that end at the slot of the first of these pairs, as far as they are known.
-    pub(crate) fn ends_at_first(&self, pairs: &[Pair]) -> &[usize] {
-        match (pairs.first(), self.joined.as_ref()) {
-            (Some(pair), Some(joined)) => joined.ends_at(*pair),
+    /// The places of the bans that end at the pair's slot, as far as they are known.
+    pub(crate) fn ends_at(&self, pair: Option<Pair>) -> &[usize] {
+        match (pair, self.joined.as_ref()) {
+            (Some(pair), Some(joined)) => joined.ends_at(pair),
             _ => &[],
         }
     }

@@ -17,7 +17,7 @@ use super::known::Known;
 use super::narrowed::narrowed_by_all;
 use super::remembered::Part;
 use lv_base::{Conflict, Cost, Pair, Rank, Seq, contains};
-use lv_boxes::{Grid, Zone, choices_as_conflict};
+use lv_boxes::{Grid, Zone};
 use lv_search_guide::least_free::{least_free, rank_of};
 use lv_search_guide::look::Member;
 use lv_search_parts::live::is_there;
@@ -106,21 +106,31 @@ pub(crate) fn lost_pairs(
     requires { length choices.now ≤ 4096 }
     ensures { IfOk result (λ lost. lost.items ≡ lost_pairs masks.now choices.now) }
 {
-    let all = choices_as_conflict(alloc, choices)?;
-    lost_of(alloc, masks, all.pairs())
-}
-
-/// Of these pairs those whose choices the box lacks.
-fn lost_of(alloc: Global, masks: &[u64], pairs: &[Pair]) -> Result<Vec<Pair>, AllocError>
-    ensures { IfOk result (λ lost. lost.items ≡ filter (λ p. not (is_there masks.now p)) pairs.now) }
-{
     let mut lost = Vec::new(alloc);
-    for pair in pairs {
-        if !is_there(masks, *pair) {
-            lost.push(*pair)?;
+    for (slot, choice) in choices.iter().enumerate() {
+        let pair = Pair {
+            slot: slot as u32,
+            choice: *choice,
+        };
+        if !is_there(masks, pair) {
+            lost.push(pair)?;
         }
     }
     Ok(lost)
+}
+
+/// The first of the choices that the box lacks.
+pub(crate) fn first_lost(masks: &[u64], choices: &[u32]) -> Option<Pair> {
+    for (slot, choice) in choices.iter().enumerate() {
+        let pair = Pair {
+            slot: slot as u32,
+            choice: *choice,
+        };
+        if !is_there(masks, pair) {
+            return Some(pair);
+        }
+    }
+    None
 }
 
 /// Adds the pairs of a conflict, if the choices contain it.
