@@ -20,6 +20,7 @@
 //! | `parts` | the same part by part of a box |
 //! | `cheapest` | a cheapest member, by a stack of boxes |
 //! | `look` | what is to be done with one box |
+//! | `counts` | how many choices a pair stands against |
 //! | `loose` | choices that stand in no conflict |
 //! | `behind` | choices that rank after a loose one |
 //! | `lowest` | of the cheapest members the first in the order of slots |
@@ -34,6 +35,7 @@ pub mod bans;
 mod behind;
 mod cheapest;
 pub mod conflicts;
+mod counts;
 mod dear;
 pub mod laws;
 pub mod least_free;

@@ -10,7 +10,8 @@ ghost use Rattle.lv_base.specs.Choices.{contains_all};
 ghost use Rattle.lv_search_guide.specs.Boxes.{is_open};
 ghost use Rattle.lv_search_guide.specs.Cheapest.{CheapestLeftTells, IsCheapestLeft, HasNoneLeft, LookTells, OpenTells, SplitTells};
 
-use super::bans::{Ban, Choices};
+use super::bans::Ban;
+use super::counts::counts_of;
 use super::masks::Masks;
 use lv_base::{Conflict, Pair, Seq, contains};
 use lv_boxes::least::write_least;
@@ -51,7 +52,7 @@ pub(crate) fn look(
     ensures { IfOk result (λ looked. LookTells grid.now conflicts.now masks.now under looked) }
 {
     match cheapest_left(alloc, grid, masks)? {
-        Some(member) if member.cost < under => Ok(look_at(conflicts, bans, masks, member)),
+        Some(member) if member.cost < under => look_at(alloc, conflicts, bans, masks, member),
         _ => Ok(Looked::Nothing),
     }
 }
@@ -80,23 +81,35 @@ fn write_cheapest(grid: &Grid, masks: &Masks, out: &mut [u32]) -> Option<u64>
 }
 
 /// Looks at a box whose cheapest member this is: it is found, or contains a conflict.
-fn look_at(conflicts: &[Conflict], bans: &[Ban], masks: &Masks, member: Member) -> Looked
-    ensures { (slots : List (List Cost)) (under : ℕ) → IsCheapestLeft slots masks.now member → member.cost < under → LookTells slots conflicts.now masks.now under result }
+fn look_at(
+    alloc: Global,
+    conflicts: &[Conflict],
+    bans: &[Ban],
+    masks: &Masks,
+    member: Member,
+) -> Result<Looked, AllocError>
+    ensures { IfOk result (λ looked. (slots : List (List Cost)) (under : ℕ) → IsCheapestLeft slots masks.now member → member.cost < under → LookTells slots conflicts.now masks.now under looked) }
 {
     match first_contained(conflicts, member.choices.as_slice()) {
-        Some(conflict) => split_by(bans, conflict.pairs(), masks),
-        None => Looked::Found(member),
+        Some(conflict) => split_by(alloc, bans, conflict.pairs(), masks),
+        None => Ok(Looked::Found(member)),
     }
 }
 
 /// Looks at a box whose cheapest member contains the conflict of these pairs: it falls apart by a pair whose choice is not all
 /// that its slot has left. Without such a pair each member contains the conflict.
-fn split_by(bans: &[Ban], pairs: &[Pair], masks: &Masks) -> Looked
-    ensures { SplitTells masks.now pairs.now result }
+fn split_by(
+    alloc: Global,
+    bans: &[Ban],
+    pairs: &[Pair],
+    masks: &Masks,
+) -> Result<Looked, AllocError>
+    ensures { IfOk result (λ looked. SplitTells masks.now pairs.now looked) }
 {
-    match busiest_open(bans, masks.as_slice(), pairs) {
-        Some(pair) => Looked::Splits(pair),
-        None => Looked::Nothing,
+    let counts = counts_of(alloc, bans, masks.as_slice(), pairs)?;
+    match busiest_open(counts.as_slice(), masks.as_slice(), pairs) {
+        Some(pair) => Ok(Looked::Splits(pair)),
+        None => Ok(Looked::Nothing),
     }
 }
 
@@ -109,15 +122,16 @@ fn first_contained<'a>(conflicts: &'a [Conflict], choices: &[u32]) -> Option<&'a
         .find(|conflict| contains(choices, conflict.pairs()))
 }
 
-/// Of the pairs whose choices are not all that their slots have left the one that stands against most choices.
-fn busiest_open(bans: &[Ban], masks: &[u64], pairs: &[Pair]) -> Option<Pair>
+/// Of the pairs whose choices are not all that their slots have left the one that stands against most choices, by the
+/// counts of the slots.
+fn busiest_open(counts: &[u64], masks: &[u64], pairs: &[Pair]) -> Option<Pair>
     ensures { OpenTells masks.now pairs.now (length pairs.now) result }
 {
     let mut busiest: Option<Pair> = None;
     let mut most = 0;
     for pair in pairs {
         if leaves_open(masks, *pair) {
-            let count = count_against(bans, masks, *pair);
+            let count = count_at(counts, *pair);
             if busiest.is_none() || count > most {
                 busiest = Some(*pair);
                 most = count;
@@ -127,32 +141,10 @@ fn busiest_open(bans: &[Ban], masks: &[u64], pairs: &[Pair]) -> Option<Pair>
     busiest
 }
 
-/// How many choices of the box the pair's choice can't stand together with, by each ban.
-fn count_against(bans: &[Ban], masks: &[u64], pair: Pair) -> u64 {
-    let mut count: u64 = 0;
-    for ban in bans {
-        if has_pair(ban.sets(), pair) {
-            count = count.saturating_add(count_of(ban.sets(), masks, pair));
-        }
-    }
-    count
-}
-
-/// Whether the pair's choice is among those of its slot.
-fn has_pair(sets: &[Choices], pair: Pair) -> bool {
-    sets.iter().any(|set| set.slot == pair.slot && mask::has(set.mask, pair.choice as usize))
-}
-
-/// In how many ways a ban can be met beside the pair's slot.
-fn count_of(sets: &[Choices], masks: &[u64], pair: Pair) -> u64 {
-    let mut count: u64 = 1;
-    for set in sets {
-        let slot = set.slot as usize;
-        if slot < masks.len() && set.slot != pair.slot {
-            count = count.saturating_mul((masks[slot] & set.mask).count_ones() as u64);
-        }
-    }
-    count
+/// How many choices a pair stands against, where that was counted.
+fn count_at(counts: &[u64], pair: Pair) -> u64 {
+    let slot = pair.slot as usize;
+    if slot < counts.len() { counts[slot] } else { 0 }
 }
 
 /// Whether the pair's choice is not all that its slot has left.

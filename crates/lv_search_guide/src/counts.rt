@@ -1,0 +1,68 @@
+//! How many choices a pair of a conflict stands against: the more, the better a box falls apart by it.
+#![tactic(auto)]
+
+use super::bans::{Ban, Choices};
+use lv_base::Pair;
+use lv_boxes::mask;
+use std::alloc::{AllocError, Global};
+
+/// Of each slot how many choices of the box the choice of these pairs there can't stand together with, by each ban;
+/// nothing of any slot, where there are no bans. The pairs have each slot once at most.
+pub(crate) fn counts_of(
+    alloc: Global,
+    bans: &[Ban],
+    masks: &[u64],
+    pairs: &[Pair],
+) -> Result<Vec<u64>, AllocError> {
+    if bans.len() == 0 {
+        return Ok(Vec::new(alloc));
+    }
+    let mut counts = vec![in alloc; 0; masks.len()]?;
+    let open = open_choices(alloc, masks, pairs)?;
+    for ban in bans {
+        add_ban(ban.sets(), masks, open.as_slice(), &mut counts);
+    }
+    Ok(counts)
+}
+
+/// Of each slot the choice of these pairs there, as a mask, where it is not all that the slot has left.
+fn open_choices(alloc: Global, masks: &[u64], pairs: &[Pair]) -> Result<Vec<u64>, AllocError> {
+    let mut open = vec![in alloc; 0; masks.len()]?;
+    for pair in pairs {
+        put_open(masks, *pair, &mut open);
+    }
+    Ok(open)
+}
+
+/// Puts down the pair's choice, where it is not all that its slot has left.
+fn put_open(masks: &[u64], pair: Pair, open: &mut [u64]) {
+    let slot = pair.slot as usize;
+    if slot < masks.len() && slot < open.len() {
+        let own = mask::only(masks[slot], pair.choice);
+        if own != masks[slot] {
+            open[slot] = own;
+        }
+    }
+}
+
+/// Adds, at each slot where a ban has the open choice, in how many ways the ban can be met beside that slot.
+fn add_ban(sets: &[Choices], masks: &[u64], open: &[u64], counts: &mut [u64]) {
+    for set in sets {
+        let slot = set.slot as usize;
+        if slot < open.len() && slot < counts.len() && open[slot] & set.mask != 0 {
+            counts[slot] = counts[slot].saturating_add(ways_beside(sets, masks, slot));
+        }
+    }
+}
+
+/// In how many ways a ban can be met beside this slot.
+fn ways_beside(sets: &[Choices], masks: &[u64], beside: usize) -> u64 {
+    let mut ways: u64 = 1;
+    for set in sets {
+        let slot = set.slot as usize;
+        if slot < masks.len() && slot != beside {
+            ways = ways.saturating_mul((masks[slot] & set.mask).count_ones() as u64);
+        }
+    }
+    ways
+}
