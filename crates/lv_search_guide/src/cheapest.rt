@@ -11,9 +11,10 @@ use super::dear::drop_dear;
 use super::look::{Looked, Member, look};
 use super::masks::Masks;
 use super::narrow::{narrow, narrow_if};
+use super::prices::Room;
 use lv_base::Pair;
 use lv_boxes::Grid;
-use std::alloc::{AllocError, Global};
+use std::alloc::AllocError;
 
 /// The cheapest member found so far, and what a member has to cost less than to be of interest still.
 #[derive(Debug, Drop)]
@@ -32,7 +33,7 @@ pub(crate) struct Branch {
 /// A cheapest member of a box that contains no conflict, if one costs less than `under`. None is known to cost less than
 /// `least`, so the first that costs no more ends the search.
 pub(crate) fn cheapest(
-    alloc: Global,
+    room: &mut Room,
     grid: &Grid,
     conflicts: &Conflicts,
     masks: &Masks,
@@ -42,16 +43,16 @@ pub(crate) fn cheapest(
     requires { CostsAtLeast grid.now conflicts.now masks.now least }
     ensures { IfOk result (λ member. CheapestTells grid.now conflicts.now masks.now under member) }
 {
-    let whole = Masks::from_slice(alloc, masks.as_slice())?;
-    match branch_of(alloc, grid, conflicts, whole, under)? {
-        Some(first) => cheapest_of(alloc, grid, conflicts, first, least, under),
+    let whole = Masks::from_slice(room.alloc, masks.as_slice())?;
+    match branch_of(room, grid, conflicts, whole, under)? {
+        Some(first) => cheapest_of(room, grid, conflicts, first, least, under),
         None => Ok(None),
     }
 }
 
 /// As `cheapest`, by what of the box is to be looked at.
 fn cheapest_of(
-    alloc: Global,
+    room: &mut Room,
     grid: &Grid,
     conflicts: &Conflicts,
     first: Branch,
@@ -63,7 +64,7 @@ fn cheapest_of(
     ensures { IfOk result (λ member. CheapestTells grid.now conflicts.now first.masks under member) }
 {
     let floor = least.max(first.low);
-    let mut boxes = Vec::new(alloc);
+    let mut boxes = Vec::new(room.alloc);
     boxes.push(first)?;
     let mut best = Best {
         under,
@@ -73,7 +74,7 @@ fn cheapest_of(
         if best.under <= floor {
             return Ok(best.member);
         }
-        take_box(alloc, grid, conflicts, &next, &mut best, &mut boxes)?;
+        take_box(room, grid, conflicts, &next, &mut best, &mut boxes)?;
     }
     Ok(best.member)
 }
@@ -81,7 +82,7 @@ fn cheapest_of(
 /// What of a box is still to be looked at for a member that contains no conflict and costs less than `under`: the choices
 /// that conflicts leave and that aren't too dear. `None` where there is no such member.
 fn branch_of(
-    alloc: Global,
+    room: &mut Room,
     grid: &Grid,
     conflicts: &Conflicts,
     masks: Masks,
@@ -93,7 +94,7 @@ fn branch_of(
     if !narrow(conflicts, &mut masks) {
         return Ok(None);
     }
-    let dropped = drop_dear(alloc, grid, conflicts, &mut masks, under)?;
+    let dropped = drop_dear(room, grid, conflicts, &mut masks, under)?;
     if dropped.low >= under {
         return Ok(None);
     }
@@ -108,7 +109,7 @@ fn branch_of(
 
 /// Looks at a box that was taken off the stack: gives it up, or finds a cheaper member, or puts its two parts on the stack.
 fn take_box(
-    alloc: Global,
+    room: &mut Room,
     grid: &Grid,
     conflicts: &Conflicts,
     next: &Branch,
@@ -121,7 +122,14 @@ fn take_box(
         return Ok(());
     }
     let all = conflicts.as_slice();
-    match look(alloc, grid, all, conflicts.bans(), &next.masks, best.under)? {
+    match look(
+        room.alloc,
+        grid,
+        all,
+        conflicts.bans(),
+        &next.masks,
+        best.under,
+    )? {
         Looked::Nothing => Ok(()),
         Looked::Found(member) => {
             best.under = member.cost;
@@ -129,7 +137,7 @@ fn take_box(
             Ok(())
         }
         Looked::Splits(pair) => {
-            push_parts(alloc, grid, conflicts, &next.masks, pair, best.under, boxes)?;
+            push_parts(room, grid, conflicts, &next.masks, pair, best.under, boxes)?;
             Ok(())
         }
     }
@@ -138,7 +146,7 @@ fn take_box(
 /// Puts what is to be looked at of the two parts of a box on the stack: the members that have the pair's choice, and those
 /// that haven't.
 fn push_parts(
-    alloc: Global,
+    room: &mut Room,
     grid: &Grid,
     conflicts: &Conflicts,
     masks: &Masks,
@@ -149,8 +157,9 @@ fn push_parts(
     requires { FallsApart masks.now pair }
     ensures { OnOk result (PushesParts grid.now conflicts.now masks.now under boxes.old.items boxes.new.items) }
 {
-    let with = branch_of(alloc, grid, conflicts, masks.with(alloc, pair)?, under)?;
-    let without = branch_of(alloc, grid, conflicts, masks.without(alloc, pair)?, under)?;
+    let alloc = room.alloc;
+    let with = branch_of(room, grid, conflicts, masks.with(alloc, pair)?, under)?;
+    let without = branch_of(room, grid, conflicts, masks.without(alloc, pair)?, under)?;
     push_both(with, without, boxes)?;
     Ok(())
 }

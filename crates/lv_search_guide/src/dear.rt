@@ -12,10 +12,10 @@ ghost use Rattle.lv_search_guide.specs.Prices.{IsBound};
 
 use super::conflicts::Conflicts;
 use super::masks::Masks;
-use super::prices::{Row, priced_in};
+use super::prices::{Room, Row, priced_in};
 use lv_base::{Cost, Pair};
 use lv_boxes::Grid;
-use std::alloc::{AllocError, Global};
+use std::alloc::AllocError;
 
 /// What was found out of a box when choices were taken out that are too dear.
 #[derive(Clone, Copy, Debug)]
@@ -28,7 +28,7 @@ pub(crate) struct Dropped {
 
 /// Takes out of a box choices that no member has that contains no conflict and costs less than `under`.
 pub(crate) fn drop_dear(
-    alloc: Global,
+    room: &mut Room,
     grid: &Grid,
     conflicts: &Conflicts,
     masks: &mut Masks,
@@ -37,12 +37,9 @@ pub(crate) fn drop_dear(
     ensures keeps { OnOk result (KeepsUnder grid.now conflicts.now under masks.old masks.new) }
     ensures low { IfOk result (λ dropped. CostsAtLeast grid.now conflicts.now masks.old dropped.low) }
 {
-    let priced = priced_in(alloc, grid, conflicts, masks.as_slice(), under)?;
-    let some = drop_priced(priced.rows.as_slice(), priced.low, under, masks);
-    Ok(Dropped {
-        low: priced.low,
-        some,
-    })
+    let low = priced_in(room, grid, conflicts, masks.as_slice(), under)?;
+    let some = drop_priced(room.rows.as_slice(), low, under, masks);
+    Ok(Dropped { low, some })
 }
 
 /// Takes out of a box the choices of all slots whose price and the bound come to this. Answers whether there were some.

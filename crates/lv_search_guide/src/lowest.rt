@@ -15,13 +15,14 @@ use super::dear::drop_dear;
 use super::look::Member;
 use super::masks::Masks;
 use super::narrow::narrow;
+use super::prices::Room;
 use lv_base::{Pair, Seq};
 use lv_boxes::Grid;
-use std::alloc::{AllocError, Global};
+use std::alloc::AllocError;
 
 /// Of the members that contain no conflict and cost as little as this one, which is a cheapest, the first.
 pub(crate) fn lowest(
-    alloc: Global,
+    room: &mut Room,
     grid: &Grid,
     conflicts: &Conflicts,
     masks: &Masks,
@@ -32,17 +33,17 @@ pub(crate) fn lowest(
     ensures lowest { IfOk result (λ lowest. IsLowest grid.now conflicts.now masks.now lowest) }
     ensures cost { IfOk result (λ lowest. lowest.cost ≡ member.cost) }
 {
-    let mut part = Masks::from_slice(alloc, masks.as_slice())?;
-    drop_dear(alloc, grid, conflicts, &mut part, member.cost + 1)?;
+    let mut part = Masks::from_slice(room.alloc, masks.as_slice())?;
+    drop_dear(room, grid, conflicts, &mut part, member.cost + 1)?;
     if !narrow(conflicts, &mut part) {
         return Ok(member);
     }
-    lowest_in(alloc, grid, conflicts, part, member)
+    lowest_in(room, grid, conflicts, part, member)
 }
 
 /// As `lowest`, in a box without choices that are too dear.
 fn lowest_in(
-    alloc: Global,
+    room: &mut Room,
     grid: &Grid,
     conflicts: &Conflicts,
     masks: Masks,
@@ -57,7 +58,7 @@ fn lowest_in(
     let cost = member.cost;
     let mut choices = member.choices;
     for slot in 0..grid.len() {
-        let first = first_at(alloc, grid, conflicts, &part, slot, choices, cost)?;
+        let first = first_at(room, grid, conflicts, &part, slot, choices, cost)?;
         part.fix(Pair {
             slot: slot as u32,
             choice: choice_at(&first, slot),
@@ -70,7 +71,7 @@ fn lowest_in(
 /// A member that costs as little as these choices, which cost least, and has the lowest choice at this slot that such a
 /// member has.
 fn first_at(
-    alloc: Global,
+    room: &mut Room,
     grid: &Grid,
     conflicts: &Conflicts,
     masks: &Masks,
@@ -87,7 +88,7 @@ fn first_at(
     ensures { IfOk result (λ first. IsFirstAt grid.now conflicts.now masks.now slot cost first) }
 {
     let below = choice_at(&choices, slot);
-    match lower_at(alloc, grid, conflicts, masks, slot, below, cost)? {
+    match lower_at(room, grid, conflicts, masks, slot, below, cost)? {
         Some(lower) => Ok(lower),
         None => Ok(choices),
     }
@@ -96,7 +97,7 @@ fn first_at(
 /// A member of this cost, the least, with the lowest choice at this slot that such a member has, if that is below this
 /// choice.
 fn lower_at(
-    alloc: Global,
+    room: &mut Room,
     grid: &Grid,
     conflicts: &Conflicts,
     masks: &Masks,
@@ -115,7 +116,7 @@ fn lower_at(
             slot: slot as u32,
             choice,
         };
-        match member_with(alloc, grid, conflicts, masks, pair, cost)? {
+        match member_with(room, grid, conflicts, masks, pair, cost)? {
             Some(lower) => return Ok(Some(lower)),
             None => {}
         }
@@ -125,7 +126,7 @@ fn lower_at(
 
 /// A member of this cost, the least, that has the pair's choice, if there is one.
 fn member_with(
-    alloc: Global,
+    room: &mut Room,
     grid: &Grid,
     conflicts: &Conflicts,
     masks: &Masks,
@@ -140,8 +141,8 @@ fn member_with(
     if !masks.has(pair) {
         return Ok(None);
     }
-    let part = masks.with(alloc, pair)?;
-    match cheapest(alloc, grid, conflicts, &part, cost, cost + 1)? {
+    let part = masks.with(room.alloc, pair)?;
+    match cheapest(room, grid, conflicts, &part, cost, cost + 1)? {
         Some(member) => Ok(Some(member.choices)),
         None => Ok(None),
     }

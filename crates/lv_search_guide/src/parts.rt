@@ -13,6 +13,7 @@ use super::conflicts::Conflicts;
 use super::look::{ABOVE_ALL, Looked, Member, look};
 use super::lowest::lowest;
 use super::masks::Masks;
+use super::prices::Room;
 use lv_base::{Conflict, Pair};
 use lv_boxes::Grid;
 use lv_search_parts::labels::joined_with;
@@ -131,9 +132,23 @@ fn first_found(
     ensures first { IfOk result (λ first. LowestTells grid.now conflicts.now masks.now first) }
     ensures bound { IfOk result (λ first. IfSome first (λ member. member.cost ≤ 4096 * 1000000)) }
 {
+    let mut room = Room::new(alloc);
+    first_with(&mut room, grid, conflicts, masks)
+}
+
+/// As `first_found`, with the room for it.
+fn first_with(
+    room: &mut Room,
+    grid: &Grid,
+    conflicts: &Conflicts,
+    masks: &Masks,
+) -> Result<Option<Member>, AllocError>
+    ensures first { IfOk result (λ first. LowestTells grid.now conflicts.now masks.now first) }
+    ensures bound { IfOk result (λ first. IfSome first (λ member. member.cost ≤ 4096 * 1000000)) }
+{
     let _slots = grid.slots();
-    match cheapest(alloc, grid, conflicts, masks, 0, ABOVE_ALL)? {
-        Some(member) => Ok(Some(lowest(alloc, grid, conflicts, masks, member)?)),
+    match cheapest(room, grid, conflicts, masks, 0, ABOVE_ALL)? {
+        Some(member) => Ok(Some(lowest(room, grid, conflicts, masks, member)?)),
         None => Ok(None),
     }
 }

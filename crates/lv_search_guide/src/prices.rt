@@ -4,7 +4,7 @@
 //! Bound and prices of a member together never pass what it costs.
 #![tactic(auto)]
 
-ghost use Rattle.std.specs.Prelude.{◌≡◌, ◌<◌, ◌≤◌, ◌∷◌, [], ℕ, List, length, slice_index, slice_index_or, IfOk, IfSome, IsTrue};
+ghost use Rattle.std.specs.Prelude.{◌≡◌, ◌<◌, ◌≤◌, ◌∷◌, [], ℕ, List, length, slice_index, slice_index_or, slice_set, IfOk, IfSome, IsTrue, OnOk};
 ghost use Rattle.std.specs.List.{AllByRecursion};
 ghost use Rattle.lv_base.specs.declared.ids.Cost.{Cost};
 ghost use Rattle.lv_base.specs.declared.search.Pair.{Pair};
@@ -29,11 +29,21 @@ pub(crate) struct Row {
     least: usize,
 }
 
-/// A bound of what members cost, and of each slot what its choices are still priced at.
+/// What a search works in: where lists are made, and rows of prices, which are filled anew for each box.
 #[derive(Debug, Drop)]
-pub(crate) struct Priced {
-    pub(crate) low: u64,
+pub(crate) struct Room {
+    pub(crate) alloc: Global,
     pub(crate) rows: Vec<Row>,
+}
+
+impl Room {
+    /// Room for a search.
+    pub(crate) fn new(alloc: Global) -> Room {
+        Room {
+            alloc,
+            rows: Vec::new(alloc),
+        }
+    }
 }
 
 impl Model for Row {
@@ -46,16 +56,26 @@ impl Model for Row {
 }
 
 impl Row {
-    /// What the choices cost, of which the mask has those left.
-    fn new(alloc: Global, costs: &[Cost], mask: u64) -> Result<Row, AllocError>
-        ensures { IfOk result (λ row. row ≡ costs.now) }
+    /// No prices.
+    fn new(alloc: Global) -> Row
+        ensures { result ≡ [] }
     {
-        let least = least_choice(costs, mask);
-        Ok(Row {
-            prices: Vec::from_slice(alloc, costs)?,
-            mask,
-            least,
-        })
+        Row {
+            prices: Vec::new(alloc),
+            mask: 0,
+            least: 0,
+        }
+    }
+
+    /// Takes what the choices cost, of which the mask has those left.
+    fn fill(&mut self, costs: &[Cost], mask: u64) -> Result<(), AllocError>
+        ensures { OnOk result (self.new ≡ costs.now) }
+    {
+        self.prices.clear();
+        self.prices.extend_from_slice(costs)?;
+        self.mask = mask;
+        self.least = least_choice(costs, mask);
+        Ok(())
     }
 
     pub(crate) fn as_slice(&self) -> &[Cost]
@@ -284,34 +304,57 @@ fn raise_by_ban(
     raise_bound(masks, bans[place].sets(), low, rows)
 }
 
-/// The prices that each slot's choices begin at: what they cost.
-fn rows_of(alloc: Global, slots: &[Seq<Cost>], masks: &[u64]) -> Result<Vec<Row>, AllocError>
-    ensures { IfOk result (λ rows. rows.items ≡ slots.now) }
+/// As many rows as there are slots.
+fn fit_rows(alloc: Global, count: usize, rows: &mut Vec<Row>) -> Result<(), AllocError>
+    ensures { OnOk result (length rows.new.items ≡ count) }
 {
-    let mut rows = Vec::new(alloc);
-    for (slot, costs) in slots.iter().enumerate() {
-        let mask = masks.get(slot).copied().unwrap_or(0);
-        rows.push(Row::new(alloc, costs.as_slice(), mask)?)?;
+    rows.truncate(count);
+    for _row in rows.len()..count {
+        rows.push(Row::new(alloc))?;
     }
-    Ok(rows)
+    Ok(())
 }
 
-/// What a member of a box that contains no conflict costs at least, and what its choices cost beside that; no more is
-/// found out once that is enough.
-pub(crate) fn priced_in(
+/// Fills the row of a slot with what its choices cost.
+fn fill_row(costs: &[Cost], mask: u64, slot: usize, rows: &mut Vec<Row>) -> Result<(), AllocError>
+    requires { slot < length rows.old.items }
+    ensures { OnOk result (rows.new.items ≡ slice_set rows.old.items slot costs.now) }
+{
+    rows[slot].fill(costs, mask)
+}
+
+/// Fills the rows with the prices that each slot's choices begin at: what they cost.
+fn fill_rows(
     alloc: Global,
+    slots: &[Seq<Cost>],
+    masks: &[u64],
+    rows: &mut Vec<Row>,
+) -> Result<(), AllocError>
+    ensures { OnOk result (rows.new.items ≡ slots.now) }
+{
+    fit_rows(alloc, slots.len(), rows)?;
+    for slot in 0..slots.len() {
+        let mask = masks.get(slot).copied().unwrap_or(0);
+        fill_row(slots[slot].as_slice(), mask, slot, rows)?;
+    }
+    Ok(())
+}
+
+/// What a member of a box that contains no conflict costs at least; the rows tell what its choices cost beside that. No
+/// more is found out once that is enough.
+pub(crate) fn priced_in(
+    room: &mut Room,
     grid: &Grid,
     conflicts: &Conflicts,
     masks: &[u64],
     enough: u64,
-) -> Result<Priced, AllocError>
-    ensures { IfOk result (λ priced. IsBound grid.now conflicts.now masks.now priced.low priced.rows.items) }
+) -> Result<u64, AllocError>
+    ensures { IfOk result (λ low. IsBound grid.now conflicts.now masks.now low room.new.rows.items) }
 {
-    let mut rows = rows_of(alloc, grid.slots(), masks)?;
-    if masks.len() != rows.len() {
-        return Ok(Priced { low: 0, rows });
+    fill_rows(room.alloc, grid.slots(), masks, &mut room.rows)?;
+    if masks.len() != room.rows.len() {
+        return Ok(0);
     }
-    let by_slots = raise_by_slots(masks, &mut rows);
-    let low = raise_by_bans(masks, conflicts, by_slots, enough, &mut rows);
-    Ok(Priced { low, rows })
+    let by_slots = raise_by_slots(masks, &mut room.rows);
+    Ok(raise_by_bans(masks, conflicts, by_slots, enough, &mut room.rows))
 }

@@ -5,6 +5,6 @@ use Rattle.lv_search_guide.proofs.prices.priced_in.Goals as goal
 
 pub returns : goal.returns
 returns c =
-    c.raise_by_bans-low.ensures c.args.grid.now
+    c.raise_by_bans.ensures c.args.grid.now
     (c.raise_by_slots-by_slots.ensures.bound c.args.grid.now c.args.conflicts.now
-    (bound_begins c.args.grid.now c.args.conflicts.now c.args.masks.now c.in_ok-rows.rows.items (c.in_ok-rows.ensures ∙ c.slots.ensures.slots)))
+    (bound_begins c.args.grid.now c.args.conflicts.now c.args.masks.now c.fill_rows.new.rows.items (c.in_ok-fill_rows.ensures ∙ c.slots.ensures.slots)))
