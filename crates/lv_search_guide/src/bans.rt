@@ -127,7 +127,12 @@ fn write_sets(pairs: &[Pair], sets: &mut Vec<Choices>) -> Result<(), AllocError>
 }
 
 /// Adds a ban of these, or has one of those from a place on take it in.
-fn put(alloc: Global, sets: &[Choices], first: usize, bans: &mut Vec<Ban>) -> Result<(), AllocError>
+pub(crate) fn put(
+    alloc: Global,
+    sets: &[Choices],
+    first: usize,
+    bans: &mut Vec<Ban>,
+) -> Result<(), AllocError>
     requires { IsTrue (sets_rise sets.now) }
     ensures { OnOk result (HasOneMore bans.old.items sets.now bans.new.items) }
 {

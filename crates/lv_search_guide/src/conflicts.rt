@@ -5,6 +5,7 @@ ghost use Rattle.std.specs.Prelude.{◌≡◌, ◌++◌, ◌∷◌, [], IfOk, On
 ghost use Rattle.lv_search_guide.specs.Bans.{AreBans};
 
 use super::bans::{Ban, bans_of};
+use super::order::short_first;
 use lv_base::Conflict;
 use std::alloc::{AllocError, Global};
 use std::marker::Model;
@@ -34,6 +35,19 @@ impl Conflicts {
         ensures { IfOk result (λ conflicts. conflicts ≡ all.items) }
     {
         let bans = bans_of(alloc, all.as_slice())?;
+        Ok(Conflicts { all, bans })
+    }
+
+    /// These conflicts, with the bans in the order in which a search of a box of so many slots goes through them.
+    pub(crate) fn for_search(
+        alloc: Global,
+        all: Vec<Conflict>,
+        slots: usize,
+    ) -> Result<Conflicts, AllocError>
+        ensures { IfOk result (λ conflicts. conflicts ≡ all.items) }
+    {
+        let drawn = bans_of(alloc, all.as_slice())?;
+        let bans = short_first(alloc, drawn.as_slice(), slots)?;
         Ok(Conflicts { all, bans })
     }
 

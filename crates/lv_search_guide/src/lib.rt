@@ -17,6 +17,7 @@
 //! | `least_free` | the member that ranks first |
 //! | `conflicts` | conflicts with the bans that they come to |
 //! | `bans` | conflicts drawn together |
+//! | `order` | in which order a search goes through them |
 //! | `parts` | the same part by part of a box |
 //! | `cheapest` | a cheapest member, by a stack of boxes |
 //! | `look` | what is to be done with one box |
@@ -44,6 +45,7 @@ mod loose;
 mod lowest;
 pub mod masks;
 pub mod narrow;
+mod order;
 mod parts;
 mod prices;
 

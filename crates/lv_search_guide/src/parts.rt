@@ -103,7 +103,7 @@ fn first_of_part(
     let part = part_grid(alloc, grid, marks)?;
     let words = part_masks(alloc, masks.as_slice(), marks)?;
     let inner = part_conflicts(alloc, conflicts, marks, words.as_slice())?;
-    let inner = Conflicts::new(alloc, inner)?;
+    let inner = Conflicts::for_search(alloc, inner, part.len())?;
     first_found(alloc, &part, &inner, &Masks::from_vec(words))
 }
 
@@ -118,7 +118,7 @@ fn first_in_whole(
     ensures bound { IfOk result (λ first. IfSome first (λ member. member.cost ≤ 4096 * 1000000)) }
 {
     let live = live_in(alloc, conflicts, masks.as_slice())?;
-    let live = Conflicts::new(alloc, live)?;
+    let live = Conflicts::for_search(alloc, live, grid.len())?;
     first_found(alloc, grid, &live, masks)
 }
 
