@@ -26,7 +26,8 @@ pub(crate) struct Dropped {
     pub(crate) some: bool,
 }
 
-/// Takes out of a box choices that no member has that contains no conflict and costs less than `under`.
+/// Takes out of a box choices that no member has that contains no conflict and costs less than `under`. Where no member
+/// costs less at all it is left as it is.
 pub(crate) fn drop_dear(
     room: &mut Room,
     grid: &Grid,
@@ -38,6 +39,9 @@ pub(crate) fn drop_dear(
     ensures low { IfOk result (λ dropped. CostsAtLeast grid.now conflicts.now masks.old dropped.low) }
 {
     let low = priced_in(room, grid, conflicts, masks.as_slice(), under)?;
+    if low >= under {
+        return Ok(Dropped { low, some: false });
+    }
     let some = drop_priced(room.rows.as_slice(), low, under, masks);
     Ok(Dropped { low, some })
 }

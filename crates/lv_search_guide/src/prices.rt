@@ -84,6 +84,11 @@ impl Row {
         self.prices.as_slice()
     }
 
+    /// Whether a least priced of the choices left has a price.
+    fn is_priced(&self) -> bool {
+        self.least < self.prices.len() && self.prices[self.least].0 > 0
+    }
+
     /// Prices each choice that the mask has at so much less.
     fn lower(&mut self, mask: u64, by: u64)
         ensures { self.new ≡ lowered_from 0 mask by self.old }
@@ -255,13 +260,34 @@ fn raise_by_slots(masks: &[u64], rows: &mut Vec<Row>) -> u64
 {
     let mut low = 0;
     for slot in 0..masks.len() {
-        let none = Choices {
-            slot: slot as u32,
-            mask: 0,
-        };
-        low = raise_bound(masks, &[none], low, rows);
+        low = raise_by_slot(masks, slot, low, rows);
     }
     low
+}
+
+/// Raises a bound by the cheapest choice of a slot. Where that is free there is nothing to raise it by.
+fn raise_by_slot(masks: &[u64], slot: usize, low: u64, rows: &mut Vec<Row>) -> u64
+    requires within { slot < 4096 }
+    requires long { length masks.now ≡ length rows.old.items }
+    ensures bound { (slots : List (List Cost)) (conflicts : List (List Pair)) → IsBound slots conflicts masks.now low rows.old.items → IsBound slots conflicts masks.now result rows.new.items }
+    ensures long { length rows.new.items ≡ length rows.old.items }
+{
+    if !is_priced(slot, rows.as_slice()) {
+        return low;
+    }
+    let none = Choices {
+        slot: slot as u32,
+        mask: 0,
+    };
+    raise_bound(masks, &[none], low, rows)
+}
+
+/// Whether a least priced of the choices left of a slot has a price.
+fn is_priced(slot: usize, rows: &[Row]) -> bool {
+    match rows.get(slot) {
+        Some(row) => row.is_priced(),
+        None => false,
+    }
 }
 
 /// Raises a bound by each ban in turn, until it is enough.
