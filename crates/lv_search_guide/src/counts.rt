@@ -45,24 +45,41 @@ fn put_open(masks: &[u64], pair: Pair, open: &mut [u64]) {
     }
 }
 
-/// Adds, at each slot where a ban has the open choice, in how many ways the ban can be met beside that slot.
+/// Adds, at each slot where a ban has the open choice, in how many ways the ban can be met beside that slot. A ban that
+/// can't be met in the box adds nothing.
 fn add_ban(sets: &[Choices], masks: &[u64], open: &[u64], counts: &mut [u64]) {
+    let ways = ways_of(sets, masks);
+    if ways == 0 {
+        return;
+    }
     for set in sets {
         let slot = set.slot as usize;
         if slot < open.len() && slot < counts.len() && open[slot] & set.mask != 0 {
-            counts[slot] = counts[slot].saturating_add(ways_beside(sets, masks, slot));
+            let beside = ways / ways_at(*set, masks).max(1);
+            counts[slot] = counts[slot].saturating_add(beside);
         }
     }
 }
 
-/// In how many ways a ban can be met beside this slot.
-fn ways_beside(sets: &[Choices], masks: &[u64], beside: usize) -> u64 {
+/// In how many ways a ban can be met in a box.
+fn ways_of(sets: &[Choices], masks: &[u64]) -> u64 {
     let mut ways: u64 = 1;
     for set in sets {
-        let slot = set.slot as usize;
-        if slot < masks.len() && slot != beside {
-            ways = ways.saturating_mul((masks[slot] & set.mask).count_ones() as u64);
+        ways = ways.saturating_mul(ways_at(*set, masks));
+        if ways == 0 {
+            return 0;
         }
     }
     ways
+}
+
+/// How many of these choices a box has; one where it hasn't the slot.
+#[inline(always)]
+fn ways_at(set: Choices, masks: &[u64]) -> u64 {
+    let slot = set.slot as usize;
+    if slot < masks.len() {
+        (masks[slot] & set.mask).count_ones() as u64
+    } else {
+        1
+    }
 }
