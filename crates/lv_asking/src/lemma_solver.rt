@@ -92,7 +92,7 @@ impl LemmaSolver {
 }
 
 /// Keeps the short clauses that a log derives, beside so many lemmas. Answers how many there are then. Where propagation alone
-/// refuted, none is kept: it does so again as quickly, and a clause more would take back what it found.
+/// refuted, none is kept: it does so again as quickly.
 fn keep_lemmas(solver: &mut Solver, log: &Log, lemmas: usize) -> Result<usize, AllocError>
     requires { first_bad_step solver.old log.now ≡ None }
     ensures { HaveSameModels solver.old solver.new }

@@ -1,18 +1,19 @@
 -- The front of the trail: what stands after an assumption more, and after a cut back to a level.
-use Rattle.std.proofs.Common.{◌≡◌, ◌⊎◌, ℕ, suc, ◌+◌, ◌<◌, ◌≤◌, Bool, true, false, not, ◌&&◌, List, [], ◌∷◌, ◌++◌, length, take, drop, get_or, Option, Some, None, is_none, refl, sym, ap, ap₂, subst, ◌∙◌, arith, inl, inr, Contains}
+use Rattle.std.proofs.Common.{◌≡◌, ◌⊎◌, ℕ, suc, ◌+◌, ◌<◌, ◌≤◌, Bool, true, false, not, ◌&&◌, List, [], ◌∷◌, ◌++◌, length, take, drop, get_or, Option, Some, None, IfNone, is_none, refl, sym, ap, ap₂, subst, ◌∙◌, arith, inl, inr, Contains}
 use Rattle.std.specs.List.{list_all}
-use Rattle.std.proofs.lemmas.Bool.{cases_lt}
+use Rattle.std.proofs.lemmas.Bool.{cases_eq, cases_lt}
 use Rattle.std.proofs.lemmas.List.{get_or_append_left, get_or_default, get_or-take, length-append, length-take-le, map-append, take-append-le, take-map, take-take, take_all, take_more}
 use Rattle.std.proofs.lemmas.List.Folds.{list_all-append}
 use Rattle.std.proofs.Math.Seq.{get_or-append_seam, take-append_seam}
 use Rattle.lv_base.specs.declared.ids.Lit.{Lit}
 use Rattle.lv_clauses.specs.Literals.{neg, in_range, is_clause}
-use Rattle.lv_clauses.specs.ClauseMap.{ClauseMap}
+use Rattle.lv_clauses.specs.ClauseMap.{ClauseMap, Puts, clause_at}
 use Rattle.lv_clauses.specs.Marks.{Marks, is_marked, is_free, mark_is}
 use Rattle.lv_clauses.proofs.LiteralLemmas.{neg_neg, and_both, all_member, or_right, Contains-nil, Contains-cases}
 use Rattle.lv_reflog.specs.declared.log.Hint.{Hint}
 use Rattle.lv_reflog.specs.declared.log.Step.{Step}
-use Rattle.lv_reflog.specs.Following.{first_bad_step}
+use Rattle.lv_reflog.specs.declared.log.Hint.TheVariants.{Given, Earlier}
+use Rattle.lv_reflog.specs.Following.{clause_of, first_bad_step}
 use Rattle.lv_sat.specs.declared.trail.Entry.{Entry}
 use Rattle.lv_sat.specs.declared.front.Level.{Level}
 use Rattle.lv_sat.specs.Answers.{IsSublist}
@@ -382,3 +383,42 @@ kept_nothing cs levels marks entries no_levels no_entries =
       places = record { rising = λ i j d before below. absurd (omega (arith, below)); each = λ at d below. absurd (omega (arith, below)) };
       front = record { part = part_nothing []; all_true = refl };
     }))
+
+-- what clauses force is added behind the front
+pub kept_grown : (cs : ClauseMap) (levels : List Level) (before marks : Marks) (old entries : List Entry) (found : Option Hint) → IsKept cs levels before old → IsPropagated cs [] old marks entries found → IsKept cs levels marks entries
+kept_grown cs levels before marks old entries found here grown =
+    let standing : IsStanding cs levels marks entries = begun_stands cs levels before marks old entries [] found here grown refl in
+    record { trail = λ some. standing.trail; places = standing.places; front = standing.front }
+
+-- unless a clause is false
+pub kept_unless : (cs : ClauseMap) (levels : List Level) (before marks : Marks) (old entries : List Entry) (found : Option Hint) → IsKept cs levels before old → IsPropagated cs [] old marks entries found → IfNone found (IsKept cs levels marks entries)
+kept_unless cs levels before marks old entries None here grown = kept_grown cs levels before marks old entries None here grown
+kept_unless cs levels before marks old entries (Some h) here grown = tt
+
+-- a clause more
+module _ (old new : ClauseMap) (id : ℕ) (c : List Lit) (puts : Puts old new id (Some c)) (vacant : clause_at old.slots id ≡ None) where
+  named_still : (h : Hint) (clause : List Lit) → clause_of old.slots [] h ≡ Some clause → clause_of new.slots [] h ≡ Some clause
+  named_still (Given k) clause named = elim (cases_eq k.0 id) [
+    | inl same ↦ absurd (cc (sym vacant ∙ ap (clause_at old.slots) (sym same) ∙ named))
+    | inr differs ↦ puts.others k.0 differs ∙ named
+  ]
+  named_still (Earlier place) clause named = named
+
+  trail_still : (marks : Marks) (entries : List Entry) → IsTrail old [] marks entries → IsTrail new [] marks entries
+  trail_still marks entries trail =
+      record {
+        len = trail.len ∙ sym puts.bools;
+        same = trail.same;
+        room = trail.room;
+        chain =
+            record {
+              clause = ap (λ n. is_clause n (lits_of entries)) puts.bools ∙ trail.chain.clause;
+              forced =
+                  λ place d h within reason.
+                  let forced : IsForced old.slots [] (lits_of (take place entries)) (get_or entries place d).lit h = trail.chain.forced place d h within reason in
+                  record { clause = forced.clause; named = named_still h forced.clause forced.named; left = forced.left };
+            };
+      }
+
+  pub kept_still : (levels : List Level) (marks : Marks) (entries : List Entry) → IsKept old levels marks entries → IsKept new levels marks entries
+  kept_still levels marks entries here = record { trail = λ some. trail_still marks entries (here.trail some); places = here.places; front = here.front }

@@ -1,13 +1,12 @@
 -- What the search keeps at each turn, and what it shows at its ends.
-use Rattle.std.proofs.Common.{◌≡◌, ◌≢◌, ◌⊎◌, inl, inr, set, ℕ, suc, zero, ◌+◌, ◌-◌, ◌<◌, ◌≤◌, Bool, true, false, not, List, [], ◌∷◌, ◌++◌, length, map, filter, take, drop, get_or, Option, Some, None, All, IfSome, slice_get, option_map, cond, if◌then◌else◌, append_assoc, refl, sym, ap, ap₂, subst, ◌∙◌, add-one, arith, Contains}
-use Rattle.std.proofs.lemmas.List.{append-nil, length-append, take-append-le, take-map, take-take, take_more, map-append, length-take, length-take-le, length-set, get_or-set_same, get_or-set_other, get_or_past}
-use Rattle.std.proofs.lemmas.Bool.{cases_eq, cases_lt}
+use Rattle.std.proofs.Common.{◌≡◌, ℕ, suc, zero, ◌+◌, ◌-◌, ◌<◌, ◌≤◌, Bool, true, false, not, List, [], ◌∷◌, ◌++◌, length, map, filter, take, drop, get_or, Option, Some, None, All, IfSome, slice_get, option_map, cond, if◌then◌else◌, append_assoc, refl, sym, ap, ap₂, subst, ◌∙◌, arith, Contains}
+use Rattle.std.proofs.lemmas.List.{append-nil, length-append, take-append-le, take-map, take-take, take_more, map-append, length-take, length-take-le}
 use Rattle.std.proofs.lemmas.List.Elements.{filter-append}
-use Rattle.std.proofs.Math.Seq.{get_or-append_seam, take-length, take-suc}
+use Rattle.std.proofs.Math.Seq.{get_or-append_seam, take-length}
 use Rattle.lv_base.specs.declared.ids.Lit.{Lit}
-use Rattle.lv_clauses.specs.Literals.{neg, same_truth, lit_holds, is_clause}
+use Rattle.lv_clauses.specs.Literals.{neg, lit_holds, is_clause}
 use Rattle.lv_clauses.specs.ClauseMap.{ClauseMap, Slots, satisfies}
-use Rattle.lv_clauses.specs.Marks.{Marks, marked, mark_is, is_marked}
+use Rattle.lv_clauses.specs.Marks.{Marks, marked}
 use Rattle.lv_clauses.proofs.LiteralLemmas.{neg_neg, any_member, all_member, lit_or_neg}
 use Rattle.lv_reflog.specs.declared.log.Hint.{Hint}
 use Rattle.lv_reflog.specs.declared.log.Hint.TheVariants.{Given, Earlier}

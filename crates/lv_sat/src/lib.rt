@@ -14,6 +14,7 @@
 //! | with which clauses to look at | `guide` |
 //! | what clauses force | `propagation` |
 //! | the assumptions on the trail | `front` |
+//! | a clause that is added behind them | `entering` |
 //! | the search | `search` |
 //! | the last values that satisfied all clauses | `last_values`, `occurrences` |
 //! | what they say of the next choice | `lead` |
@@ -22,6 +23,7 @@
 mod analysis;
 pub mod answer;
 pub mod effort;
+mod entering;
 mod front;
 mod guide;
 mod last_values;

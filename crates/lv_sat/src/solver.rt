@@ -8,6 +8,7 @@ ghost use Rattle.lv_clauses.specs.ClauseMap.{clause_at, Puts};
 
 use super::answer::Answer;
 use super::effort::Effort;
+use super::entering::take_in;
 use super::front::{Front, forget};
 use super::guide::{FIRST_ROOM, Guide, note_values};
 use super::last_values::LastValues;
@@ -83,12 +84,17 @@ impl Solver {
         ensures added { IfOk result (λ id. Puts self.old self.new id.0 (Some lits.now)) }
         ensures kept { OnErr result (self.new ≡ self.old) }
     {
-        forget(&mut self.guide, &mut self.front);
         let id = self.set.add(lits)?;
         self.last.add(lits, id);
-        match self.guide.watches.add_given(lits, id) {
-            Ok(()) | Err(_) => Ok(id),
-        }
+        take_in(
+            self.alloc,
+            &self.set,
+            &mut self.guide,
+            &mut self.front,
+            lits,
+            id,
+        );
+        Ok(id)
     }
 
     /// Takes away a clause that is present. Takes no memory.

@@ -1,5 +1,4 @@
 -- the values of the booleans gone through keep their marks, and those that turned are told
-use Rattle.std.proofs.Common.{◌≡◌, length}
 use Rattle.lv_sat.proofs.LastValuesLemmas.{KeepBefore, TellTurned}
 use Rattle.lv_sat.proofs.last_values.write_marks.Given as goal
 
