@@ -49,6 +49,7 @@ fn without_ends(
     known: &Known,
     near: &Rank,
 ) -> Result<Option<Zone>, AllocError>
+    requires { length near.now.choices ≤ 4096 }
     ensures { IfOk result (λ less. NarrowedTells zone.now known.now less) }
 {
     let lost = first_lost(zone.masks(), near.choices.as_slice());

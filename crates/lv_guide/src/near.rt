@@ -120,7 +120,9 @@ pub(crate) fn lost_pairs(
 }
 
 /// The first of the choices that the box lacks.
-pub(crate) fn first_lost(masks: &[u64], choices: &[u32]) -> Option<Pair> {
+pub(crate) fn first_lost(masks: &[u64], choices: &[u32]) -> Option<Pair>
+    requires { length choices.now ≤ 4096 }
+{
     for (slot, choice) in choices.iter().enumerate() {
         let pair = Pair {
             slot: slot as u32,
