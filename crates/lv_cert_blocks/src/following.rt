@@ -4,16 +4,15 @@
 
 ghost use Rattle.std.specs.Prelude.{◌≡◌, ◌<◌, ◌≤◌, ◌-◌, ◌++◌, [], true, IfOk, IsTrue, Some, None, length, map, option_map, slice_get, if◌then◌else◌};
 ghost use Rattle.std.specs.List.{list_all};
-ghost use Rattle.lv_clauses.specs.Literals.{is_clause};
 ghost use Rattle.lv_clauses.specs.Marks.{nothing, look_at};
-ghost use Rattle.lv_refcheck.specs.lv_reflog.Following.{denied};
 ghost use Rattle.lv_cert_blocks.specs.Blocks.{clauses_of};
 ghost use Rattle.lv_cert_blocks.specs.Following as Following;
 ghost use Rattle.lv_cert_blocks.specs.Following.{numbered, follows};
 
 use lv_base::{BoolId, Lit, Seq};
 use lv_cert::Literal;
-use lv_clauses::{Clause, Finding, Marks, look, negation};
+use lv_clauses::{Clause, Finding, Marks, look};
+use lv_refcheck::deny;
 use lv_system::StepSystem;
 use std::alloc::{AllocError, Global};
 
@@ -81,22 +80,6 @@ fn look_at_number(
     } else {
         None
     }
-}
-
-/// Takes the negations of literals as true, and says whether they are of distinct booleans in range.
-fn deny(lits: &[Lit], marks: &mut Marks) -> Result<bool, AllocError>
-    requires { marks.old ≡ nothing (length marks.old) }
-    ensures is_clause { IfOk result (λ good. good ≡ is_clause (length marks.old) lits.now) }
-    ensures denied { IfOk result (λ good. good ≡ true → marks.new ≡ denied marks.old lits.now) }
-    ensures len { length marks.new ≡ length marks.old }
-{
-    for lit in lits {
-        if !marks.is_open(*lit) {
-            return Ok(false);
-        }
-        marks.take(negation(*lit))?;
-    }
-    Ok(true)
 }
 
 /// Whether the hints end well from these marks on.

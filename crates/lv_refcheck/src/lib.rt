@@ -8,4 +8,4 @@
 
 mod pass;
 
-pub use pass::check;
+pub use pass::{check, deny};

@@ -42,8 +42,9 @@ fn follows(set: &ClauseSet, log: &Log, place: usize, marks: &mut Marks) -> Resul
     ends_well(set, log, place, step.hints.as_slice(), marks)
 }
 
-/// Takes the negations of a clause's literals as true, and says whether they are of distinct booleans in range.
-fn deny(clause: &[Lit], marks: &mut Marks) -> Result<bool, AllocError>
+/// Takes the negations of a clause's literals as true, and says whether they are of distinct booleans in range: where they
+/// aren't, some of them may be taken.
+pub fn deny(clause: &[Lit], marks: &mut Marks) -> Result<bool, AllocError>
     requires { marks.old ≡ nothing (length marks.old) }
     ensures is_clause { IfOk result (λ good. good ≡ is_clause (length marks.old) clause.now) }
     ensures denied { IfOk result (λ good. good ≡ true → marks.new ≡ denied marks.old clause.now) }
