@@ -61,7 +61,7 @@ impl Tally {
 
     fn note(&mut self, solver: &Solver, answer: &Answer) -> Result<(), AllocError> {
         match answer {
-            Answer::Sat(_) => {
+            Answer::Sat { .. } => {
                 self.satisfiable = self.satisfiable.wrapping_add(1);
                 Ok(())
             }

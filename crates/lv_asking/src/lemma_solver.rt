@@ -1,5 +1,5 @@
-//! A solver that keeps lemmas: short clauses that its refutations derived. They follow from the clauses given, so what can
-//! be true stays the same, and later questions need not derive them again.
+//! A solver that keeps lemmas: short clauses that its searches learned, whether they found values or refuted. They follow
+//! from the clauses given, so what can be true stays the same, and later questions need not learn them again.
 #![tactic(auto)]
 
 ghost use Rattle.std.specs.Prelude.{◌≡◌, None, IsTrue, IfOk};
@@ -15,7 +15,7 @@ use std::alloc::{AllocError, Global};
 use std::marker::Model;
 
 /// A clause of more literals is no lemma.
-const LONGEST: usize = 12;
+const LONGEST: usize = 6;
 
 /// So many lemmas are kept at most.
 const MOST: usize = 10_000;
@@ -77,7 +77,10 @@ impl LemmaSolver {
         ensures kept { self.new ≡ self.old }
     {
         match self.solver.solve(assumptions)? {
-            Answer::Sat(values) => Ok(Reply::Values(values)),
+            Answer::Sat { values, log } => {
+                self.lemmas = keep_lemmas(&mut self.solver, &log, self.lemmas)?;
+                Ok(Reply::Values(values))
+            }
             Answer::Unsat { core, log } => {
                 self.lemmas = keep_lemmas(&mut self.solver, &log, self.lemmas)?;
                 Ok(Reply::Core(core))

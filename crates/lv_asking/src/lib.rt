@@ -6,7 +6,7 @@
 //! |---|---|
 //! | `asking` | `Asking`: whether pairs are possible together, also beside one literal more, and what is left of them when each that isn't needed is left out |
 //! | `refutation` | the one question asked of the solver, and the solutions kept from earlier ones |
-//! | `lemma_solver` | a solver that keeps what its refutations derived |
+//! | `lemma_solver` | a solver that keeps short clauses that its searches learned |
 //! | `literals` | observations and choices as literals |
 #![tactic(auto)]
 

@@ -178,7 +178,7 @@ pub fn refute_once(
 {
     let backwards = assumptions(alloc, lits, &[])?;
     match solver.solve(backwards.as_slice())? {
-        Answer::Sat(_) => Ok(None),
+        Answer::Sat { .. } => Ok(None),
         Answer::Unsat { core, log: _ } => {
             let bools = solver.clauses().bools();
             Ok(Some(marks_of(alloc, bools, core.as_slice())?))

@@ -47,7 +47,7 @@ fn answer(
     ensures kept { solver.new ≡ solver.old }
 {
     match solver.solve(assumed.lits.as_slice())? {
-        Answer::Sat(values) => Ok(Refuted::Values(values)),
+        Answer::Sat { values, log: _ } => Ok(Refuted::Values(values)),
         Answer::Unsat { core: _, log } => {
             let needed = needed_steps(alloc, &log)?;
             let units = assumed.numbers.as_slice();

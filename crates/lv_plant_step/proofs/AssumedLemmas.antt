@@ -13,7 +13,7 @@ use Rattle.lv_clauses.specs.Noted.{is_of}
 use Rattle.lv_clauses.proofs.LiteralLemmas.{lit_of}
 use Rattle.lv_sat.specs.declared.answer.Answer.{Answer}
 use Rattle.lv_sat.specs.declared.answer.Answer.TheVariants.{Sat, Unsat}
-use Rattle.lv_sat.specs.Answers.{Answers, IsModel, IsRefutation}
+use Rattle.lv_sat.specs.Answers.{Answers, IsRefutation, IsSatisfied}
 use Rattle.lv_sat.specs.lv_reflog.declared.log.Step.{Step}
 use Rattle.lv_ident.proofs.OnceLemmas.{IsNotedOnce, none_noted, distinct_more}
 use Rattle.lv_plant_step.specs.Assuming.{Assumption, holds, AreMarked, SaysMore, Tells}
@@ -219,9 +219,10 @@ module _ (set : ClauseMap) (s : Assumption) where
       cc never
 
   module _ (given : List Lit) (same : given ≡ s.lits) (answer : Answer) (told : Answers set given answer) where
-    pub told_values : s.has_clash ≡ false → (values : List Bool) → answer ≡ Sat values → Tells set s (Some values)
-    told_values calm values is =
-        let m : IsModel set given values = subst (λ (x : Answer). Answers set given x) is told in
+    pub told_values : s.has_clash ≡ false → (values : List Bool) (log : List Step) → answer ≡ Sat values log → Tells set s (Some values)
+    told_values calm values log is =
+        let found : IsSatisfied set given values log = subst (λ (x : Answer). Answers set given x) is told in
+        let m = found.model in
         record {
           whole = m.len;
           satisfied = m.all_clauses;

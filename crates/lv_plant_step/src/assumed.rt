@@ -85,7 +85,7 @@ impl Assumed {
             return Ok(None);
         }
         match solver.solve(self.lits.as_slice())? {
-            Answer::Sat(values) => Ok(Some(values)),
+            Answer::Sat { values, log: _ } => Ok(Some(values)),
             Answer::Unsat { .. } => Ok(None),
         }
     }

@@ -12,7 +12,7 @@ use Rattle.lv_clauses.specs.ClauseMap.{ClauseMap}
 use Rattle.lv_clauses.specs.Marks.{Marks, is_marked}
 use Rattle.lv_sat.specs.declared.answer.Answer.{Answer}
 use Rattle.lv_sat.specs.declared.answer.Answer.TheVariants.{Sat, Unsat}
-use Rattle.lv_sat.specs.Answers.{Answers, IsModel, IsRefutation}
+use Rattle.lv_sat.specs.Answers.{Answers, IsModel, IsRefutation, IsSatisfied}
 use Rattle.lv_sat.specs.lv_reflog.declared.log.Step.{Step}
 use Rattle.lv_formula.specs.Tree.{number_of}
 use Rattle.lv_model.specs.declared.plant.Plant.{Plant}
@@ -164,8 +164,10 @@ module _ (plant : Plant) (present : List Observation) (ends : List ValId → Boo
       (λ values a code modes commanded. assumes.exact values a code ∙ and_from (has_modes plant.parts s.modes a) (has_controls (controls plant) a pairs) modes commanded) none
 
   module _ (given : List Lit) (same : given ≡ lits) (answer : Answer) (told : Answers set given answer) where
-    pub told_sat : (values : List Bool) → answer ≡ Sat values → true ≡ some_nominal_step plant present s pairs ends
-    told_sat values is = sym (model_is_step values (subst (λ (ls : List Lit). IsModel set ls values) same (subst (λ (x : Answer). Answers set given x) is told)))
+    pub told_sat : (values : List Bool) (log : List Step) → answer ≡ Sat values log → true ≡ some_nominal_step plant present s pairs ends
+    told_sat values log is =
+        let found : IsSatisfied set given values log = subst (λ (x : Answer). Answers set given x) is told in
+        sym (model_is_step values (subst (λ (ls : List Lit). IsModel set ls values) same found.model))
 
     pub told_unsat : (core : List Lit) (log : List Step) → answer ≡ Unsat core log → false ≡ some_nominal_step plant present s pairs ends
     told_unsat core log is =

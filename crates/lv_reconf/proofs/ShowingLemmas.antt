@@ -11,7 +11,7 @@ use Rattle.lv_clauses.specs.Literals.{lit_holds}
 use Rattle.lv_clauses.specs.ClauseMap.{ClauseMap, slot_holds, satisfies}
 use Rattle.lv_sat.specs.declared.answer.Answer.{Answer}
 use Rattle.lv_sat.specs.declared.answer.Answer.TheVariants.{Sat, Unsat}
-use Rattle.lv_sat.specs.Answers.{Answers, IsModel, IsRefutation}
+use Rattle.lv_sat.specs.Answers.{Answers, IsModel, IsRefutation, IsSatisfied}
 use Rattle.lv_sat.specs.lv_reflog.declared.log.Step.{Step}
 use Rattle.lv_model.specs.declared.plant.Plant.{Plant}
 use Rattle.lv_model.specs.declared.state.State.{State}
@@ -68,10 +68,11 @@ module _ (plant : Plant) (present : List Observation) (ends : List ValId → Boo
       record { len = m.len; all_clauses = two.0; all_assumptions = has.says values ∙ and_from (list_all (lit_holds values) lits) (lit_holds values l) m.all_assumptions two.1 }
 
   module _ (given : List Lit) (same : given ≡ more) (answer : Answer) (told : Answers set given answer) where
-    pub shown_sat : (values : List Bool) → answer ≡ Sat values → true ≡ some_nominal_step plant present s pairs (λ b. ends b && agrees b o)
-    shown_sat values is_sat =
+    pub shown_sat : (values : List Bool) (log : List Step) → answer ≡ Sat values log → true ≡ some_nominal_step plant present s pairs (λ b. ends b && agrees b o)
+    shown_sat values log is_sat =
+        let found : IsSatisfied set given values log = subst (λ (x : Answer). Answers set given x) is_sat told in
         sym (model_is_step plant present (λ b. ends b && agrees b o) narrow lits s pairs asks_narrow assumes values
-        (to_narrow values (subst (λ (ls : List Lit). IsModel set ls values) same (subst (λ (x : Answer). Answers set given x) is_sat told))))
+        (to_narrow values (subst (λ (ls : List Lit). IsModel set ls values) same found.model)))
 
     pub shown_unsat : (core : List Lit) (log : List Step) → answer ≡ Unsat core log → false ≡ some_nominal_step plant present s pairs (λ b. ends b && agrees b o)
     shown_unsat core log is_unsat =

@@ -42,7 +42,7 @@ pub fn has_step(
 {
     let lits = assumptions(alloc, compiled, vars, state.modes.as_slice(), pairs)?;
     match solver.solve(lits.as_slice())? {
-        Answer::Sat(_) => Ok(true),
+        Answer::Sat { .. } => Ok(true),
         Answer::Unsat { .. } => Ok(false),
     }
 }

@@ -18,6 +18,7 @@ use super::goals::reaching_solver;
 use super::setting::Setting;
 use super::showing::shown_twice;
 use super::states::count_stepping;
+use lv_asking::asking::all_but;
 use lv_base::{Pair, ValId, VarId};
 use lv_clauses::{Marks, is_marked};
 use lv_meaning::Observation;
@@ -75,13 +76,6 @@ impl<'s, 'a> Reaching<'s, 'a> {
         ensures { result.now ≡ asking self.now.plant self.now.aim }
     {
         self.setting
-    }
-
-    /// Looks at the tracked state of this place.
-    pub fn look_at(&mut self, at: usize)
-        ensures { self.new ≡ record self.old { at = at } }
-    {
-        self.at = at;
     }
 
     /// From how many tracked states these values reach the goals, up to the first from which they don't.
@@ -239,14 +233,14 @@ impl<'s, 'a> Reaching<'s, 'a> {
         }
         Ok(reduction.kept)
     }
-}
 
-/// The kept pairs, and those behind this place.
-fn all_but(alloc: Global, kept: &[Pair], pairs: &[Pair], at: usize) -> Result<Vec<Pair>, AllocError>
-    requires { at < length pairs.now }
-    ensures { IfOk result (λ out. out.items ≡ kept.now ++ drop (at + 1) pairs.now) }
-{
-    let mut out = Vec::from_slice(alloc, kept)?;
-    out.extend_from_slice(&pairs[at + 1..])?;
-    Ok(out)
+    /// The same at the tracked state of this place.
+    pub fn reduced_at(&mut self, at: usize, pairs: &[Pair]) -> Result<Vec<Pair>, AllocError>
+        requires { pairs_fit self.old.plant pairs.now ≡ true }
+        ensures reduced { IfOk result (λ out. out.items ≡ reduced (reaches_at (looking_at self.old.plant self.old.aim at)) [] pairs.now) }
+        ensures kept { self.new ≡ record self.old { at = at } }
+    {
+        self.at = at;
+        self.reduced(pairs)
+    }
 }

@@ -47,7 +47,7 @@ fn shows(
     let mut lits = assumptions(alloc, compiled, vars, state.modes.as_slice(), pairs)?;
     assume(&mut lits, compiled.ends_with(seen.var, seen.val))?;
     match solver.solve(lits.as_slice())? {
-        Answer::Sat(_) => Ok(true),
+        Answer::Sat { .. } => Ok(true),
         Answer::Unsat { .. } => Ok(false),
     }
 }

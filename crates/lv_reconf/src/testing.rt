@@ -4,12 +4,10 @@
 ghost use Rattle.std.specs.Prelude.{◌≡◌, ◌<◌, [], ℕ, List, true, slice_index_or, IfOk};
 ghost use Rattle.lv_base.specs.Choices.{pairs_of};
 ghost use Rattle.lv_model.specs.Lists.{sizes};
-ghost use Rattle.lv_meaning.specs.lv_search_walk.Reason.{reduced};
 ghost use Rattle.lv_reconf.specs.Assuming.{pairs_fit};
 ghost use Rattle.lv_reconf.specs.Judging.{candidate_commands};
 ghost use Rattle.lv_reconf.specs.Tests.{can_show, two_pass, some_shared, candidate_tests, candidate_test_reason};
 ghost use Rattle.lv_reconf.specs.Testing.{TestQuestion, testing, JudgesTest};
-ghost use Rattle.lv_reconf.specs.Trying.{looking_at, reaches_at};
 
 use super::judged::Judged;
 use super::reaching::Reaching;
@@ -121,16 +119,6 @@ impl<'s, 'a> TestTrial<'s, 'a> {
         }
         Ok(Judged::Recovers)
     }
-
-    /// What is left of the values at the tracked state of this place.
-    fn reduced_at(&mut self, at: usize, pairs: &[Pair]) -> Result<Vec<Pair>, AllocError>
-        requires { pairs_fit self.old.plant pairs.now ≡ true }
-        ensures reduced { IfOk result (λ out. out.items ≡ reduced (reaches_at (looking_at self.old.plant self.old.aim at)) [] pairs.now) }
-        ensures kept { self.new ≡ self.old }
-    {
-        self.reaching.look_at(at);
-        self.reaching.reduced(pairs)
-    }
 }
 
 impl Trial for TestTrial<'_, '_> {
@@ -155,7 +143,7 @@ impl Trial for TestTrial<'_, '_> {
                 pairs.as_slice(),
             )?)),
             Judged::Stops(at) => {
-                let reason = self.reduced_at(at, pairs.as_slice())?;
+                let reason = self.reaching.reduced_at(at, pairs.as_slice())?;
                 Ok(Tried::Refused(Conflict::from_pairs(self.alloc, reason.as_slice())?))
             }
         }

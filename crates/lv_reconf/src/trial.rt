@@ -1,14 +1,13 @@
 //! A trial of command sets: whether one recovers, and the reason of one that doesn't.
 #![tactic(auto)]
 
-ghost use Rattle.std.specs.Prelude.{◌≡◌, ◌≤◌, [], ℕ, List, Bool, true, length, IfOk};
+ghost use Rattle.std.specs.Prelude.{◌≡◌, ◌≤◌, ℕ, List, true, length, IfOk};
 ghost use Rattle.lv_base.specs.Choices.{pairs_of};
 ghost use Rattle.lv_meaning.specs.Commands.{is_command_set};
 ghost use Rattle.lv_meaning.specs.Recovery.{candidate_recovers, candidate_reason};
-ghost use Rattle.lv_meaning.specs.lv_search_walk.Reason.{reduced};
 ghost use Rattle.lv_reconf.specs.Assuming.{pairs_fit};
 ghost use Rattle.lv_reconf.specs.Judging.{candidate_commands, Judges};
-ghost use Rattle.lv_reconf.specs.Trying.{looking_at, reaches_at, some_can_miss};
+ghost use Rattle.lv_reconf.specs.Trying.{some_can_miss};
 
 use super::judged::Judged;
 use super::reaching::Reaching;
@@ -93,16 +92,6 @@ impl<'s, 'a> ReconfTrial<'s, 'a> {
         }
         Ok(Judged::Stops(count))
     }
-
-    /// What is left of the values at the tracked state of this place.
-    fn reduced_at(&mut self, at: usize, pairs: &[Pair]) -> Result<Vec<Pair>, AllocError>
-        requires { pairs_fit self.old.plant pairs.now ≡ true }
-        ensures reduced { IfOk result (λ out. out.items ≡ reduced (reaches_at (looking_at self.old.plant self.old.aim at)) [] pairs.now) }
-        ensures kept { self.new ≡ self.old }
-    {
-        self.reaching.look_at(at);
-        self.reaching.reduced(pairs)
-    }
 }
 
 impl Trial for ReconfTrial<'_, '_> {
@@ -127,7 +116,7 @@ impl Trial for ReconfTrial<'_, '_> {
                 pairs.as_slice(),
             )?)),
             Judged::Stops(at) => {
-                let reason = self.reduced_at(at, pairs.as_slice())?;
+                let reason = self.reaching.reduced_at(at, pairs.as_slice())?;
                 Ok(Tried::Refused(Conflict::from_pairs(self.alloc, reason.as_slice())?))
             }
         }

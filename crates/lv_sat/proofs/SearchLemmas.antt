@@ -14,8 +14,8 @@ use Rattle.lv_reflog.specs.declared.log.Step.{Step}
 use Rattle.lv_reflog.specs.Following.{clause_of, follows_by_hints, first_bad_after, first_bad_step, IsImplied}
 use Rattle.lv_reflog.proofs.SoundLemmas.{checked}
 use Rattle.lv_sat.specs.declared.trail.Entry.{Entry}
-use Rattle.lv_sat.specs.Answers.{IsModel, IsSublist, IsRefutation, last_clause, nothing as no_literals, left_out, taken}
-use Rattle.lv_sat.specs.Front.{AreValues, IsFront, IsRefuted}
+use Rattle.lv_sat.specs.Answers.{IsModel, IsSatisfied, IsSublist, IsRefutation, last_clause, nothing as no_literals, left_out, taken}
+use Rattle.lv_sat.specs.Front.{AreFound, AreValues, IsFront, IsRefuted}
 use Rattle.lv_sat.specs.Trail.{among, lits_of, unforced, left_of, is_open, IsForced, IsChain, IsTrail, IsTurned, IsSearch, IsGrown, IsExtended, IsPropagated, IsReached, Reaches, turned, KeepMarks}
 use Rattle.lv_sat.specs.declared.search.Reached.{Reached}
 use Rattle.lv_sat.specs.declared.search.Reached.TheVariants.{Values, False}
@@ -170,12 +170,16 @@ refutes cs assumptions core log here told =
         (from_filter (sees derived.seen) (lits_of here.kept) (neg found.0) (from_map (filter (sees derived.seen) (lits_of here.kept)) found.0 (subst (λ ls. Contains ls found.0) derived.clause found.1)))))
 
 -- values that make the front true make the assumptions true
-pub model_of : (cs : ClauseMap) (assumptions : List Lit) (start : List Entry) (values : List Bool) → IsFront assumptions start → AreValues cs start values → IsModel cs assumptions values
-model_of cs assumptions start values front found =
+pub satisfied_by : (cs : ClauseMap) (assumptions : List Lit) (start : List Entry) (log : List Step) (values : List Bool) → IsFront assumptions start → AreFound cs start log values → IsSatisfied cs assumptions values log
+satisfied_by cs assumptions start log values front found =
     record {
-      len = found.len;
-      all_clauses = found.all_clauses;
-      all_assumptions = all_from (lit_holds values) assumptions (λ l h. found.all_entries l (all_member (among (lits_of start)) assumptions l front.all_true h));
+      model =
+          record {
+            len = found.hold.len;
+            all_clauses = found.hold.all_clauses;
+            all_assumptions = all_from (lit_holds values) assumptions (λ l h. found.hold.all_entries l (all_member (among (lits_of start)) assumptions l front.all_true h));
+          };
+      valid = found.valid;
     }
 
 -- what is refuted of the front is of assumptions
@@ -284,10 +288,10 @@ module _ (cs : ClauseMap) (start : List Entry) (log : List Step) where
 
   -- the ends and the turn of the loop
   module _ (a marks : Marks) (old entries : List Entry) (before : IsSearch cs start log a old) where
-    pub values_end : (values : List Bool) (reached : Reached) → reached ≡ Values values → IsReached cs log old marks entries reached → AreValues cs start values
+    pub values_end : (values : List Bool) (reached : Reached) → reached ≡ Values values → IsReached cs log old marks entries reached → AreFound cs start log values
     values_end values reached is told =
         let here : IsReached cs log old marks entries (Values values) = subst (IsReached cs log old marks entries) is told in
-        values_found marks entries values (search_extended a marks old entries before here.trail here.front) here.reaches.0 here.reaches.1
+        record { hold = values_found marks entries values (search_extended a marks old entries before here.trail here.front) here.reaches.0 here.reaches.1; valid = before.valid }
 
     pub refuted_end : (reached : Reached) (flip : Option Flip) (shown : List Entry) (new : List Step) → IsReached cs log old marks entries reached → shown ≡ entries → flip ≡ None
         → Derives cs log new (length start) shown flip → IsRefuted cs (lits_of (unforced start)) new

@@ -33,6 +33,11 @@ pub record IsRefutation (set : ClauseMap) (assumptions core : List Lit) (log : L
   pub ends : last_clause log ≡ Some (map neg core)
   pub none : (values : List Bool) → ¬ IsModel set assumptions values
 
+-- such values, and a valid log of what was learned on the way
+pub record IsSatisfied (set : ClauseMap) (assumptions : List Lit) (values : List Bool) (log : List Step) : Type 0 where
+  pub model : IsModel set assumptions values
+  pub valid : first_bad_step set log ≡ None
+
 abbrev pub Answers : ClauseMap → List Lit → Answer → Type 0
-Answers set assumptions (Sat values) = IsModel set assumptions values
+Answers set assumptions (Sat values log) = IsSatisfied set assumptions values log
 Answers set assumptions (Unsat core log) = IsRefutation set assumptions core log

@@ -68,7 +68,12 @@ pub record AreValues (set : ClauseMap) (start : List Entry) (values : List Bool)
   pub all_clauses : satisfies values set.slots ≡ true
   pub all_entries : (l : Lit) → among (lits_of start) l ≡ true → lit_holds values l ≡ true
 
+-- such values, and a valid log
+pub record AreFound (set : ClauseMap) (start : List Entry) (log : List Step) (values : List Bool) : Type 0 where
+  pub hold : AreValues set start values
+  pub valid : first_bad_step set log ≡ None
+
 -- values, or a log whose last clause is of negations of the entries without a reason
 abbrev pub Finds : ClauseMap → List Entry → List Step → Option (List Bool) → Type 0
 Finds set start log None = IsRefuted set (lits_of (unforced start)) log
-Finds set start log (Some values) = AreValues set start values
+Finds set start log (Some values) = AreFound set start log values

@@ -89,7 +89,7 @@ fn find_answer(
         return refutation(alloc, log);
     }
     match complete(alloc, set, &mut log, guide, &mut front.trail, last)? {
-        Some(values) => Ok(Answer::Sat(values)),
+        Some(values) => Ok(Answer::Sat { values, log }),
         None => refutation(alloc, log),
     }
 }

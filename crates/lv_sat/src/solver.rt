@@ -130,7 +130,7 @@ impl Solver {
             &self.last,
             assumptions,
         )?;
-        if let Answer::Sat(values) = &answer {
+        if let Answer::Sat { values, log: _ } = &answer {
             self.last.keep(self.alloc, &self.set, values.as_slice());
             note_values(&mut self.guide, &self.front.trail);
         }

@@ -62,7 +62,7 @@ fn is_wanted(
     wanted: Wanted,
 ) -> Result<bool, AllocError> {
     match answer {
-        Answer::Sat(values) => Ok(
+        Answer::Sat { values, log: _ } => Ok(
             matches!(wanted, Wanted::Values) && are_values(set, assumptions, values.as_slice()),
         ),
         Answer::Unsat { core, log } => Ok(

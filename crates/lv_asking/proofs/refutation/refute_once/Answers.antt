@@ -3,7 +3,7 @@ use Rattle.std.proofs.Common.{◌≡◌, ◌++◌, [], List, reverse, subst, ap,
 use Rattle.lv_base.specs.declared.ids.Lit.{Lit}
 use Rattle.lv_clauses.specs.Literals.{is_clause}
 use Rattle.lv_clauses.specs.ClauseMap.{ClauseMap}
-use Rattle.lv_sat.specs.Answers.{IsModel, IsRefutation}
+use Rattle.lv_sat.specs.Answers.{IsModel, IsRefutation, IsSatisfied}
 use Rattle.lv_asking.proofs.OrderLemmas.{clause_turned, one_of_turned}
 use Rattle.lv_asking.proofs.SolutionLemmas.{model_turned}
 use Rattle.lv_asking.proofs.LemmaLemmas.{core_of, same_self}
@@ -18,8 +18,8 @@ solve-requires c =
 pub returns-in-Sat-clause-answer : goal.returns-in-Sat-clause-answer
 returns-in-Sat-clause-answer c =
     let asked : c.as_slice.result.now ≡ [] ++ reverse c.args.lits.now = c.as_slice.ensures.value ∙ c.in_ok-backwards.ensures in
-    let told : IsModel c.args.solver.now c.as_slice.result.now c.in-Sat.field-0 = rw c.in-Sat.is at c.in_ok-solve.ensures.answer in
-    record { values = c.in-Sat.field-0; model = model_turned c.args.solver.now c.args.lits.now [] c.in-Sat.field-0 (subst (λ (ls : List Lit). IsModel c.args.solver.now ls c.in-Sat.field-0) asked told) }
+    let told : IsSatisfied c.args.solver.now c.as_slice.result.now c.in-Sat.values c.in-Sat.log = rw c.in-Sat.is at c.in_ok-solve.ensures.answer in
+    record { values = c.in-Sat.values; model = model_turned c.args.solver.now c.args.lits.now [] c.in-Sat.values (subst (λ (ls : List Lit). IsModel c.args.solver.now ls c.in-Sat.values) asked told.model) }
 
 pub marks_of-requires : goal.marks_of-requires
 marks_of-requires c =

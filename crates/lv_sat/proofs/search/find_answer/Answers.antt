@@ -2,12 +2,12 @@
 use Rattle.std.proofs.Common.{subst}
 use Rattle.lv_sat.specs.Front.{Finds}
 use Rattle.lv_sat.proofs.FrontLemmas.{front_standing}
-use Rattle.lv_sat.proofs.SearchLemmas.{model_of, refuted_of}
+use Rattle.lv_sat.proofs.SearchLemmas.{refuted_of, satisfied_by}
 use Rattle.lv_sat.proofs.search.find_answer.Goals as goal
 
 pub returns-in-Some-clause-answer : goal.returns-in-Some-clause-answer
 returns-in-Some-clause-answer c =
-    model_of c.args.set.now c.args.assumptions.now c.stand.new.front.trail.entries.items c.in-Some.values
+    satisfied_by c.args.set.now c.args.assumptions.now c.stand.new.front.trail.entries.items c.complete.new.log c.in-Some.values
     (front_standing c.args.set.now c.args.assumptions.now c.stand.new.front.levels.items c.stand.new.front.trail.marks.items c.stand.new.front.trail.entries.items c.stand.new.log c.in_ok-stand.field-0 c.if-not-branch.false c.in_ok-stand.ensures.standing
     c.in_ok-stand.ensures.told)
     (subst (Finds c.args.set.now c.stand.new.front.trail.entries.items c.complete.new.log) c.in-Some.is c.in_ok-values.ensures.found)

@@ -2,7 +2,7 @@
 use Rattle.std.proofs.Common.{ap, ◌∙◌, subst}
 use Rattle.lv_clauses.specs.Literals.{is_clause}
 use Rattle.lv_clauses.specs.ClauseMap.{ClauseMap}
-use Rattle.lv_sat.specs.Answers.{IsModel, IsRefutation}
+use Rattle.lv_sat.specs.Answers.{IsRefutation, IsSatisfied}
 use Rattle.lv_asking.specs.Lemmas.{HaveSameModels}
 use Rattle.lv_asking.proofs.LemmaLemmas.{core_of, model_of}
 use Rattle.lv_asking.proofs.lemma_solver.LemmaSolver.solve.Goals as goal
@@ -12,8 +12,8 @@ solve-requires c = ap (λ n. is_clause n c.args.assumptions.now) (c.self.invaria
 
 pub returns-in-Sat-clause-reply : goal.returns-in-Sat-clause-reply
 returns-in-Sat-clause-reply c =
-    let told : IsModel c.self.inside.solver c.args.assumptions.now c.in-Sat.values = rw c.in-Sat.is at c.in_ok-values.ensures.answer in
-    model_of c.args.self.now c.self.inside.solver c.args.assumptions.now c.in-Sat.values (subst (λ (s : ClauseMap). HaveSameModels s c.self.inside.solver) c.self.view_is c.self.invariant) told
+    let told : IsSatisfied c.self.inside.solver c.args.assumptions.now c.in-Sat.values c.in-Sat.log = rw c.in-Sat.is at c.in_ok-values.ensures.answer in
+    model_of c.args.self.now c.self.inside.solver c.args.assumptions.now c.in-Sat.values (subst (λ (s : ClauseMap). HaveSameModels s c.self.inside.solver) c.self.view_is c.self.invariant) told.model
 
 pub returns-in_ok-self-inside-in-Unsat-clause-reply : goal.returns-in_ok-self-inside-in-Unsat-clause-reply
 returns-in_ok-self-inside-in-Unsat-clause-reply c =
