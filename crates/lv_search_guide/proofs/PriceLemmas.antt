@@ -33,6 +33,20 @@ lowered_cost n mask by (price ∷ prices) (suc choice) =
     let same : n + suc choice ≡ (n + 1) + choice = omega arith in
     rw same (lowered_cost (n + 1) mask by prices choice)
 
+-- where a mask has no choices, none is lowered, and none is priced less
+pub lowered_none : (n mask by : ℕ) (prices : List Cost) → mask ≡ 0 → lowered_from n mask by prices ≡ prices
+lowered_none n mask by [] none = refl
+lowered_none n mask by (price ∷ prices) none =
+    let here : has_choice mask n ≡ false = subst (λ m. has_choice m n ≡ false) (sym none) (none_of_zero n) in
+    λ i. record { 0 = price_after (here i) by price.0 } ∷ lowered_none (n + 1) mask by prices none i
+
+pub least_of_none : (prices : List Cost) (mask n : ℕ) (before : Option ℕ) → mask ≡ 0 → LeastTells prices mask n before before
+least_of_none prices mask n before none =
+    record {
+      each = λ choice below has. let lacks : has_choice mask choice ≡ false = subst (λ m. has_choice m choice ≡ false) (sym none) (none_of_zero choice) in absurd (cc (sym has ∙ lacks));
+      weaker = λ price h. h;
+    }
+
 -- a row of the same length fits the same members
 pub left_set : (rows : List (List Cost)) (s : ℕ) (row : List Cost) (masks choices : List ℕ) → length row ≡ length (slice_index_or rows s []) → are_left (slice_set rows s row) masks choices ≡ are_left rows masks choices
 left_set [] s row masks choices same = refl

@@ -5,12 +5,13 @@
 ghost use Rattle.std.specs.Prelude.{◌≡◌, ◌≤◌, ◌++◌, IfOk, OnOk, IfSome, option_to_list};
 ghost use Rattle.lv_search_guide.specs.Boxes.{CostsAtLeast};
 ghost use Rattle.lv_search_guide.specs.Cheapest.{FallsApart, CheapestTells, BranchTells, PushesBoth, PushesParts, TakesBox};
+ghost use Rattle.lv_search_guide.specs.Narrow.{NarrowedTells};
 
 use super::conflicts::Conflicts;
 use super::dear::drop_dear;
 use super::look::{Looked, Member, look};
 use super::masks::Masks;
-use super::narrow::{narrow, narrow_if};
+use super::narrow::{narrow, narrow_from};
 use super::prices::Room;
 use lv_base::Pair;
 use lv_boxes::Grid;
@@ -44,7 +45,7 @@ pub(crate) fn cheapest(
     ensures { IfOk result (λ member. CheapestTells grid.now conflicts.now masks.now under member) }
 {
     let whole = Masks::from_slice(room.alloc, masks.as_slice())?;
-    match branch_of(room, grid, conflicts, whole, under)? {
+    match branch_of(room, grid, conflicts, whole, None, under)? {
         Some(first) => cheapest_of(room, grid, conflicts, first, least, under),
         None => Ok(None),
     }
@@ -80,31 +81,52 @@ fn cheapest_of(
 }
 
 /// What of a box is still to be looked at for a member that contains no conflict and costs less than `under`: the choices
-/// that conflicts leave and that aren't too dear. `None` where there is no such member.
+/// that conflicts leave and that aren't too dear. `None` where there is no such member. Where the box is part of one of which
+/// this is known, and lost choices at one slot alone, that slot is told.
 fn branch_of(
     room: &mut Room,
     grid: &Grid,
     conflicts: &Conflicts,
     masks: Masks,
+    changed: Option<u32>,
     under: u64,
 ) -> Result<Option<Branch>, AllocError>
     ensures { IfOk result (λ branch. BranchTells grid.now conflicts.now masks under branch) }
 {
     let mut masks = masks;
-    if !narrow(conflicts, &mut masks) {
+    let may_be_left = narrow_where(room, conflicts, changed, &mut masks)?;
+    if !may_be_left {
         return Ok(None);
     }
-    let dropped = drop_dear(room, grid, conflicts, &mut masks, under)?;
-    if dropped.low >= under {
+    let low = drop_dear(room, grid, conflicts, &mut masks, under)?;
+    if low >= under {
         return Ok(None);
     }
-    if !narrow_if(dropped.some, conflicts, &mut masks) {
+    let are_left = narrow_from(conflicts, &mut room.changed, &mut masks)?;
+    if !are_left {
         return Ok(None);
     }
-    Ok(Some(Branch {
-        masks,
-        low: dropped.low,
-    }))
+    Ok(Some(Branch { masks, low }))
+}
+
+/// Takes out of a box what only members have that contain a conflict, beginning at this slot, where one is told. Answers
+/// whether members may be left.
+fn narrow_where(
+    room: &mut Room,
+    conflicts: &Conflicts,
+    changed: Option<u32>,
+    masks: &mut Masks,
+) -> Result<bool, AllocError>
+    ensures { IfOk result (λ left. NarrowedTells conflicts.now masks.old masks.new left) }
+{
+    match changed {
+        Some(slot) => {
+            room.changed.clear();
+            room.changed.push(slot)?;
+            narrow_from(conflicts, &mut room.changed, masks)
+        }
+        None => Ok(narrow(conflicts, masks)),
+    }
 }
 
 /// Looks at a box that was taken off the stack: gives it up, or finds a cheaper member, or puts its two parts on the stack.
@@ -158,8 +180,16 @@ fn push_parts(
     ensures { OnOk result (PushesParts grid.now conflicts.now masks.now under boxes.old.items boxes.new.items) }
 {
     let alloc = room.alloc;
-    let with = branch_of(room, grid, conflicts, masks.with(alloc, pair)?, under)?;
-    let without = branch_of(room, grid, conflicts, masks.without(alloc, pair)?, under)?;
+    let slot = Some(pair.slot);
+    let with = branch_of(room, grid, conflicts, masks.with(alloc, pair)?, slot, under)?;
+    let without = branch_of(
+        room,
+        grid,
+        conflicts,
+        masks.without(alloc, pair)?,
+        slot,
+        under,
+    )?;
     push_both(with, without, boxes)?;
     Ok(())
 }

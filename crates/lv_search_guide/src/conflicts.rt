@@ -5,7 +5,7 @@ ghost use Rattle.std.specs.Prelude.{◌≡◌, ◌++◌, ◌∷◌, [], IfOk, On
 ghost use Rattle.lv_search_guide.specs.Bans.{AreBans};
 
 use super::bans::{Ban, bans_of};
-use super::order::short_first;
+use super::order::{places_of, short_first};
 use lv_base::Conflict;
 use std::alloc::{AllocError, Global};
 use std::marker::Model;
@@ -15,6 +15,8 @@ use std::marker::Model;
 pub struct Conflicts {
     all: Vec<Conflict>,
     bans: Vec<Ban>,
+    /// Of each slot the places of the bans that have it, for a search.
+    places: Vec<Vec<usize>>,
 }
 
 impl Model for Conflicts {
@@ -35,7 +37,11 @@ impl Conflicts {
         ensures { IfOk result (λ conflicts. conflicts ≡ all.items) }
     {
         let bans = bans_of(alloc, all.as_slice())?;
-        Ok(Conflicts { all, bans })
+        Ok(Conflicts {
+            all,
+            bans,
+            places: Vec::new(alloc),
+        })
     }
 
     /// These conflicts, with the bans in the order in which a search of a box of so many slots goes through them.
@@ -48,7 +54,8 @@ impl Conflicts {
     {
         let drawn = bans_of(alloc, all.as_slice())?;
         let bans = short_first(alloc, drawn.as_slice(), slots)?;
-        Ok(Conflicts { all, bans })
+        let places = places_of(alloc, bans.as_slice(), slots)?;
+        Ok(Conflicts { all, bans, places })
     }
 
     /// One conflict more.
@@ -72,5 +79,13 @@ impl Conflicts {
         ensures { AreBans self.now result.now }
     {
         self.bans.as_slice()
+    }
+
+    /// The places of the bans that have this slot, as far as a search goes by them.
+    pub(crate) fn places_at(&self, slot: u32) -> &[usize] {
+        match self.places.get(slot as usize) {
+            Some(places) => places.as_slice(),
+            None => &[],
+        }
     }
 }

@@ -11,58 +11,64 @@ ghost use Rattle.lv_search_guide.specs.Dear.{KeepsUnder};
 ghost use Rattle.lv_search_guide.specs.Prices.{IsBound};
 
 use super::conflicts::Conflicts;
-use super::masks::Masks;
+use super::masks::{Masks, has_several};
 use super::prices::{Room, Row, priced_in};
 use lv_base::{Cost, Pair};
 use lv_boxes::Grid;
 use std::alloc::AllocError;
 
-/// What was found out of a box when choices were taken out that are too dear.
-#[derive(Clone, Copy, Debug)]
-pub(crate) struct Dropped {
-    /// What its members cost at least that contain no conflict.
-    pub(crate) low: u64,
-    /// Whether choices were taken out.
-    pub(crate) some: bool,
-}
+/// A choice costs no more than this.
+const DEAREST: u64 = 1_000_000;
 
 /// Takes out of a box choices that no member has that contains no conflict and costs less than `under`. Where no member
-/// costs less at all it is left as it is.
+/// costs less at all it is left as it is. Answers what its members cost at least that contain no conflict. The room tells
+/// at which slots choices were taken out.
 pub(crate) fn drop_dear(
     room: &mut Room,
     grid: &Grid,
     conflicts: &Conflicts,
     masks: &mut Masks,
     under: u64,
-) -> Result<Dropped, AllocError>
+) -> Result<u64, AllocError>
     ensures keeps { OnOk result (KeepsUnder grid.now conflicts.now under masks.old masks.new) }
-    ensures low { IfOk result (λ dropped. CostsAtLeast grid.now conflicts.now masks.old dropped.low) }
+    ensures low { IfOk result (λ low. CostsAtLeast grid.now conflicts.now masks.old low) }
 {
+    room.changed.clear();
     let low = priced_in(room, grid, conflicts, masks.as_slice(), under)?;
-    if low >= under {
-        return Ok(Dropped { low, some: false });
+    if low >= under || under - low > DEAREST {
+        return Ok(low);
     }
-    let some = drop_priced(room.rows.as_slice(), low, under, masks);
-    Ok(Dropped { low, some })
+    drop_priced(room.rows.as_slice(), low, under, masks, &mut room.changed)?;
+    Ok(low)
 }
 
-/// Takes out of a box the choices of all slots whose price and the bound come to this. Answers whether there were some.
-fn drop_priced(rows: &[Row], low: u64, under: u64, masks: &mut Masks) -> bool
-    ensures { (slots : List (List Cost)) (conflicts : List (List Pair)) → IsBound slots conflicts masks.old low rows.now → KeepsUnder slots conflicts under masks.old masks.new }
+/// Takes out of a box the choices of all slots whose price and the bound come to this. The slots are listed that lose some.
+fn drop_priced(
+    rows: &[Row],
+    low: u64,
+    under: u64,
+    masks: &mut Masks,
+    changed: &mut Vec<u32>,
+) -> Result<(), AllocError>
+    ensures { OnOk result ((slots : List (List Cost)) (conflicts : List (List Pair)) → IsBound slots conflicts masks.old low rows.now → KeepsUnder slots conflicts under masks.old masks.new) }
 {
-    let mut some = false;
     for slot in 0..rows.len().min(4096) {
-        let more = drop_at(rows[slot].as_slice(), slot, low, under, masks);
-        some = some || more;
+        if drop_at(rows[slot].as_slice(), slot, low, under, masks) {
+            changed.push(slot as u32)?;
+        }
     }
-    some
+    Ok(())
 }
 
-/// Takes out of a box the choices of a slot whose price and the bound come to this. Answers whether there were some.
+/// Takes out of a box the choices of a slot whose price and the bound come to this, where it has several. Answers whether
+/// there were some.
 fn drop_at(prices: &[Cost], slot: usize, low: u64, under: u64, masks: &mut Masks) -> bool
     requires { slot < 4096 }
     ensures { (slots : List (List Cost)) (conflicts : List (List Pair)) (whole : List ℕ) (rows : List (List Cost)) → slot < length rows → slice_index_or rows slot [] ≡ prices.now → IsBound slots conflicts whole low rows → KeepsUnder slots conflicts under whole masks.old → KeepsUnder slots conflicts under whole masks.new }
 {
+    if !has_several(masks.at(slot)) {
+        return false;
+    }
     let mut some = false;
     for choice in 0..prices.len().min(64) {
         let dear = is_dear(low, prices[choice].0, under);

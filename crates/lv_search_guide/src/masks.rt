@@ -125,3 +125,9 @@ impl Masks {
         }
     }
 }
+
+/// Whether a mask has two choices or more.
+#[inline(always)]
+pub(crate) fn has_several(mask: u64) -> bool {
+    mask & mask.wrapping_sub(1) != 0
+}

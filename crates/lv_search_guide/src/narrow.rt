@@ -2,7 +2,7 @@
 //! one out of the box; a ban without such a set leaves no member.
 #![tactic(auto)]
 
-ghost use Rattle.std.specs.Prelude.{ℕ, List};
+ghost use Rattle.std.specs.Prelude.{◌≡◌, ◌≤◌, ◌+◌, ◌*◌, true, ℕ, List, length, sum, IfOk, OnOk};
 ghost use Rattle.lv_base.specs.declared.search.Pair.{Pair};
 ghost use Rattle.lv_search_guide.specs.Bans.{AreBans};
 ghost use Rattle.lv_search_guide.specs.Narrow.{StandsTells, LeftTells, TakesOutTells, NarrowsTells, NarrowedTells};
@@ -10,6 +10,7 @@ ghost use Rattle.lv_search_guide.specs.Narrow.{StandsTells, LeftTells, TakesOutT
 use super::bans::{Ban, Choices, without_these};
 use super::conflicts::Conflicts;
 use super::masks::Masks;
+use std::alloc::AllocError;
 
 /// How a ban's choices at a slot stand in a box.
 #[derive(Clone, Copy, Debug, PartialEq, Eq)]
@@ -58,11 +59,75 @@ pub fn narrow(conflicts: &Conflicts, masks: &mut Masks) -> bool
     }
 }
 
-/// As `narrow`, where that is so.
-pub(crate) fn narrow_if(is: bool, conflicts: &Conflicts, masks: &mut Masks) -> bool
-    ensures { NarrowedTells conflicts.now masks.old masks.new result }
+/// As `narrow`, by the bans that have one of these slots, and by those that have one at which choices are then taken out.
+/// No slot is listed any more where members may be left.
+pub(crate) fn narrow_from(
+    conflicts: &Conflicts,
+    changed: &mut Vec<u32>,
+    masks: &mut Masks,
+) -> Result<bool, AllocError>
+    ensures { IfOk result (λ left. NarrowedTells conflicts.now masks.old masks.new left) }
 {
-    !is || narrow(conflicts, masks)
+    while let Some(slot) = changed.pop() {
+        let may_be_left = narrow_at(conflicts, slot, changed, masks)?;
+        if !may_be_left {
+            return Ok(false);
+        }
+    }
+    Ok(true)
+}
+
+/// As `narrow_from`, by the bans that have this slot. The slots are listed at which choices are taken out.
+fn narrow_at(
+    conflicts: &Conflicts,
+    slot: u32,
+    changed: &mut Vec<u32>,
+    masks: &mut Masks,
+) -> Result<bool, AllocError>
+    ensures left { IfOk result (λ left. NarrowedTells conflicts.now masks.old masks.new left) }
+    ensures less { IfOk result (λ left. left ≡ true → 2 * sum masks.new + length changed.new.items ≤ 2 * sum masks.old + length changed.old.items) }
+{
+    for place in conflicts.places_at(slot) {
+        match narrow_by(conflicts, *place, masks) {
+            Narrowing::Same => {}
+            Narrowing::Less => list_broken(conflicts, *place, masks, changed)?,
+            Narrowing::Empty => return Ok(false),
+        }
+    }
+    Ok(true)
+}
+
+/// Lists the first slot of a ban at which the box has none of the ban's choices.
+fn list_broken(
+    conflicts: &Conflicts,
+    place: usize,
+    masks: &Masks,
+    changed: &mut Vec<u32>,
+) -> Result<(), AllocError>
+    ensures { OnOk result (length changed.new.items ≤ length changed.old.items + 1) }
+{
+    let bans = conflicts.bans();
+    if place >= bans.len() {
+        return Ok(());
+    }
+    match first_broken(masks.as_slice(), bans[place].sets()) {
+        Some(slot) => {
+            changed.push(slot)?;
+            Ok(())
+        }
+        None => Ok(()),
+    }
+}
+
+/// The first slot of a ban at which the box has none of these choices.
+fn first_broken(masks: &[u64], sets: &[Choices]) -> Option<u32> {
+    for set in sets {
+        let slot = set.slot as usize;
+        if slot < masks.len() && masks[slot] & set.mask == 0 {
+            return Some(set.slot);
+        }
+    }
+    None
 }
 
 /// Goes through the bans once.

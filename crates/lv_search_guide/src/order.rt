@@ -16,7 +16,7 @@ pub(crate) fn short_first(alloc: Global, bans: &[Ban], slots: usize) -> Result<V
     let turns = turns_of(alloc, bans, slots)?;
     let mut sorted = Vec::new(alloc);
     for turn in turns.as_slice() {
-        push_at(alloc, bans, turn.2, &mut sorted)?;
+        push_at(alloc, bans, turn.place, &mut sorted)?;
     }
     Ok(sorted)
 }
@@ -37,17 +37,28 @@ fn push_at(
     Ok(())
 }
 
-/// Of each ban how many slots it has, how many bans have the one of them that fewest have, and its place, in that order.
-fn turns_of(
-    alloc: Global,
-    bans: &[Ban],
+/// When a ban has its turn: these are compared in their order.
+#[derive(Clone, Copy, Debug, PartialEq, Eq, PartialOrd, Ord)]
+struct Turn {
+    /// How many slots it has.
     slots: usize,
-) -> Result<Vec<(usize, usize, usize)>, AllocError> {
+    /// How many bans have the one of them that fewest have.
+    fewest: usize,
+    /// Its place.
+    place: usize,
+}
+
+/// The turns of all bans, in order.
+fn turns_of(alloc: Global, bans: &[Ban], slots: usize) -> Result<Vec<Turn>, AllocError> {
     let counts = bans_at(alloc, bans, slots)?;
     let mut turns = Vec::new(alloc);
     for place in 0..bans.len() {
         let sets = bans[place].sets();
-        turns.push((sets.len(), fewest(sets, counts.as_slice()), place))?;
+        turns.push(Turn {
+            slots: sets.len(),
+            fewest: fewest(sets, counts.as_slice()),
+            place,
+        })?;
     }
     turns.sort_unstable();
     Ok(turns)
@@ -60,6 +71,33 @@ fn bans_at(alloc: Global, bans: &[Ban], slots: usize) -> Result<Vec<usize>, Allo
         count_in(ban.sets(), &mut counts);
     }
     Ok(counts)
+}
+
+/// Of each slot the places of the bans that have it.
+pub(crate) fn places_of(
+    alloc: Global,
+    bans: &[Ban],
+    slots: usize,
+) -> Result<Vec<Vec<usize>>, AllocError> {
+    let mut places = Vec::new(alloc);
+    for _slot in 0..slots {
+        places.push(Vec::new(alloc))?;
+    }
+    for (place, ban) in bans.iter().enumerate() {
+        push_place(ban.sets(), place, &mut places)?;
+    }
+    Ok(places)
+}
+
+/// Adds the place of a ban to those of each of its slots.
+fn push_place(sets: &[Choices], place: usize, places: &mut [Vec<usize>]) -> Result<(), AllocError> {
+    for set in sets {
+        let slot = set.slot as usize;
+        if slot < places.len() {
+            places[slot].push(place)?;
+        }
+    }
+    Ok(())
 }
 
 /// Counts one ban more at each of its slots.

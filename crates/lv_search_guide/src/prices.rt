@@ -13,7 +13,7 @@ ghost use Rattle.lv_search_guide.specs.Prices.{lowered_from, lowered_at, lowered
 
 use super::bans::{Choices, without_these};
 use super::conflicts::Conflicts;
-use super::masks::Masks;
+use super::masks::has_several;
 use lv_base::{Cost, Seq};
 use lv_boxes::{Grid, mask};
 use std::alloc::{AllocError, Global};
@@ -29,11 +29,13 @@ pub(crate) struct Row {
     least: usize,
 }
 
-/// What a search works in: where lists are made, and rows of prices, which are filled anew for each box.
+/// What a search works in: where lists are made, rows of prices, which are filled anew for each box, and slots at which a
+/// box lost choices.
 #[derive(Debug, Drop)]
 pub(crate) struct Room {
     pub(crate) alloc: Global,
     pub(crate) rows: Vec<Row>,
+    pub(crate) changed: Vec<u32>,
 }
 
 impl Room {
@@ -42,6 +44,7 @@ impl Room {
         Room {
             alloc,
             rows: Vec::new(alloc),
+            changed: Vec::new(alloc),
         }
     }
 }
@@ -71,8 +74,7 @@ impl Row {
     fn fill(&mut self, costs: &[Cost], mask: u64) -> Result<(), AllocError>
         ensures { OnOk result (self.new ≡ costs.now) }
     {
-        self.prices.clear();
-        self.prices.extend_from_slice(costs)?;
+        refill(&mut self.prices, costs)?;
         self.mask = mask;
         self.least = least_choice(costs, mask);
         Ok(())
@@ -93,13 +95,32 @@ impl Row {
     fn lower(&mut self, mask: u64, by: u64)
         ensures { self.new ≡ lowered_from 0 mask by self.old }
     {
+        if mask == 0 {
+            return;
+        }
         lower_each(&mut self.prices, mask, by);
         self.least = least_choice(self.prices.as_slice(), self.mask);
     }
 }
 
-/// A least priced of the choices that the mask has; the number of choices, where it has none.
+/// Fills a list with costs.
+fn refill(prices: &mut Vec<Cost>, costs: &[Cost]) -> Result<(), AllocError>
+    ensures { OnOk result (prices.new.items ≡ costs.now) }
+{
+    if prices.len() == costs.len() {
+        prices.copy_from_slice(costs);
+        return Ok(());
+    }
+    prices.clear();
+    prices.extend_from_slice(costs)?;
+    Ok(())
+}
+
+/// A least priced of the choices that the mask has; past all choices, where it has none.
 fn least_choice(prices: &[Cost], mask: u64) -> usize {
+    if !has_several(mask) {
+        return mask.trailing_zeros() as usize;
+    }
     let mut least = prices.len();
     for choice in 0..prices.len() {
         if mask::has(mask, choice)
@@ -197,11 +218,11 @@ fn least_at(masks: &[u64], set: Choices, rows: &[Row], before: Option<u64>) -> O
     ensures { LeastTells (slice_index_or rows.now set.slot []) (without_these (slice_index masks.now set.slot) set.mask) (length (slice_index_or rows.now set.slot [])) before result }
 {
     let slot = set.slot as usize;
-    least_in(
-        rows[slot].as_slice(),
-        without_these(masks[slot], set.mask),
-        before,
-    )
+    let others = without_these(masks[slot], set.mask);
+    if others == 0 {
+        return before;
+    }
+    least_in(rows[slot].as_slice(), others, before)
 }
 
 /// Prices what breaks a ban at so much less.
