@@ -7,6 +7,8 @@ mod TraverseLemmas
 pub mod FindLemmas
 mod MeetLemmas
 mod VisitLemmas
+mod PairLemmas
+mod NotedLemmas
 mod FalsifyLemmas
 mod SweepLemmas
 mod SweepingLemmas

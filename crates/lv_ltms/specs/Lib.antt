@@ -1,8 +1,10 @@
 pub mod Trail
 pub mod Labelled
 pub mod Watching
+pub mod Pairs
 pub mod Standing
 pub mod Visiting
+pub mod Following
 pub mod Revising
 pub mod Reaching
 pub mod Marked

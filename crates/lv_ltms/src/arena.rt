@@ -1,10 +1,11 @@
 //! The arena: the clauses present, each with its number.
 #![tactic(auto)]
 
-ghost use Rattle.std.specs.Prelude.{◌≡◌, ◌<◌, [], length, IfOk, OnErr, IsSome, Some, None, option_map};
+ghost use Rattle.std.specs.Prelude.{◌≡◌, ℕ, ◌<◌, [], length, false, IfOk, OnOk, OnErr, IsSome, Some, None, option_map, slice_index_or, slice_set};
 ghost use Rattle.lv_clauses.specs.ClauseMap.{clause_at};
 ghost use Rattle.lv_ltms.specs.Watching.{Fits};
 ghost use Rattle.lv_ltms.specs.Standing.{PutsSlot, TellsEmpty, has_no_lits};
+ghost use Rattle.lv_ltms.specs.Pairs.{has_two};
 
 use super::watchers::Watchers;
 use lv_base::{ClauseId, Lit};
@@ -16,19 +17,24 @@ use std::marker::Model;
 /// Clauses for which a new arena has room.
 const FIRST_ROOM: usize = 16;
 
-/// The clauses present.
+/// The clauses present, and for each number whether its clause has two literals: where it has, those that it watches
+/// are all of it, and the clause itself needs no look.
 #[derive(Drop)]
 pub struct Arena {
     alloc: Global,
     clauses: Slab<Clause>,
+    pairs: Vec<bool>,
 }
 
 impl Model for Arena {
     ghost use Rattle.lv_clauses.specs.ClauseMap.{Slots};
+    ghost use Rattle.lv_ltms.specs.Pairs.{AreNoted};
 
     ghost Value = { Slots };
 
     ghost view = { λ s. s.clauses.slots };
+
+    ghost invariant = { λ s. AreNoted s.pairs.items s.clauses.slots };
 }
 
 impl Arena {
@@ -39,6 +45,7 @@ impl Arena {
         Ok(Arena {
             alloc,
             clauses: Slab::with_capacity(alloc, FIRST_ROOM)?,
+            pairs: Vec::new(alloc),
         })
     }
 
@@ -62,7 +69,9 @@ impl Arena {
         let id = ClauseId(self.clauses.vacant_key());
         near.fit(id)?;
         far.fit(id)?;
+        fit(&mut self.pairs, id.0)?;
         self.clauses.insert_reserved(clause);
+        note(&mut self.pairs, id.0, lits.len() == 2);
         Ok(id)
     }
 
@@ -72,6 +81,7 @@ impl Arena {
         ensures { PutsSlot self.old self.new id.0 None }
     {
         self.clauses.remove(id.0);
+        note(&mut self.pairs, id.0, false);
     }
 
     /// The literals of the clause of a number, None exactly where none is present.
@@ -90,6 +100,16 @@ impl Arena {
         ensures { clause_at self.now id.0 ≡ Some result.now }
     {
         self.clauses[id.0].lits()
+    }
+
+    /// Whether a clause of this number is present that has two literals.
+    pub fn is_pair(&self, id: ClauseId) -> bool
+        ensures { result ≡ has_two (clause_at self.now id.0) }
+    {
+        match self.pairs.get(id.0) {
+            Some(pair) => *pair,
+            None => false,
+        }
     }
 
     /// Whether a clause of this number is present that has no literal.
@@ -114,5 +134,25 @@ impl Arena {
             }
         }
         None
+    }
+}
+
+/// Has a place for this number. What is noted stays as it was.
+fn fit(pairs: &mut Vec<bool>, number: usize) -> Result<(), AllocError>
+    ensures room { OnOk result (number < length pairs.new.items) }
+    ensures same { (i : ℕ) → slice_index_or pairs.new.items i false ≡ slice_index_or pairs.old.items i false }
+{
+    while pairs.len() <= number {
+        pairs.push(false)?;
+    }
+    Ok(())
+}
+
+/// Notes whether the clause of a number has two literals, if the number has a place.
+fn note(pairs: &mut Vec<bool>, number: usize, pair: bool)
+    ensures { pairs.new.items ≡ slice_set pairs.old.items number pair }
+{
+    if number < pairs.len() {
+        pairs[number] = pair;
     }
 }

@@ -145,6 +145,8 @@ impl Network {
             self.progress.done,
             assumed,
             &self.arena,
+            &self.near,
+            &self.far,
             &mut self.labels,
             &mut self.fallen,
         );

@@ -12,6 +12,8 @@ ghost use Rattle.lv_ltms.specs.Labelled.{AreLabels, GoesOn};
 ghost use Rattle.lv_ltms.specs.Trail.{same_lit};
 ghost use Rattle.lv_ltms.specs.Standing.{IsNetwork, IsLooked, IsFalsified, Stops, Meets, IsNear, Picks, Settles};
 ghost use Rattle.lv_ltms.specs.Visiting.{Visits, is_open_but, is_open};
+ghost use Rattle.lv_ltms.specs.Pairs.{HasBoth, AreWatched};
+ghost use Rattle.lv_ltms.specs.Following.{Passes, Follows};
 
 use super::arena::Arena;
 use super::labels::{Labels, Link, Reason};
@@ -35,6 +37,28 @@ pub enum Meeting {
     Moves(Lit),
     /// It is false.
     Fails,
+}
+
+/// What a clause comes to of which one watched literal is false, as far as no other is watched.
+#[derive(Clone, Copy, Debug)]
+pub enum Passing {
+    /// The other literal that it watches is true.
+    Holds,
+    /// It has more than two literals, and may come to watch another one.
+    Stops,
+    /// It is false.
+    Fails,
+}
+
+/// What clauses come to that watch a literal which is false, as far as none comes to watch another one.
+#[derive(Clone, Copy, Debug)]
+pub enum Course {
+    /// Of each the other literal that it watches is true.
+    Holds,
+    /// One of them may come to watch another one.
+    Stops,
+    /// This one is false.
+    Fails(ClauseId),
 }
 
 /// The two literals that a clause watches.
@@ -100,7 +124,81 @@ fn falsify(
 }
 
 /// Goes along the clauses that watch a literal that is false on one side. Answers one that is false, if there is one.
+#[inline(always)]
 fn visit(
+    lit: Lit,
+    arena: &Arena,
+    near: &mut Watchers,
+    far: &Watchers,
+    labels: &mut Labels,
+) -> Option<ClauseId>
+    requires network { IsNetwork (length labels.old.marks) arena.now near.old far.now labels.old }
+    requires turned { is_marked labels.old.marks (neg lit) ≡ true }
+    requires members { AreMembers arena.now (lit_at far.now) }
+    requires pairs { AreWatched arena.now near.old far.now }
+    ensures network { IsNetwork (length labels.old.marks) arena.now near.new far.now labels.new }
+    ensures goes_on { GoesOn arena.now labels.old labels.new }
+    ensures visits { Visits arena.now (lit_at near.old) (lit_at near.new) (lit_at far.now) labels.old labels.new lit result }
+    ensures found { IfSome result (λ id. IsFalsified arena.now labels.new.marks id.0) }
+{
+    match follow(lit, arena, near, far, labels) {
+        Course::Holds => None,
+        Course::Stops => rewatch(lit, arena, near, far, labels),
+        Course::Fails(id) => Some(id),
+    }
+}
+
+/// Goes along them up to one that may come to watch another literal, or that is false.
+#[inline(always)]
+fn follow(lit: Lit, arena: &Arena, near: &Watchers, far: &Watchers, labels: &mut Labels) -> Course
+    requires network { IsNetwork (length labels.old.marks) arena.now near.now far.now labels.old }
+    requires turned { is_marked labels.old.marks (neg lit) ≡ true }
+    requires pairs { AreWatched arena.now near.now far.now }
+    ensures goes_on { GoesOn arena.now labels.old labels.new }
+    ensures follows { Follows arena.now near.now far.now labels.new.marks lit result }
+{
+    let mut at = near.first(lit);
+    for _ in 0..near.room() {
+        let Some(id) = at else {
+            return Course::Holds;
+        };
+        match pass(id, lit, far.lit(id), arena, labels) {
+            Passing::Holds => at = near.next(id),
+            Passing::Stops => return Course::Stops,
+            Passing::Fails => return Course::Fails(id),
+        }
+    }
+    Course::Holds
+}
+
+/// Looks at a clause that watches a literal which is false, and this other one. Marks the other one of a clause of two.
+fn pass(id: ClauseId, lit: Lit, other: Lit, arena: &Arena, labels: &mut Labels) -> Passing
+    requires turned { is_marked labels.old.marks (neg lit) ≡ true }
+    requires clauses { AreClauses (length labels.old.marks) arena.now }
+    requires labels { AreLabels (length labels.old.marks) labels.old }
+    requires pair { HasBoth (clause_at arena.now id.0) lit other }
+    ensures passes { Passes arena.now labels.new.marks id other result }
+    ensures goes_on { GoesOn arena.now labels.old labels.new }
+{
+    if is_marked(labels.marks(), other) {
+        return Passing::Holds;
+    }
+    if !arena.is_pair(id) {
+        return Passing::Stops;
+    }
+    if is_marked(labels.marks(), negation(other)) {
+        return Passing::Fails;
+    }
+    labels.push(Link {
+        lit: other,
+        reason: Reason::Clause(id),
+    });
+    Passing::Holds
+}
+
+/// Goes along them and lets those watch another literal that have one which isn't false.
+#[inline(never)]
+fn rewatch(
     lit: Lit,
     arena: &Arena,
     near: &mut Watchers,

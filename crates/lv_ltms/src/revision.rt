@@ -10,11 +10,13 @@ ghost use Rattle.lv_base.specs.declared.ids.ClauseId.{ClauseId};
 ghost use Rattle.lv_clauses.specs.Literals.{neg, in_range};
 ghost use Rattle.lv_clauses.specs.ClauseMap.{Slots, clause_at};
 ghost use Rattle.lv_clauses.specs.Marks.{Marks, is_marked};
+ghost use Rattle.lv_clauses.specs.Marks as OfMarks;
 ghost use Rattle.lv_ltms.specs.Labelled.{Agrees, AreLabels, Grows};
 ghost use Rattle.lv_ltms.specs.Standing.{true_before};
 ghost use Rattle.lv_ltms.specs.Watching.{lit_at, has_lit, IsThreaded, AreRows, InRow, AllInRow, AreGuarded, AreSettled};
 ghost use Rattle.lv_ltms.specs.Revising.{IsShaken, IsSwept, AreUpright, NoneOpposed, TurnedToo, AreMarked, AreMarkedOrWait, NoneAgainst, IsOneSided, GetsSupport, GivesReason, is_wanted_by, derives_lit, is_other_or_false, reason_stands};
 ghost use Rattle.lv_ltms.specs.Reaching.{IsWithout, StaysOn};
+ghost use Rattle.lv_ltms.specs.Pairs.{AreWatched};
 ghost use Rattle.lv_ltms.specs.Trail.{IsDerivation};
 
 use super::arena::Arena;
@@ -30,6 +32,8 @@ pub fn sweep(
     done: usize,
     assumed: &[Option<bool>],
     arena: &Arena,
+    near: &Watchers,
+    far: &Watchers,
     labels: &mut Labels,
     fallen: &mut Vec<Lit>,
 ) -> usize
@@ -38,6 +42,7 @@ pub fn sweep(
     requires shaken { IsShaken (is_marked assumed.now) arena.now labels.old.trail from }
     requires room { length labels.old.marks ≤ vec_capacity fallen.old }
     requires empty { fallen.old.items ≡ [] }
+    requires pairs { AreWatched arena.now near.now far.now }
     ensures labels { AreLabels (length labels.old.marks) labels.new }
     ensures range { IsTrue (list_all (in_range (length labels.old.marks)) fallen.new.items) }
     ensures swept { IsSwept (is_marked assumed.now) arena.now labels.old labels.new fallen.new.items }
@@ -51,7 +56,7 @@ pub fn sweep(
     let mut looked = from.min(done);
     for at in from..labels.trail().len() {
         let link = labels.trail()[at];
-        if stands(link, assumed, arena, labels.marks()) {
+        if stands(link, assumed, arena, near, far, labels.marks()) {
             labels.put(kept, link);
             kept += 1;
             if at < done {
@@ -68,31 +73,64 @@ pub fn sweep(
 
 /// Whether a label's reason still supports it: the assumption is present, or the clause is and its other literals are
 /// false. An assumption of the negation takes the label away.
-fn stands(link: Link, assumed: &[Option<bool>], arena: &Arena, marks: &[Option<bool>]) -> bool
+fn stands(
+    link: Link,
+    assumed: &[Option<bool>],
+    arena: &Arena,
+    near: &Watchers,
+    far: &Watchers,
+    marks: &[Option<bool>],
+) -> bool
+    requires pairs { AreWatched arena.now near.now far.now }
     ensures { result ≡ (not (is_marked assumed.now (neg link.lit)) && reason_stands (is_marked assumed.now) arena.now (is_marked marks.now) link.lit link.reason) }
 {
     !is_marked(assumed, negation(link.lit))
         && match link.reason {
             Reason::Assumed => is_marked(assumed, link.lit),
-            Reason::Clause(id) => derives(id, link.lit, arena, marks),
+            Reason::Clause(id) => derives(id, link.lit, arena, near, far, marks),
         }
 }
 
 /// Whether a clause is there whose literals but this one are false.
-fn derives(id: ClauseId, lit: Lit, arena: &Arena, marks: &[Option<bool>]) -> bool
+fn derives(
+    id: ClauseId,
+    lit: Lit,
+    arena: &Arena,
+    near: &Watchers,
+    far: &Watchers,
+    marks: &[Option<bool>],
+) -> bool
+    requires pairs { AreWatched arena.now near.now far.now }
     ensures { result ≡ derives_lit (is_marked marks.now) lit (clause_at arena.now id.0) }
 {
+    if arena.is_pair(id) {
+        return are_both_false_but(near.lit(id), far.lit(id), lit, marks);
+    }
     match arena.find(id) {
         Some(lits) => are_false_but(lits, lit, marks),
         None => false,
     }
 }
 
+/// Whether of two literals each is this one or is false.
+fn are_both_false_but(one: Lit, two: Lit, lit: Lit, marks: &[Option<bool>]) -> bool
+    ensures { result ≡ (is_other_or_false (is_marked marks.now) lit one && is_other_or_false (is_marked marks.now) lit two) }
+{
+    is_false_but(one, lit, marks) && is_false_but(two, lit, marks)
+}
+
 /// Whether all literals but this one are false.
 fn are_false_but(lits: &[Lit], lit: Lit, marks: &[Option<bool>]) -> bool
     ensures { result ≡ list_all (is_other_or_false (is_marked marks.now) lit) lits.now }
 {
-    lits.iter().all(|other| *other == lit || is_marked(marks, negation(*other)))
+    lits.iter().all(|other| is_false_but(*other, lit, marks))
+}
+
+/// Whether a literal is this one or is false.
+fn is_false_but(other: Lit, lit: Lit, marks: &[Option<bool>]) -> bool
+    ensures { result ≡ is_other_or_false (is_marked marks.now) lit other }
+{
+    other == lit || is_marked(marks, negation(other))
 }
 
 /// Gives each boolean that lost its label that of an assumption or of a clause of one literal, if there is one. The
@@ -150,6 +188,7 @@ fn support_negation(
 
 /// Marks a literal where it is assumed, or a clause has no other; unless its boolean is marked, or its negation is
 /// assumed.
+#[inline(always)]
 fn support(lit: Lit, assumed: &[Option<bool>], near: &Watchers, far: &Watchers, labels: &mut Labels)
     requires rows { AreRows near.now far.now }
     requires labels { AreLabels (length labels.old.marks) labels.old }
@@ -170,7 +209,15 @@ fn support(lit: Lit, assumed: &[Option<bool>], near: &Watchers, far: &Watchers, 
 fn is_wanted(lit: Lit, assumed: &[Option<bool>], marks: &[Option<bool>]) -> bool
     ensures { result ≡ is_wanted_by (is_marked assumed.now) (is_marked marks.now) lit }
 {
-    !is_marked(marks, lit) && !is_marked(marks, negation(lit)) && !is_marked(assumed, negation(lit))
+    is_free(marks, lit) && !is_marked(assumed, negation(lit))
+}
+
+/// Whether neither a literal nor its negation is marked.
+fn is_free(marks: &[Option<bool>], lit: Lit) -> bool
+    ensures { result ≡ OfMarks.is_free marks.now lit }
+{
+    let index = lit.var.0 as usize;
+    index >= marks.len() || marks[index].is_none()
 }
 
 /// An assumption or a clause of one literal that gives a literal its label.

@@ -8,12 +8,17 @@ use Rattle.lv_ltms.specs.Labelled.{AreLabels}
 use Rattle.lv_ltms.specs.Watching.{lit_at, has_lit, AllInRow, AreGuarded, AreSettled}
 use Rattle.lv_ltms.specs.Standing.{true_before}
 use Rattle.lv_ltms.specs.Revising.{AreMarkedOrWait, AreUpright, NoneOpposed}
+use Rattle.lv_ltms.proofs.PairLemmas.{watched_looked}
 use Rattle.lv_ltms.proofs.RestLemmas.{stops_falsified, network_sized}
 use Rattle.lv_ltms.proofs.ReviseLemmas.{swept_upright, swept_unopposed, revised_guarded, revised_settled, revised_network, revised_looked}
 use Rattle.lv_ltms.proofs.StayLemmas.{stays_grown}
 use Rattle.lv_ltms.proofs.SupportLemmas.{swept_marked}
 use Rattle.lv_ltms.proofs.TraverseLemmas.{rows_of_both}
 use Rattle.lv_ltms.proofs.network.Network.revise.Goals as goal
+
+pub sweep-looked-requires-clause-pairs : goal.sweep-looked-requires-clause-pairs
+sweep-looked-requires-clause-pairs c =
+    watched_looked (length c.args.self.now.labels.marks) c.args.self.now.arena c.args.self.now.near c.args.self.now.far c.args.self.now.labels c.args.self.now.progress.done c.requires.alive.network c.requires.alive.looked
 
 pub support_all-requires-clause-rows : goal.support_all-requires-clause-rows
 support_all-requires-clause-rows c =
