@@ -5,9 +5,7 @@ use Rattle.lv_base.specs.declared.ids.ClauseId.{ClauseId}
 use Rattle.lv_clauses.specs.ClauseMap.{Slots}
 use Rattle.lv_clauses.specs.Marks.{Marks, is_marked}
 use Rattle.lv_ltms.specs.declared.propagation.Passing.{Passing}
-use Rattle.lv_ltms.specs.declared.propagation.Passing.TheVariants as Passing
 use Rattle.lv_ltms.specs.declared.propagation.Course.{Course}
-use Rattle.lv_ltms.specs.declared.propagation.Course.TheVariants as Course
 use Rattle.lv_ltms.specs.Watching.{Rows, lit_at, AllInRow}
 use Rattle.lv_ltms.specs.Standing.{IsFalsified}
 

@@ -1,5 +1,5 @@
 -- the other literal is true, or the clause has more than two, or the other one is false or marked now
-use Rattle.std.proofs.Common.{◌≡◌, ◌<◌, true, false, length, sym, ap, subst, ◌∙◌}
+use Rattle.std.proofs.Common.{◌≡◌, ◌<◌, false, length, sym, ap, subst, ◌∙◌}
 use Rattle.lv_base.specs.declared.ids.Lit.{Lit}
 use Rattle.lv_clauses.specs.Literals.{neg}
 use Rattle.lv_clauses.specs.Marks.{Marks, is_marked}
