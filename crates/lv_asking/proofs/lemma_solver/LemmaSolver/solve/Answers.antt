@@ -10,8 +10,8 @@ use Rattle.lv_asking.proofs.lemma_solver.LemmaSolver.solve.Goals as goal
 pub solve-requires : goal.solve-requires
 solve-requires c = ap (λ n. is_clause n c.args.assumptions.now) (c.self.invariant.bools ∙ ap (λ (s : ClauseMap). s.bools) c.self.view_is) ∙ c.requires
 
-pub returns-in-Sat-clause-reply : goal.returns-in-Sat-clause-reply
-returns-in-Sat-clause-reply c =
+pub returns-in_ok-self-inside-in-Sat-clause-reply : goal.returns-in_ok-self-inside-in-Sat-clause-reply
+returns-in_ok-self-inside-in-Sat-clause-reply c =
     let told : IsSatisfied c.self.inside.solver c.args.assumptions.now c.in-Sat.values c.in-Sat.log = rw c.in-Sat.is at c.in_ok-values.ensures.answer in
     model_of c.args.self.now c.self.inside.solver c.args.assumptions.now c.in-Sat.values (subst (λ (s : ClauseMap). HaveSameModels s c.self.inside.solver) c.self.view_is c.self.invariant) told.model
 
