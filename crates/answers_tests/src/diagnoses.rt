@@ -14,7 +14,7 @@ use crate::asked::{Asked, answers};
 use crate::facts_that_fit::{are_in_range, fit};
 use crate::reasons::are_reasons;
 use lv_base::{Cost, Pair, Rank, Seq, ValId, VarId};
-use lv_ident::{IdentTrial, Query, identify};
+use lv_ident::{IdentTrial, Listing, Query, identify};
 use lv_meaning::{Facts, Observation};
 use lv_model::{Model, Part, State, TrackedState};
 use lv_search_walk::Outcome;
@@ -223,7 +223,11 @@ fn query_comes_to(
     requires states { All (IsTracked (length model.now.parts)) tracked.now }
 {
     let facts = facts_of(alloc, model, told)?;
-    let mut query = identify(alloc, model, system, tracked, facts, 4, false)?;
+    let listing = Listing {
+        k: 4,
+        distinct: false,
+    };
+    let mut query = identify(alloc, model, system, None, tracked, facts, listing)?;
     let right = comes_to(&mut query, runs, wanted);
     drop(query);
     right
@@ -299,7 +303,7 @@ pub fn has_right_moves(
     requires { IsSystemOf model.now system.now }
 {
     let facts = facts_of(alloc, model, told)?;
-    let mut trial = IdentTrial::new(alloc, model, system, facts)?;
+    let mut trial = IdentTrial::new(alloc, model, system, None, facts)?;
     let right = moves_are_right(&mut trial, system.choices().counts());
     drop(trial);
     right

@@ -1,11 +1,11 @@
 -- What follows from clauses changes nothing beside them.
-use Rattle.std.proofs.Common.{◌≡◌, ◌≢◌, ◌⊎◌, ℕ, ◌-◌, Bool, true, false, List, length, map, slice_get, Option, Some, None, option_map, refl, sym, subst, ap, ◌∙◌, arith, inl, inr, All}
-use Rattle.std.proofs.lemmas.Bool.{cases_eq}
+use Rattle.std.proofs.Common.{◌≡◌, ◌≢◌, ◌⊎◌, ℕ, ◌-◌, ◌<◌, ◌≤◌, Bool, true, false, IsSome, List, length, map, slice_get, Option, Some, None, option_map, refl, sym, subst, ap, ◌∙◌, arith, inl, inr, All}
+use Rattle.std.proofs.lemmas.Bool.{cases_eq, cases_lt}
 use Rattle.std.proofs.lemmas.List.{take_all}
 use Rattle.std.proofs.lemmas.Option.{slice_get_within, get_or_from_slice_get}
 use Rattle.lv_base.specs.declared.ids.Lit.{Lit}
 use Rattle.lv_clauses.specs.Literals.{neg, clause_holds}
-use Rattle.lv_clauses.specs.ClauseMap.{ClauseMap, clause_at, Puts, satisfies}
+use Rattle.lv_clauses.specs.ClauseMap.{ClauseMap, clause_at, IsBound, Puts, satisfies}
 use Rattle.lv_clauses.proofs.LiteralLemmas.{present_holds}
 use Rattle.lv_sat.specs.lv_reflog.declared.log.Step.{Step}
 use Rattle.lv_sat.specs.lv_reflog.Following.{first_bad_step, IsImplied}
@@ -84,3 +84,30 @@ pub model_of : (given all : ClauseMap) (assumptions : List Lit) (values : List B
 model_of given all assumptions values here model =
     let size : length values ≡ given.bools = model.len ∙ here.bools in
     record { len = size; all_clauses = sym (here.same values size) ∙ model.all_clauses; all_assumptions = model.all_assumptions }
+
+-- clauses of which each number has the same
+same_by_numbers : (one other : ClauseMap) → one.bools ≡ other.bools → ((id : ℕ) → clause_at one.slots id ≡ clause_at other.slots id) → HaveSameModels one other
+same_by_numbers one other bools each =
+    record {
+      bools = sym bools;
+      same =
+          λ values len.
+          same_by (satisfies values other.slots) (satisfies values one.slots)
+          (λ sat. all_present_hold values one.slots (λ n c at. present_holds values other.slots n c sat (sym (each n) ∙ at)))
+          (λ sat. all_present_hold values other.slots (λ n c at. present_holds values one.slots n c sat (each n ∙ at)));
+    }
+
+absent : (o : Option (List Lit)) → (IsSome o → ⊥) → o ≡ None
+absent None never = refl
+absent (Some c) never = absurd (never tt)
+
+-- they are told by the numbers below a bound of both
+pub same_below : (one other : ClauseMap) (m n bound : ℕ) → one.bools ≡ other.bools → IsBound one.slots m → IsBound other.slots n → m ≤ bound → n ≤ bound
+    → ((id : ℕ) → id < bound → clause_at one.slots id ≡ clause_at other.slots id) → HaveSameModels one other
+same_below one other m n bound bools first second low high below = same_by_numbers one other bools (λ id. by id (cases_lt id bound))
+  where
+    by : (id : ℕ) → (id < bound) ⊎ (bound ≤ id) → clause_at one.slots id ≡ clause_at other.slots id
+    by id (inl less) = below id less
+    by id (inr above) =
+        absent (clause_at one.slots id) (λ some. let less = first.above id some in absurd (omega (arith, low, above, less)))
+        ∙ sym (absent (clause_at other.slots id) (λ some. let less = second.above id some in absurd (omega (arith, high, above, less))))

@@ -10,3 +10,4 @@ pub mod ReducingLemmas
 pub mod HoldLemmas
 pub mod NumberLemmas
 pub mod FullLemmas
+pub mod SameLemmas

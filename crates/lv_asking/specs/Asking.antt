@@ -12,6 +12,7 @@ use Rattle.lv_sat.specs.Answers.{IsModel}
 use Rattle.lv_search_walk.specs.Reason.{reduced}
 use Rattle.lv_system.specs.Choices.{Choices}
 use Rattle.lv_asking.specs.Literals.{HasMove, pair_literals, marked_pairs}
+use Rattle.lv_asking.specs.Lemmas.{HaveSameModels}
 use Rattle.lv_asking.specs.Refutation.{HasModel}
 
 -- the clauses, the numbering of the choices, and the literals that are assumed
@@ -34,6 +35,12 @@ pub record Decides (a : AskingValue) (possible : List Pair → Bool) : Type 0 wh
 -- the same, where this literal is assumed too
 abbrev pub beside : Lit → AskingValue → AskingValue
 beside l a = record a { assumed = l ∷ a.assumed }
+
+-- the same is asked, of clauses that the same values satisfy
+pub record AskTheSame (one other : AskingValue) : Type 0 where
+  pub models : HaveSameModels one.set other.set
+  pub choices : other.choices ≡ one.choices
+  pub assumed : other.assumed ≡ one.assumed
 
 -- the literal is of a boolean before those of the choices, of which nothing is assumed
 pub record IsFresh (a : AskingValue) (l : Lit) : Type 0 where

@@ -77,13 +77,39 @@ impl Asking {
         requires fit { choices.first + sum choices.counts ≤ set.now.bools }
         ensures { IfOk result (λ a. a ≡ record { set = set.now; choices = choices; assumed = assumed.items }) }
     {
-        Ok(Asking {
+        Ok(Asking::of(
+            alloc,
+            LemmaSolver::new(alloc, set)?,
+            choices,
+            assumed,
+        ))
+    }
+
+    /// What is asked of this solver, with these literals assumed, which are of distinct booleans before those of the choices.
+    pub fn of(
+        alloc: Global,
+        solver: LemmaSolver,
+        choices: ChoiceBools,
+        assumed: Vec<Lit>,
+    ) -> Asking
+        requires clause { is_clause choices.first assumed.items ≡ true }
+        requires fit { choices.first + sum choices.counts ≤ solver.bools }
+        ensures { result ≡ record { set = solver; choices = choices; assumed = assumed.items } }
+    {
+        Asking {
             alloc,
             choices,
             assumed,
             solutions: Solutions::new(alloc),
-            solver: LemmaSolver::new(alloc, set)?,
-        })
+            solver,
+        }
+    }
+
+    /// The solver alone, for another question.
+    pub fn into_solver(self) -> LemmaSolver
+        ensures { result ≡ self.set }
+    {
+        self.solver
     }
 
     /// Asks for the pairs and more literals, beside what is assumed: nothing where they can be true together, else marks of

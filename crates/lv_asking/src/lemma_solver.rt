@@ -2,12 +2,13 @@
 //! from the clauses given, so what can be true stays the same, and later questions need not learn them again.
 #![tactic(auto)]
 
-ghost use Rattle.std.specs.Prelude.{◌≡◌, None, IsTrue, IfOk};
+ghost use Rattle.std.specs.Prelude.{◌≡◌, ◌<◌, true, None, IsTrue, IfOk};
 ghost use Rattle.lv_clauses.specs.Literals.{is_clause};
+ghost use Rattle.lv_clauses.specs.ClauseMap.{clause_at};
 ghost use Rattle.lv_reflog.specs.Following.{first_bad_step};
 ghost use Rattle.lv_asking.specs.Lemmas.{Follows, HaveSameModels};
 
-use lv_base::{Lit, Seq};
+use lv_base::{ClauseId, Lit, Seq};
 use lv_clauses::{ClauseSet, is_clause};
 use lv_reflog::Log;
 use lv_sat::{Answer, Effort, Solver};
@@ -62,6 +63,27 @@ impl LemmaSolver {
         })
     }
 
+    /// A solver of a set's clauses: this one with all that it learned, where it is of the same ones, since to look at them is
+    /// less work than to make a solver; else one of copies.
+    pub fn renewed(
+        alloc: Global,
+        set: &ClauseSet,
+        spare: Option<LemmaSolver>,
+    ) -> Result<LemmaSolver, AllocError>
+        ensures { IfOk result (λ s. HaveSameModels set.now s) }
+    {
+        match spare {
+            Some(solver) => {
+                if are_same(set, &solver.given) {
+                    Ok(solver)
+                } else {
+                    LemmaSolver::new(alloc, set)
+                }
+            }
+            None => LemmaSolver::new(alloc, set),
+        }
+    }
+
     /// The number of booleans.
     pub fn bools(&self) -> u32
         ensures { result ≡ self.now.bools }
@@ -91,6 +113,33 @@ impl LemmaSolver {
     /// What its searches did, all together.
     pub fn effort(&self) -> Effort {
         self.solver.effort()
+    }
+}
+
+/// Whether the sets have the same clauses, each with its number.
+fn are_same(one: &ClauseSet, other: &ClauseSet) -> bool
+    ensures { result ≡ true → HaveSameModels one.now other.now }
+{
+    if one.bools() != other.bools() {
+        return false;
+    }
+    let bound = one.bound().max(other.bound());
+    for at in 0..bound {
+        if !are_same_at(one, other, ClauseId(at)) {
+            return false;
+        }
+    }
+    true
+}
+
+/// Whether they have the same clause of this number, or both have none.
+fn are_same_at(one: &ClauseSet, other: &ClauseSet, id: ClauseId) -> bool
+    ensures { result ≡ true → clause_at one.now.slots id.0 ≡ clause_at other.now.slots id.0 }
+{
+    match (one.find(id), other.find(id)) {
+        (Some(lits), Some(others)) => lits == others,
+        (None, None) => true,
+        (Some(_), None) | (None, Some(_)) => false,
     }
 }
 

@@ -6,7 +6,7 @@
 //! |---|---|
 //! | `asking` | `Asking`: whether pairs are possible together, also beside one literal more, and what is left of them when each that isn't needed is left out |
 //! | `refutation` | the one question asked of the solver, and the solutions kept from earlier ones |
-//! | `lemma_solver` | a solver that keeps short clauses that its searches learned |
+//! | `lemma_solver` | a solver that keeps short clauses that its searches learned, from one query to the next too |
 //! | `literals` | observations and choices as literals |
 #![tactic(auto)]
 
@@ -16,3 +16,4 @@ pub mod literals;
 pub mod refutation;
 
 pub use asking::Asking;
+pub use lemma_solver::LemmaSolver;

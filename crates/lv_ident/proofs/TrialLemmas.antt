@@ -25,7 +25,9 @@ use Rattle.lv_meaning.specs.Possible.{is_possible}
 use Rattle.lv_meaning.proofs.Possibility.{part_possible}
 use Rattle.lv_asking.specs.Literals.{observed_literal, pair_literals, HasMove, IsPositive, IsOnce}
 use Rattle.lv_asking.specs.Refutation.{HasModel}
-use Rattle.lv_asking.specs.Asking.{AskingValue, Decides, beside}
+use Rattle.lv_asking.specs.Lemmas.{HaveSameModels}
+use Rattle.lv_asking.specs.Asking.{AskingValue, AskTheSame, Decides, beside}
+use Rattle.lv_asking.proofs.SameLemmas.{decides_the_same, beside_the_same}
 use Rattle.lv_ident.specs.Literals.{fact_literals, plant_choices}
 use Rattle.lv_ident.specs.Probing.{with_next}
 use Rattle.lv_ident.specs.Trial.{TellsFacts}
@@ -40,11 +42,11 @@ module _ (plant : Plant) (s : SystemValue) (is : IsSystemOf plant s) where
   pub first_is : (choices : Choices) → choices ≡ choices_of s → (n : ℕ) → n ≡ choices.first → n ≡ first_choice plant
   first_is choices same n at = at ∙ ap (λ (c : Choices). c.first) (same ∙ numbering)
 
-  pub choices_fit : (choices : Choices) → choices ≡ choices_of s → (set : ClauseMap) → set ≡ s.set → choices.first + sum choices.counts ≤ set.bools
-  choices_fit choices same set set_is =
+  pub choices_fit : (choices : Choices) → choices ≡ choices_of s → (set : ClauseMap) → HaveSameModels s.set set → choices.first + sum choices.counts ≤ set.bools
+  choices_fit choices same set models =
       let first : choices.first ≡ first_choice plant = ap (λ (c : Choices). c.first) (same ∙ numbering) in
       let counts : sum choices.counts ≡ sum (move_counts plant) = ap (λ (c : Choices). sum c.counts) (same ∙ numbering) in
-      let bools : set.bools ≡ bool_count plant = ap (λ (m : ClauseMap). m.bools) set_is ∙ is.bools in
+      let bools : set.bools ≡ bool_count plant = models.bools ∙ is.bools in
       omega (arith, first, counts, bools)
 
 module _ (plant : Plant) (h : is_well_formed plant ≡ true) (s : SystemValue) (is : IsSystemOf plant s) where
@@ -120,14 +122,21 @@ module _ (plant : Plant) (h : is_well_formed plant ≡ true) (s : SystemValue) (
     observed_decides : Decides (beside seen (own_asking assumed)) (is_possible plant (with_next facts o))
     observed_decides = facts_decide (with_next facts o) more_in_range (seen ∷ assumed) says_more
 
-  -- what is asked tells what is possible under the facts
-  pub tells_facts : (facts : Facts) → FactsInRange plant facts → (choices : Choices) → choices ≡ choices_of s → (set : ClauseMap) → set ≡ s.set → (n : ℕ) → (lits : List Lit) → lits ≡ fact_literals plant facts
-      → (assumed : List Lit) → IsOnce n lits assumed → (a : AskingValue) → a ≡ record { set = set; choices = choices; assumed = assumed } → TellsFacts plant facts a
-  tells_facts facts fit choices same set set_is n lits lits_are assumed once a a_is =
+  -- what is asked, of clauses that the same values satisfy, tells what is possible under the facts
+  pub tells_facts : (facts : Facts) → FactsInRange plant facts → (choices : Choices) → choices ≡ choices_of s → (set : ClauseMap) → HaveSameModels s.set set → (n : ℕ) → (lits : List Lit) → lits ≡ fact_literals plant facts
+      → (assumed : List Lit) → IsOnce n lits assumed → TellsFacts plant facts (record { set = set; choices = choices; assumed = assumed })
+  tells_facts facts fit choices choices_is set models n lits lits_are assumed once =
       let own : IsOnce n (fact_literals plant facts) assumed = subst (λ (ls : List Lit). IsOnce n ls assumed) lits_are once in
-      let made : own_asking assumed ≡ a = sym (a_is ∙ (λ i. record { set = set_is i; choices = same i; assumed = assumed })) in
-      subst (λ (v : AskingValue). TellsFacts plant facts v) made
-      (record { choices = choices_are; decides = facts_decide facts fit assumed own.says; seeing = observed_decides facts fit assumed own.says })
+      let asked : AskingValue = record { set = set; choices = choices; assumed = assumed } in
+      let same : AskTheSame (own_asking assumed) asked = record { models = models; choices = choices_is; assumed = refl } in
+      record {
+        choices = choices_is ∙ choices_are;
+        decides = decides_the_same (own_asking assumed) asked same (is_possible plant facts) (facts_decide facts fit assumed own.says);
+        seeing =
+            λ o has.
+            let l : Lit = observed_literal (booleans_next plant) o in
+            decides_the_same (beside l (own_asking assumed)) (beside l asked) (beside_the_same (own_asking assumed) asked l same) (is_possible plant (with_next facts o)) (observed_decides facts fit assumed own.says o has);
+      }
 
 -- the literals of facts are of booleans before those of the moves
 pub facts_asked : (plant : Plant) (facts : Facts) → FactsInRange plant facts → (n : ℕ) → n ≡ first_choice plant → (lits : List Lit) → lits ≡ fact_literals plant facts → All (IsPositive n) lits

@@ -4,7 +4,7 @@
 //!
 //! | file | what it holds |
 //! |---|---|
-//! | `query` | `identify` and `Query`: the search and its trial together |
+//! | `query` | `identify` and `Query`: the search and its trial together; its solver can be handed on to the next query |
 //! | `trial` | `IdentTrial`: whether a candidate is possible, and the reason of one that isn't |
 //! | `literals` | facts as literals |
 //! | `laws` | what kept conflicts are |
@@ -15,5 +15,6 @@ pub mod literals;
 pub mod query;
 pub mod trial;
 
-pub use query::{Query, QueryEffort, identify};
+pub use lv_asking::LemmaSolver;
+pub use query::{Listing, Query, QueryEffort, identify};
 pub use trial::IdentTrial;

@@ -13,6 +13,7 @@ ghost use Rattle.lv_ident.specs.Query.{groups_for, IsQueryOf};
 ghost use Rattle.lv_search_zones.specs.Moves.{is_full_choice};
 
 use crate::trial::IdentTrial;
+use lv_asking::LemmaSolver;
 use lv_base::Seq;
 use lv_guide::Guide;
 use lv_meaning::Facts;
@@ -29,6 +30,13 @@ use std::marker;
 pub struct QueryEffort {
     pub trials: u64,
     pub solver: Effort,
+}
+
+/// How many candidates are to be listed, and whether no two of one target.
+#[derive(Clone, Copy, Debug, PartialEq, Eq)]
+pub struct Listing {
+    pub k: u32,
+    pub distinct: bool,
 }
 
 /// A search for the first candidates that are possible under facts. It keeps the facts beside its trial, of which a run
@@ -73,22 +81,21 @@ fn search_of(
     alloc: Global,
     model: &Model,
     tracked: &[TrackedState],
-    k: u32,
-    distinct: bool,
+    listing: Listing,
 ) -> Result<Search<Guide>, AllocError>
     requires few { length tracked.now ≤ TRACKED }
     requires states { All (IsTracked (length model.now.parts)) tracked.now }
-    ensures { IfOk result (λ search. search.standing ≡ record { k = k; groups = groups_for distinct model.now; listed = []; kept = []; left = candidates model.now tracked.now }) }
+    ensures { IfOk result (λ search. search.standing ≡ record { k = listing.k; groups = groups_for listing.distinct model.now; listed = []; kept = []; left = candidates model.now tracked.now }) }
 {
     let grid = move_grid(alloc, model)?;
     let zones = zones_of(alloc, model, tracked)?;
-    if distinct {
+    if listing.distinct {
         let targets = move_targets(alloc, model)?;
         let left = Guide::new(alloc, grid, zones)?;
-        Search::new_distinct(alloc, left, k, targets)
+        Search::new_distinct(alloc, left, listing.k, targets)
     } else {
         let left = Guide::new(alloc, grid, zones)?;
-        Search::new(alloc, left, k)
+        Search::new(alloc, left, listing.k)
     }
 }
 
@@ -97,6 +104,7 @@ fn started<'a>(
     alloc: Global,
     model: &'a Model,
     system: &StepSystem,
+    spare: Option<LemmaSolver>,
     facts: Facts,
     distinct: bool,
     search: Search<Guide>,
@@ -107,7 +115,7 @@ fn started<'a>(
     ensures { IfOk result (λ query. query ≡ record { plant = model.now; facts = facts; distinct = distinct; standing = search.standing }) }
 {
     let asked = copied(alloc, &facts)?;
-    match IdentTrial::new(alloc, model, system, asked) {
+    match IdentTrial::new(alloc, model, system, spare, asked) {
         Ok(trial) => Ok(Query {
             model,
             facts,
@@ -123,26 +131,35 @@ fn started<'a>(
 }
 
 /// A query that has tried nothing, for the first `k` candidates of the tracked states that are possible under the facts,
-/// which may contradict each other. A `distinct` one passes over a candidate which leads to the state of a listed one.
+/// which may contradict each other. A `distinct` one passes over a candidate which leads to the state of a listed one. The
+/// solver of an earlier query saves the making of one where it is of the same clauses.
 pub fn identify<'a>(
     alloc: Global,
     model: &'a Model,
     system: &StepSystem,
+    spare: Option<LemmaSolver>,
     tracked: &[TrackedState],
     facts: Facts,
-    k: u32,
-    distinct: bool,
+    listing: Listing,
 ) -> Result<Query<'a>, AllocError>
     requires system { IsSystemOf model.now system.now }
     requires few { length tracked.now ≤ TRACKED }
     requires states { All (IsTracked (length model.now.parts)) tracked.now }
     requires fit { FactsFit model.now facts }
     requires in_range { FactsInRange model.now facts }
-    ensures start { IfOk result (λ query. query ≡ record { plant = model.now; facts = facts; distinct = distinct; standing = record { k = k; groups = groups_for distinct model.now; listed = []; kept = []; left = candidates model.now tracked.now } }) }
+    ensures start { IfOk result (λ query. query ≡ record { plant = model.now; facts = facts; distinct = listing.distinct; standing = record { k = listing.k; groups = groups_for listing.distinct model.now; listed = []; kept = []; left = candidates model.now tracked.now } }) }
     ensures query { IfOk result (λ query. IsQueryOf tracked.now query) }
 {
-    let search = search_of(alloc, model, tracked, k, distinct)?;
-    started(alloc, model, system, facts, distinct, search)
+    let search = search_of(alloc, model, tracked, listing)?;
+    started(
+        alloc,
+        model,
+        system,
+        spare,
+        facts,
+        listing.distinct,
+        search,
+    )
 }
 
 impl<'a> Query<'a> {
@@ -169,6 +186,11 @@ impl<'a> Query<'a> {
         ensures { result.now.standing ≡ self.now.standing }
     {
         &self.search
+    }
+
+    /// The solver alone, for another query.
+    pub fn into_solver(self) -> LemmaSolver {
+        self.trial.into_solver()
     }
 
     /// What it did so far. Takes no memory.

@@ -17,7 +17,7 @@ ghost use Rattle.lv_ident.specs.Trial.{TellsFacts};
 ghost use Rattle.lv_search_zones.specs.Moves.{is_full_choice};
 
 use crate::literals::fact_literals;
-use lv_asking::Asking;
+use lv_asking::{Asking, LemmaSolver};
 use lv_asking::literals::each_once;
 use lv_base::{Candidate, Conflict, Pair, ValId, VarId, pairs_of};
 use lv_compile::value_bools::ValueBools;
@@ -56,11 +56,12 @@ impl<'a> marker::Model for IdentTrial<'a> {
     ghost invariant = { λ t. (t.after ≡ booleans_next t.model.now) × TellsFacts t.model.now t.facts t.asking };
 }
 
-/// What is asked about the moves of candidates under facts.
+/// What is asked about the moves of candidates under facts, of the solver at hand where that is of the same clauses.
 fn asking_of(
     alloc: Global,
     model: &Model,
     system: &StepSystem,
+    spare: Option<LemmaSolver>,
     facts: &Facts,
 ) -> Result<Asking, AllocError>
     requires system { IsSystemOf model.now system.now }
@@ -72,15 +73,18 @@ fn asking_of(
     let literals = fact_literals(alloc, model, system, facts)?;
     let choices = system.choices().copied(alloc)?;
     let assumed = each_once(alloc, choices.as_values().first(), literals.as_slice())?;
-    Asking::new(alloc, system.clauses(), choices, assumed)
+    let solver = LemmaSolver::renewed(alloc, system.clauses(), spare)?;
+    Ok(Asking::of(alloc, solver, choices, assumed))
 }
 
 impl<'a> IdentTrial<'a> {
-    /// A trial under facts, which may contradict each other.
+    /// A trial under facts, which may contradict each other. A solver at hand saves the making of one where it is of the same
+    /// clauses.
     pub fn new(
         alloc: Global,
         model: &'a Model,
         system: &StepSystem,
+        spare: Option<LemmaSolver>,
         facts: Facts,
     ) -> Result<IdentTrial<'a>, AllocError>
         requires system { IsSystemOf model.now system.now }
@@ -90,7 +94,7 @@ impl<'a> IdentTrial<'a> {
     {
         let after = system.bools_at(Moment::Next).copied(alloc)?;
         // What is large comes last, so that no exit lets go of it.
-        let asking = asking_of(alloc, model, system, &facts)?;
+        let asking = asking_of(alloc, model, system, spare, &facts)?;
         Ok(IdentTrial {
             alloc,
             model,
@@ -125,6 +129,11 @@ impl<'a> IdentTrial<'a> {
         let pairs = self.moves_of(candidate)?;
         let seen = self.after.literal(var.0 as usize, val.0, true);
         self.asking.possible_beside(pairs.as_slice(), seen)
+    }
+
+    /// The solver alone, for another trial.
+    pub fn into_solver(self) -> LemmaSolver {
+        self.asking.into_solver()
     }
 
     /// What its solver did so far. Takes no memory.

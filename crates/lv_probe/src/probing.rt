@@ -168,7 +168,7 @@ fn probed_in(
     requires there { All (IsVariable (length values.now)) variables.now }
     ensures { IfOk result (λ out. out.items ≡ map (probed model.now facts candidates.now) variables.now) }
 {
-    let mut trial = IdentTrial::new(alloc, model, system, facts)?;
+    let mut trial = IdentTrial::new(alloc, model, system, None, facts)?;
     all_probed(alloc, &mut trial, candidates, values, variables)
 }
 

@@ -13,7 +13,7 @@ use crate::running::{Running, unrun};
 use crate::state::{State, resting_values};
 use lv_base::Rank;
 use lv_base::limits::COMMITS;
-use lv_ident::{Query as Identified, identify};
+use lv_ident::{LemmaSolver, Listing, Query as Identified, identify};
 use lv_meaning::Facts;
 use lv_model::Model;
 use lv_reply::{Refusal, Reply};
@@ -30,12 +30,13 @@ impl State {
         facts(alloc, self.controls.as_slice(), &self.present, &self.next)
     }
 
-    /// A diagnosis of the state that has tried nothing.
+    /// A diagnosis of the state that has tried nothing, by the solver at hand where it serves.
     fn untried<'a>(
         &self,
         alloc: Global,
         model: &'a Model,
         system: &StepSystem,
+        spare: Option<LemmaSolver>,
     ) -> Result<Identified<'a>, AllocError>
         requires state { IsStateOf model.now self.now }
         requires system { IsSystemOf model.now system.now }
@@ -43,15 +44,12 @@ impl State {
         ensures query { IfOk result (λ query. IsQueryOf self.now.tracked query) }
     {
         let facts = self.facts(alloc)?;
-        identify(
-            alloc,
-            model,
-            system,
-            self.tracked.as_slice(),
-            facts,
-            self.k,
-            self.distinct,
-        )
+        let listing = Listing {
+            k: self.k,
+            distinct: self.distinct,
+        };
+        let tracked = self.tracked.as_slice();
+        identify(alloc, model, system, spare, tracked, facts, listing)
     }
 
     /// A diagnosis with so many trials, which becomes the current query.
@@ -69,8 +67,9 @@ impl State {
         ensures err { OnErr result (self.new ≡ self.old) }
         ensures running { OnOk result (IsCurrent model.now self.new running.new) }
     {
-        let query = self.untried(alloc, model, system)?;
-        let run = unrun(alloc, query)?;
+        let spare = running.take_solver();
+        let query = self.untried(alloc, model, system, spare)?;
+        let run = unrun(alloc, query, None)?;
         *running = Running::Diagnosis(run);
         self.ask(alloc, model, running, Query::Diagnosis(n), n)
     }

@@ -52,7 +52,7 @@ impl State {
         }
         let aim = self.aim(alloc)?;
         let query = recover(alloc, model, system, aim)?;
-        let run = unrun(alloc, query)?;
+        let run = unrun(alloc, query, running.take_solver())?;
         *running = Running::Recovery(run);
         let budget = self.budget();
         self.ask(alloc, model, running, Query::Recovery(budget), budget)

@@ -8,17 +8,20 @@ ghost use Rattle.lv_session_state.specs.State.{trials};
 ghost use Rattle.lv_session_state.specs.Current.{kept_walk};
 
 use lv_base::{Conflict, Rank};
-use lv_ident::{Query, QueryEffort};
+use lv_ident::{LemmaSolver, Query, QueryEffort};
 use lv_reconf::{Query as RecoveryQuery, TestQuery};
 use lv_search_walk::Outcome;
 use lv_window_query::WindowQuery;
 use std::alloc::{AllocError, Global};
+use std::mem;
 
-/// A query's search, and what its last run came to: before the first it is unsettled.
+/// A query's search, and what its last run came to: before the first it is unsettled. Beside it lies the solver of an earlier
+/// diagnosis where it has no use for that itself, so that the next one need not make one.
 #[derive(Drop)]
 pub struct Asked<Q> {
     pub query: Q,
     pub outcome: Outcome,
+    pub spare: Option<LemmaSolver>,
 }
 
 pub type Diagnosed<'a> = Asked<Query<'a>>;
@@ -41,17 +44,34 @@ pub enum Running<'a> {
 }
 
 /// A query that hasn't run, in a box, which is let go of with less to check than what lies in it.
-pub(crate) fn unrun<Q: Drop>(alloc: Global, query: Q) -> Result<Box<Asked<Q>>, AllocError>
-    ensures { IfOk result (λ asked. asked.value ≡ record { query = query; outcome = Unsettled }) }
+pub(crate) fn unrun<Q: Drop>(
+    alloc: Global,
+    query: Q,
+    spare: Option<LemmaSolver>,
+) -> Result<Box<Asked<Q>>, AllocError>
+    ensures query { IfOk result (λ asked. asked.value.query ≡ query) }
+    ensures outcome { IfOk result (λ asked. asked.value.outcome ≡ Unsettled) }
 {
     let asked = Asked {
         query,
         outcome: Outcome::Unsettled,
+        spare,
     };
     Ok(Box::new(alloc, asked)?)
 }
 
 impl Running<'_> {
+    /// The solver of the last diagnosis, if there is one. What is kept is let go of.
+    pub(crate) fn take_solver(&mut self) -> Option<LemmaSolver> {
+        match mem::replace(self, Running::Nothing) {
+            Running::Diagnosis(run) => Some(Box::into_inner(run).query.into_solver()),
+            Running::Recovery(run) => Box::into_inner(run).spare,
+            Running::Test(run) => Box::into_inner(run).spare,
+            Running::Window(run) => Box::into_inner(run).spare,
+            Running::Nothing => None,
+        }
+    }
+
     /// What its last run came to.
     pub fn outcome(&self) -> Outcome
         ensures { result ≡ (kept_walk self.now).outcome }

@@ -51,7 +51,7 @@ impl State {
     {
         let aim = self.test_aim(alloc)?;
         let query = find_test(alloc, model, system, aim, var)?;
-        let run = unrun(alloc, query)?;
+        let run = unrun(alloc, query, running.take_solver())?;
         *running = Running::Test(run);
         self.ask(alloc, model, running, Query::Test(var, n), n)
     }

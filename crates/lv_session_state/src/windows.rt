@@ -103,7 +103,7 @@ impl State {
             return Ok(Reply::Refused(Refusal::OutOfLimits));
         }
         let query = self.untraced(alloc, model, steps)?;
-        let run = unrun(alloc, query)?;
+        let run = unrun(alloc, query, running.take_solver())?;
         *running = Running::Window(run);
         let budget = self.budget();
         self.ask(alloc, model, running, Query::Window(steps, budget), budget)

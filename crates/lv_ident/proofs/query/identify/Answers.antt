@@ -5,10 +5,10 @@ use Rattle.lv_ident.proofs.query.identify.Goals as goal
 
 pub returns-clause-start : goal.returns-clause-start
 returns-clause-start c =
-    IfOk-weaker c.started.result _ _ (λ q made. start_is c.args.model.now c.args.facts c.args.distinct c.args.k c.args.tracked.now c.in_ok-search.search.standing c.in_ok-search.ensures q made) c.started.ensures
+    IfOk-weaker c.started.result _ _ (λ q made. start_is c.args.model.now c.args.facts c.args.listing.distinct c.args.listing.k c.args.tracked.now c.in_ok-search.search.standing c.in_ok-search.ensures q made) c.started.ensures
 
 pub returns-clause-query : goal.returns-clause-query
 returns-clause-query c =
     IfOk-weaker c.started.result _ _
-    (λ q made. start_is_query c.args.model.now c.args.facts c.args.tracked.now c.args.distinct c.args.k q (start_is c.args.model.now c.args.facts c.args.distinct c.args.k c.args.tracked.now c.in_ok-search.search.standing c.in_ok-search.ensures q made))
+    (λ q made. start_is_query c.args.model.now c.args.facts c.args.tracked.now c.args.listing.distinct c.args.listing.k q (start_is c.args.model.now c.args.facts c.args.listing.distinct c.args.listing.k c.args.tracked.now c.in_ok-search.search.standing c.in_ok-search.ensures q made))
     c.started.ensures

@@ -16,16 +16,16 @@ pub returns-in_ok-left : goal.returns-in_ok-left
 returns-in_ok-left c =
     IfOk-weaker c.new_distinct.result _ _
     (λ s told.
-    distinct_start c.args.model.now c.args.tracked.now c.args.distinct c.args.k c.in_ok-left.left
+    distinct_start c.args.model.now c.args.tracked.now c.args.listing.distinct c.args.listing.k c.in_ok-left.left
     (search_is c.args.model.now c.args.tracked.now c.in_ok-grid.grid c.in_ok-grid.ensures c.in_ok-zones.zones.items c.in_ok-zones.ensures c.in_ok-left.left c.in_ok-left.ensures)
-    s.standing c.if-distinct.true c.in_ok-targets.targets c.in_ok-targets.ensures (ap (λ v. v.standing) told))
+    s.standing c.if-listing-distinct.true c.in_ok-targets.targets c.in_ok-targets.ensures (ap (λ v. v.standing) told))
     c.new_distinct.ensures
 
 pub returns-in_ok-left-2 : goal.returns-in_ok-left-2
 returns-in_ok-left-2 c =
     IfOk-weaker c.new-else-distinct-2.result _ _
     (λ s told.
-    plain_start c.args.model.now c.args.tracked.now c.args.distinct c.args.k c.in_ok-left-2.left
+    plain_start c.args.model.now c.args.tracked.now c.args.listing.distinct c.args.listing.k c.in_ok-left-2.left
     (search_is c.args.model.now c.args.tracked.now c.in_ok-grid.grid c.in_ok-grid.ensures c.in_ok-zones.zones.items c.in_ok-zones.ensures c.in_ok-left-2.left c.in_ok-left-2.ensures)
-    s.standing c.if-distinct.false (ap (λ v. v.standing) told))
+    s.standing c.if-listing-distinct.false (ap (λ v. v.standing) told))
     c.new-else-distinct-2.ensures

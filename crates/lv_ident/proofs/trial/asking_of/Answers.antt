@@ -1,8 +1,11 @@
--- the clauses are the plant's, and the facts are of booleans of values
-use Rattle.std.proofs.Common.{◌≡◌, ℕ, sym, ap, ◌∙◌}
-use Rattle.std.proofs.lemmas.Result.{IfOk-weaker}
+-- the clauses are the plant's, or the same values satisfy them, and the facts are of booleans of values
+use Rattle.std.proofs.Common.{◌≡◌, ℕ, sym, subst, ap, ◌∙◌}
+use Rattle.lv_clauses.specs.ClauseMap.{ClauseMap}
 use Rattle.lv_clauses.specs.Literals.{is_clause}
 use Rattle.lv_compile.specs.Booleans.{Booleans}
+use Rattle.lv_asking.specs.Asking.{AskingValue}
+use Rattle.lv_asking.specs.Lemmas.{HaveSameModels}
+use Rattle.lv_ident.specs.Trial.{TellsFacts}
 use Rattle.lv_ident.proofs.TrialLemmas.{first_is, choices_fit, tells_facts, facts_asked}
 use Rattle.lv_ident.proofs.trial.asking_of.Goals as goal
 
@@ -13,18 +16,19 @@ each_once-requires c =
     (first_is c.args.model.now c.args.system.now c.requires.system c.in_ok-choices.choices (c.in_ok-choices.ensures ∙ c.choices.ensures) c.first.result at) c.as_slice.result.now
     (c.as_slice.ensures.value ∙ c.in_ok-literals.ensures)
 
-pub new-requires-clause-clause : goal.new-requires-clause-clause
-new-requires-clause-clause c =
+pub of-requires-clause-clause : goal.of-requires-clause-clause
+of-requires-clause-clause c =
     let at : c.first.result ≡ c.in_ok-choices.choices.first = c.first.ensures ∙ ap (λ (b : Booleans). b.first) c.as_values.ensures in
     ap (λ (n : ℕ). is_clause n c.in_ok-assumed.assumed.items) (sym at) ∙ c.in_ok-assumed.ensures.clause
 
-pub new-requires-clause-fit : goal.new-requires-clause-fit
-new-requires-clause-fit c = choices_fit c.args.model.now c.args.system.now c.requires.system c.in_ok-choices.choices (c.in_ok-choices.ensures ∙ c.choices.ensures) c.clauses.result.now c.clauses.ensures
+pub of-requires-clause-fit : goal.of-requires-clause-fit
+of-requires-clause-fit c =
+    choices_fit c.args.model.now c.args.system.now c.requires.system c.in_ok-choices.choices (c.in_ok-choices.ensures ∙ c.choices.ensures) c.in_ok-solver.solver
+    (subst (λ (set : ClauseMap). HaveSameModels set c.in_ok-solver.solver) c.clauses.ensures c.in_ok-solver.ensures)
 
 pub returns : goal.returns
 returns c =
-    IfOk-weaker c.new.result _ _
-    (λ a told. tells_facts c.args.model.now (rw c.plant-plant.ensures.plant at c.plant-plant.ensures.well_formed) c.args.system.now c.requires.system c.args.facts.now c.requires.in_range c.in_ok-choices.choices
-    (c.in_ok-choices.ensures ∙ c.choices.ensures) c.clauses.result.now c.clauses.ensures c.first.result c.as_slice.result.now (c.as_slice.ensures.value ∙ c.in_ok-literals.ensures) c.in_ok-assumed.assumed.items
-    c.in_ok-assumed.ensures a told)
-    c.new.ensures
+    subst (λ (a : AskingValue). TellsFacts c.args.model.now c.args.facts.now a) (sym c.of.ensures)
+    (tells_facts c.args.model.now (rw c.plant-plant.ensures.plant at c.plant-plant.ensures.well_formed) c.args.system.now c.requires.system c.args.facts.now c.requires.in_range c.in_ok-choices.choices
+    (c.in_ok-choices.ensures ∙ c.choices.ensures) c.in_ok-solver.solver (subst (λ (set : ClauseMap). HaveSameModels set c.in_ok-solver.solver) c.clauses.ensures c.in_ok-solver.ensures) c.first.result c.as_slice.result.now
+    (c.as_slice.ensures.value ∙ c.in_ok-literals.ensures) c.in_ok-assumed.assumed.items c.in_ok-assumed.ensures)

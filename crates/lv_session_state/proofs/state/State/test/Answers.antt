@@ -4,7 +4,7 @@ use Rattle.lv_meaning.specs.declared.aim.Aim.{Aim}
 use Rattle.lv_meaning.specs.Ranges.{AimFits}
 use Rattle.lv_reconf.specs.Testing.{TestValue}
 use Rattle.lv_session_state.specs.State.{test_aim_of}
-use Rattle.lv_session_state.specs.Current.{Testing, IsTestOf}
+use Rattle.lv_session_state.specs.Current.{IsTestOf}
 use Rattle.lv_session_state.proofs.TestsAsked.{test_aim_fits, observable_there}
 use Rattle.lv_session_state.proofs.state.State.test.Goals as goal
 
@@ -20,5 +20,5 @@ find_test-requires-clause-there c = observable_there c.args.model.now c.args.var
 pub ask-requires-clause-on : goal.ask-requires-clause-on
 ask-requires-clause-on c =
     let start = c.in_ok-query.ensures.start in
-    subst (λ (t : Testing). IsTestOf c.args.model.now (test_aim_of c.args.self.now) c.args.var t.query) (sym c.in_ok-run.ensures)
+    subst (λ (q : TestValue). IsTestOf c.args.model.now (test_aim_of c.args.self.now) c.args.var q) (sym c.in_ok-run.ensures.query)
     (record { plant_is = ap (λ (q : TestValue). q.plant) start; aim_is = ap (λ (q : TestValue). q.aim) start ∙ c.in_ok-aim.ensures; var_is = ap (λ (q : TestValue). q.var) start; on_walk = c.in_ok-query.ensures.query })
