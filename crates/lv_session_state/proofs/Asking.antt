@@ -1,6 +1,7 @@
 -- What a diagnosis of the state needs, and what its walk says of the current query.
-use Rattle.std.proofs.Common.{◌≡◌, ℕ, zero, suc, ◌+◌, ◌<◌, ◌≤◌, Bool, true, List, [], ◌∷◌, length, map, sym, ◌∙◌, arith, All}
+use Rattle.std.proofs.Common.{◌≡◌, ℕ, zero, suc, ◌+◌, ◌<◌, ◌≤◌, Bool, true, List, [], ◌∷◌, length, map, sym, ◌∙◌, arith, All, Option}
 use Rattle.std.proofs.lemmas.List.Elements.{All-cons, All-append, All-head, All-tail, All-nil}
+use Rattle.lv_system.specs.lv_clauses.ClauseMap.{ClauseMap}
 use Rattle.lv_base.specs.declared.limits.TheConstants.{COMMITS}
 use Rattle.lv_model.specs.declared.plant.Plant.{Plant}
 use Rattle.lv_model.specs.declared.state.TrackedState.{TrackedState}
@@ -73,11 +74,11 @@ unfolding walked
 walked_at plant state p f k d m sum plant_is facts_are k_is d_is m_is = λ i. diagnosis_walk (plant_is i) (facts_are i) (k_is i) (d_is i) (m_is i) (candidates (plant_is i) state.tracked)
 
 -- a search on the walk of the state's diagnosis has run on
-pub has_run : (plant : Plant) (state : SessionState) (n sum : ℕ) (old new : QueryValue) (o : Outcome) → IsDiagnosisOf plant (facts_of state) state.k state.distinct state.tracked old → trials_of old.standing + n ≡ sum
+pub has_run : (plant : Plant) (state : SessionState) (n sum : ℕ) (old new : QueryValue) (o : Outcome) (spare : Option ClauseMap) → IsDiagnosisOf plant (facts_of state) state.k state.distinct state.tracked old → trials_of old.standing + n ≡ sum
     → IsQueryOf state.tracked new
     → diagnosis_walk old.plant old.facts old.standing.k old.distinct (trials_of old.standing + n) (candidates old.plant state.tracked) ≡ come_to o new.standing
-    → new.plant ≡ old.plant → new.facts ≡ old.facts → new.standing.k ≡ old.standing.k → new.distinct ≡ old.distinct → IsDiagnosisAt plant state sum (record { query = new; outcome = o })
-has_run plant state n sum old new o is sum_is on walk plant_same facts_same k_same d_same = record {
+    → new.plant ≡ old.plant → new.facts ≡ old.facts → new.standing.k ≡ old.standing.k → new.distinct ≡ old.distinct → IsDiagnosisAt plant state sum (record { query = new; outcome = o; spare = spare })
+has_run plant state n sum old new o spare is sum_is on walk plant_same facts_same k_same d_same = record {
   on = record {
     plant_is = plant_same ∙ is.plant_is;
     facts_are = facts_same ∙ is.facts_are;

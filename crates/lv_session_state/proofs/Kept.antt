@@ -152,12 +152,12 @@ module _ (plant : Plant) (state : SessionState) (n : ℕ) where
       → ((tracked : List TrackedState) → IsQueryOf tracked run.query
       → diagnosis_walk run.query.plant run.query.facts run.query.standing.k run.query.distinct (trials_of run.query.standing + n) (candidates run.query.plant tracked) ≡ come_to o later.standing)
       → later.plant ≡ run.query.plant → later.facts ≡ run.query.facts → later.standing.k ≡ run.query.standing.k → later.distinct ≡ run.query.distinct
-      → new.value ≡ record { query = later; outcome = o } → IsKeptOf q plant state (kept.Diagnosis new)
+      → new.value ≡ record run { query = later; outcome = o } → IsKeptOf q plant state (kept.Diagnosis new)
   diagnosis_ran (Diagnosis sum) old new run later o on made run_is query walk plant_same facts_same k_same distinct_same new_is =
       let own : IsDiagnosisOf plant (facts_of state) state.k state.distinct state.tracked run.query =
       subst (λ (d : Diagnosed). IsDiagnosisOf plant (facts_of state) state.k state.distinct state.tracked d.query) (sym run_is) on in
       subst (IsDiagnosisAt plant state sum) (sym new_is)
-      (has_run plant state n sum run.query later o own (ap (λ (d : Diagnosed). trials_of d.query.standing + n) run_is ∙ made) (query state.tracked own.on_walk) (walk state.tracked own.on_walk)
+      (has_run plant state n sum run.query later o run.spare own (ap (λ (d : Diagnosed). trials_of d.query.standing + n) run_is ∙ made) (query state.tracked own.on_walk) (walk state.tracked own.on_walk)
       plant_same facts_same k_same distinct_same)
   diagnosis_ran q old new run later o on made run_is query walk plant_same facts_same k_same distinct_same new_is = absurd on
 
@@ -168,11 +168,11 @@ module _ (plant : Plant) (state : SessionState) (n : ℕ) where
   pub recovery_ran : (q : Query) (old new : Box Recovering Global) (run : Recovering) (later : RecoveryValue) (o : Outcome) → IsOn q plant state (kept.Recovery old) → trials (kept_walk (kept.Recovery old)) + n ≡ sum_of q
       → run ≡ old.value → (IsRecoveryQuery run.query → IsRecoveryQuery later)
       → (IsRecoveryQuery run.query → recovery_walk run.query.plant run.query.aim (trials_of run.query.standing + n) ≡ come_to o later.standing)
-      → later.plant ≡ run.query.plant → later.aim ≡ run.query.aim → new.value ≡ record { query = later; outcome = o } → IsKeptOf q plant state (kept.Recovery new)
+      → later.plant ≡ run.query.plant → later.aim ≡ run.query.aim → new.value ≡ record run { query = later; outcome = o } → IsKeptOf q plant state (kept.Recovery new)
   recovery_ran (Recovery sum) old new run later o on made run_is query walk plant_same aim_same new_is =
       let own : IsRecoveryOf plant (aim_of state) state.goals run.query = subst (λ (d : Recovering). IsRecoveryOf plant (aim_of state) state.goals d.query) (sym run_is) on in
       subst (IsRecoveryAt plant state sum) (sym new_is)
-      (recovery_has_run plant state n sum run.query later o own (ap (λ (d : Recovering). trials_of d.query.standing + n) run_is ∙ made) (query own.on_walk) (walk own.on_walk) plant_same aim_same)
+      (recovery_has_run plant state n sum run.query later o run.spare own (ap (λ (d : Recovering). trials_of d.query.standing + n) run_is ∙ made) (query own.on_walk) (walk own.on_walk) plant_same aim_same)
   recovery_ran q old new run later o on made run_is query walk plant_same aim_same new_is = absurd on
 
   pub test_suits : (q : Query) (old : Box Testing Global) (run : Testing) → IsOn q plant state (kept.Test old) → run ≡ old.value → all_suit (candidate_commands run.query.plant) run.query.standing ≡ true
@@ -182,11 +182,11 @@ module _ (plant : Plant) (state : SessionState) (n : ℕ) where
   pub test_ran : (q : Query) (old new : Box Testing Global) (run : Testing) (later : TestValue) (o : Outcome) → IsOn q plant state (kept.Test old) → trials (kept_walk (kept.Test old)) + n ≡ sum_of q
       → run ≡ old.value → (IsTestQuery run.query → IsTestQuery later)
       → (IsTestQuery run.query → test_walk run.query.plant run.query.aim run.query.var (trials_of run.query.standing + n) ≡ come_to o later.standing)
-      → later.plant ≡ run.query.plant → later.aim ≡ run.query.aim → later.var ≡ run.query.var → new.value ≡ record { query = later; outcome = o } → IsKeptOf q plant state (kept.Test new)
+      → later.plant ≡ run.query.plant → later.aim ≡ run.query.aim → later.var ≡ run.query.var → new.value ≡ record run { query = later; outcome = o } → IsKeptOf q plant state (kept.Test new)
   test_ran (Test x sum) old new run later o on made run_is query walk plant_same aim_same var_same new_is =
       let own : IsTestOf plant (test_aim_of state) x run.query = subst (λ (d : Testing). IsTestOf plant (test_aim_of state) x d.query) (sym run_is) on in
       subst (IsTestAt plant state x sum) (sym new_is)
-      (test_has_run plant state x n sum run.query later o own (ap (λ (d : Testing). trials_of d.query.standing + n) run_is ∙ made) (query own.on_walk) (walk own.on_walk) plant_same aim_same var_same)
+      (test_has_run plant state x n sum run.query later o run.spare own (ap (λ (d : Testing). trials_of d.query.standing + n) run_is ∙ made) (query own.on_walk) (walk own.on_walk) plant_same aim_same var_same)
   test_ran q old new run later o on made run_is query walk plant_same aim_same var_same new_is = absurd on
 
   pub window_suits : (q : Query) (old : Box Tracing Global) (run : Tracing) → IsOn q plant state (kept.Window old) → run ≡ old.value
@@ -198,11 +198,11 @@ module _ (plant : Plant) (state : SessionState) (n : ℕ) where
       → run ≡ old.value → ((tracked : List TrackedState) → IsWindowQueryOf tracked run.query → IsWindowQueryOf tracked later)
       → ((tracked : List TrackedState) → IsWindowQueryOf tracked run.query
       → window_walk run.query.plant run.query.steps run.query.standing.k (trials_of run.query.standing + n) (trajectories run.query.plant (length run.query.steps) tracked) ≡ come_to o later.standing)
-      → later.plant ≡ run.query.plant → later.steps ≡ run.query.steps → later.standing.k ≡ run.query.standing.k → new.value ≡ record { query = later; outcome = o } → IsKeptOf q plant state (kept.Window new)
+      → later.plant ≡ run.query.plant → later.steps ≡ run.query.steps → later.standing.k ≡ run.query.standing.k → new.value ≡ record run { query = later; outcome = o } → IsKeptOf q plant state (kept.Window new)
   window_ran (Window steps sum) old new run later o on made run_is query walk plant_same steps_same k_same new_is =
       let own : IsWindowOf plant (window_facts state steps) state.k (window_base state steps) run.query =
       subst (λ (d : Tracing). IsWindowOf plant (window_facts state steps) state.k (window_base state steps) d.query) (sym run_is) on in
       subst (IsTracingAt plant state steps sum) (sym new_is)
-      (window_has_run plant state steps n sum run.query later o own (ap (λ (d : Tracing). trials_of d.query.standing + n) run_is ∙ made) (query (window_base state steps) own.on_walk)
+      (window_has_run plant state steps n sum run.query later o run.spare own (ap (λ (d : Tracing). trials_of d.query.standing + n) run_is ∙ made) (query (window_base state steps) own.on_walk)
       (walk (window_base state steps) own.on_walk) plant_same steps_same k_same)
   window_ran q old new run later o on made run_is query walk plant_same steps_same k_same new_is = absurd on

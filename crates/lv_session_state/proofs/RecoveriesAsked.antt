@@ -1,6 +1,7 @@
 -- What a recovery from the state needs, and what its walk says of the current query.
-use Rattle.std.proofs.Common.{◌≡◌, ℕ, ◌+◌, ◌≤◌, List, [], ◌∷◌, length, map, sym, ◌∙◌, arith, All}
+use Rattle.std.proofs.Common.{◌≡◌, ℕ, ◌+◌, ◌≤◌, List, [], ◌∷◌, length, map, sym, ◌∙◌, arith, All, Option}
 use Rattle.std.proofs.lemmas.List.Elements.{All-cons, All-head, All-tail, All-nil}
+use Rattle.lv_system.specs.lv_clauses.ClauseMap.{ClauseMap}
 use Rattle.lv_model.specs.declared.plant.Plant.{Plant}
 use Rattle.lv_search_walk.specs.declared.outcome.Outcome.{Outcome}
 use Rattle.lv_search_walk.specs.declared.outcome.Outcome.TheVariants.{Unsettled}
@@ -55,10 +56,10 @@ unfolding recovery
 recovery_at plant state p aim m sum plant_is aim_is m_is = λ i. recovery_walk (plant_is i) (aim_is i) (m_is i)
 
 -- a search on the walk of the state's recovery has run on
-pub recovery_has_run : (plant : Plant) (state : SessionState) (n sum : ℕ) (old new : QueryValue) (o : Outcome) → IsRecoveryOf plant (aim_of state) state.goals old → trials_of old.standing + n ≡ sum
+pub recovery_has_run : (plant : Plant) (state : SessionState) (n sum : ℕ) (old new : QueryValue) (o : Outcome) (spare : Option ClauseMap) → IsRecoveryOf plant (aim_of state) state.goals old → trials_of old.standing + n ≡ sum
     → IsQuery new → recovery_walk old.plant old.aim (trials_of old.standing + n) ≡ come_to o new.standing
-    → new.plant ≡ old.plant → new.aim ≡ old.aim → IsRecoveryAt plant state sum (record { query = new; outcome = o })
-recovery_has_run plant state n sum old new o is sum_is on walk plant_same aim_same = record {
+    → new.plant ≡ old.plant → new.aim ≡ old.aim → IsRecoveryAt plant state sum (record { query = new; outcome = o; spare = spare })
+recovery_has_run plant state n sum old new o spare is sum_is on walk plant_same aim_same = record {
   on = record { plant_is = plant_same ∙ is.plant_is; aim_is = aim_same ∙ is.aim_is; some = is.some; on_walk = on };
   came_to = sym (recovery_at plant state old.plant old.aim (trials_of old.standing + n) sum is.plant_is is.aim_is sum_is) ∙ walk;
 }

@@ -5,6 +5,7 @@ use Rattle.std.specs.Option.{option_map_or}
 use Rattle.std.proofs.lemmas.List.{length-append, length-map}
 use Rattle.std.proofs.lemmas.List.Elements.{All-nil}
 use Rattle.std.proofs.lemmas.List.Sums.{sum_by-cons}
+use Rattle.lv_system.specs.lv_clauses.ClauseMap.{ClauseMap}
 use Rattle.lv_base.specs.declared.ids.VarId.{VarId}
 use Rattle.lv_base.specs.declared.names.Class.{Class}
 use Rattle.lv_model.specs.declared.plant.ComponentType.{ComponentType}
@@ -75,10 +76,10 @@ unfolding testing
 test_at plant state x p aim y m sum plant_is aim_is var_is m_is = λ i. test_walk (plant_is i) (aim_is i) (var_is i) (m_is i)
 
 -- a search on the walk of the state's test has run on
-pub test_has_run : (plant : Plant) (state : SessionState) (x : VarId) (n sum : ℕ) (old new : TestValue) (o : Outcome) → IsTestOf plant (test_aim_of state) x old → trials_of old.standing + n ≡ sum
+pub test_has_run : (plant : Plant) (state : SessionState) (x : VarId) (n sum : ℕ) (old new : TestValue) (o : Outcome) (spare : Option ClauseMap) → IsTestOf plant (test_aim_of state) x old → trials_of old.standing + n ≡ sum
     → IsTestQuery new → test_walk old.plant old.aim old.var (trials_of old.standing + n) ≡ come_to o new.standing
-    → new.plant ≡ old.plant → new.aim ≡ old.aim → new.var ≡ old.var → IsTestAt plant state x sum (record { query = new; outcome = o })
-test_has_run plant state x n sum old new o is sum_is on walk plant_same aim_same var_same = record {
+    → new.plant ≡ old.plant → new.aim ≡ old.aim → new.var ≡ old.var → IsTestAt plant state x sum (record { query = new; outcome = o; spare = spare })
+test_has_run plant state x n sum old new o spare is sum_is on walk plant_same aim_same var_same = record {
   on = record { plant_is = plant_same ∙ is.plant_is; aim_is = aim_same ∙ is.aim_is; var_is = var_same ∙ is.var_is; on_walk = on };
   came_to = sym (test_at plant state x old.plant old.aim old.var (trials_of old.standing + n) sum is.plant_is is.aim_is is.var_is sum_is) ∙ walk;
 }

@@ -1,8 +1,9 @@
 -- What a window of the last steps needs, and what its walk says of the current query.
-use Rattle.std.proofs.Common.{◌≡◌, ℕ, zero, suc, ◌+◌, ◌-◌, ◌*◌, ◌≤◌, Bool, true, false, cond, nat_lt, List, [], ◌∷◌, length, drop, map, refl, sym, ◌∙◌, subst, arith, All}
+use Rattle.std.proofs.Common.{◌≡◌, ℕ, zero, suc, ◌+◌, ◌-◌, ◌*◌, ◌≤◌, Bool, true, false, cond, nat_lt, List, [], ◌∷◌, length, drop, map, refl, sym, ◌∙◌, subst, arith, All, Option}
 use Rattle.std.proofs.lemmas.Bool.{ltb-true, ltb-false}
 use Rattle.std.proofs.lemmas.List.{length-append, length-map, length-drop}
 use Rattle.std.proofs.lemmas.List.Elements.{All-cons, All-append, All-map, All-nil, Contains-get_or}
+use Rattle.lv_system.specs.lv_clauses.ClauseMap.{ClauseMap}
 use Rattle.lv_base.specs.declared.ids.ValId.{ValId}
 use Rattle.lv_base.specs.declared.limits.TheConstants.{TRACKED, COMMITS, PARTS, FAULT_COST}
 use Rattle.lv_base.specs.declared.rank.Rank.{Rank}
@@ -219,11 +220,11 @@ traced_at plant state steps p known k m sum plant_is known_is k_is m_is =
     λ i. window_walk (plant_is i) (known_is i) (k_is i) (m_is i) (trajectories (plant_is i) (length (known_is i)) (window_base state steps))
 
 -- a search on the walk of the state's window has run on
-pub window_has_run : (plant : Plant) (state : SessionState) (steps n sum : ℕ) (old new : WindowQueryValue) (o : Outcome) → IsWindowOf plant (window_facts state steps) state.k (window_base state steps) old → trials_of old.standing + n ≡ sum
+pub window_has_run : (plant : Plant) (state : SessionState) (steps n sum : ℕ) (old new : WindowQueryValue) (o : Outcome) (spare : Option ClauseMap) → IsWindowOf plant (window_facts state steps) state.k (window_base state steps) old → trials_of old.standing + n ≡ sum
     → IsWindowQueryOf (window_base state steps) new
     → window_walk old.plant old.steps old.standing.k (trials_of old.standing + n) (trajectories old.plant (length old.steps) (window_base state steps)) ≡ come_to o new.standing
-    → new.plant ≡ old.plant → new.steps ≡ old.steps → new.standing.k ≡ old.standing.k → IsTracingAt plant state steps sum (record { query = new; outcome = o })
-window_has_run plant state steps n sum old new o is sum_is on walk plant_same steps_same k_same = record {
+    → new.plant ≡ old.plant → new.steps ≡ old.steps → new.standing.k ≡ old.standing.k → IsTracingAt plant state steps sum (record { query = new; outcome = o; spare = spare })
+window_has_run plant state steps n sum old new o spare is sum_is on walk plant_same steps_same k_same = record {
   on = record { plant_is = plant_same ∙ is.plant_is; steps_are = steps_same ∙ is.steps_are; k_is = k_same ∙ is.k_is; on_walk = on };
   came_to = sym (traced_at plant state steps old.plant old.steps old.standing.k (trials_of old.standing + n) sum is.plant_is is.steps_are is.k_is sum_is) ∙ walk;
 }

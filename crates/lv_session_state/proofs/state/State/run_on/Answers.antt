@@ -19,7 +19,7 @@ returns-in_ok-running-in-Diagnosis c =
     (subst (λ (r : Running). IsOn c.args.query c.args.model.now c.args.self.now r) c.in-Diagnosis.is c.requires.on)
     (subst (λ (r : Running). trials (kept_walk r) + c.args.n ≡ sum_of c.args.query) c.in-Diagnosis.is c.requires.sum) c.deref_mut.ensures.value
     ran.ensures.query ran.ensures.walk run.ensures.plant run.ensures.facts ran.ensures.k run.ensures.distinct
-    (ap (λ (d : Diagnosed). record { query = d.query; outcome = ran.field-0 }) c.deref_mut-in-Diagnosis.ensures.value)
+    (ap (λ (d : Diagnosed). record d { outcome = ran.field-0 }) c.deref_mut-in-Diagnosis.ensures.value)
 
 pub run-requires-in-Recovery-clause-suit : goal.run-requires-in-Recovery-clause-suit
 run-requires-in-Recovery-clause-suit c =
@@ -34,7 +34,7 @@ returns-in_ok-running-in-Recovery c =
     (subst (λ (r : Running). IsOn c.args.query c.args.model.now c.args.self.now r) c.in-Recovery.is c.requires.on)
     (subst (λ (r : Running). trials (kept_walk r) + c.args.n ≡ sum_of c.args.query) c.in-Recovery.is c.requires.sum) c.deref_mut-in-Recovery.ensures.value
     ran.ensures.query ran.ensures.walk run.ensures.plant run.ensures.aim
-    (ap (λ (d : Recovering). record { query = d.query; outcome = ran.field-0 }) c.deref_mut-in-Recovery-2.ensures.value)
+    (ap (λ (d : Recovering). record d { outcome = ran.field-0 }) c.deref_mut-in-Recovery-2.ensures.value)
 
 pub run-requires-in-Test-clause-suit : goal.run-requires-in-Test-clause-suit
 run-requires-in-Test-clause-suit c =
@@ -49,7 +49,7 @@ returns-in_ok-running-in-Test c =
     (subst (λ (r : Running). IsOn c.args.query c.args.model.now c.args.self.now r) c.in-Test.is c.requires.on)
     (subst (λ (r : Running). trials (kept_walk r) + c.args.n ≡ sum_of c.args.query) c.in-Test.is c.requires.sum) c.deref_mut-in-Test.ensures.value
     ran.ensures.query ran.ensures.walk run.ensures.plant run.ensures.aim run.ensures.var
-    (ap (λ (d : Testing). record { query = d.query; outcome = ran.field-0 }) c.deref_mut-in-Test-2.ensures.value)
+    (ap (λ (d : Testing). record d { outcome = ran.field-0 }) c.deref_mut-in-Test-2.ensures.value)
 
 pub run-requires-in-Window-clause-suit : goal.run-requires-in-Window-clause-suit
 run-requires-in-Window-clause-suit c =
@@ -64,4 +64,4 @@ returns-in_ok-running-in-Window c =
     (subst (λ (r : Running). IsOn c.args.query c.args.model.now c.args.self.now r) c.in-Window.is c.requires.on)
     (subst (λ (r : Running). trials (kept_walk r) + c.args.n ≡ sum_of c.args.query) c.in-Window.is c.requires.sum) c.deref_mut-in-Window.ensures.value
     ran.ensures.query ran.ensures.walk run.ensures.plant run.ensures.steps ran.ensures.k
-    (ap (λ (d : Tracing). record { query = d.query; outcome = ran.field-0 }) c.deref_mut-in-Window-2.ensures.value)
+    (ap (λ (d : Tracing). record d { outcome = ran.field-0 }) c.deref_mut-in-Window-2.ensures.value)
