@@ -99,7 +99,7 @@ same_by_numbers one other bools each =
 
 absent : (o : Option (List Lit)) → (IsSome o → ⊥) → o ≡ None
 absent None never = refl
-absent (Some c) never = absurd (never tt)
+absent (Some c) never = absurd (never refl)
 
 -- they are told by the numbers below a bound of both
 pub same_below : (one other : ClauseMap) (m n bound : ℕ) → one.bools ≡ other.bools → IsBound one.slots m → IsBound other.slots n → m ≤ bound → n ≤ bound

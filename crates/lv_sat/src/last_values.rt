@@ -45,6 +45,14 @@ impl LastValues {
         }
     }
 
+    /// The value of a boolean, where there are values.
+    pub fn sign(&self, var: BoolId) -> Option<bool> {
+        match &self.values {
+            Some(values) => values.as_slice().get(var.0 as usize).copied(),
+            None => None,
+        }
+    }
+
     /// Keeps values, as far as memory suffices. Only behind other values the occurrences are found, since for a single
     /// answer they would cost more than they save.
     pub fn keep(&mut self, alloc: Global, set: &ClauseSet, values: &[bool])

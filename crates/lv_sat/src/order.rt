@@ -1,8 +1,10 @@
-//! Which boolean is chosen next, and with which sign: the one that it had last. A question begins with the queue of those
-//! that conflicts touched last, which costs next to nothing; where it turns out to be hard, the one with the highest score
-//! comes first. It is a help and no more: any free literal may be chosen.
+//! Which boolean is chosen next, and with which sign. A question begins with the queue of those that conflicts touched last,
+//! which costs next to nothing, and with the signs of the last values, since most questions are near the one before. Where
+//! it turns out to be hard, the one with the highest score comes first, with the sign that it had last. It is a help and no
+//! more: any free literal may be chosen.
 #![tactic(auto)]
 
+use super::last_values::LastValues;
 use super::queue::Queue;
 use super::scores::Scores;
 use super::trail::Trail;
@@ -44,14 +46,18 @@ impl Order {
     }
 
     /// The first boolean that is free, with its sign; None where none is free.
-    pub fn next(&mut self, trail: &Trail) -> Option<Lit> {
-        if self.is_hard
-            && let Some(var) = self.scores.next(trail)
-        {
-            let sign = self.queue.sign(var);
+    pub fn next(&mut self, trail: &Trail, last: &LastValues) -> Option<Lit> {
+        if !self.is_hard {
+            let var = self.queue.next(trail)?;
+            let sign = last.sign(var).unwrap_or(self.queue.sign(var));
             return Some(Lit { var, sign });
         }
-        self.queue.next(trail)
+        let var = match self.scores.next(trail) {
+            Some(var) => var,
+            None => self.queue.next(trail)?,
+        };
+        let sign = self.queue.sign(var);
+        Some(Lit { var, sign })
     }
 
     /// Notes that a literal is no longer taken as true.

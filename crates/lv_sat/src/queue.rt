@@ -46,19 +46,14 @@ impl Queue {
         })
     }
 
-    /// The first literal in the queue that is free, if there is one.
-    pub fn next(&mut self, trail: &Trail) -> Option<Lit> {
+    /// The first boolean in the queue that is free, if there is one.
+    pub fn next(&mut self, trail: &Trail) -> Option<BoolId> {
         for _ in 0..self.links.len() {
             let var = self.from?;
-            let link = self.link(var)?;
-            let lit = Lit {
-                var,
-                sign: link.sign,
-            };
-            if trail.is_open(lit) {
-                return Some(lit);
+            if trail.is_open(Lit { var, sign: false }) {
+                return Some(var);
             }
-            self.from = link.behind;
+            self.from = self.link(var)?.behind;
         }
         None
     }

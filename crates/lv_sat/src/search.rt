@@ -228,7 +228,7 @@ fn extend(
             guide.trust = guide.trust.met();
             return Ok(Reached::Values(values));
         }
-        match choose(lead.lit, &mut guide.notes.order, trail, set.bools()) {
+        match choose(lead.lit, &mut guide.notes.order, trail, last, set.bools()) {
             Some(lit) => trail.push(Entry { lit, reason: None })?,
             None => return judge(alloc, set, log, trail, last),
         }
@@ -270,7 +270,13 @@ fn guessed(
 }
 
 /// A literal of a boolean that is in range and unmarked, this one if it is; None where there is none.
-fn choose(lead: Option<Lit>, order: &mut Order, trail: &Trail, bools: u32) -> Option<Lit>
+fn choose(
+    lead: Option<Lit>,
+    order: &mut Order,
+    trail: &Trail,
+    last: &LastValues,
+    bools: u32,
+) -> Option<Lit>
     requires len { length trail.now.marks.items ≡ bools }
     requires room { length trail.now.entries.items + count_by is_none trail.now.marks.items ≡ length trail.now.marks.items }
     ensures free { IfSome result (λ lit. IsTrue (is_open trail.now.marks.items lit)) }
@@ -284,7 +290,7 @@ fn choose(lead: Option<Lit>, order: &mut Order, trail: &Trail, bools: u32) -> Op
     {
         return Some(lit);
     }
-    if let Some(lit) = order.next(trail)
+    if let Some(lit) = order.next(trail, last)
         && trail.is_open(lit)
     {
         return Some(lit);
