@@ -1,138 +1,133 @@
 -- One pair of a deletion after the other.
-use Rattle.std.proofs.Common.{◌≡◌, ℕ, ◌+◌, ◌<◌, ◌≤◌, Bool, true, false, nat_lt, List, [], ◌∷◌, ◌++◌, length, drop, get_or, cond, refl, sym, subst, ap, ◌∙◌, arith, All, Contains, append_assoc}
-use Rattle.std.proofs.lemmas.Bool.{and_parts, and_from, lt-ltb, ltb-true}
+use Rattle.std.proofs.Common.{◌≡◌, ℕ, ◌+◌, ◌-◌, ◌<◌, ◌≤◌, Bool, true, false, List, [], ◌∷◌, ◌++◌, length, take, drop, get_or, filter, cond, Option, Some, None, IfSome, is_none, refl, sym, subst, ap, ◌∙◌, All, append_assoc, append-nil}
 use Rattle.std.proofs.lemmas.List.{drop_all, drop_more}
-use Rattle.std.proofs.lemmas.List.Elements.{All-nil, All-tail, All-cons, Contains-append_left, filter-append}
+use Rattle.std.proofs.lemmas.List.Elements.{All-nil, All-cons, All-take, filter-append}
 use Rattle.lv_base.specs.declared.search.Pair.{Pair}
-use Rattle.lv_base.specs.Choices.{slots_rise_from}
-use Rattle.lv_clauses.specs.Marks.{Marks, is_marked}
-use Rattle.lv_system.specs.Choices.{Choices}
+use Rattle.lv_clauses.specs.Marks.{Marks}
+use Rattle.lv_search_walk.specs.Laws.{IsMonotone}
 use Rattle.lv_search_walk.specs.Reason.{reduced}
 use Rattle.lv_search_walk.proofs.ReasonLemmas.{pair_kept, pair_left_out}
-use Rattle.lv_asking.specs.Literals.{pair_literal, HasMove, marked_pairs}
-use Rattle.lv_asking.specs.Asking.{AskingValue, Decides, IsPartial, IsReducing}
-use Rattle.lv_asking.proofs.AnswerLemmas.{impossible_by_part, impossible_with_more}
+use Rattle.lv_asking.specs.Reducing.{RefutesPairs, is_needed, IsReducing}
 
--- slots that rise rise without one
-rising_lower : (low high : ℕ) (ps : List Pair) → low ≤ high → slots_rise_from high ps ≡ true → slots_rise_from low ps ≡ true
-rising_lower low high [] below is = refl
-rising_lower low high (p ∷ ps) below is =
-    let parts = and_parts (nat_lt high (p.slot + 1)) (slots_rise_from (p.slot + 1) ps) is in
-    let above : high < p.slot + 1 = ltb-true high (p.slot + 1) parts.0 in
-    and_from (nat_lt low (p.slot + 1)) (slots_rise_from (p.slot + 1) ps) (lt-ltb low (p.slot + 1) (omega (arith, above, below))) parts.1
+-- what has a false consequence is false
+false_by : (b c : Bool) → c ≡ false → (b ≡ true → c ≡ true) → b ≡ false
+false_by true c never follows = sym (follows refl) ∙ never
+false_by false c never follows = refl
 
-rising_without : (low : ℕ) (before : List Pair) (p : Pair) (ps : List Pair) → slots_rise_from low (before ++ (p ∷ ps)) ≡ true → slots_rise_from low (before ++ ps) ≡ true
-rising_without low [] p ps is =
-    let parts = and_parts (nat_lt low (p.slot + 1)) (slots_rise_from (p.slot + 1) ps) is in
-    let above : low < p.slot + 1 = ltb-true low (p.slot + 1) parts.0 in
-    rising_lower low (p.slot + 1) ps (omega (arith, above)) parts.1
-rising_without low (q ∷ before) p ps is =
-    let parts = and_parts (nat_lt low (q.slot + 1)) (slots_rise_from (q.slot + 1) (before ++ (p ∷ ps))) is in
-    and_from (nat_lt low (q.slot + 1)) (slots_rise_from (q.slot + 1) (before ++ ps)) parts.0 (rising_without (q.slot + 1) before p ps parts.1)
+-- what holds of pairs, and still with a pair less, holds of parts of them
+module _ (Holds : List Pair → Type 0) (less : (front : List Pair) (p : Pair) (back : List Pair) → Holds (front ++ (p ∷ back)) → Holds (front ++ back)) where
+  of_front : (front back : List Pair) → Holds (front ++ back) → Holds front
+  of_front front [] h = subst Holds (append-nil front) h
+  of_front front (p ∷ back) h = of_front front back (less front p back h)
 
-all_without : (P : Pair → Type 0) (before : List Pair) (p : Pair) (ps : List Pair) → All P (before ++ (p ∷ ps)) → All P (before ++ ps)
-all_without P [] p ps all = All-tail P p ps all
-all_without P (q ∷ before) p ps all = All-cons P q (before ++ ps) (all 0 q (omega arith)) (all_without P before p ps (All-tail P q (before ++ (p ∷ ps)) all))
+  of_back : (front back : List Pair) → Holds (front ++ back) → Holds back
+  of_back [] back h = h
+  of_back (p ∷ front) back h = of_back front back (less [] p (front ++ back) h)
 
--- so do the first of them alone
-rising_front : (low : ℕ) (front back : List Pair) → slots_rise_from low (front ++ back) ≡ true → slots_rise_from low front ≡ true
-rising_front low [] back is = refl
-rising_front low (p ∷ front) back is =
-    let parts = and_parts (nat_lt low (p.slot + 1)) (slots_rise_from (p.slot + 1) (front ++ back)) is in
-    and_from (nat_lt low (p.slot + 1)) (slots_rise_from (p.slot + 1) front) parts.0 (rising_front (p.slot + 1) front back parts.1)
+  of_each : (ps : List Pair) → Holds ps → All (λ (p : Pair). Holds (p ∷ [])) ps
+  of_each [] h = All-nil (λ (p : Pair). Holds (p ∷ []))
+  of_each (p ∷ ps) h = All-cons (λ (q : Pair). Holds (q ∷ [])) p ps (of_front (p ∷ []) ps h) (of_each ps (less [] p ps h))
 
-all_front : (P : Pair → Type 0) (front back : List Pair) → All P (front ++ back) → All P front
-all_front P [] back all = All-nil P
-all_front P (p ∷ front) back all = All-cons P p front (all 0 p (omega arith)) (all_front P front back (All-tail P p (front ++ back) all))
+  of_chosen : (chosen : Pair → Bool) (front ps : List Pair) → Holds (front ++ ps) → Holds (front ++ filter chosen ps)
+  of_chosen chosen front [] h = h
+  of_chosen chosen front (p ∷ ps) h =
+      by (chosen p) (subst Holds (append_assoc front (p ∷ []) (filter chosen ps)) (of_chosen chosen (front ++ (p ∷ [])) ps (subst Holds (sym (append_assoc front (p ∷ []) ps)) h)))
+      (of_chosen chosen front ps (less front p ps h))
+    where
+      by : (b : Bool) → Holds (front ++ (p ∷ filter chosen ps)) → Holds (front ++ filter chosen ps) → Holds (front ++ cond b (p ∷ filter chosen ps) (filter chosen ps))
+      by true with_it without = with_it
+      by false with_it without = without
 
-all_back : (P : Pair → Type 0) (front back : List Pair) → All P (front ++ back) → All P back
-all_back P [] back all = all
-all_back P (p ∷ front) back all = all_back P front back (All-tail P p (front ++ back) all)
+  module _ (pairs : List Pair) (at : ℕ) (kept : List Pair) (fits : Holds (kept ++ drop at pairs)) where
+    pub kept_fits : Holds kept
+    kept_fits = of_front kept (drop at pairs) fits
 
-has_middle : (P : Pair → Type 0) (before : List Pair) (p : Pair) (ps : List Pair) → All P (before ++ (p ∷ ps)) → P p
-has_middle P [] p ps all = all 0 p (omega arith)
-has_middle P (q ∷ before) p ps all = has_middle P before p ps (All-tail P q (before ++ (p ∷ ps)) all)
+    pub each_left_fits : (n : ℕ) → All (λ (p : Pair). Holds (p ∷ [])) (take n (drop at pairs))
+    each_left_fits n = All-take (λ (p : Pair). Holds (p ∷ [])) n (drop at pairs) (of_each (drop at pairs) (of_back kept (drop at pairs) fits))
 
--- a pair that isn't marked plays no part among the marked ones
-marked_without : (c : Choices) (marks : Marks) (before : List Pair) (p : Pair) (ps : List Pair) → is_marked marks (pair_literal c p) ≡ false
-    → marked_pairs c marks (before ++ (p ∷ ps)) ≡ marked_pairs c marks (before ++ ps)
-marked_without c marks before p ps unmarked =
-    filter-append (λ (q : Pair). is_marked marks (pair_literal c q)) before (p ∷ ps)
-    ∙ ap (λ b. marked_pairs c marks before ++ cond b (p ∷ marked_pairs c marks ps) (marked_pairs c marks ps)) unmarked
-    ∙ sym (filter-append (λ (q : Pair). is_marked marks (pair_literal c q)) before ps)
+    module _ (d : Pair) (within : at < length pairs) where
+      whole : Holds (kept ++ (get_or pairs at d ∷ drop (at + 1) pairs))
+      whole = subst (λ (ps : List Pair). Holds (kept ++ ps)) (drop_more pairs at d within) fits
 
-pub reducing_first : (possible : List Pair → Bool) (c : Choices) (pairs kept : List Pair) (core : Marks) → kept ≡ [] → possible (marked_pairs c core pairs) ≡ false → IsReducing possible c pairs 0 kept core
-reducing_first possible c pairs kept core none refuted = subst (λ (ks : List Pair). IsReducing possible c pairs 0 ks core) (sym none) (record { rest = refl; refuted = refuted })
+      pub here_fits : Holds (get_or pairs at d ∷ [])
+      here_fits = of_front (get_or pairs at d ∷ []) (drop (at + 1) pairs) (of_back kept (get_or pairs at d ∷ drop (at + 1) pairs) whole)
 
-pub reducing_last : (possible : List Pair → Bool) (c : Choices) (pairs : List Pair) (at : ℕ) (kept : List Pair) (core : Marks) → length pairs ≤ at → IsReducing possible c pairs at kept core → kept ≡ reduced possible [] pairs
-reducing_last possible c pairs at kept core done h = sym (ap (reduced possible kept) (drop_all at pairs done)) ∙ h.rest
+      pub others_fit : Holds (kept ++ drop (at + 1) pairs)
+      others_fit = less kept (get_or pairs at d) (drop (at + 1) pairs) whole
 
-module _ (pairs : List Pair) (at : ℕ) (kept : List Pair) (d : Pair) (within : at < length pairs) where
-  abbrev here : Pair
-  here = get_or pairs at d
+      pub more_fits : (more : List Pair) → more ≡ kept ++ (get_or pairs at d ∷ []) → Holds (more ++ drop (at + 1) pairs)
+      more_fits more is =
+          subst Holds (sym (append_assoc kept (get_or pairs at d ∷ []) (drop (at + 1) pairs)) ∙ ap (λ (ks : List Pair). ks ++ drop (at + 1) pairs) (sym is)) whole
 
-  abbrev behind : List Pair
-  behind = drop (at + 1) pairs
+module _ (possible : List Pair → Bool) (m : IsMonotone possible) where
+  -- where some of the pairs aren't possible together all aren't
+  impossible_by_part : (chosen : Pair → Bool) (ps : List Pair) → possible (filter chosen ps) ≡ false → possible ps ≡ false
+  impossible_by_part chosen ps never = false_by (possible ps) (possible (filter chosen ps)) never (of_chosen (λ (qs : List Pair). possible qs ≡ true) m.without chosen [] ps)
 
-  split : drop at pairs ≡ here ∷ behind
-  split = drop_more pairs at d within
+  impossible_by_front : (front back : List Pair) → possible front ≡ false → possible (front ++ back) ≡ false
+  impossible_by_front front back never = false_by (possible (front ++ back)) (possible front) never (of_front (λ (qs : List Pair). possible qs ≡ true) m.without front back)
 
-  seam : (kept ++ (here ∷ [])) ++ behind ≡ kept ++ drop at pairs
-  seam = append_assoc kept (here ∷ []) behind ∙ ap (λ (ps : List Pair). kept ++ ps) (sym split)
+  -- what a refutation tells
+  pub told_possible : (needs : Marks → Pair → Bool) (ps : List Pair) (core : Option Marks) → RefutesPairs possible needs ps core → is_none core ≡ possible ps
+  told_possible needs ps None told = sym told
+  told_possible needs ps (Some marks) told = sym (impossible_by_part (needs marks) ps told)
 
-  module _ (counts : List ℕ) (partial : IsPartial counts (kept ++ drop at pairs)) where
-    whole : IsPartial counts (kept ++ (here ∷ behind))
-    whole = subst (λ (ps : List Pair). IsPartial counts (kept ++ ps)) split partial
+module _ (possible : List Pair → Bool) (needs : Marks → Pair → Bool) (pairs : List Pair) where
+  pub reducing_first : (kept : List Pair) (core : Option Marks) → kept ≡ [] → IfSome core (λ marks. possible (filter (needs marks) pairs) ≡ false) → IsReducing possible needs pairs 0 kept core
+  reducing_first kept core none refuted = subst (λ (ks : List Pair). IsReducing possible needs pairs 0 ks core) (sym none) (record { rest = refl; refuted = refuted })
 
-    pub has_move : HasMove counts here
-    has_move = has_middle (HasMove counts) kept here behind whole.moves
+  module _ (at : ℕ) (kept : List Pair) (core : Option Marks) (h : IsReducing possible needs pairs at kept core) where
+    pub reducing_last : length pairs ≤ at → kept ≡ reduced possible [] pairs
+    reducing_last done = sym (ap (reduced possible kept) (drop_all at pairs done)) ∙ h.rest
 
-    pub others_partial : IsPartial counts (kept ++ behind)
-    others_partial = record { rising = rising_without 0 kept here behind whole.rising; moves = all_without (HasMove counts) kept here behind whole.moves }
+    module _ (m : IsMonotone possible) where
+      -- where what is kept is impossible by itself, it needs nothing of what is left
+      pub refuted_alone : (marks : Marks) (alone : List Pair) → alone ≡ kept → RefutesPairs possible needs alone (Some marks) → IsReducing possible needs pairs at kept (Some marks)
+      refuted_alone marks alone is told =
+          record {
+            rest = h.rest;
+            refuted =
+                ap possible (filter-append (needs marks) kept (drop at pairs))
+                ∙ impossible_by_front possible m (filter (needs marks) kept) (filter (needs marks) (drop at pairs)) (sym (ap (λ (ps : List Pair). possible (filter (needs marks) ps)) is) ∙ told);
+          }
 
-    pub kept_is_partial : (more : List Pair) → more ≡ kept ++ (here ∷ []) → IsPartial counts (more ++ behind)
-    kept_is_partial more is = subst (λ (ps : List Pair). IsPartial counts ps) (sym seam ∙ ap (λ (ks : List Pair). ks ++ behind) (sym is)) partial
+      module _ (d : Pair) (within : at < length pairs) where
+        abbrev here : Pair
+        here = get_or pairs at d
 
-  module _ (a : AskingValue) (possible : List Pair → Bool) (decides : Decides a possible) (core : Marks) (h : IsReducing possible a.choices pairs at kept core) where
-    left_out : (marks : Marks) → possible (marked_pairs a.choices marks (kept ++ behind)) ≡ false → IsReducing possible a.choices pairs (at + 1) kept marks
-    left_out marks refuted =
-        record { rest = pair_left_out possible pairs kept at d (reduced possible [] pairs) within (impossible_by_part a possible decides marks (kept ++ behind) refuted) h.rest; refuted = refuted }
+        abbrev behind : List Pair
+        behind = drop (at + 1) pairs
 
-    -- a pair that isn't needed is left out
-    pub unneeded : is_marked core (pair_literal a.choices here) ≡ false → IsReducing possible a.choices pairs (at + 1) kept core
-    unneeded unmarked =
-        left_out core
-        (sym (ap possible (marked_without a.choices core kept here behind unmarked)) ∙ sym (ap (λ (ps : List Pair). possible (marked_pairs a.choices core (kept ++ ps))) split) ∙ h.refuted)
+        left_out : (marks : Marks) → possible (filter (needs marks) (kept ++ behind)) ≡ false → IsReducing possible needs pairs (at + 1) kept (Some marks)
+        left_out marks refuted =
+            record { rest = pair_left_out possible pairs kept at d (reduced possible [] pairs) within (impossible_by_part possible m (needs marks) (kept ++ behind) refuted) h.rest; refuted = refuted }
 
-    -- so is one without which the others aren't possible
-    pub refuted_again : (marks : Marks) (others : List Pair) → others ≡ kept ++ behind → possible (marked_pairs a.choices marks others) ≡ false → IsReducing possible a.choices pairs (at + 1) kept marks
-    refuted_again marks others is refuted = left_out marks (sym (ap (λ (ps : List Pair). possible (marked_pairs a.choices marks ps)) is) ∙ refuted)
+        -- a pair that isn't needed plays no part among those that are, and is left out
+        without_it : (marks : Marks) → needs marks here ≡ false → filter (needs marks) (kept ++ behind) ≡ filter (needs marks) (kept ++ drop at pairs)
+        without_it marks free =
+            filter-append (needs marks) kept behind
+            ∙ ap (λ b. filter (needs marks) kept ++ cond b (here ∷ filter (needs marks) behind) (filter (needs marks) behind)) (sym free)
+            ∙ sym (filter-append (needs marks) kept (here ∷ behind))
+            ∙ ap (λ (ps : List Pair). filter (needs marks) (kept ++ ps)) (sym (drop_more pairs at d within))
 
-    -- another is kept
-    pub kept_one : (others more : List Pair) → others ≡ kept ++ behind → possible others ≡ true → more ≡ kept ++ (here ∷ []) → IsReducing possible a.choices pairs (at + 1) more core
-    kept_one others more is can is_more =
-        subst (λ (ks : List Pair). IsReducing possible a.choices pairs (at + 1) ks core) (sym is_more)
-        (record {
-          rest = pair_kept possible pairs kept at d (reduced possible [] pairs) within (sym (ap possible is) ∙ can) h.rest;
-          refuted = ap (λ (ps : List Pair). possible (marked_pairs a.choices core ps)) seam ∙ h.refuted;
-        })
+        pub unneeded : is_needed needs core here ≡ false → IsReducing possible needs pairs (at + 1) kept core
+        unneeded = by core h.refuted
+          where
+            by : (o : Option Marks) → IfSome o (λ marks. possible (filter (needs marks) (kept ++ drop at pairs)) ≡ false) → is_needed needs o here ≡ false → IsReducing possible needs pairs (at + 1) kept o
+            by None refuted free = absurd (cc free)
+            by (Some marks) refuted free = left_out marks (ap possible (without_it marks free) ∙ refuted)
 
-module _ (pairs : List Pair) (at : ℕ) (kept : List Pair) where
-  module _ (counts : List ℕ) (partial : IsPartial counts (kept ++ drop at pairs)) where
-    pub kept_partial : IsPartial counts kept
-    kept_partial = record { rising = rising_front 0 kept (drop at pairs) partial.rising; moves = all_front (HasMove counts) kept (drop at pairs) partial.moves }
+        module _ (others : List Pair) (is : others ≡ kept ++ behind) where
+          -- so is one without which the others aren't possible
+          pub refuted_again : (marks : Marks) → RefutesPairs possible needs others (Some marks) → IsReducing possible needs pairs (at + 1) kept (Some marks)
+          refuted_again marks told = left_out marks (sym (ap (λ (ps : List Pair). possible (filter (needs marks) ps)) is) ∙ told)
 
-    pub left_have_moves : All (HasMove counts) (drop at pairs)
-    left_have_moves = all_back (HasMove counts) kept (drop at pairs) partial.moves
-
-  -- where what is kept is impossible by itself, it needs nothing of what is left
-  pub refuted_alone : (a : AskingValue) (possible : List Pair → Bool) → Decides a possible → (core : Marks) → IsReducing possible a.choices pairs at kept core → (marks : Marks) (alone : List Pair) → alone ≡ kept
-      → possible (marked_pairs a.choices marks alone) ≡ false → IsReducing possible a.choices pairs at kept marks
-  refuted_alone a possible decides core h marks alone is refuted =
-      record {
-        rest = h.rest;
-        refuted =
-            impossible_with_more a possible decides (marked_pairs a.choices marks alone) (marked_pairs a.choices marks (kept ++ drop at pairs))
-            (λ p has. subst (λ (ps : List Pair). Contains ps p) (sym (filter-append (λ (q : Pair). is_marked marks (pair_literal a.choices q)) kept (drop at pairs)))
-            (Contains-append_left (marked_pairs a.choices marks kept) (marked_pairs a.choices marks (drop at pairs)) p (subst (λ (ps : List Pair). Contains (marked_pairs a.choices marks ps) p) is has))) refuted;
-      }
+          -- another is kept
+          pub kept_one : (more : List Pair) → more ≡ kept ++ (here ∷ []) → RefutesPairs possible needs others None → IsReducing possible needs pairs (at + 1) more core
+          kept_one more is_more told =
+              let seam : (kept ++ (here ∷ [])) ++ behind ≡ kept ++ drop at pairs = append_assoc kept (here ∷ []) behind ∙ ap (λ (ps : List Pair). kept ++ ps) (sym (drop_more pairs at d within)) in
+              subst (λ (ks : List Pair). IsReducing possible needs pairs (at + 1) ks core) (sym is_more)
+              (record {
+                rest = pair_kept possible pairs kept at d (reduced possible [] pairs) within (sym (ap possible is) ∙ told) h.rest;
+                refuted = subst (λ (ps : List Pair). IfSome core (λ marks. possible (filter (needs marks) ps) ≡ false)) (sym seam) h.refuted;
+              })

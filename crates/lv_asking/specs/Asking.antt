@@ -1,17 +1,16 @@
 -- What is asked of a solver: which choices can be made together, by its clauses and literals that are assumed each time.
-use Rattle.std.specs.Prelude.{◌≡◌, ◌+◌, ◌<◌, ◌≤◌, ℕ, Bool, true, false, List, [], ◌∷◌, ◌++◌, drop, All, Contains, Option, Some, None}
+use Rattle.std.specs.Prelude.{◌≡◌, ◌+◌, ◌<◌, ◌≤◌, ℕ, Bool, true, false, List, [], ◌∷◌, ◌++◌, All, Contains, Option, Some, None}
 use Rattle.std.specs.List.{find, sum}
 use Rattle.lv_base.specs.declared.ids.Lit.{Lit}
 use Rattle.lv_base.specs.declared.search.Pair.{Pair}
 use Rattle.lv_base.specs.Choices.{slots_rise}
 use Rattle.lv_clauses.specs.ClauseMap.{ClauseMap}
 use Rattle.lv_clauses.specs.Literals.{is_clause}
-use Rattle.lv_clauses.specs.Marks.{Marks}
 use Rattle.lv_clauses.specs.Noted.{is_of}
 use Rattle.lv_sat.specs.Answers.{IsModel}
 use Rattle.lv_search_walk.specs.Reason.{reduced}
 use Rattle.lv_system.specs.Choices.{Choices}
-use Rattle.lv_asking.specs.Literals.{HasMove, pair_literals, marked_pairs}
+use Rattle.lv_asking.specs.Literals.{HasMove, pair_literals}
 use Rattle.lv_asking.specs.Lemmas.{HaveSameModels}
 use Rattle.lv_asking.specs.Refutation.{HasModel}
 
@@ -53,11 +52,6 @@ pub record IsAsking (set : ClauseMap) (choices : Choices) (assumed : List Lit) (
   pub clause : is_clause choices.first assumed ≡ true
   pub fit : choices.first + sum choices.counts ≤ set.bools
   pub found : All (IsModel set assumed) solutions
-
--- what is kept and the pairs from this place on come to the reason of all pairs; those of them that are marked aren't possible together
-pub record IsReducing (possible : List Pair → Bool) (choices : Choices) (pairs : List Pair) (at : ℕ) (kept : List Pair) (core : Marks) : Type 0 where
-  pub rest : reduced possible kept (drop at pairs) ≡ reduced possible [] pairs
-  pub refuted : possible (marked_pairs choices core (kept ++ drop at pairs)) ≡ false
 
 -- without a reason the pairs are possible together; else they aren't, and it is what is left of them when each that isn't needed is left out
 abbrev pub IsReason : (List Pair → Bool) → List Pair → Option (List Pair) → Type 0

@@ -7,7 +7,7 @@ pub mod MissLemmas
 pub mod JudgeLemmas
 pub mod QueryLemmas
 pub mod MarkLemmas
-pub mod ReducingLemmas
+pub mod RefutingLemmas
 pub mod ShowingLemmas
 pub mod TestJudgeLemmas
 pub mod TestQueryLemmas

@@ -1,14 +1,13 @@
 //! Whether values of controls reach the goals of an aim, asked of one solver.
 #![tactic(auto)]
 
-ghost use Rattle.std.specs.Prelude.{◌≡◌, ◌+◌, ◌<◌, ◌≤◌, ◌++◌, [], Bool, true, length, drop, slice_index_or, IfOk};
+ghost use Rattle.std.specs.Prelude.{◌≡◌, ◌<◌, [], true, slice_index_or, IfOk};
 ghost use Rattle.std.specs.List.{prefix_len};
 ghost use Rattle.lv_model.specs.declared.state.TrackedState.{TrackedState};
 ghost use Rattle.lv_meaning.specs.Recovers.{reaches};
 ghost use Rattle.lv_meaning.specs.lv_search_walk.Reason.{reduced};
-ghost use Rattle.lv_model.specs.Lists.{controls, sizes};
-ghost use Rattle.lv_reconf.specs.Assuming.{pair_fits, pairs_fit};
-ghost use Rattle.lv_reconf.specs.Refuting.{IsReducing, RefutesAt, needs};
+ghost use Rattle.lv_model.specs.Lists.{sizes};
+ghost use Rattle.lv_reconf.specs.Assuming.{pairs_fit};
 ghost use Rattle.lv_reconf.specs.Tests.{can_show, two_pass};
 ghost use Rattle.lv_reconf.specs.Trying.{asking, looking_at, reaches_at};
 
@@ -18,7 +17,7 @@ use super::goals::reaching_solver;
 use super::setting::Setting;
 use super::showing::shown_twice;
 use super::states::count_stepping;
-use lv_asking::asking::all_but;
+use lv_asking::{Refuter, reduced};
 use lv_base::{Pair, ValId, VarId};
 use lv_clauses::{Marks, is_marked};
 use lv_meaning::Observation;
@@ -49,14 +48,6 @@ impl<'s, 'a> Model for Reaching<'s, 'a> {
     ghost view = { λ r. record { plant = r.setting.now.plant; aim = r.setting.now.aim; at = r.at } };
 
     ghost invariant = { λ r. Asks r.setting.now.plant r.setting.now.aim.present (meets_goals r.setting.now.aim.goals) r.solver };
-}
-
-/// Values of which some are left free: those kept so far, and marks of the literals that the last refutation needed, if there
-/// was one.
-#[derive(Drop)]
-struct Reduction {
-    kept: Vec<Pair>,
-    core: Option<Marks>,
 }
 
 impl<'s, 'a> Reaching<'s, 'a> {
@@ -119,13 +110,33 @@ impl<'s, 'a> Reaching<'s, 'a> {
         )
     }
 
-    /// Whether these values reach the goals from the state that is looked at: nothing where they do, else marks of those of
-    /// them that already don't.
-    fn refuted(&mut self, pairs: &[Pair]) -> Result<Option<Marks>, AllocError>
+    /// What is left of these values when each, from the first on, is left free where the others still don't reach the goals
+    /// from the tracked state of this place.
+    pub fn reduced_at(&mut self, at: usize, pairs: &[Pair]) -> Result<Vec<Pair>, AllocError>
         requires { pairs_fit self.old.plant pairs.now ≡ true }
-        ensures answer { IfOk result (λ core. RefutesAt self.old pairs.now core) }
-        ensures kept { self.new ≡ self.old }
+        ensures reduced { IfOk result (λ out. out.items ≡ reduced (reaches_at (looking_at self.old.plant self.old.aim at)) [] pairs.now) }
+        ensures kept { self.new ≡ record self.old { at = at } }
     {
+        self.at = at;
+        reduced(self.alloc, self, pairs, None)
+    }
+}
+
+impl Refuter for Reaching<'_, '_> {
+    ghost use Rattle.lv_reconf.specs.Refuting.{needs};
+    ghost use Rattle.lv_reconf.specs.Lawful.{fewer_fit, reaching_is_monotone};
+
+    ghost fits = { λ r pairs. pairs_fit r.plant pairs ≡ true };
+
+    ghost tells = { λ r possible. possible ≡ reaches_at r };
+
+    ghost needs = { λ r marks p. needs r.plant marks p };
+
+    ghost fits_without = { λ r front p back fit. fewer_fit r.plant front p back fit };
+
+    ghost is_monotone = { λ r possible is. reaching_is_monotone r possible is };
+
+    fn refuted(&mut self, pairs: &[Pair]) -> Result<Option<Marks>, AllocError> {
         match self.setting.aim().tracked.as_slice().get(self.at) {
             Some(s) => refuted(
                 self.alloc,
@@ -139,108 +150,9 @@ impl<'s, 'a> Reaching<'s, 'a> {
         }
     }
 
-    /// Whether the last refutation needed the value.
-    fn is_needed(&self, core: &Option<Marks>, pair: Pair) -> bool
-        requires fits { pair_fits self.now.plant pair ≡ true }
-        requires slot { pair.slot < length (controls self.now.plant) }
-        ensures { result ≡ needs self.now.plant core.now pair }
-    {
-        match core {
-            Some(marks) => {
-                let setting = self.setting;
-                let literal = control_literal(setting.compiled(), setting.controls(), pair);
-                is_marked(marks.as_slice(), literal)
-            }
-            None => true,
-        }
-    }
-
-    /// Leaves the value at this place free where the others still don't reach the goals, and else keeps it. Of a value that
-    /// the last refutation didn't need that is known.
-    fn settle(
-        &mut self,
-        pairs: &[Pair],
-        at: usize,
-        reduction: &mut Reduction,
-    ) -> Result<(), AllocError>
-        requires at { at < length pairs.now }
-        requires so_far { IsReducing self.old pairs.now at reduction.old.kept.items reduction.old.core }
-        ensures so_far { IfOk result (λ _. IsReducing self.old pairs.now (at + 1) reduction.new.kept.items reduction.new.core) }
-        ensures kept { self.new ≡ self.old }
-    {
-        if !self.is_needed(&reduction.core, pairs[at]) {
-            return Ok(());
-        }
-        let others = all_but(self.alloc, reduction.kept.as_slice(), pairs, at)?;
-        match self.refuted(others.as_slice())? {
-            Some(core) => {
-                reduction.core = Some(core);
-                Ok(())
-            }
-            None => {
-                reduction.kept.push(pairs[at])?;
-                self.leap(pairs, at + 1, reduction)
-            }
-        }
-    }
-
-    /// Whether the last refutation needed one of the values.
-    fn needs_one(&self, core: &Option<Marks>, pairs: &[Pair]) -> bool
-        requires { pairs_fit self.now.plant pairs.now ≡ true }
-    {
-        for pair in pairs {
-            if self.is_needed(core, *pair) {
-                return true;
-            }
-        }
-        false
-    }
-
-    /// Asks whether the kept values don't reach the goals by themselves, where the last refutation needed values from this
-    /// place on too: if so, none of them is needed. It asks for one kept value, for two, for four and so on, so that a long
-    /// reason costs few questions more.
-    fn leap(
-        &mut self,
-        pairs: &[Pair],
-        at: usize,
-        reduction: &mut Reduction,
-    ) -> Result<(), AllocError>
-        requires at { at ≤ length pairs.now }
-        requires so_far { IsReducing self.old pairs.now at reduction.old.kept.items reduction.old.core }
-        ensures so_far { IfOk result (λ _. IsReducing self.old pairs.now at reduction.new.kept.items reduction.new.core) }
-        ensures kept { self.new ≡ self.old }
-    {
-        if reduction.kept.len().is_power_of_two() && self.needs_one(&reduction.core, &pairs[at..]) {
-            if let Some(core) = self.refuted(reduction.kept.as_slice())? {
-                reduction.core = Some(core);
-            }
-        }
-        Ok(())
-    }
-
-    /// What is left of these values when each, from the first on, is left free where the others still don't reach the goals.
-    pub fn reduced(&mut self, pairs: &[Pair]) -> Result<Vec<Pair>, AllocError>
-        requires { pairs_fit self.old.plant pairs.now ≡ true }
-        ensures reduced { IfOk result (λ out. out.items ≡ reduced (reaches_at self.old) [] pairs.now) }
-        ensures kept { self.new ≡ self.old }
-    {
-        let mut reduction = Reduction {
-            kept: Vec::new(self.alloc),
-            core: None,
-        };
-        for at in 0..pairs.len() {
-            self.settle(pairs, at, &mut reduction)?;
-        }
-        Ok(reduction.kept)
-    }
-
-    /// The same at the tracked state of this place.
-    pub fn reduced_at(&mut self, at: usize, pairs: &[Pair]) -> Result<Vec<Pair>, AllocError>
-        requires { pairs_fit self.old.plant pairs.now ≡ true }
-        ensures reduced { IfOk result (λ out. out.items ≡ reduced (reaches_at (looking_at self.old.plant self.old.aim at)) [] pairs.now) }
-        ensures kept { self.new ≡ record self.old { at = at } }
-    {
-        self.at = at;
-        self.reduced(pairs)
+    fn is_needed(&self, core: &Marks, pair: Pair) -> bool {
+        let setting = self.setting;
+        let literal = control_literal(setting.compiled(), setting.controls(), pair);
+        is_marked(core.as_slice(), literal)
     }
 }

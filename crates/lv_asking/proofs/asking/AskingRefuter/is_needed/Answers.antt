@@ -3,7 +3,7 @@ use Rattle.std.proofs.Common.{ap, ◌∙◌}
 use Rattle.lv_clauses.specs.Marks.{is_marked}
 use Rattle.lv_asking.specs.Literals.{pair_literal}
 use Rattle.lv_asking.specs.Asking.{AskingValue}
-use Rattle.lv_asking.proofs.asking.Asking.is_needed.Goals as goal
+use Rattle.lv_asking.proofs.asking.AskingRefuter.is_needed.Goals as goal
 
 pub returns : goal.returns
 returns c =
