@@ -50,12 +50,7 @@ struct Deletion {
 }
 
 /// The kept pairs, and those behind this place: what a deletion asks for where it leaves out the pair at this place.
-fn all_but(
-    alloc: Global,
-    kept: &[Pair],
-    pairs: &[Pair],
-    at: usize,
-) -> Result<Vec<Pair>, AllocError>
+fn all_but(alloc: Global, kept: &[Pair], pairs: &[Pair], at: usize) -> Result<Vec<Pair>, AllocError>
     requires { at < length pairs.now }
     ensures { IfOk result (λ out. out.items ≡ kept.now ++ drop (at + 1) pairs.now) }
 {
