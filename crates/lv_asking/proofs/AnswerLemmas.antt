@@ -1,12 +1,12 @@
 -- What an answer of the solver says of pairs, of whatever meaning the clauses and what is assumed decide.
-use Rattle.std.proofs.Common.{◌≡◌, Bool, true, false, List, [], ◌∷◌, ◌++◌, cond, Option, Some, None, is_none, IfSome, refl, sym, subst, ap, ◌∙◌, All, Contains, inl, inr}
+use Rattle.std.proofs.Common.{◌≡◌, Bool, true, false, List, [], ◌∷◌, ◌++◌, cond, Option, Some, None, refl, sym, subst, ap, All}
 use Rattle.std.proofs.lemmas.List.Elements.{All-filter}
 use Rattle.lv_base.specs.declared.ids.Lit.{Lit}
 use Rattle.lv_base.specs.declared.search.Pair.{Pair}
 use Rattle.lv_clauses.specs.Marks.{Marks, is_marked}
 use Rattle.lv_system.specs.Choices.{Choices}
 use Rattle.lv_asking.specs.Literals.{pair_literal, pair_literals, HasMove, marked_pairs}
-use Rattle.lv_asking.specs.Refutation.{HasModel, HasNoModel, marked_literals, Refutes}
+use Rattle.lv_asking.specs.Refutation.{HasModel, marked_literals, Refutes}
 use Rattle.lv_asking.specs.Reducing.{RefutesPairs}
 use Rattle.lv_asking.specs.Asking.{AskingValue, Decides}
 

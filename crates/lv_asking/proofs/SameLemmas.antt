@@ -1,5 +1,5 @@
 -- What clauses decide, others decide too that the same values satisfy.
-use Rattle.std.proofs.Common.{◌≡◌, Bool, List, ◌∷◌, refl, sym, subst, ap, ◌∙◌}
+use Rattle.std.proofs.Common.{◌≡◌, Bool, List, ◌∷◌, sym, subst, ap, ◌∙◌}
 use Rattle.lv_base.specs.declared.ids.Lit.{Lit}
 use Rattle.lv_base.specs.declared.search.Pair.{Pair}
 use Rattle.lv_clauses.specs.ClauseMap.{ClauseMap}

@@ -54,21 +54,11 @@ impl Asking {
         requires fit { choices.first + sum choices.counts ≤ set.now.bools }
         ensures { IfOk result (λ a. a ≡ record { set = set.now; choices = choices; assumed = assumed.items }) }
     {
-        Ok(Asking::of(
-            alloc,
-            LemmaSolver::new(alloc, set)?,
-            choices,
-            assumed,
-        ))
+        Ok(Asking::of(alloc, LemmaSolver::new(alloc, set)?, choices, assumed))
     }
 
     /// What is asked of this solver, with these literals assumed, which are of distinct booleans before those of the choices.
-    pub fn of(
-        alloc: Global,
-        solver: LemmaSolver,
-        choices: ChoiceBools,
-        assumed: Vec<Lit>,
-    ) -> Asking
+    pub fn of(alloc: Global, solver: LemmaSolver, choices: ChoiceBools, assumed: Vec<Lit>) -> Asking
         requires clause { is_clause choices.first assumed.items ≡ true }
         requires fit { choices.first + sum choices.counts ≤ solver.bools }
         ensures { result ≡ record { set = solver; choices = choices; assumed = assumed.items } }

@@ -151,15 +151,7 @@ pub fn identify<'a>(
     ensures query { IfOk result (λ query. IsQueryOf tracked.now query) }
 {
     let search = search_of(alloc, model, tracked, listing)?;
-    started(
-        alloc,
-        model,
-        system,
-        spare,
-        facts,
-        listing.distinct,
-        search,
-    )
+    started(alloc, model, system, spare, facts, listing.distinct, search)
 }
 
 impl<'a> Query<'a> {

@@ -17,8 +17,8 @@ ghost use Rattle.lv_ident.specs.Trial.{TellsFacts};
 ghost use Rattle.lv_search_zones.specs.Moves.{is_full_choice};
 
 use crate::literals::fact_literals;
-use lv_asking::{Asking, LemmaSolver};
 use lv_asking::literals::each_once;
+use lv_asking::{Asking, LemmaSolver};
 use lv_base::{Candidate, Conflict, Pair, ValId, VarId, pairs_of};
 use lv_compile::value_bools::ValueBools;
 use lv_meaning::Facts;

@@ -1,5 +1,5 @@
 -- what is assumed says the literal already, or contradicts it, or it is asked for too
-use Rattle.std.proofs.Common.{◌≡◌, Some, None, List, [], ◌∷◌, subst, sym, ap, ◌∙◌}
+use Rattle.std.proofs.Common.{◌≡◌, Some, None, [], subst, sym, ap, ◌∙◌}
 use Rattle.std.specs.List.{find}
 use Rattle.std.proofs.lemmas.List.Elements.{All-cons, All-nil}
 use Rattle.lv_clauses.specs.Noted.{is_of}
