@@ -61,14 +61,23 @@ pub(crate) fn unrun<Q: Drop>(
 }
 
 impl Running<'_> {
-    /// The solver of the last diagnosis, if there is one. What is kept is let go of.
+    /// The solver of the last diagnosis, if there is one, for the next. A diagnosis that is kept is let go of.
     pub(crate) fn take_solver(&mut self) -> Option<LemmaSolver> {
+        match self {
+            Running::Diagnosis(_) => self.take_diagnosis(),
+            Running::Recovery(run) => run.spare.take(),
+            Running::Test(run) => run.spare.take(),
+            Running::Window(run) => run.spare.take(),
+            Running::Nothing => None,
+        }
+    }
+
+    /// The solver of a diagnosis, which is taken apart. Of no other query, since each that a function can take apart is one
+    /// more to check.
+    fn take_diagnosis(&mut self) -> Option<LemmaSolver> {
         match mem::replace(self, Running::Nothing) {
             Running::Diagnosis(run) => Some(Box::into_inner(run).query.into_solver()),
-            Running::Recovery(run) => Box::into_inner(run).spare,
-            Running::Test(run) => Box::into_inner(run).spare,
-            Running::Window(run) => Box::into_inner(run).spare,
-            Running::Nothing => None,
+            _ => None,
         }
     }
 
