@@ -9,23 +9,6 @@ use Rattle.lv_meaning.proofs.Possibility.{still_there}
 use Rattle.lv_asking.specs.Literals.{HasMove}
 use Rattle.lv_asking.specs.Asking.{AskingValue, Decides, IsPartial}
 
--- slots that rise rise without one
-rising_lower : (low high : ℕ) (ps : List Pair) → low ≤ high → slots_rise_from high ps ≡ true → slots_rise_from low ps ≡ true
-rising_lower low high [] below is = refl
-rising_lower low high (p ∷ ps) below is =
-    let parts = and_parts (nat_lt high (p.slot + 1)) (slots_rise_from (p.slot + 1) ps) is in
-    let above : high < p.slot + 1 = ltb-true high (p.slot + 1) parts.0 in
-    and_from (nat_lt low (p.slot + 1)) (slots_rise_from (p.slot + 1) ps) (lt-ltb low (p.slot + 1) (omega (arith, above, below))) parts.1
-
-rising_without : (low : ℕ) (before : List Pair) (p : Pair) (ps : List Pair) → slots_rise_from low (before ++ (p ∷ ps)) ≡ true → slots_rise_from low (before ++ ps) ≡ true
-rising_without low [] p ps is =
-    let parts = and_parts (nat_lt low (p.slot + 1)) (slots_rise_from (p.slot + 1) ps) is in
-    let above : low < p.slot + 1 = ltb-true low (p.slot + 1) parts.0 in
-    rising_lower low (p.slot + 1) ps (omega (arith, above)) parts.1
-rising_without low (q ∷ before) p ps is =
-    let parts = and_parts (nat_lt low (q.slot + 1)) (slots_rise_from (q.slot + 1) (before ++ (p ∷ ps))) is in
-    and_from (nat_lt low (q.slot + 1)) (slots_rise_from (q.slot + 1) (before ++ ps)) parts.0 (rising_without (q.slot + 1) before p ps parts.1)
-
 all_without : (P : Pair → Type 0) (before : List Pair) (p : Pair) (ps : List Pair) → All P (before ++ (p ∷ ps)) → All P (before ++ ps)
 all_without P [] p ps all = All-tail P p ps all
 all_without P (q ∷ before) p ps all = All-cons P q (before ++ ps) (all 0 q (omega arith)) (all_without P before p ps (All-tail P q (before ++ (p ∷ ps)) all))

@@ -24,19 +24,6 @@ module _ (possible : List Pair → Bool) (pairs kept : List Pair) (at : ℕ) (d 
   pub pair_left_out : possible (kept ++ drop (at + 1) pairs) ≡ false → reduced possible kept (drop at pairs) ≡ whole → reduced possible kept (drop (at + 1) pairs) ≡ whole
   pair_left_out e is = sym (step false e) ∙ is
 
-module _ (takes : List Pair → Bool) (less : (front : List Pair) (p : Pair) (back : List Pair) → takes (front ++ (p ∷ back)) ≡ true → takes (front ++ back) ≡ true)
-    (pairs kept : List Pair) (at : ℕ) (d : Pair) (within : at < length pairs) (taken : takes (kept ++ drop at pairs) ≡ true) where
-  here : takes (kept ++ (get_or pairs at d ∷ drop (at + 1) pairs)) ≡ true
-  here = sym (ap (λ ps. takes (kept ++ ps)) (drop-cons pairs at d within ∙ ap (λ k. get_or pairs at d ∷ drop k pairs) (sym (add-one at)))) ∙ taken
-
-  -- a test that takes the kept pairs and those from this place on takes them without this one
-  pub taken_without : takes (kept ++ drop (at + 1) pairs) ≡ true
-  taken_without = less kept (get_or pairs at d) (drop (at + 1) pairs) here
-
-  -- and with this one kept
-  pub taken_with : takes ((kept ++ (get_or pairs at d ∷ [])) ++ drop (at + 1) pairs) ≡ true
-  taken_with = ap takes (append_assoc kept (get_or pairs at d ∷ []) (drop (at + 1) pairs)) ∙ here
-
 -- slots that rise from one number rise from a lower one
 rising_lower : (low high : ℕ) (ps : List Pair) → low ≤ high → slots_rise_from high ps ≡ true → slots_rise_from low ps ≡ true
 rising_lower low high [] below is = refl
@@ -45,7 +32,8 @@ rising_lower low high (p ∷ ps) below is =
     let above : high < p.slot + 1 = ltb-true high (p.slot + 1) parts.0 in
     and_from (nat_lt low (p.slot + 1)) (slots_rise_from (p.slot + 1) ps) (lt-ltb low (p.slot + 1) (omega (arith, above, below))) parts.1
 
-rising_without : (low : ℕ) (before : List Pair) (p : Pair) (ps : List Pair) → slots_rise_from low (before ++ (p ∷ ps)) ≡ true → slots_rise_from low (before ++ ps) ≡ true
+-- slots that rise do so without a pair
+pub rising_without : (low : ℕ) (before : List Pair) (p : Pair) (ps : List Pair) → slots_rise_from low (before ++ (p ∷ ps)) ≡ true → slots_rise_from low (before ++ ps) ≡ true
 rising_without low [] p ps is =
     let parts = and_parts (nat_lt low (p.slot + 1)) (slots_rise_from (p.slot + 1) ps) is in
     let above : low < p.slot + 1 = ltb-true low (p.slot + 1) parts.0 in
