@@ -49,7 +49,7 @@ pub fn write_least(slots: &[Seq<Cost>], masks: &[u64], out: &mut [u32]) -> Optio
     Some(total)
 }
 
-/// The first among the cheapest of a slot's choices that the mask has.
+/// The first among the cheapest of a slot's choices that the mask has. None is cheaper than one that costs nothing.
 fn cheapest_left(costs: &[Cost], mask: u64) -> Option<usize>
     ensures choice { result ≡ cheapest costs.now mask }
     ensures within { IfSome result (λ choice. choice < length costs.now) }
@@ -57,6 +57,9 @@ fn cheapest_left(costs: &[Cost], mask: u64) -> Option<usize>
     let mut best: Option<usize> = None;
     for n in 0..costs.len() {
         if mask::has(mask, n) && is_cheaper(costs, n, best) {
+            if costs[n].0 == 0 {
+                return Some(n);
+            }
             best = Some(n);
         }
     }
