@@ -53,7 +53,7 @@ fn drop_priced(
     ensures { OnOk result ((slots : List (List Cost)) (conflicts : List (List Pair)) → IsBound slots conflicts masks.old low rows.now → KeepsUnder slots conflicts under masks.old masks.new) }
 {
     for slot in 0..rows.len().min(4096) {
-        if drop_at(rows[slot].as_slice(), slot, low, under, masks) {
+        if drop_at(&rows[slot], slot, low, under, masks) {
             changed.push(slot as u32)?;
         }
     }
@@ -62,13 +62,17 @@ fn drop_priced(
 
 /// Takes out of a box the choices of a slot whose price and the bound come to this, where it has several. Answers whether
 /// there were some.
-fn drop_at(prices: &[Cost], slot: usize, low: u64, under: u64, masks: &mut Masks) -> bool
+fn drop_at(row: &Row, slot: usize, low: u64, under: u64, masks: &mut Masks) -> bool
     requires { slot < 4096 }
-    ensures { (slots : List (List Cost)) (conflicts : List (List Pair)) (whole : List ℕ) (rows : List (List Cost)) → slot < length rows → slice_index_or rows slot [] ≡ prices.now → IsBound slots conflicts whole low rows → KeepsUnder slots conflicts under whole masks.old → KeepsUnder slots conflicts under whole masks.new }
+    ensures { (slots : List (List Cost)) (conflicts : List (List Pair)) (whole : List ℕ) (rows : List (List Cost)) → slot < length rows → slice_index_or rows slot [] ≡ row.now → IsBound slots conflicts whole low rows → KeepsUnder slots conflicts under whole masks.old → KeepsUnder slots conflicts under whole masks.new }
 {
     if !has_several(masks.at(slot)) {
         return false;
     }
+    if !is_dear(low, row.dearest(), under) {
+        return false;
+    }
+    let prices = row.as_slice();
     let mut some = false;
     for choice in 0..prices.len().min(64) {
         let dear = is_dear(low, prices[choice].0, under);

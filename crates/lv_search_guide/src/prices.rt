@@ -27,6 +27,8 @@ pub(crate) struct Row {
     mask: u64,
     /// A least priced of the choices left.
     least: usize,
+    /// What the dearest choice costs.
+    dearest: u64,
 }
 
 /// What a search works in: where lists are made, rows of prices, which are filled anew for each box, and slots at which a
@@ -67,13 +69,17 @@ impl Row {
             prices: Vec::new(alloc),
             mask: 0,
             least: 0,
+            dearest: 0,
         }
     }
 
-    /// Takes what the choices cost, of which the mask has those left.
+    /// Takes what the choices cost, of which the mask has those left. A row is filled with the costs of one slot alone.
     fn fill(&mut self, costs: &[Cost], mask: u64) -> Result<(), AllocError>
         ensures { OnOk result (self.new ≡ costs.now) }
     {
+        if self.prices.len() != costs.len() {
+            self.dearest = dearest(costs);
+        }
         refill(&mut self.prices, costs)?;
         self.mask = mask;
         self.least = least_choice(costs, mask);
@@ -84,6 +90,11 @@ impl Row {
         ensures { result.now ≡ self.now }
     {
         self.prices.as_slice()
+    }
+
+    /// No choice is priced at more.
+    pub(crate) fn dearest(&self) -> u64 {
+        self.dearest
     }
 
     /// Whether a least priced of the choices left has a price.
@@ -116,6 +127,11 @@ fn refill(prices: &mut Vec<Cost>, costs: &[Cost]) -> Result<(), AllocError>
     Ok(())
 }
 
+/// The highest cost; 0 of none.
+fn dearest(costs: &[Cost]) -> u64 {
+    costs.iter().map(|cost| cost.0).max().unwrap_or(0)
+}
+
 /// A least priced of the choices that the mask has; past all choices, where it has none.
 fn least_choice(prices: &[Cost], mask: u64) -> usize {
     if !has_several(mask) {
@@ -126,6 +142,9 @@ fn least_choice(prices: &[Cost], mask: u64) -> usize {
         if mask::has(mask, choice)
             && (least >= prices.len() || prices[choice].0 < prices[least].0)
         {
+            if prices[choice].0 == 0 {
+                return choice;
+            }
             least = choice;
         }
     }

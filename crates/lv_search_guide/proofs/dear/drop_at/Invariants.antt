@@ -9,5 +9,5 @@ use Rattle.lv_search_guide.proofs.dear.drop_at.Given as goal
 
 abbrev pub invariant-loop-choice : goal.invariant-loop-choice
 invariant-loop-choice l =
-    (slots : List (List Cost)) (conflicts : List (List Pair)) (whole : List ℕ) (rows : List (List Cost)) → l.slot < length rows → slice_index_or rows l.slot [] ≡ l.prices → IsBound slots conflicts whole l.low rows
+    (slots : List (List Cost)) (conflicts : List (List Pair)) (whole : List ℕ) (rows : List (List Cost)) → l.slot < length rows → slice_index_or rows l.slot [] ≡ l.row → IsBound slots conflicts whole l.low rows
     → KeepsUnder slots conflicts l.under whole l.fn.masks → KeepsUnder slots conflicts l.under whole l.masks

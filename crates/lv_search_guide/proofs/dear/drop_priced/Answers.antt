@@ -8,4 +8,4 @@ loop-slot-init c slots conflicts b = keeps_all slots conflicts c.args.under c.ar
 
 pub loop-slot-preserved : goal.loop-slot-preserved
 loop-slot-preserved c slots conflicts b = c.drop_at.ensures slots conflicts c.args.masks.now c.args.rows.now (search rules)
-    (item_at c.args.rows.now c.loop-slot.slot [] c.index-rows-slot.result (search rules) ∙ sym c.index-rows-slot.is ∙ sym c.as_slice.ensures) b (c.loop-slot.invariant slots conflicts b)
+    (item_at c.args.rows.now c.loop-slot.slot [] c.index-rows-slot.result (search rules) ∙ sym c.index-rows-slot.is) b (c.loop-slot.invariant slots conflicts b)
