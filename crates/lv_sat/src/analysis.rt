@@ -223,7 +223,7 @@ fn shorten(
     while at > 0 && notes.is_ahead() {
         at -= 1;
         notes.come_to(sees(seen.as_slice(), entries[at].lit));
-        if is_spare(set, log, entries[at], at < notes.base, seen.as_slice()) {
+        if is_spare(set, log, &entries[at], at < notes.base, seen.as_slice()) {
             replace(set, log, notes, entries[at], seen, hints)?;
         }
     }
@@ -231,11 +231,15 @@ fn shorten(
 }
 
 /// Whether an entry was seen, and so were all that forced it, or nothing that was assumed or chosen did.
-fn is_spare(set: &ClauseSet, log: &Log, entry: Entry, is_base: bool, seen: &[bool]) -> bool {
-    let Some(hint) = entry.reason else {
+#[inline(always)]
+fn is_spare(set: &ClauseSet, log: &Log, entry: &Entry, is_base: bool, seen: &[bool]) -> bool {
+    if !sees(seen, entry.lit) {
         return false;
-    };
-    sees(seen, entry.lit) && (is_base || are_seen(find_clause(set, log, hint), entry.lit, seen))
+    }
+    match entry.reason {
+        Some(hint) => is_base || are_seen(find_clause(set, log, hint), entry.lit, seen),
+        None => false,
+    }
 }
 
 /// Whether all literals of a clause but those of this boolean were seen.
@@ -280,6 +284,7 @@ fn unsee(lit: Lit, seen: &mut Vec<bool>)
 
 /// The first choice behind the last entry before this one that was seen, where this one was seen too and is behind it or
 /// is that choice.
+#[inline(always)]
 fn find_cut(seen: &[bool], entries: &[Entry], floor: usize, at: usize) -> Option<usize>
     requires floor { floor ≤ at }
     requires within { at < length entries.now }
@@ -324,6 +329,7 @@ fn choice_at(entries: &[Entry], at: usize, other: Option<usize>) -> Option<usize
 }
 
 /// Goes past an entry, with the literals that forced it seen if it was and has a reason.
+#[inline(always)]
 fn pass(
     set: &ClauseSet,
     log: &Log,
