@@ -5,4 +5,5 @@ pub mod TimesLemmas
 pub mod LeftLemmas
 pub mod GroupLeftLemmas
 pub mod RunLemmas
+pub mod DeletedReasons
 pub use Rattle.lv_boxes.proofs as lv_boxes
