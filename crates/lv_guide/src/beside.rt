@@ -11,7 +11,7 @@ ghost use Rattle.lv_guide.specs.Beside.{mixed, LeastInsideTells, FirstBySomeTell
 
 use super::known::Known;
 use super::narrowed::narrowed;
-use super::near::{cost_of, first_lost, lost_pairs};
+use super::near::{cost_of, first_lost, has_empty, lost_pairs};
 use lv_base::{Conflict, Rank, Seq};
 use lv_boxes::{Grid, Zone};
 use lv_search_guide::least_free::{least_free, rank_of};
@@ -20,7 +20,7 @@ use std::alloc::{AllocError, Global};
 
 /// The zone, with fewer choices but all its members that contain no conflict, and the first of its members by some of the
 /// known conflicts; `None` where each contains one. `near` contains none, and is what ranks first in a zone that has all
-/// choices of this one, by some of them.
+/// choices of this one, by some of them. Most zones that a listed member leaves have no members, which is seen at once.
 pub fn first_beside(
     alloc: Global,
     grid: &Grid,
@@ -32,6 +32,9 @@ pub fn first_beside(
     requires free { is_ruled_out known.now near.now.choices ≡ false }
     ensures { IfOk result (λ first. BesideTells grid.now zone.now known.now first) }
 {
+    if has_empty(zone.masks()) {
+        return Ok(None);
+    }
     let _slots = grid.slots();
     match without_ends(alloc, zone, known, near)? {
         Some(less) => match first_by_some(alloc, grid, &less, known, near)? {

@@ -74,7 +74,7 @@ fn first_near(
 }
 
 /// Whether some slot has no choice left.
-fn has_empty(masks: &[u64]) -> bool
+pub(crate) fn has_empty(masks: &[u64]) -> bool
     ensures { result ≡ list_any (λ mask. nat_eq mask 0) masks.now }
 {
     masks.iter().any(|mask| *mask == 0)

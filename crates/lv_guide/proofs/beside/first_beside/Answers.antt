@@ -1,7 +1,13 @@
 -- what is told of the zone with fewer choices is told of the zone
-use Rattle.std.proofs.Common.{ℕ, ◌≤◌, sym, subst}
-use Rattle.lv_guide.proofs.NearLemmas.{long_near, near_less, none_narrowed, none_less}
+use Rattle.std.proofs.Common.{ℕ, ◌≤◌, ◌∙◌, nat_eq, List, ap, sym, subst}
+use Rattle.std.specs.List.{list_any}
+use Rattle.lv_guide.proofs.NearLemmas.{long_near, near_less, none_if_empty, none_narrowed, none_less}
 use Rattle.lv_guide.proofs.beside.first_beside.Goals as goal
+
+pub returns-then-has_empty : goal.returns-then-has_empty
+returns-then-has_empty c =
+    none_if_empty c.args.grid.now c.args.zone.now c.args.known.now
+    (ap (λ (masks : List ℕ). list_any (λ mask. nat_eq mask 0) masks) (sym c.masks.ensures) ∙ sym (rw c.if-has_empty.true at c.has_empty.ensures))
 
 pub without_ends-requires : goal.without_ends-requires
 without_ends-requires c = subst (λ (n : ℕ). n ≤ 4096) (sym (long_near c.args.grid.now c.args.zone.now c.args.known.now c.args.near.now c.requires.near)) c.slots-slots.ensures.few
