@@ -397,12 +397,12 @@ kept_unless cs levels before marks old entries (Some h) here grown = tt
 
 -- a clause more
 module _ (old new : ClauseMap) (id : ℕ) (c : List Lit) (puts : Puts old new id (Some c)) (vacant : clause_at old.slots id ≡ None) where
-  named_still : (h : Hint) (clause : List Lit) → clause_of old.slots [] h ≡ Some clause → clause_of new.slots [] h ≡ Some clause
-  named_still (Given k) clause named = elim (cases_eq k.0 id) [
+  pub named_still : (log : List Step) (h : Hint) (clause : List Lit) → clause_of old.slots log h ≡ Some clause → clause_of new.slots log h ≡ Some clause
+  named_still log (Given k) clause named = elim (cases_eq k.0 id) [
     | inl same ↦ absurd (cc (sym vacant ∙ ap (clause_at old.slots) (sym same) ∙ named))
     | inr differs ↦ puts.others k.0 differs ∙ named
   ]
-  named_still (Earlier place) clause named = named
+  named_still log (Earlier place) clause named = named
 
   trail_still : (marks : Marks) (entries : List Entry) → IsTrail old [] marks entries → IsTrail new [] marks entries
   trail_still marks entries trail =
@@ -416,7 +416,7 @@ module _ (old new : ClauseMap) (id : ℕ) (c : List Lit) (puts : Puts old new id
               forced =
                   λ place d h within reason.
                   let forced : IsForced old.slots [] (lits_of (take place entries)) (get_or entries place d).lit h = trail.chain.forced place d h within reason in
-                  record { clause = forced.clause; named = named_still h forced.clause forced.named; left = forced.left };
+                  record { clause = forced.clause; named = named_still [] h forced.clause forced.named; left = forced.left };
             };
       }
 

@@ -10,4 +10,5 @@ mod SearchLemmas
 mod FrontLemmas
 mod RowLemmas
 mod LastValuesLemmas
+mod RefutedLemmas
 pub use Rattle.lv_reflog.proofs as lv_reflog

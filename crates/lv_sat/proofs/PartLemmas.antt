@@ -1,7 +1,7 @@
 -- Parts of lists of literals, and the entries without a reason as a part of all.
-use Rattle.std.proofs.Common.{◌≡◌, ◌⊎◌, ℕ, suc, zero, ◌<◌, Bool, true, false, not, List, [], ◌∷◌, ◌++◌, length, cond, take, get_or, Option, Some, None, is_none, refl, sym, ap, subst, ◌∙◌, arith, inl, inr, Contains}
+use Rattle.std.proofs.Common.{◌≡◌, ◌≢◌, ◌⊎◌, ◌↔◌, ℕ, nat_eq, suc, zero, ◌+◌, ◌<◌, ◌≤◌, Bool, true, false, not, List, [], ◌∷◌, ◌++◌, length, cond, take, drop, get_or, Option, Some, None, is_none, refl, sym, ap, subst, ◌∙◌, arith, inl, inr, Contains}
 use Rattle.std.specs.List.{list_all}
-use Rattle.std.proofs.lemmas.List.{append-nil}
+use Rattle.std.proofs.lemmas.List.{append-nil, drop_all, drop_more, length-drop}
 use Rattle.std.proofs.lemmas.List.Elements.{filter-append}
 use Rattle.lv_base.specs.declared.ids.Lit.{Lit}
 use Rattle.lv_clauses.specs.Literals.{same_var, in_range, distinct, is_clause}
@@ -116,3 +116,56 @@ unforced_front (e ∷ es) (suc k) = by_reason (is_none e.reason) refl (unforced_
 pub distinct_behind : (xs ys : List Lit) (l : Lit) → distinct (xs ++ l ∷ ys) ≡ true → list_all (λ k. not (same_var l k)) ys ≡ true
 distinct_behind [] ys l e = and_left (list_all (λ k. not (same_var l k)) ys) (distinct ys) e
 distinct_behind (x ∷ xs) ys l e = distinct_behind xs ys l (and_right (list_all (λ k. not (same_var x k)) (xs ++ l ∷ ys)) (distinct (xs ++ l ∷ ys)) e)
+
+-- how a walk along both lists tells whether one is a part of the other
+part_tail : (a b : List Lit) (l : Lit) → IsSublist (l ∷ a) b → IsSublist a b
+part_tail a _ l (left_out {whole = ls} m s) = left_out m (part_tail a ls l s)
+part_tail _ _ _ (taken l s) = left_out l s
+
+part_met : (a b : List Lit) (l m : Lit) → IsSublist (l ∷ a) (m ∷ b) → IsSublist a b
+part_met a b l _ (left_out _ s) = part_tail a b l s
+part_met _ _ _ _ (taken _ s) = s
+
+part_passed : (a b : List Lit) (l m : Lit) → l ≢ m → IsSublist (l ∷ a) (m ∷ b) → IsSublist (l ∷ a) b
+part_passed a b l m differs (left_out _ s) = s
+part_passed a b l _ differs (taken _ s) = absurd (differs refl)
+
+part_ended : (part : List Lit) → IsSublist part [] → part ≡ []
+part_ended _ no_literals = refl
+
+module _ (part whole : List Lit) (met at : ℕ) (d : Lit) (Whole : Type 0) (in_whole : at < length whole) (rest : IsSublist (drop met part) (drop at whole) ↔ Whole) where
+  behind : drop at whole ≡ get_or whole at d ∷ drop (at + 1) whole
+  behind = drop_more whole at d in_whole
+
+  pub walk_met : met < length part → get_or part met d ≡ get_or whole at d → IsSublist (drop (met + 1) part) (drop (at + 1) whole) ↔ Whole
+  walk_met within same = (
+    λ s. rest.0 (subst (λ ls. IsSublist ls (drop at whole)) (sym split) (subst (IsSublist (get_or whole at d ∷ drop (met + 1) part)) (sym behind) (taken (get_or whole at d) s))),
+    λ w. part_met (drop (met + 1) part) (drop (at + 1) whole) (get_or whole at d) (get_or whole at d) (subst (IsSublist (get_or whole at d ∷ drop (met + 1) part)) behind (subst (λ ls. IsSublist ls (drop at whole)) split (rest.1 w))),
+  )
+    where
+      split : drop met part ≡ get_or whole at d ∷ drop (met + 1) part
+      split = drop_more part met d within ∙ ap (λ l. l ∷ drop (met + 1) part) same
+
+  pub walk_passed : get_or part met d ≢ get_or whole at d → met < length part → IsSublist (drop met part) (drop (at + 1) whole) ↔ Whole
+  walk_passed differs within = (
+    λ s. rest.0 (subst (IsSublist (drop met part)) (sym behind) (left_out (get_or whole at d) s)),
+    λ w.
+        subst (λ ls. IsSublist ls (drop (at + 1) whole)) (sym split)
+        (part_passed (drop (met + 1) part) (drop (at + 1) whole) (get_or part met d) (get_or whole at d) differs (subst (IsSublist (get_or part met d ∷ drop (met + 1) part)) behind (subst (λ ls. IsSublist ls (drop at whole)) split (rest.1 w)))),
+  )
+    where
+      split : drop met part ≡ get_or part met d ∷ drop (met + 1) part
+      split = drop_more part met d within
+
+  pub walk_over : length part ≤ met → IsSublist (drop met part) (drop (at + 1) whole) ↔ Whole
+  walk_over past = (
+    λ s. rest.0 (subst (λ ls. IsSublist ls (drop at whole)) (sym (drop_all met part past)) (part_nothing (drop at whole))),
+    λ w. subst (λ ls. IsSublist ls (drop (at + 1) whole)) (sym (drop_all met part past)) (part_nothing (drop (at + 1) whole)),
+  )
+
+-- at its end all of the part was met, or it is none
+pub walk_end : (part whole : List Lit) (met at : ℕ) (Whole : Type 0) → met ≤ length part → length whole ≤ at → (IsSublist (drop met part) (drop at whole) ↔ Whole) → ((nat_eq met (length part) ≡ true) ↔ Whole)
+walk_end part whole met at Whole within past rest = (
+  λ same. rest.0 (subst (λ ls. IsSublist ls (drop at whole)) (sym (drop_all met part (grind (arith, same)))) (part_nothing (drop at whole))),
+  λ w. grind (arith, within, ap length (part_ended (drop met part) (subst (IsSublist (drop met part)) (drop_all at whole past) (rest.1 w))), length-drop met part),
+)

@@ -4,7 +4,9 @@
 //! | part | items |
 //! |---|---|
 //! | the solver | `Solver` |
-//! | what it answers | `Answer` |
+//! | what it answers, and keeps of an answer | `Answer`, `Refutation` |
+//! | copies of logs | `copying` |
+//! | whether assumptions hold a core | `part` |
 //! | what it did | `Effort` |
 //! | literals taken as true | `trail` |
 //! | what a false clause teaches | `analysis` |
@@ -22,6 +24,7 @@
 
 mod analysis;
 pub mod answer;
+mod copying;
 pub mod effort;
 mod entering;
 mod front;
@@ -32,6 +35,7 @@ mod notes;
 mod occurrences;
 mod order;
 mod pace;
+mod part;
 mod propagation;
 mod queue;
 mod scores;
@@ -39,6 +43,6 @@ mod search;
 pub mod solver;
 mod trail;
 
-pub use answer::Answer;
+pub use answer::{Answer, Refutation};
 pub use effort::Effort;
 pub use solver::Solver;

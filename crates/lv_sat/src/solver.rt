@@ -2,11 +2,11 @@
 //! keeps copies of the clauses under their numbers, by which the log of a refutation names them.
 #![tactic(auto)]
 
-ghost use Rattle.std.specs.Prelude.{◌≡◌, IsTrue, IsSome, Some, None, IfOk, OnErr};
+ghost use Rattle.std.specs.Prelude.{◌≡◌, IsTrue, IsSome, Some, None, IfOk, IfSome, OnErr};
 ghost use Rattle.lv_clauses.specs.Literals.{is_clause};
 ghost use Rattle.lv_clauses.specs.ClauseMap.{clause_at, Puts};
 
-use super::answer::Answer;
+use super::answer::{Answer, Refutation};
 use super::effort::Effort;
 use super::entering::take_in;
 use super::front::{Front, forget};
@@ -14,6 +14,7 @@ use super::guide::{FIRST_ROOM, Guide, note_values};
 use super::last_values::LastValues;
 use super::lead::Trust;
 use super::notes::Notes;
+use super::part::is_part;
 use super::search::search;
 use super::trail::Trail;
 use lv_base::{ClauseId, Lit};
@@ -22,9 +23,9 @@ use lv_watches::Watches;
 use std::alloc::{AllocError, Global};
 use std::marker::Model;
 
-/// The clauses present over booleans counted from 0, seen by contracts as the map from their numbers. What else it keeps
-/// is the lead of its searches, the assumptions of the last one with what they force, and the last values, from one to the
-/// next.
+/// The clauses present over booleans counted from 0 and the last refutation, unless a clause was taken away since: contracts
+/// see the two, the clauses as the map from their numbers. What else it keeps is the lead of its searches, the assumptions
+/// of the last one with what they force, and the last values, from one to the next.
 #[derive(Drop)]
 pub struct Solver {
     alloc: Global,
@@ -32,29 +33,35 @@ pub struct Solver {
     guide: Guide,
     front: Front,
     last: LastValues,
+    refuted: Option<Refutation>,
 }
 
 impl Model for Solver {
-    ghost use Rattle.lv_clauses.specs.ClauseMap.{ClauseMap};
+    ghost use Rattle.std.specs.Prelude.{IfSome};
     ghost use Rattle.lv_sat.specs.Front.{IsKept};
     ghost use Rattle.lv_sat.specs.Occurrences.{IsUpToDate};
+    ghost use Rattle.lv_sat.specs.Solver.{SolverValue, Refutes};
 
-    ghost Value = { ClauseMap };
+    ghost Value = { SolverValue };
 
-    ghost view = { λ s. s.set };
+    ghost view = { λ s. record { set = s.set; refuted = s.refuted } };
 
     ghost invariant = { λ s. record {
       front : IsKept s.set s.front.levels.items s.front.trail.marks.items s.front.trail.entries.items;
       last : IsUpToDate s.set s.last.values s.last.occurrences;
+      refuted : IfSome s.refuted (Refutes s.set);
     } };
 }
 
 impl Solver {
-    ghost use Rattle.lv_sat.specs.Answers.{Answers};
+    ghost use Rattle.lv_sat.specs.declared.answer.Answer.TheVariants.{Unsat};
+    ghost use Rattle.lv_sat.specs.Answers.{Answers, IsSublist};
+    ghost use Rattle.lv_sat.specs.Solver.{last_refuted};
 
     /// A solver of copies of a set's clauses, each with its number.
     pub fn new(alloc: Global, set: &ClauseSet) -> Result<Solver, AllocError>
-        ensures { IfOk result (λ s. s ≡ set.now) }
+        ensures set { IfOk result (λ s. s.set ≡ set.now) }
+        ensures refuted { IfOk result (λ s. s.refuted ≡ None) }
     {
         Ok(Solver {
             alloc,
@@ -73,16 +80,19 @@ impl Solver {
                 levels: Vec::new(alloc),
             },
             last: LastValues::new(),
+            refuted: None,
         })
     }
 
     /// Adds a clause and answers its number, which no clause had. After want of memory the clauses are as they were. Where
-    /// memory suffices for the clause alone, it is there, and a search judges by it only in the end.
+    /// memory suffices for the clause alone, it is there, and a search judges by it only in the end. What was refuted stays
+    /// so: the log of it names other clauses.
     pub fn add(&mut self, lits: &[Lit]) -> Result<ClauseId, AllocError>
-        requires { IsTrue (is_clause self.old.bools lits.now) }
-        ensures vacant { IfOk result (λ id. clause_at self.old.slots id.0 ≡ None) }
-        ensures added { IfOk result (λ id. Puts self.old self.new id.0 (Some lits.now)) }
-        ensures kept { OnErr result (self.new ≡ self.old) }
+        requires { IsTrue (is_clause self.old.set.bools lits.now) }
+        ensures vacant { IfOk result (λ id. clause_at self.old.set.slots id.0 ≡ None) }
+        ensures added { IfOk result (λ id. Puts self.old.set self.new.set id.0 (Some lits.now)) }
+        ensures kept { OnErr result (self.new.set ≡ self.old.set) }
+        ensures refuted { self.new.refuted ≡ self.old.refuted }
     {
         let id = self.set.add(lits)?;
         self.last.add(lits, id);
@@ -97,30 +107,53 @@ impl Solver {
         Ok(id)
     }
 
-    /// Takes away a clause that is present. Takes no memory.
+    /// Takes away a clause that is present, and with it what was refuted. Takes no memory.
     pub fn remove(&mut self, id: ClauseId)
-        requires { IsSome (clause_at self.old.slots id.0) }
-        ensures { Puts self.old self.new id.0 None }
+        requires { IsSome (clause_at self.old.set.slots id.0) }
+        ensures removed { Puts self.old.set self.new.set id.0 None }
+        ensures refuted { self.new.refuted ≡ None }
     {
         forget(&mut self.guide, &mut self.front);
         self.set.remove(id);
         self.last.remove();
+        self.refuted = None;
         self.guide.watches.remove_given(id);
     }
 
     /// The clauses present, by which the log of a refutation can be checked.
     pub fn clauses(&self) -> &ClauseSet
-        ensures { result.now ≡ self.now }
+        ensures { result.now ≡ self.now.set }
     {
         &self.set
     }
 
     /// Whether some values satisfy the clauses and make the assumptions true, which are of distinct booleans in range. It
-    /// changes no clause.
+    /// changes no clause. Where the core of the last refutation is a part of the assumptions, that refutation is the answer
+    /// again, without a search.
     pub fn solve(&mut self, assumptions: &[Lit]) -> Result<Answer, AllocError>
-        requires { IsTrue (is_clause self.old.bools assumptions.now) }
-        ensures answer { IfOk result (λ answer. Answers self.old assumptions.now answer) }
-        ensures kept { self.new ≡ self.old }
+        requires { IsTrue (is_clause self.old.set.bools assumptions.now) }
+        ensures answer { IfOk result (λ answer. Answers self.old.set assumptions.now answer) }
+        ensures again { IfSome self.old.refuted (λ r. IsSublist r.core assumptions.now → IfOk result (λ answer. answer ≡ Unsat r.core r.log)) }
+        ensures kept { self.new.set ≡ self.old.set }
+        ensures remembers { IfOk result (λ answer. self.new.refuted ≡ last_refuted self.old.refuted answer) }
+        ensures failed { OnErr result (self.new.refuted ≡ self.old.refuted) }
+    {
+        if let Some(refuted) = &self.refuted
+            && is_part(refuted.core.as_slice(), assumptions)
+        {
+            self.guide.effort = self.guide.effort.with_call();
+            return refuted.answer(self.alloc);
+        }
+        self.seek(assumptions)
+    }
+
+    /// What a search answers. The last refutation is kept.
+    fn seek(&mut self, assumptions: &[Lit]) -> Result<Answer, AllocError>
+        requires { IsTrue (is_clause self.old.set.bools assumptions.now) }
+        ensures answer { IfOk result (λ answer. Answers self.old.set assumptions.now answer) }
+        ensures kept { self.new.set ≡ self.old.set }
+        ensures remembers { IfOk result (λ answer. self.new.refuted ≡ last_refuted self.old.refuted answer) }
+        ensures failed { OnErr result (self.new.refuted ≡ self.old.refuted) }
     {
         let answer = search(
             self.alloc,
@@ -130,9 +163,14 @@ impl Solver {
             &self.last,
             assumptions,
         )?;
-        if let Answer::Sat { values, log: _ } = &answer {
-            self.last.keep(self.alloc, &self.set, values.as_slice());
-            note_values(&mut self.guide, &self.front.trail);
+        match &answer {
+            Answer::Sat { values, log: _ } => {
+                self.last.keep(self.alloc, &self.set, values.as_slice());
+                note_values(&mut self.guide, &self.front.trail);
+            }
+            Answer::Unsat { core, log } => {
+                self.refuted = Some(Refutation::copy_of(self.alloc, core.as_slice(), log)?);
+            }
         }
         Ok(answer)
     }

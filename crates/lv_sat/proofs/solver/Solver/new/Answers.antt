@@ -1,4 +1,4 @@
--- the front is empty, and nothing is kept of values
+-- the front is empty, and nothing is kept of values or refuted
 use Rattle.lv_sat.proofs.FrontLemmas.{kept_nothing}
 use Rattle.lv_sat.proofs.solver.Solver.new.Goals as goal
 
@@ -7,4 +7,5 @@ invariant_of-result c =
     record {
       front = kept_nothing c.in_ok-copy.field-0 c.new-7.result.items c.in_ok-new-3.field-0.marks.items c.in_ok-new-3.field-0.entries.items c.new-7.ensures.items c.in_ok-new-3.ensures.entries;
       last = c.new-8.ensures c.in_ok-copy.field-0;
+      refuted = tt;
     }
