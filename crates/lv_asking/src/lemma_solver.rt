@@ -46,7 +46,7 @@ impl Model for LemmaSolver {
 
     ghost view = { λ s. s.given };
 
-    ghost invariant = { λ s. HaveSameModels s.given s.solver };
+    ghost invariant = { λ s. HaveSameModels s.given s.solver.set };
 }
 
 impl LemmaSolver {
@@ -146,8 +146,8 @@ fn are_same_at(one: &ClauseSet, other: &ClauseSet, id: ClauseId) -> bool
 /// Keeps the short clauses that a log derives, beside so many lemmas. Answers how many there are then. Where propagation alone
 /// refuted, none is kept: it does so again as quickly.
 fn keep_lemmas(solver: &mut Solver, log: &Log, lemmas: usize) -> Result<usize, AllocError>
-    requires { first_bad_step solver.old log.now ≡ None }
-    ensures { HaveSameModels solver.old solver.new }
+    requires { first_bad_step solver.old.set log.now ≡ None }
+    ensures { HaveSameModels solver.old.set solver.new.set }
 {
     if log.len() < 2 {
         return Ok(lemmas);
@@ -161,8 +161,8 @@ fn keep_lemmas(solver: &mut Solver, log: &Log, lemmas: usize) -> Result<usize, A
 
 /// Keeps a clause that follows, where it is short and there aren't too many yet. Answers how many there are then.
 fn keep_lemma(solver: &mut Solver, clause: &[Lit], lemmas: usize) -> Result<usize, AllocError>
-    requires { Follows solver.old clause.now }
-    ensures { HaveSameModels solver.old solver.new }
+    requires { Follows solver.old.set clause.now }
+    ensures { HaveSameModels solver.old.set solver.new.set }
 {
     let bools = solver.clauses().bools();
     if lemmas < MOST && clause.len() <= LONGEST && is_clause(bools, clause) {

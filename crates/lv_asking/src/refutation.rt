@@ -172,9 +172,9 @@ pub fn refute_once(
     solver: &mut Solver,
     lits: &[Lit],
 ) -> Result<Option<Marks>, AllocError>
-    requires { is_clause solver.old.bools (lits.now ++ []) ≡ true }
-    ensures answer { IfOk result (λ core. Refutes solver.old lits.now [] core) }
-    ensures kept { solver.new ≡ solver.old }
+    requires { is_clause solver.old.set.bools (lits.now ++ []) ≡ true }
+    ensures answer { IfOk result (λ core. Refutes solver.old.set lits.now [] core) }
+    ensures kept { solver.new.set ≡ solver.old.set }
 {
     let backwards = assumptions(alloc, lits, &[])?;
     match solver.solve(backwards.as_slice())? {

@@ -29,7 +29,7 @@ pub struct BlockSolver {
 impl BlockSolver {
     /// A solver of the system's clauses alone.
     pub fn new(alloc: Global, system: &StepSystem) -> Result<BlockSolver, AllocError>
-        ensures { IfOk result (λ b. IsShared system.now b.solver b.added.items b.numbers.items) }
+        ensures { IfOk result (λ b. IsShared system.now b.solver.set b.added.items b.numbers.items) }
     {
         Ok(BlockSolver {
             added: Vec::new(alloc),
@@ -41,8 +41,8 @@ impl BlockSolver {
     /// Takes the clauses away that were added.
     pub fn clear(&mut self)
         ensures empty { self.new.added.items ≡ [] }
-        ensures shared { (s : SystemValue) → IsShared s self.old.solver self.old.added.items self.old.numbers.items
-            → IsShared s self.new.solver self.new.added.items self.new.numbers.items }
+        ensures shared { (s : SystemValue) → IsShared s self.old.solver.set self.old.added.items self.old.numbers.items
+            → IsShared s self.new.solver.set self.new.added.items self.new.numbers.items }
     {
         while let Some(id) = self.added.pop() {
             if self.solver.clauses().contains(id) {
@@ -53,10 +53,10 @@ impl BlockSolver {
 
     /// Adds a clause that has this number in the block.
     fn add(&mut self, lits: &[Lit], number: u128) -> Result<(), AllocError>
-        requires { IsOver self.old.solver.bools lits.now }
-        ensures added { OnOk result (AddsOne self.old.solver self.new.solver self.old.numbers.items self.new.numbers.items lits.now number) }
-        ensures shared { (s : SystemValue) → IsShared s self.old.solver self.old.added.items self.old.numbers.items
-            → IsShared s self.new.solver self.new.added.items self.new.numbers.items }
+        requires { IsOver self.old.solver.set.bools lits.now }
+        ensures added { OnOk result (AddsOne self.old.solver.set self.new.solver.set self.old.numbers.items self.new.numbers.items lits.now number) }
+        ensures shared { (s : SystemValue) → IsShared s self.old.solver.set self.old.added.items self.old.numbers.items
+            → IsShared s self.new.solver.set self.new.added.items self.new.numbers.items }
     {
         let id = self.solver.add(lits)?;
         match self.added.push(id) {
@@ -75,13 +75,13 @@ impl BlockSolver {
         clause: &[Lit],
         number: u128,
     ) -> Result<(), AllocError>
-        requires over { IsOver self.old.solver.bools clause.now }
-        requires whole { length assumed.old.numbers.items ≡ self.old.solver.bools }
+        requires over { IsOver self.old.solver.set.bools clause.now }
+        requires whole { length assumed.old.numbers.items ≡ self.old.solver.set.bools }
         ensures stated { OnOk result ((first : ClauseMap) (kept : List ℕ) (models : ℕ) (own : List (List Lit)) → number ≡ models + length own + 1
-            → AreStated first kept models own self.old.solver self.old.numbers.items assumed.old.lits.items assumed.old.numbers.items
-            → AreStated first kept models (own ++ clause.now ∷ []) self.new.solver self.new.numbers.items assumed.new.lits.items assumed.new.numbers.items) }
-        ensures shared { (s : SystemValue) → IsShared s self.old.solver self.old.added.items self.old.numbers.items
-            → IsShared s self.new.solver self.new.added.items self.new.numbers.items }
+            → AreStated first kept models own self.old.solver.set self.old.numbers.items assumed.old.lits.items assumed.old.numbers.items
+            → AreStated first kept models (own ++ clause.now ∷ []) self.new.solver.set self.new.numbers.items assumed.new.lits.items assumed.new.numbers.items) }
+        ensures shared { (s : SystemValue) → IsShared s self.old.solver.set self.old.added.items self.old.numbers.items
+            → IsShared s self.new.solver.set self.new.added.items self.new.numbers.items }
     {
         if clause.len() == 1 && assumed.is_free(clause[0]) {
             return assumed.assume(clause[0], number);
@@ -96,10 +96,10 @@ impl BlockSolver {
         models: u32,
         own: &[Seq<Lit>],
     ) -> Result<Assumed, AllocError>
-        requires { All (IsOver self.old.solver.bools) own.now }
-        ensures stated { IfOk result (λ assumed. AreStated self.old.solver self.old.numbers.items models own.now self.new.solver self.new.numbers.items assumed.lits.items assumed.numbers.items) }
-        ensures shared { (s : SystemValue) → IsShared s self.old.solver self.old.added.items self.old.numbers.items
-            → IsShared s self.new.solver self.new.added.items self.new.numbers.items }
+        requires { All (IsOver self.old.solver.set.bools) own.now }
+        ensures stated { IfOk result (λ assumed. AreStated self.old.solver.set self.old.numbers.items models own.now self.new.solver.set self.new.numbers.items assumed.lits.items assumed.numbers.items) }
+        ensures shared { (s : SystemValue) → IsShared s self.old.solver.set self.old.added.items self.old.numbers.items
+            → IsShared s self.new.solver.set self.new.added.items self.new.numbers.items }
     {
         let mut assumed = Assumed::new(alloc, self.solver.clauses().bools())?;
         for (at, clause) in own.iter().enumerate() {

@@ -41,10 +41,10 @@ fn answer(
     before: u128,
 ) -> Result<Refuted, AllocError>
     requires few { before < 2 ^ 127 }
-    requires clause { IsTrue (is_clause solver.old.bools assumed.now.lits.items) }
-    ensures told { (clauses : List (List Lit)) → length clauses ≡ before → HaveNumbers solver.old.slots clauses numbers.now → HaveUnits clauses assumed.now.lits.items assumed.now.numbers.items →
-        IfOk result (Answers solver.old clauses assumed.now.lits.items) }
-    ensures kept { solver.new ≡ solver.old }
+    requires clause { IsTrue (is_clause solver.old.set.bools assumed.now.lits.items) }
+    ensures told { (clauses : List (List Lit)) → length clauses ≡ before → HaveNumbers solver.old.set.slots clauses numbers.now → HaveUnits clauses assumed.now.lits.items assumed.now.numbers.items →
+        IfOk result (Answers solver.old.set clauses assumed.now.lits.items) }
+    ensures kept { solver.new.set ≡ solver.old.set }
 {
     match solver.solve(assumed.lits.as_slice())? {
         Answer::Sat { values, log: _ } => Ok(Refuted::Values(values)),
@@ -65,9 +65,9 @@ fn ask(
     own: &[Seq<Lit>],
 ) -> Result<Refuted, AllocError>
     requires own { All (IsOver system.now.set.bools) own.now }
-    requires shared { IsShared system.now block.old.solver block.old.added.items block.old.numbers.items }
+    requires shared { IsShared system.now block.old.solver.set block.old.added.items block.old.numbers.items }
     ensures told { (plant : Plant) → IsSystemOf plant system.now → IfOk result (Tells system.now own.now) }
-    ensures shared { IsShared system.now block.new.solver block.new.added.items block.new.numbers.items }
+    ensures shared { IsShared system.now block.new.solver.set block.new.added.items block.new.numbers.items }
 {
     let models = system.clause_total();
     block.clear();
@@ -98,7 +98,7 @@ impl<'a> Model for Refuter<'a> {
 
     ghost view = { λ r. r.system.now };
 
-    ghost invariant = { λ r. IsShared r.system.now r.block.solver r.block.added.items r.block.numbers.items };
+    ghost invariant = { λ r. IsShared r.system.now r.block.solver.set r.block.added.items r.block.numbers.items };
 }
 
 impl<'a> Refuter<'a> {

@@ -3,4 +3,4 @@ use Rattle.lv_asking.specs.Lemmas.{HaveSameModels}
 use Rattle.lv_asking.proofs.lemma_solver.keep_lemmas.Given as goal
 
 abbrev pub invariant-loop-place : goal.invariant-loop-place
-invariant-loop-place l = HaveSameModels l.fn.solver l.solver
+invariant-loop-place l = HaveSameModels l.fn.solver.set l.solver.set

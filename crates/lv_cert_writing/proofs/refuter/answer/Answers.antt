@@ -11,7 +11,7 @@ use Rattle.lv_cert_writing.proofs.refuter.answer.Goals as goal
 pub returns-clause-told : goal.returns-clause-told
 returns-clause-told c =
     λ clauses long given stated.
-    let set = c.args.solver.now in
+    let set = c.args.solver.now.set in
     let log = c.in-Unsat.log in
     let assumed = c.as_slice.result.now in
     let units = c.as_slice-units.result.now in

@@ -19,11 +19,11 @@ returns-clause-told c =
     let assumed = c.in_ok-assumed.assumed in
     let models : ℕ = c.clause_total-models.result in
     let models_are : length (clauses_of s) ≡ models = clause_count s ∙ sym c.clause_total-models.ensures in
-    let cleared : IsShared s before.solver before.added.items before.numbers.items = c.clear.ensures.shared s c.requires.shared in
-    let shared : IsShared s block.solver block.added.items block.numbers.items = c.in_ok-assumed.ensures.shared s cleared in
-    let are : AreStated before.solver before.numbers.items models own block.solver block.numbers.items assumed.lits.items assumed.numbers.items = c.in_ok-assumed.ensures.stated in
-    let given : HaveNumbers block.solver.slots (clauses_of s ++ own) block.numbers.items =
-    are.numbered_are (clauses_of s) models_are (all_shared plant s before.solver before.added.items before.numbers.items is c.clear.ensures.empty cleared) in
-    IfOk-weaker c.answer.result _ _ (tells_of s before.solver block.solver block.added.items models own before.numbers.items block.numbers.items assumed.lits.items assumed.numbers.items shared are)
+    let cleared : IsShared s before.solver.set before.added.items before.numbers.items = c.clear.ensures.shared s c.requires.shared in
+    let shared : IsShared s block.solver.set block.added.items block.numbers.items = c.in_ok-assumed.ensures.shared s cleared in
+    let are : AreStated before.solver.set before.numbers.items models own block.solver.set block.numbers.items assumed.lits.items assumed.numbers.items = c.in_ok-assumed.ensures.stated in
+    let given : HaveNumbers block.solver.set.slots (clauses_of s ++ own) block.numbers.items =
+    are.numbered_are (clauses_of s) models_are (all_shared plant s before.solver.set before.added.items before.numbers.items is c.clear.ensures.empty cleared) in
+    IfOk-weaker c.answer.result _ _ (tells_of s before.solver.set block.solver.set block.added.items models own before.numbers.items block.numbers.items assumed.lits.items assumed.numbers.items shared are)
     (c.answer.ensures.told (clauses_of s ++ own) (let same = c.from.ensures in omega (arith, same, models_are, length-append (clauses_of s) own))
-    (subst (λ (ns : List ℕ). HaveNumbers block.solver.slots (clauses_of s ++ own) ns) (sym c.as_slice.ensures.value) given) (are.units_are (clauses_of s) models_are))
+    (subst (λ (ns : List ℕ). HaveNumbers block.solver.set.slots (clauses_of s ++ own) ns) (sym c.as_slice.ensures.value) given) (are.units_are (clauses_of s) models_are))

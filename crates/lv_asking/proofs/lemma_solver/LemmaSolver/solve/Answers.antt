@@ -12,10 +12,10 @@ solve-requires c = ap (λ n. is_clause n c.args.assumptions.now) (c.self.invaria
 
 pub returns-in_ok-self-inside-in-Sat-clause-reply : goal.returns-in_ok-self-inside-in-Sat-clause-reply
 returns-in_ok-self-inside-in-Sat-clause-reply c =
-    let told : IsSatisfied c.self.inside.solver c.args.assumptions.now c.in-Sat.values c.in-Sat.log = rw c.in-Sat.is at c.in_ok-values.ensures.answer in
-    model_of c.args.self.now c.self.inside.solver c.args.assumptions.now c.in-Sat.values (subst (λ (s : ClauseMap). HaveSameModels s c.self.inside.solver) c.self.view_is c.self.invariant) told.model
+    let told : IsSatisfied c.self.inside.solver.set c.args.assumptions.now c.in-Sat.values c.in-Sat.log = rw c.in-Sat.is at c.in_ok-values.ensures.answer in
+    model_of c.args.self.now c.self.inside.solver.set c.args.assumptions.now c.in-Sat.values (subst (λ (s : ClauseMap). HaveSameModels s c.self.inside.solver.set) c.self.view_is c.self.invariant) told.model
 
 pub returns-in_ok-self-inside-in-Unsat-clause-reply : goal.returns-in_ok-self-inside-in-Unsat-clause-reply
 returns-in_ok-self-inside-in-Unsat-clause-reply c =
-    let told : IsRefutation c.self.inside.solver c.args.assumptions.now c.in-Unsat.core c.in-Unsat.log = rw c.in-Unsat.is at c.in_ok-values.ensures.answer in
-    core_of c.args.self.now c.self.inside.solver c.args.assumptions.now c.in-Unsat.core c.in-Unsat.log (subst (λ (s : ClauseMap). HaveSameModels s c.self.inside.solver) c.self.view_is c.self.invariant) told
+    let told : IsRefutation c.self.inside.solver.set c.args.assumptions.now c.in-Unsat.core c.in-Unsat.log = rw c.in-Unsat.is at c.in_ok-values.ensures.answer in
+    core_of c.args.self.now c.self.inside.solver.set c.args.assumptions.now c.in-Unsat.core c.in-Unsat.log (subst (λ (s : ClauseMap). HaveSameModels s c.self.inside.solver.set) c.self.view_is c.self.invariant) told

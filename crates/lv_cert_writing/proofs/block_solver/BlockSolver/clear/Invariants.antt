@@ -6,7 +6,7 @@ use Rattle.lv_cert_writing.proofs.block_solver.BlockSolver.clear.Given as goal
 
 abbrev pub invariant-loop-id : goal.invariant-loop-id
 invariant-loop-id l =
-    (s : SystemValue) → IsShared s l.fn.self.solver l.fn.self.added.items l.fn.self.numbers.items → IsShared s l.self.solver l.self.added.items l.self.numbers.items
+    (s : SystemValue) → IsShared s l.fn.self.solver.set l.fn.self.added.items l.fn.self.numbers.items → IsShared s l.self.solver.set l.self.added.items l.self.numbers.items
 
 abbrev pub decreases-loop-id : goal.decreases-loop-id
 decreases-loop-id l = length l.self.added.items

@@ -15,7 +15,7 @@ pub returns-then-is_free-clause-stated : goal.returns-then-is_free-clause-stated
 returns-then-is_free-clause-stated c =
     let clause = c.args.clause.now in
     let l : Lit = get_or clause 0 (record { var = record { 0 = 0 }; sign = false }) in
-    let set = c.args.self.now.solver in
+    let set = c.args.self.now.solver.set in
     let units = c.args.assumed.now.numbers.items in
     let one : length clause ≡ 1 = search rules in
     let told : nat_eq (slice_index units l.var.0) 0 ≡ true = sym c.is_free.ensures ∙ c.if-is_free.true in
@@ -31,6 +31,6 @@ pub returns-clause-stated : goal.returns-clause-stated
 returns-clause-stated c =
     on_ok_weaker c.add.result
     (λ adds first kept models own count far.
-    one_added first kept models own c.args.self.now.solver c.args.self.now.numbers.items c.args.assumed.now.lits.items c.args.assumed.now.numbers.items far c.args.clause.now c.add.new.self.solver c.add.new.self.numbers.items
+    one_added first kept models own c.args.self.now.solver.set c.args.self.now.numbers.items c.args.assumed.now.lits.items c.args.assumed.now.numbers.items far c.args.clause.now c.add.new.self.solver.set c.add.new.self.numbers.items
     c.args.number count adds)
     c.add.ensures.added

@@ -16,7 +16,7 @@ loop-at-preserved c =
     let here = c.from.ensures in
     record {
       stated =
-          subst (λ (cs : List (List Lit)). AreStated old.solver old.numbers.items c.args.models cs c.state.new.self.solver c.state.new.self.numbers.items c.state.new.assumed.lits.items c.state.new.assumed.numbers.items) (sym more)
-          (c.in_ok-state.ensures.stated old.solver old.numbers.items c.args.models (take at own) (omega (arith, long, here)) c.loop-at.invariant.stated);
+          subst (λ (cs : List (List Lit)). AreStated old.solver.set old.numbers.items c.args.models cs c.state.new.self.solver.set c.state.new.self.numbers.items c.state.new.assumed.lits.items c.state.new.assumed.numbers.items) (sym more)
+          (c.in_ok-state.ensures.stated old.solver.set old.numbers.items c.args.models (take at own) (omega (arith, long, here)) c.loop-at.invariant.stated);
       shared = λ s is. c.state.ensures.shared s (c.loop-at.invariant.shared s is);
     }

@@ -7,6 +7,6 @@ use Rattle.lv_cert_writing.proofs.block_solver.BlockSolver.state_all.Given as go
 abbrev pub invariant-loop-at : goal.invariant-loop-at
 invariant-loop-at l =
     record {
-      stated : AreStated l.fn.self.solver l.fn.self.numbers.items l.models (take l.at l.own) l.self.solver l.self.numbers.items l.assumed.lits.items l.assumed.numbers.items;
-      shared : (s : SystemValue) → IsShared s l.fn.self.solver l.fn.self.added.items l.fn.self.numbers.items → IsShared s l.self.solver l.self.added.items l.self.numbers.items;
+      stated : AreStated l.fn.self.solver.set l.fn.self.numbers.items l.models (take l.at l.own) l.self.solver.set l.self.numbers.items l.assumed.lits.items l.assumed.numbers.items;
+      shared : (s : SystemValue) → IsShared s l.fn.self.solver.set l.fn.self.added.items l.fn.self.numbers.items → IsShared s l.self.solver.set l.self.added.items l.self.numbers.items;
     }
