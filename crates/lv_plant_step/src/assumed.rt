@@ -77,9 +77,9 @@ impl Assumed {
     /// Whether some values satisfy the solver's clauses and make all that is assumed true: such values, if there are any. It
     /// changes no clause.
     pub fn solve(&self, solver: &mut Solver) -> Result<Option<Seq<bool>>, AllocError>
-        requires { solver.old.bools ≡ self.now.bools }
-        ensures answer { IfOk result (Tells solver.old self.now) }
-        ensures kept { solver.new ≡ solver.old }
+        requires { solver.old.set.bools ≡ self.now.bools }
+        ensures answer { IfOk result (Tells solver.old.set self.now) }
+        ensures kept { solver.new.set ≡ solver.old.set }
     {
         if self.has_clash {
             return Ok(None);

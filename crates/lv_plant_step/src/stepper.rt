@@ -44,7 +44,7 @@ impl<'a> marker::Model for PlantStepper<'a> {
 
     ghost view = { λ s. s.model.now };
 
-    ghost invariant = { λ s. IsStepper s.model.now s.system.now s.solver };
+    ghost invariant = { λ s. IsStepper s.model.now s.system.now s.solver.set };
 }
 
 /// The values before a step and those after it, one behind the other, as truth values encode them.

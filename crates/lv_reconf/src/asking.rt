@@ -32,13 +32,13 @@ pub fn has_step(
     state: &State,
     pairs: &[Pair],
 ) -> Result<bool, AllocError>
-    requires bools { solver.old.bools ≡ bool_count compiled.now }
+    requires bools { solver.old.set.bools ≡ bool_count compiled.now }
     requires modes { modes_fit (plant_ranges compiled.now) compiled.now.parts state.now.modes ≡ true }
     requires controls { vars.now ≡ controls compiled.now }
     requires pairs { pairs_fit compiled.now pairs.now ≡ true }
-    ensures answer { (present : List Observation) (ends : List ValId → Bool) → Asks compiled.now present ends solver.old →
+    ensures answer { (present : List Observation) (ends : List ValId → Bool) → Asks compiled.now present ends solver.old.set →
         IfOk result (λ answer. answer ≡ some_nominal_step compiled.now present state.now pairs.now ends) }
-    ensures kept { solver.new ≡ solver.old }
+    ensures kept { solver.new.set ≡ solver.old.set }
 {
     let lits = assumptions(alloc, compiled, vars, state.modes.as_slice(), pairs)?;
     match solver.solve(lits.as_slice())? {
@@ -57,13 +57,13 @@ pub fn refuted(
     state: &State,
     pairs: &[Pair],
 ) -> Result<Option<Marks>, AllocError>
-    requires bools { solver.old.bools ≡ bool_count compiled.now }
+    requires bools { solver.old.set.bools ≡ bool_count compiled.now }
     requires modes { modes_fit (plant_ranges compiled.now) compiled.now.parts state.now.modes ≡ true }
     requires controls { vars.now ≡ controls compiled.now }
     requires pairs { pairs_fit compiled.now pairs.now ≡ true }
-    ensures answer { (present : List Observation) (ends : List ValId → Bool) → Asks compiled.now present ends solver.old →
+    ensures answer { (present : List Observation) (ends : List ValId → Bool) → Asks compiled.now present ends solver.old.set →
         IfOk result (λ core. RefutesSteps compiled.now present ends state.now pairs.now core) }
-    ensures kept { solver.new ≡ solver.old }
+    ensures kept { solver.new.set ≡ solver.old.set }
 {
     let lits = assumptions(alloc, compiled, vars, state.modes.as_slice(), pairs)?;
     refute_once(alloc, solver, lits.as_slice())

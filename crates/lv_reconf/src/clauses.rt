@@ -22,8 +22,8 @@ use std::alloc::AllocError;
 
 /// Adds the clause that a literal is true.
 fn require(solver: &mut Solver, lit: Lit) -> Result<(), AllocError>
-    requires { in_range solver.old.bools lit ≡ true }
-    ensures { IfOk result (λ _. Adds solver.old solver.new ((lit ∷ []) ∷ [])) }
+    requires { in_range solver.old.set.bools lit ≡ true }
+    ensures { IfOk result (λ _. Adds solver.old.set solver.new.set ((lit ∷ []) ∷ [])) }
 {
     solver.add(&[lit])?;
     Ok(())
@@ -31,8 +31,8 @@ fn require(solver: &mut Solver, lit: Lit) -> Result<(), AllocError>
 
 /// Adds clauses.
 pub fn add_all(solver: &mut Solver, clauses: &[Seq<Lit>]) -> Result<(), AllocError>
-    requires { All (IsOver solver.old.bools) clauses.now }
-    ensures { IfOk result (λ _. Adds solver.old solver.new clauses.now) }
+    requires { All (IsOver solver.old.set.bools) clauses.now }
+    ensures { IfOk result (λ _. Adds solver.old.set solver.new.set clauses.now) }
 {
     for clause in clauses {
         solver.add(clause.as_slice())?;
@@ -42,9 +42,9 @@ pub fn add_all(solver: &mut Solver, clauses: &[Seq<Lit>]) -> Result<(), AllocErr
 
 /// Asks for what is observed once before the step.
 fn observe_one(compiled: &Compiled, solver: &mut Solver, o: Observation) -> Result<(), AllocError>
-    requires bools { solver.old.bools ≡ bool_count compiled.now }
+    requires bools { solver.old.set.bools ≡ bool_count compiled.now }
     requires fits { ObservationFits compiled.now o }
-    ensures { IfOk result (λ _. Narrows compiled.now solver.old solver.new (λ a b ms. agrees a o)) }
+    ensures { IfOk result (λ _. Narrows compiled.now solver.old.set solver.new.set (λ a b ms. agrees a o)) }
 {
     require(solver, compiled.has_value(o.var, o.val))
 }
@@ -55,9 +55,9 @@ pub fn observe(
     solver: &mut Solver,
     present: &[Observation],
 ) -> Result<(), AllocError>
-    requires bools { solver.old.bools ≡ bool_count compiled.now }
+    requires bools { solver.old.set.bools ≡ bool_count compiled.now }
     requires fit { All (ObservationFits compiled.now) present.now }
-    ensures { IfOk result (λ _. Narrows compiled.now solver.old solver.new (λ a b ms. meets a present.now)) }
+    ensures { IfOk result (λ _. Narrows compiled.now solver.old.set solver.new.set (λ a b ms. meets a present.now)) }
 {
     for o in present {
         observe_one(compiled, solver, *o)?;
@@ -72,9 +72,9 @@ fn exclude_move(
     part: u32,
     mv: u32,
 ) -> Result<(), AllocError>
-    requires bools { solver.old.bools ≡ bool_count compiled.now }
+    requires bools { solver.old.set.bools ≡ bool_count compiled.now }
     requires there { mv < slice_index_or (move_counts compiled.now) part 0 }
-    ensures { IfOk result (λ _. Narrows compiled.now solver.old solver.new (λ a b ms. not (nat_eq (move_number ms part) mv))) }
+    ensures { IfOk result (λ _. Narrows compiled.now solver.old.set solver.new.set (λ a b ms. not (nat_eq (move_number ms part) mv))) }
 {
     require(solver, compiled.makes_not(PartId(part), MoveId(mv)))
 }
@@ -96,10 +96,10 @@ fn exclude_faults_of(
     part: u32,
     moves: &[Move],
 ) -> Result<(), AllocError>
-    requires bools { solver.old.bools ≡ bool_count compiled.now }
+    requires bools { solver.old.set.bools ≡ bool_count compiled.now }
     requires count { slice_index_or (move_counts compiled.now) part 0 ≡ length moves.now }
     requires few { length moves.now ≤ 64 }
-    ensures { IfOk result (λ _. Narrows compiled.now solver.old solver.new (λ a b ms. no_fault_from 0 moves.now (move_number ms part))) }
+    ensures { IfOk result (λ _. Narrows compiled.now solver.old.set solver.new.set (λ a b ms. no_fault_from 0 moves.now (move_number ms part))) }
 {
     for (n, m) in moves.iter().enumerate() {
         if is_fault(m) {
@@ -111,8 +111,8 @@ fn exclude_faults_of(
 
 /// Asks that no part fails.
 pub fn exclude_faults(compiled: &Compiled, solver: &mut Solver) -> Result<(), AllocError>
-    requires bools { solver.old.bools ≡ bool_count compiled.now }
-    ensures { IfOk result (λ _. Narrows compiled.now solver.old solver.new (λ a b ms. is_nominal compiled.now ms)) }
+    requires bools { solver.old.set.bools ≡ bool_count compiled.now }
+    ensures { IfOk result (λ _. Narrows compiled.now solver.old.set solver.new.set (λ a b ms. is_nominal compiled.now ms)) }
 {
     let plant = compiled.model().plant();
     for (k, part) in plant.parts.as_slice().iter().enumerate() {

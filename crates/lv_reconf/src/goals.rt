@@ -29,7 +29,7 @@ pub fn plain_solver(
 ) -> Result<Solver, AllocError>
     requires system { IsSystemOf compiled.now system.now }
     requires fit { All (ObservationFits compiled.now) present.now }
-    ensures { IfOk result (λ solver. Asks compiled.now present.now (λ b. true) solver) }
+    ensures { IfOk result (λ solver. Asks compiled.now present.now (λ b. true) solver.set) }
 {
     let _plant = compiled.model().plant();
     let mut solver = Solver::new(alloc, system.clauses())?;
@@ -46,9 +46,9 @@ fn ask_goal(
     goal: &Condition,
     sign: bool,
 ) -> Result<(), AllocError>
-    requires bools { solver.old.bools ≡ bool_count compiled.now }
+    requires bools { solver.old.set.bools ≡ bool_count compiled.now }
     requires fits { GoalFits compiled.now goal.now }
-    ensures { IfOk result (λ _. Narrows compiled.now solver.old solver.new (λ a b ms. same_truth (truth_of b 0 goal.now) sign)) }
+    ensures { IfOk result (λ _. Narrows compiled.now solver.old.set solver.new.set (λ a b ms. same_truth (truth_of b 0 goal.now) sign)) }
 {
     let clauses = compiled.goal_clauses(alloc, goal, sign)?;
     add_all(solver, clauses.as_slice())
@@ -61,9 +61,9 @@ fn ask_goals(
     solver: &mut Solver,
     goals: &[Condition],
 ) -> Result<(), AllocError>
-    requires bools { solver.old.bools ≡ bool_count compiled.now }
+    requires bools { solver.old.set.bools ≡ bool_count compiled.now }
     requires fit { All (GoalFits compiled.now) goals.now }
-    ensures { IfOk result (λ _. Narrows compiled.now solver.old solver.new (λ a b ms. meets_goals goals.now b)) }
+    ensures { IfOk result (λ _. Narrows compiled.now solver.old.set solver.new.set (λ a b ms. meets_goals goals.now b)) }
 {
     for goal in goals {
         ask_goal(alloc, compiled, solver, goal, true)?;
@@ -78,9 +78,9 @@ pub fn reaching_solver(
     plain: &Solver,
     goals: &[Condition],
 ) -> Result<Solver, AllocError>
-    requires bools { plain.now.bools ≡ bool_count compiled.now }
+    requires bools { plain.now.set.bools ≡ bool_count compiled.now }
     requires fit { All (GoalFits compiled.now) goals.now }
-    ensures { (present : List Observation) → Asks compiled.now present (λ b. true) plain.now → IfOk result (λ solver. Asks compiled.now present (meets_goals goals.now) solver) }
+    ensures { (present : List Observation) → Asks compiled.now present (λ b. true) plain.now.set → IfOk result (λ solver. Asks compiled.now present (meets_goals goals.now) solver.set) }
 {
     let mut solver = Solver::new(alloc, plain.clauses())?;
     ask_goals(alloc, compiled, &mut solver, goals)?;
@@ -94,10 +94,10 @@ pub fn missing_solver(
     plain: &Solver,
     goal: &Condition,
 ) -> Result<Solver, AllocError>
-    requires bools { plain.now.bools ≡ bool_count compiled.now }
+    requires bools { plain.now.set.bools ≡ bool_count compiled.now }
     requires fits { GoalFits compiled.now goal.now }
-    ensures bools { IfOk result (λ solver. solver.bools ≡ bool_count compiled.now) }
-    ensures asks { (present : List Observation) → Asks compiled.now present (λ b. true) plain.now → IfOk result (λ solver. Asks compiled.now present (λ b. not (truth_of b 0 goal.now)) solver) }
+    ensures bools { IfOk result (λ solver. solver.set.bools ≡ bool_count compiled.now) }
+    ensures asks { (present : List Observation) → Asks compiled.now present (λ b. true) plain.now.set → IfOk result (λ solver. Asks compiled.now present (λ b. not (truth_of b 0 goal.now)) solver.set) }
 {
     let mut solver = Solver::new(alloc, plain.clauses())?;
     ask_goal(alloc, compiled, &mut solver, goal, false)?;

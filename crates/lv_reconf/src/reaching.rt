@@ -47,7 +47,7 @@ impl<'s, 'a> Model for Reaching<'s, 'a> {
 
     ghost view = { λ r. record { plant = r.setting.now.plant; aim = r.setting.now.aim; at = r.at } };
 
-    ghost invariant = { λ r. Asks r.setting.now.plant r.setting.now.aim.present (meets_goals r.setting.now.aim.goals) r.solver };
+    ghost invariant = { λ r. Asks r.setting.now.plant r.setting.now.aim.present (meets_goals r.setting.now.aim.goals) r.solver.set };
 }
 
 impl<'s, 'a> Reaching<'s, 'a> {

@@ -38,7 +38,7 @@ impl<'a> marker::Model for Setting<'a> {
 
     ghost view = { λ s. record { plant = s.compiled; aim = s.aim } };
 
-    ghost invariant = { λ s. IsSetting s.compiled s.aim s.vars.items s.plain };
+    ghost invariant = { λ s. IsSetting s.compiled s.aim s.vars.items s.plain.set };
 }
 
 impl<'a> Setting<'a> {
@@ -86,7 +86,7 @@ impl<'a> Setting<'a> {
 
     /// A solver for the nominal steps that meet what is observed.
     pub fn plain(&self) -> &Solver
-        ensures { Asks self.now.plant self.now.aim.present (λ b. true) result.now }
+        ensures { Asks self.now.plant self.now.aim.present (λ b. true) result.now.set }
     {
         &self.plain
     }

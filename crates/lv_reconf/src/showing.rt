@@ -35,14 +35,14 @@ fn shows(
     pairs: &[Pair],
     seen: Observation,
 ) -> Result<bool, AllocError>
-    requires bools { solver.old.bools ≡ bool_count compiled.now }
+    requires bools { solver.old.set.bools ≡ bool_count compiled.now }
     requires modes { modes_fit (plant_ranges compiled.now) compiled.now.parts state.now.modes ≡ true }
     requires controls { vars.now ≡ controls compiled.now }
     requires pairs { pairs_fit compiled.now pairs.now ≡ true }
     requires value { seen.val.0 < size_of (booleans_next compiled.now) seen.var.0 }
-    ensures answer { (present : List ObservationOf) (ends : List ValId → Bool) → Asks compiled.now present ends solver.old →
+    ensures answer { (present : List ObservationOf) (ends : List ValId → Bool) → Asks compiled.now present ends solver.old.set →
         IfOk result (λ answer. answer ≡ some_nominal_step compiled.now present state.now pairs.now (λ b. ends b && agrees b seen)) }
-    ensures kept { solver.new ≡ solver.old }
+    ensures kept { solver.new.set ≡ solver.old.set }
 {
     let mut lits = assumptions(alloc, compiled, vars, state.modes.as_slice(), pairs)?;
     assume(&mut lits, compiled.ends_with(seen.var, seen.val))?;
@@ -62,14 +62,14 @@ pub fn shown_twice(
     pairs: &[Pair],
     seen: Observation,
 ) -> Result<bool, AllocError>
-    requires bools { solver.old.bools ≡ bool_count compiled.now }
+    requires bools { solver.old.set.bools ≡ bool_count compiled.now }
     requires states { All (StateFits compiled.now) states.now }
     requires controls { vars.now ≡ controls compiled.now }
     requires pairs { pairs_fit compiled.now pairs.now ≡ true }
     requires value { seen.val.0 < size_of (booleans_next compiled.now) seen.var.0 }
-    ensures answer { (present : List ObservationOf) (ends : List ValId → Bool) → Asks compiled.now present ends solver.old →
+    ensures answer { (present : List ObservationOf) (ends : List ValId → Bool) → Asks compiled.now present ends solver.old.set →
         IfOk result (λ answer. answer ≡ two_pass (λ (s : TrackedState). some_nominal_step compiled.now present s.state pairs.now (λ b. ends b && agrees b seen)) states.now) }
-    ensures kept { solver.new ≡ solver.old }
+    ensures kept { solver.new.set ≡ solver.old.set }
 {
     let mut once = false;
     for s in states {

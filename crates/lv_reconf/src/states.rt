@@ -34,13 +34,13 @@ pub fn count_stepping(
     states: &[TrackedState],
     pairs: &[Pair],
 ) -> Result<usize, AllocError>
-    requires bools { solver.old.bools ≡ bool_count compiled.now }
+    requires bools { solver.old.set.bools ≡ bool_count compiled.now }
     requires states { All (StateFits compiled.now) states.now }
     requires controls { vars.now ≡ controls compiled.now }
     requires pairs { pairs_fit compiled.now pairs.now ≡ true }
-    ensures answer { (present : List Observation) (ends : List ValId → Bool) → Asks compiled.now present ends solver.old →
+    ensures answer { (present : List Observation) (ends : List ValId → Bool) → Asks compiled.now present ends solver.old.set →
         IfOk result (λ n. n ≡ prefix_len (λ (s : TrackedState). some_nominal_step compiled.now present s.state pairs.now ends) states.now) }
-    ensures kept { solver.new ≡ solver.old }
+    ensures kept { solver.new.set ≡ solver.old.set }
 {
     for (n, s) in states.iter().enumerate() {
         if !has_step(alloc, compiled, solver, vars, &s.state, pairs)? {
@@ -59,13 +59,13 @@ fn some_steps(
     states: &[TrackedState],
     pairs: &[Pair],
 ) -> Result<bool, AllocError>
-    requires bools { solver.old.bools ≡ bool_count compiled.now }
+    requires bools { solver.old.set.bools ≡ bool_count compiled.now }
     requires states { All (StateFits compiled.now) states.now }
     requires controls { vars.now ≡ controls compiled.now }
     requires pairs { pairs_fit compiled.now pairs.now ≡ true }
-    ensures answer { (present : List Observation) (ends : List ValId → Bool) → Asks compiled.now present ends solver.old →
+    ensures answer { (present : List Observation) (ends : List ValId → Bool) → Asks compiled.now present ends solver.old.set →
         IfOk result (λ answer. answer ≡ list_any (λ (s : TrackedState). some_nominal_step compiled.now present s.state pairs.now ends) states.now) }
-    ensures kept { solver.new ≡ solver.old }
+    ensures kept { solver.new.set ≡ solver.old.set }
 {
     for s in states {
         if has_step(alloc, compiled, solver, vars, &s.state, pairs)? {
@@ -85,12 +85,12 @@ fn misses(
     pairs: &[Pair],
     goal: &Condition,
 ) -> Result<bool, AllocError>
-    requires bools { plain.now.bools ≡ bool_count compiled.now }
+    requires bools { plain.now.set.bools ≡ bool_count compiled.now }
     requires states { All (StateFits compiled.now) states.now }
     requires controls { vars.now ≡ controls compiled.now }
     requires pairs { pairs_fit compiled.now pairs.now ≡ true }
     requires goal { GoalFits compiled.now goal.now }
-    ensures { (present : List Observation) → Asks compiled.now present (λ b. true) plain.now →
+    ensures { (present : List Observation) → Asks compiled.now present (λ b. true) plain.now.set →
         IfOk result (λ answer. answer ≡ list_any (misses_goal compiled.now present pairs.now goal.now) states.now) }
 {
     if states.is_empty() {
@@ -110,12 +110,12 @@ pub fn some_missed(
     pairs: &[Pair],
     goals: &[Condition],
 ) -> Result<bool, AllocError>
-    requires bools { plain.now.bools ≡ bool_count compiled.now }
+    requires bools { plain.now.set.bools ≡ bool_count compiled.now }
     requires states { All (StateFits compiled.now) states.now }
     requires controls { vars.now ≡ controls compiled.now }
     requires pairs { pairs_fit compiled.now pairs.now ≡ true }
     requires goals { All (GoalFits compiled.now) goals.now }
-    ensures { (present : List Observation) → Asks compiled.now present (λ b. true) plain.now →
+    ensures { (present : List Observation) → Asks compiled.now present (λ b. true) plain.now.set →
         IfOk result (λ answer. answer ≡ some_missed compiled.now present pairs.now goals.now states.now) }
 {
     for goal in goals {

@@ -9,6 +9,6 @@ returns-clause-answer c =
     λ present ends asks.
     IfOk-weaker c.refute_once.result _ _
     (λ core told.
-    told_core c.args.compiled.now present ends c.args.solver.now c.in_ok-lits.lits.items c.args.state.now c.args.pairs.now asks (rw (← c.as_slice.ensures) c.in_ok-lits.ensures.says)
+    told_core c.args.compiled.now present ends c.args.solver.now.set c.in_ok-lits.lits.items c.args.state.now c.args.pairs.now asks (rw (← c.as_slice.ensures) c.in_ok-lits.ensures.says)
     (rw (← c.as_slice.ensures) c.in_ok-lits.ensures.marked) c.as_slice-2.result.now [] c.as_slice-2.ensures.value refl core told)
     c.refute_once.ensures.answer

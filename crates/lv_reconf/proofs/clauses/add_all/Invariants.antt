@@ -7,7 +7,7 @@ use Rattle.lv_reconf.proofs.clauses.add_all.Given as goal
 
 abbrev pub invariant-loop-clause : goal.invariant-loop-clause
 invariant-loop-clause l = record {
-  bools : l.solver.bools ≡ l.initial.solver.bools;
+  bools : l.solver.set.bools ≡ l.initial.solver.set.bools;
   says : (values : List Bool)
-      → (satisfies values l.solver.slots && list_all (clause_holds values) (drop l.clause-index l.clauses)) ≡ (satisfies values l.initial.solver.slots && list_all (clause_holds values) l.clauses);
+      → (satisfies values l.solver.set.slots && list_all (clause_holds values) (drop l.clause-index l.clauses)) ≡ (satisfies values l.initial.solver.set.slots && list_all (clause_holds values) l.clauses);
 }

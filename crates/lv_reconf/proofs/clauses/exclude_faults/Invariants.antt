@@ -6,4 +6,4 @@ use Rattle.lv_reconf.proofs.clauses.exclude_faults.Given as goal
 
 abbrev pub invariant-loop-k : goal.invariant-loop-k
 invariant-loop-k l =
-    NarrowsSoFar l.compiled l.initial.solver l.solver (λ a b ms. parts_are_nominal l.compiled.types (drop l.k l.compiled.parts) (drop l.k ms)) (λ a b ms. is_nominal l.compiled ms)
+    NarrowsSoFar l.compiled l.initial.solver.set l.solver.set (λ a b ms. parts_are_nominal l.compiled.types (drop l.k l.compiled.parts) (drop l.k ms)) (λ a b ms. is_nominal l.compiled ms)

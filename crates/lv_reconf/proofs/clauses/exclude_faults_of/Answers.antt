@@ -1,7 +1,7 @@
 -- one move more
 use Rattle.std.proofs.Common.{◌≡◌, ◌+◌, ◌∷◌, List, drop, sym, ap, ◌∙◌, subst}
 use Rattle.std.proofs.lemmas.List.{drop_more, drop_all}
-use Rattle.lv_clauses.specs.ClauseMap.{ClauseMap}
+use Rattle.lv_sat.specs.Solver.{SolverValue}
 use Rattle.lv_compile.specs.Laws.{move_number}
 use Rattle.lv_model.specs.declared.plant.Move.{Move}
 use Rattle.lv_model.specs.Meaning.{is_no_fault}
@@ -16,18 +16,18 @@ loop-n-preserved c =
     let n = c.loop-n.n in
     let m : Move = c.index-moves-n.result in
     let left : drop n ms ≡ m ∷ drop (n + 1) ms = drop_more ms n m c.loop-n-test.true ∙ ap (λ (x : Move). x ∷ drop (n + 1) ms) (sym c.index-moves-n.is) in
-    let P : ClauseMap → Type 0 = λ s. NarrowsSoFar c.args.compiled.now c.args.solver.now s (no_fault_left c.args.compiled.now (n + 1) (drop (n + 1) ms) c.args.part) (no_fault_left c.args.compiled.now 0 ms c.args.part) in
+    let P : SolverValue → Type 0 = λ s. NarrowsSoFar c.args.compiled.now c.args.solver.now.set s.set (no_fault_left c.args.compiled.now (n + 1) (drop (n + 1) ms) c.args.part) (no_fault_left c.args.compiled.now 0 ms c.args.part) in
     elim c.if-is_fault.branch [
       | then-is_fault+in_ok-exclude_move w ↦ subst P (sym w.solver-is)
-          (fault_more c.args.compiled.now c.args.solver.now c.loop-n.solver w.exclude_move.new.solver m n c.args.part (drop n ms) (drop (n + 1) ms) ms left
+          (fault_more c.args.compiled.now c.args.solver.now.set c.loop-n.solver.set w.exclude_move.new.solver.set m n c.args.part (drop n ms) (drop (n + 1) ms) ms left
           (denied_not (is_no_fault m.kind) (sym c.is_fault.ensures ∙ w.if-is_fault.true)) c.loop-n.invariant w.in_ok-exclude_move.ensures)
       | else-is_fault w ↦ subst P (sym w.solver-is)
-          (no_fault_more c.args.compiled.now c.args.solver.now c.loop-n.solver m n c.args.part (drop n ms) (drop (n + 1) ms) ms left
+          (no_fault_more c.args.compiled.now c.args.solver.now.set c.loop-n.solver.set m n c.args.part (drop n ms) (drop (n + 1) ms) ms left
           (allowed_not (is_no_fault m.kind) (sym c.is_fault.ensures ∙ w.if-is_fault.false)) c.loop-n.invariant)
     ]
 
 pub returns : goal.returns
 returns c =
-    narrows_end c.args.compiled.now c.args.solver.now c.loop-n.solver (no_fault_left c.args.compiled.now c.loop-n.n (drop c.loop-n.n c.args.moves.now) c.args.part)
+    narrows_end c.args.compiled.now c.args.solver.now.set c.loop-n.solver.set (no_fault_left c.args.compiled.now c.loop-n.n (drop c.loop-n.n c.args.moves.now) c.args.part)
     (no_fault_left c.args.compiled.now 0 c.args.moves.now c.args.part) c.loop-n.invariant
     (λ values a b ms code. ap (λ (xs : List Move). no_fault_from c.loop-n.n xs (move_number ms c.args.part)) (drop_all c.loop-n.n c.args.moves.now c.loop-n-test.false))

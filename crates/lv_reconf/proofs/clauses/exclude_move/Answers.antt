@@ -13,6 +13,6 @@ pub returns : goal.returns
 returns c =
     IfOk-weaker c.require.result _ _
     (λ x adds.
-    adds_narrow c.args.compiled.now c.args.solver.now c.require.new.solver ((c.makes_not.result ∷ []) ∷ []) (λ a b ms. not (nat_eq (move_number ms c.args.part) c.args.mv)) adds
+    adds_narrow c.args.compiled.now c.args.solver.now.set c.require.new.solver.set ((c.makes_not.result ∷ []) ∷ []) (λ a b ms. not (nat_eq (move_number ms c.args.part) c.args.mv)) adds
     (excluded_says c.args.compiled.now c.args.part c.args.mv c.makes_not.result c.requires.there c.makes_not.ensures))
     c.require.ensures

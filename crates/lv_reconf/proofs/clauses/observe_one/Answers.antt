@@ -15,6 +15,6 @@ pub returns : goal.returns
 returns c =
     IfOk-weaker c.require.result _ _
     (λ x adds.
-    adds_narrow c.args.compiled.now c.args.solver.now c.require.new.solver ((c.has_value.result ∷ []) ∷ []) (λ a b ms. agrees a c.args.o) adds
+    adds_narrow c.args.compiled.now c.args.solver.now.set c.require.new.solver.set ((c.has_value.result ∷ []) ∷ []) (λ a b ms. agrees a c.args.o) adds
     (observed_says c.args.compiled.now c.args.o c.has_value.result (value_has_bool c.args.compiled.now c.args.o.var.0 c.args.o.val.0 c.requires.fits.value) c.has_value.ensures))
     c.require.ensures

@@ -10,7 +10,7 @@ pub add_all-requires : goal.add_all-requires
 add_all-requires c =
     said_over c.args.compiled.now c.args.goal.now c.args.sign c.as_slice.result.now
     (subst (λ (cs : List (List Lit)). SayGoal c.args.compiled.now c.args.goal.now c.args.sign cs) (sym c.as_slice.ensures.value) c.in_ok-clauses.ensures)
-    c.args.solver.now.bools c.requires.bools
+    c.args.solver.now.set.bools c.requires.bools
 
 pub returns : goal.returns
 returns c =
@@ -18,5 +18,5 @@ returns c =
     (λ x adds.
     said_narrows c.args.compiled.now c.args.goal.now c.args.sign c.as_slice.result.now
     (subst (λ (cs : List (List Lit)). SayGoal c.args.compiled.now c.args.goal.now c.args.sign cs) (sym c.as_slice.ensures.value) c.in_ok-clauses.ensures)
-    c.args.solver.now c.add_all.new.solver adds)
+    c.args.solver.now.set c.add_all.new.solver.set adds)
     c.add_all.ensures

@@ -14,7 +14,7 @@ pub returns-then-once-clause-answer : goal.returns-then-once-clause-answer
 returns-then-once-clause-answer c =
     λ present ends asks.
     let p : TrackedState → Bool = λ s. some_nominal_step c.args.compiled.now present s.state c.args.pairs.now (λ b. ends b && agrees b c.args.seen) in
-    let now : Asks c.args.compiled.now present ends c.loop-s.solver = subst (λ (m : ClauseMap). Asks c.args.compiled.now present ends m) (sym c.loop-s.invariant.same) asks in
+    let now : Asks c.args.compiled.now present ends c.loop-s.solver.set = subst (λ (m : ClauseMap). Asks c.args.compiled.now present ends m) (sym c.loop-s.invariant.same) asks in
     let both : (c.in_ok-shown.shown && c.loop-s.once) ≡ true = ap (λ b. b && c.loop-s.once) c.if-shown.true ∙ c.if-once.true in
     twice_found p c.args.states.now c.loop-s.s-index c.s-item.result c.loop-s.once c.in_ok-shown.shown (two_pass p c.args.states.now) c.loop-s-test.true c.s-item.is
     (c.in_ok-shown.ensures.answer present ends now) both (c.loop-s.invariant.rest present ends asks)
@@ -36,7 +36,7 @@ loop-s-preserved c =
       rest =
           λ present ends asks.
           let p : TrackedState → Bool = λ s. some_nominal_step c.args.compiled.now present s.state c.args.pairs.now (λ b. ends b && agrees b c.args.seen) in
-          let now : Asks c.args.compiled.now present ends c.loop-s.solver = subst (λ (m : ClauseMap). Asks c.args.compiled.now present ends m) (sym c.loop-s.invariant.same) asks in
+          let now : Asks c.args.compiled.now present ends c.loop-s.solver.set = subst (λ (m : ClauseMap). Asks c.args.compiled.now present ends m) (sym c.loop-s.invariant.same) asks in
           rw once_is
           (twice_goes p c.args.states.now c.loop-s.s-index c.s-item.result c.loop-s.once c.in_ok-shown.shown (two_pass p c.args.states.now) c.loop-s-test.true c.s-item.is
           (c.in_ok-shown.ensures.answer present ends now) not_both (c.loop-s.invariant.rest present ends asks));

@@ -21,7 +21,7 @@ returns-in-Sat-clause-answer c =
     let more : HasMore (bool_count c.args.compiled.now) c.in_ok-lits.lits.items c.assume.new.lits.items c.ends_with.result =
     c.in_ok-assume.ensures.says (bool_count c.args.compiled.now) assumes.assumed (rw c.ends_with.ensures (next_in_range c.args.compiled.now true c.args.seen.var.0 c.args.seen.val.0 c.requires.value))
     in
-    shown_sat c.args.compiled.now present ends c.args.solver.now c.in_ok-lits.lits.items c.assume.new.lits.items c.args.state.now c.args.pairs.now asks assumes c.ends_with.result more c.args.seen c.requires.value
+    shown_sat c.args.compiled.now present ends c.args.solver.now.set c.in_ok-lits.lits.items c.assume.new.lits.items c.args.state.now c.args.pairs.now asks assumes c.ends_with.result more c.args.seen c.requires.value
     c.ends_with.ensures c.as_slice-2.result.now c.as_slice-2.ensures.value c.in_ok-solve.field-0 c.in_ok-solve.ensures.answer c.in-Sat.values c.in-Sat.log c.in-Sat.is
 
 pub returns-clause-answer : goal.returns-clause-answer
@@ -33,5 +33,5 @@ returns-clause-answer c =
     let more : HasMore (bool_count c.args.compiled.now) c.in_ok-lits.lits.items c.assume.new.lits.items c.ends_with.result =
     c.in_ok-assume.ensures.says (bool_count c.args.compiled.now) assumes.assumed (rw c.ends_with.ensures (next_in_range c.args.compiled.now true c.args.seen.var.0 c.args.seen.val.0 c.requires.value))
     in
-    shown_unsat c.args.compiled.now present ends c.args.solver.now c.in_ok-lits.lits.items c.assume.new.lits.items c.args.state.now c.args.pairs.now asks assumes c.ends_with.result more c.args.seen c.requires.value
+    shown_unsat c.args.compiled.now present ends c.args.solver.now.set c.in_ok-lits.lits.items c.assume.new.lits.items c.args.state.now c.args.pairs.now asks assumes c.ends_with.result more c.args.seen c.requires.value
     c.ends_with.ensures c.as_slice-2.result.now c.as_slice-2.ensures.value c.in_ok-solve.field-0 c.in_ok-solve.ensures.answer c.in-Unsat.core c.in-Unsat.log c.in-Unsat.is

@@ -12,7 +12,7 @@ pub returns-then-not-branch-clause-answer : goal.returns-then-not-branch-clause-
 returns-then-not-branch-clause-answer c =
     λ present ends asks.
     let p : TrackedState → Bool = λ s. some_nominal_step c.args.compiled.now present s.state c.args.pairs.now ends in
-    let now : Asks c.args.compiled.now present ends c.loop-n.solver = subst (λ (m : ClauseMap). Asks c.args.compiled.now present ends m) (sym c.loop-n.invariant.same) asks in
+    let now : Asks c.args.compiled.now present ends c.loop-n.solver.set = subst (λ (m : ClauseMap). Asks c.args.compiled.now present ends m) (sym c.loop-n.invariant.same) asks in
     count_stops p c.args.states.now c.loop-n.n c.index-states-n.result (prefix_len p c.args.states.now) c.loop-n-test.true c.index-states-n.is
     (sym (c.in_ok-has_step.ensures.answer present ends now) ∙ c.if-not-branch.true) (c.loop-n.invariant.rest present ends asks)
 
@@ -23,7 +23,7 @@ loop-n-preserved c =
       rest =
           λ present ends asks.
           let p : TrackedState → Bool = λ s. some_nominal_step c.args.compiled.now present s.state c.args.pairs.now ends in
-          let now : Asks c.args.compiled.now present ends c.loop-n.solver = subst (λ (m : ClauseMap). Asks c.args.compiled.now present ends m) (sym c.loop-n.invariant.same) asks in
+          let now : Asks c.args.compiled.now present ends c.loop-n.solver.set = subst (λ (m : ClauseMap). Asks c.args.compiled.now present ends m) (sym c.loop-n.invariant.same) asks in
           count_goes p c.args.states.now c.loop-n.n c.index-states-n.result (prefix_len p c.args.states.now) c.loop-n-test.true c.index-states-n.is
           (sym (c.in_ok-has_step.ensures.answer present ends now) ∙ c.if-not-branch.false) (c.loop-n.invariant.rest present ends asks);
     }

@@ -10,8 +10,8 @@ use Rattle.lv_reconf.proofs.states.count_stepping.Given as goal
 
 abbrev pub invariant-loop-n : goal.invariant-loop-n
 invariant-loop-n l = record {
-  same : l.solver ≡ l.initial.solver;
-  rest : (present : List Observation) (ends : List ValId → Bool) → Asks l.compiled present ends l.initial.solver
+  same : l.solver.set ≡ l.initial.solver.set;
+  rest : (present : List Observation) (ends : List ValId → Bool) → Asks l.compiled present ends l.initial.solver.set
       → (l.n + prefix_len (λ (s : TrackedState). some_nominal_step l.compiled present s.state l.pairs ends) (drop l.n l.states))
       ≡ prefix_len (λ (s : TrackedState). some_nominal_step l.compiled present s.state l.pairs ends) l.states;
 }

@@ -7,4 +7,4 @@ use Rattle.lv_reconf.proofs.states.some_missed.Given as goal
 
 abbrev pub invariant-loop-goal : goal.invariant-loop-goal
 invariant-loop-goal l =
-    (present : List Observation) → Asks l.compiled present (λ b. true) l.plain → some_missed l.compiled present l.pairs (drop l.goal-index l.goals) l.states ≡ some_missed l.compiled present l.pairs l.goals l.states
+    (present : List Observation) → Asks l.compiled present (λ b. true) l.plain.set → some_missed l.compiled present l.pairs (drop l.goal-index l.goals) l.states ≡ some_missed l.compiled present l.pairs l.goals l.states

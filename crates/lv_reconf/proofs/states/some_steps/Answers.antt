@@ -15,7 +15,7 @@ loop-s-preserved c =
       rest =
           λ present ends asks.
           let p : TrackedState → Bool = λ s. some_nominal_step c.args.compiled.now present s.state c.args.pairs.now ends in
-          let now : Asks c.args.compiled.now present ends c.loop-s.solver = subst (λ (m : ClauseMap). Asks c.args.compiled.now present ends m) (sym c.loop-s.invariant.same) asks in
+          let now : Asks c.args.compiled.now present ends c.loop-s.solver.set = subst (λ (m : ClauseMap). Asks c.args.compiled.now present ends m) (sym c.loop-s.invariant.same) asks in
           any_goes p c.args.states.now c.loop-s.s-index c.s-item.result (list_any p c.args.states.now) c.loop-s-test.true c.s-item.is
           (sym (c.in_ok-has_step.ensures.answer present ends now) ∙ c.if-branch.false) (c.loop-s.invariant.rest present ends asks);
     }

@@ -10,8 +10,8 @@ use Rattle.lv_reconf.proofs.states.some_steps.Given as goal
 
 abbrev pub invariant-loop-s : goal.invariant-loop-s
 invariant-loop-s l = record {
-  same : l.solver ≡ l.initial.solver;
-  rest : (present : List Observation) (ends : List ValId → Bool) → Asks l.compiled present ends l.initial.solver
+  same : l.solver.set ≡ l.initial.solver.set;
+  rest : (present : List Observation) (ends : List ValId → Bool) → Asks l.compiled present ends l.initial.solver.set
       → list_any (λ (s : TrackedState). some_nominal_step l.compiled present s.state l.pairs ends) (drop l.s-index l.states)
       ≡ list_any (λ (s : TrackedState). some_nominal_step l.compiled present s.state l.pairs ends) l.states;
 }

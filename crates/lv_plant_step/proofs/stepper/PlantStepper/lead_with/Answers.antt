@@ -17,10 +17,10 @@ returns-clause-leads c =
     λ asked front asks.
     elim c.match-branch-2.branch [
       | in-Some+in_ok-values-in-Some w ↦ rw w.result-is
-          (found_lead c.args.self.now well c.self.inside.system.now is asked front c.args.assumed asks c.self.inside.solver w.in-Some.truth w.in_ok-values-in-Some.values (rw w.in-Some.is at c.in_ok-truth.ensures.answer)
+          (found_lead c.args.self.now well c.self.inside.system.now is asked front c.args.assumed asks c.self.inside.solver.set w.in-Some.truth w.in_ok-values-in-Some.values (rw w.in-Some.is at c.in_ok-truth.ensures.answer)
           (subst (λ (truth : List Bool). AreDecoded c.self.inside.system.now truth w.in_ok-values-in-Some.values) w.as_slice.ensures w.in_ok-values-in-Some.ensures))
       | in-None w ↦ rw w.result-is
-          (none_begins c.args.self.now well c.self.inside.system.now is asked front c.args.assumed asks c.self.inside.solver c.self.invariant.clauses (rw w.in-None.is at c.in_ok-truth.ensures.answer))
+          (none_begins c.args.self.now well c.self.inside.system.now is asked front c.args.assumed asks c.self.inside.solver.set c.self.invariant.clauses (rw w.in-None.is at c.in_ok-truth.ensures.answer))
     ]
 
 pub returns-clause-ranged : goal.returns-clause-ranged

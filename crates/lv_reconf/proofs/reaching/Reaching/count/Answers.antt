@@ -19,4 +19,4 @@ returns-clause-count c =
     (IfOk-weaker c.count_stepping.result _ _
     (λ n told. told ∙ (λ i. prefix_len (λ (t : TrackedState). some_nominal_step (c.compiled.ensures i) s.aim.present t.state c.args.pairs.now (meets_goals s.aim.goals)) (tracked i)))
     (c.count_stepping.ensures.answer s.aim.present (meets_goals s.aim.goals)
-    (subst (λ (p : Plant). Asks p s.aim.present (meets_goals s.aim.goals) c.self.inside.solver) (sym c.compiled.ensures) c.self.invariant)))
+    (subst (λ (p : Plant). Asks p s.aim.present (meets_goals s.aim.goals) c.self.inside.solver.set) (sym c.compiled.ensures) c.self.invariant)))

@@ -27,4 +27,4 @@ returns-clause-answer c =
     ∙ (λ i. two_pass (λ (t : TrackedState). some_nominal_step (c.compiled.ensures i) s.aim.present t.state c.args.pairs.now (λ b. meets_goals s.aim.goals b && agrees b seen)) (tracked i))
     ∙ ap (λ (gs : List Tree). two_pass (λ (t : TrackedState). some_nominal_step s.plant s.aim.present t.state c.args.pairs.now (λ b. meets_goals gs b && agrees b seen)) s.aim.tracked) none)
     (c.shown_twice.ensures.answer s.aim.present (meets_goals s.aim.goals)
-    (subst (λ (p : Plant). Asks p s.aim.present (meets_goals s.aim.goals) c.self.inside.solver) (sym c.compiled.ensures) c.self.invariant)))
+    (subst (λ (p : Plant). Asks p s.aim.present (meets_goals s.aim.goals) c.self.inside.solver.set) (sym c.compiled.ensures) c.self.invariant)))

@@ -26,7 +26,7 @@ returns-in-Some-clause-told c =
     refuted_there (looking_at s.plant s.aim c.self.inside.at) c.in-Some.s.now there c.args.pairs.now core
     (subst (λ (p : Plant). RefutesSteps p s.aim.present (meets_goals s.aim.goals) c.in-Some.s.now.state c.args.pairs.now core) c.compiled.ensures told))
     (c.refuted.ensures.answer s.aim.present (meets_goals s.aim.goals)
-    (subst (λ (p : Plant). Asks p s.aim.present (meets_goals s.aim.goals) c.self.inside.solver) (sym c.compiled.ensures) c.self.invariant))))
+    (subst (λ (p : Plant). Asks p s.aim.present (meets_goals s.aim.goals) c.self.inside.solver.set) (sym c.compiled.ensures) c.self.invariant))))
 
 pub returns-in_ok-new-in-None-clause-told : goal.returns-in_ok-new-in-None-clause-told
 returns-in_ok-new-in-None-clause-told c =

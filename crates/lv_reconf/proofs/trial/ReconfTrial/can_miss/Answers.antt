@@ -18,4 +18,4 @@ returns c =
     told
     ∙ missed_all s.plant c.compiled.result.now c.compiled.ensures s.aim c.as_slice-2.result.now (c.as_slice-2.ensures ∙ ap (λ (a : Aim). a.goals) c.aim-aim.ensures.aim)
     c.as_slice.result.now (c.as_slice.ensures ∙ ap (λ (a : Aim). a.tracked) c.aim-aim.ensures.aim) c.args.count c.args.pairs.now)
-    (c.some_missed.ensures s.aim.present (subst (λ (p : Plant). Asks p s.aim.present (λ b. true) c.plain.result.now) (sym c.compiled.ensures) c.plain.ensures)))
+    (c.some_missed.ensures s.aim.present (subst (λ (p : Plant). Asks p s.aim.present (λ b. true) c.plain.result.now.set) (sym c.compiled.ensures) c.plain.ensures)))
