@@ -4,6 +4,7 @@ ghost use Rattle.std.specs.Prelude.{◌≡◌};
 use lv_base::{BoolId, ClauseId, Lit};
 use lv_clauses::{ClauseSet, is_clause, lit_holds, negation};
 use lv_refcheck::check;
+use lv_reflog::Log;
 use lv_sat::{Answer, Solver};
 use std::alloc::{AllocError, Global};
 
@@ -396,5 +397,92 @@ fn all_agree(alloc: Global, solver: &mut Solver) -> Result<bool, AllocError> {
 fn calls_in_a_row_answer_as_new_solvers_do(rt: HostRuntime) -> Result<(), AllocError> {
     let mut solver = solver_over(rt.alloc(), BOOLS)?;
     assert!(rt; all_agree(rt.alloc(), &mut solver)?);
+    Ok(())
+}
+
+/// The answer to a question that can be asked.
+fn ask(solver: &mut Solver, assumptions: &[Lit]) -> Result<Option<Answer>, AllocError> {
+    if !is_clause(solver.clauses().bools(), assumptions) {
+        return Ok(None);
+    }
+    Ok(Some(solver.solve(assumptions)?))
+}
+
+fn has_core(answer: &Option<Answer>, lits: &[Lit]) -> bool {
+    match answer {
+        Some(Answer::Unsat { core, log: _ }) => core.as_slice() == lits,
+        Some(Answer::Sat { .. }) | None => false,
+    }
+}
+
+fn are_same_steps(one: &Log, other: &Log) -> bool {
+    if one.len() != other.len() {
+        return false;
+    }
+    for place in 0..one.len() {
+        let (step, like) = (one.step(place), other.step(place));
+        if step.clause.as_slice() != like.clause.as_slice()
+            || step.hints.as_slice() != like.hints.as_slice()
+        {
+            return false;
+        }
+    }
+    true
+}
+
+/// Whether both are the same refutation.
+fn are_same(one: &Option<Answer>, other: &Option<Answer>) -> bool {
+    match (one, other) {
+        (
+            Some(Answer::Unsat { core, log }),
+            Some(
+                Answer::Unsat {
+                    core: lits,
+                    log: steps,
+                },
+            ),
+        ) => { core.as_slice() == lits.as_slice() && are_same_steps(log, steps) }
+        _ => false,
+    }
+}
+
+/// Whether a question is answered like this without a search.
+fn is_told_again(
+    solver: &mut Solver,
+    assumptions: &[Lit],
+    answer: &Option<Answer>,
+) -> Result<bool, AllocError> {
+    let before = solver.effort();
+    let again = ask(solver, assumptions)?;
+    Ok(solver.effort() == before.with_call() && are_same(answer, &again))
+}
+
+/// Whether a refutation of two assumptions is told again for more of them, and with a clause more, which alone would refute
+/// the first.
+fn stays_told(solver: &mut Solver) -> Result<bool, AllocError> {
+    add(solver, &[NOT_ONE, TWO])?;
+    add(solver, &[NOT_TWO, NOT_FOUR])?;
+    let first = ask(solver, &[ONE, FOUR])?;
+    if !has_core(&first, &[ONE, FOUR]) || !is_told_again(solver, &[ONE, THREE, FOUR], &first)? {
+        return Ok(false);
+    }
+    add(solver, &[NOT_ONE])?;
+    is_told_again(solver, &[THREE, ONE, FOUR], &first)
+}
+
+/// Whether all is refuted anew once the first clause is gone.
+fn is_told_anew(solver: &mut Solver) -> Result<bool, AllocError> {
+    if !remove(solver, FIRST) {
+        return Ok(false);
+    }
+    let anew = ask(solver, &[ONE, THREE, FOUR])?;
+    Ok(has_core(&anew, &[ONE]))
+}
+
+#[test]
+fn a_refutation_is_told_again_until_a_clause_goes(rt: HostRuntime) -> Result<(), AllocError> {
+    let mut solver = solver_over(rt.alloc(), 4)?;
+    assert!(rt; stays_told(&mut solver)?);
+    assert!(rt; is_told_anew(&mut solver)?);
     Ok(())
 }
