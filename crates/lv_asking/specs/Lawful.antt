@@ -1,10 +1,9 @@
 -- Why what is asked for keeps the laws of a refuter.
-use Rattle.std.proofs.Common.{◌≡◌, ℕ, ◌+◌, ◌<◌, ◌≤◌, true, nat_lt, List, [], ◌∷◌, ◌++◌, Bool, refl, arith, All}
-use Rattle.std.proofs.lemmas.Bool.{and_parts, and_from, lt-ltb, ltb-true}
+use Rattle.std.proofs.Common.{ℕ, List, [], ◌∷◌, ◌++◌, Bool, arith, All}
 use Rattle.std.proofs.lemmas.List.Elements.{All-tail, All-cons}
 use Rattle.lv_base.specs.declared.search.Pair.{Pair}
-use Rattle.lv_base.specs.Choices.{slots_rise_from}
 use Rattle.lv_search_walk.specs.Laws.{IsMonotone}
+use Rattle.lv_search_walk.proofs.ReasonLemmas.{rising_without}
 use Rattle.lv_meaning.proofs.Possibility.{still_there}
 use Rattle.lv_asking.specs.Literals.{HasMove}
 use Rattle.lv_asking.specs.Asking.{AskingValue, Decides, IsPartial}
