@@ -1,5 +1,5 @@
 -- what the search says of its trial it says of the plant and the aim
-use Rattle.std.proofs.Common.{◌≡◌, ◌+◌, ℕ, List, true, subst, sym, ◌∙◌}
+use Rattle.std.proofs.Common.{◌≡◌, ◌+◌, ◌≤◌, ℕ, List, true, subst, sym, ◌∙◌}
 use Rattle.std.specs.Prelude.{Option}
 use Rattle.std.specs.Result.{IfOk}
 use Rattle.lv_meaning.specs.lv_search_walk.Walk.{distinct_walk}
@@ -55,3 +55,10 @@ returns-clause-query c is =
 pub returns-clause-suit : goal.returns-clause-suit
 returns-clause-suit c =
     of_setting c.self.inside.setting c.in_ok-trial.trial c.in_ok-trial.ensures (λ suits fits reason. IfOk c.run.result (λ _. all_suit suits c.run.new.self.standing ≡ true)) c.run.ensures.suit
+
+pub returns-clause-few : goal.returns-clause-few
+returns-clause-few c =
+    subst (λ (q : QueryValue). IfOk c.run.result (λ _. trials_of c.run.new.self.standing ≤ trials_of q.standing + c.args.more)) c.self.view_is c.run.ensures.few
+
+pub returns-clause-k : goal.returns-clause-k
+returns-clause-k c = subst (λ (q : QueryValue). IfOk c.run.result (λ _. c.run.new.self.standing.k ≡ q.standing.k)) c.self.view_is c.run.ensures.k
