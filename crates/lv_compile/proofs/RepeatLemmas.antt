@@ -1,13 +1,13 @@
 -- Literals that don't stand among those before them, one literal more.
-use Rattle.std.proofs.Common.{◌≡◌, ℕ, Bool, true, false, not, ◌&&◌, ◌||◌, nat_eq, if◌then◌else◌, List, [], ◌∷◌, ◌++◌, filter, refl, sym, ap, ap₂, ◌∙◌}
+use Rattle.std.proofs.Common.{◌≡◌, ℕ, Bool, true, false, not, ◌&&◌, ◌||◌, nat_eq, if◌then◌else◌, List, [], ◌∷◌, ◌++◌, filter, refl, sym, ap, ap₂, ◌∙◌, cond}
 use Rattle.std.specs.List.{list_any}
-use Rattle.std.proofs.lemmas.Bool.{and_parts}
+use Rattle.std.proofs.lemmas.Bool.{and_parts, or_parts}
 use Rattle.std.proofs.lemmas.List.{append_assoc}
 use Rattle.std.proofs.lemmas.List.Folds.{list_any-append}
 use borrow.Author.Tests.{eqb-true}
 use Rattle.lv_base.specs.declared.ids.Lit.{Lit}
 use Rattle.lv_clauses.specs.Literals.{same_truth, same_var}
-use Rattle.lv_compile.specs.Cleaning.{same_literal, is_repeated, with_new, without_repeats}
+use Rattle.lv_compile.specs.Cleaning.{same_literal, is_repeated, with_new, has_repeats, without_repeats}
 
 abbrev pub is_new : List Lit → Lit → Bool
 is_new earlier l = not (is_repeated earlier l)
@@ -100,3 +100,19 @@ one_literal_more out new left ls whole l is cut so_far = by (is_repeated out l) 
     by false e =
         let more : new ≡ out ++ l ∷ [] = is ∙ ap (λ (b : Bool). if b then out else out ++ l ∷ []) e in
         ap (λ (n : List Lit). n ++ filter (is_new n) (without_repeats ls)) more ∙ added_new out ls whole l e start
+
+-- a list without repeats
+
+unlike_all : (l : Lit) (ms : List Lit) → list_any (same_literal l) ms ≡ false → filter (λ (m : Lit). not (same_literal l m)) ms ≡ ms
+unlike_all l [] none = refl
+unlike_all l (m ∷ ms) none =
+    let two = or_parts (same_literal l m) (list_any (same_literal l) ms) none in
+    ap (λ (b : Bool). cond (not b) (m ∷ filter (λ (n : Lit). not (same_literal l n)) ms) (filter (λ (n : Lit). not (same_literal l n)) ms)) two.0
+    ∙ ap (λ (ls : List Lit). m ∷ ls) (unlike_all l ms two.1)
+
+pub no_repeats : (ls : List Lit) → has_repeats ls ≡ false → without_repeats ls ≡ ls
+no_repeats [] none = refl
+no_repeats (l ∷ ls) none =
+    let two = or_parts (list_any (same_literal l) ls) (has_repeats ls) none in
+    ap (λ (ms : List Lit). l ∷ filter (λ (m : Lit). not (same_literal l m)) ms) (no_repeats ls two.1)
+    ∙ ap (λ (ms : List Lit). l ∷ ms) (unlike_all l ls two.0)

@@ -21,6 +21,11 @@ abbrev pub is_tautology : List Lit → Bool
 is_tautology [] = false
 is_tautology (l ∷ ls) = list_any (same_literal (neg l)) ls || is_tautology ls
 
+-- a literal stands in it twice
+abbrev pub has_repeats : List Lit → Bool
+has_repeats [] = false
+has_repeats (l ∷ ls) = list_any (same_literal l) ls || has_repeats ls
+
 -- each literal once, at its first place
 abbrev pub without_repeats : List Lit → List Lit
 without_repeats [] = []

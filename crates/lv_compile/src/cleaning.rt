@@ -3,7 +3,7 @@
 
 ghost use Rattle.std.specs.Prelude.{◌≡◌, IfOk};
 ghost use Rattle.std.specs.List.{list_any};
-ghost use Rattle.lv_compile.specs.Cleaning.{same_literal, is_tautology, without_repeats, cleaned, is_repeated, with_new};
+ghost use Rattle.lv_compile.specs.Cleaning.{same_literal, is_tautology, has_repeats, without_repeats, cleaned, is_repeated, with_new};
 
 use lv_base::{Lit, Seq};
 use lv_clauses::negation;
@@ -41,6 +41,20 @@ fn is_tautology(lits: &[Lit]) -> bool
     false
 }
 
+/// Whether a literal stands in the clause twice.
+fn has_repeats(lits: &[Lit]) -> bool
+    ensures { result ≡ has_repeats lits.now }
+{
+    let mut rest = lits;
+    while let Some((first, more)) = rest.split_first() {
+        if has_literal(more, *first) {
+            return true;
+        }
+        rest = more;
+    }
+    false
+}
+
 /// Adds the literal where it doesn't stand there yet.
 fn push_new(out: &mut Vec<Lit>, lit: Lit) -> Result<(), AllocError>
     ensures { IfOk result (λ _. out.new.items ≡ with_new out.old.items lit) }
@@ -62,14 +76,24 @@ fn without_repeats(alloc: Global, lits: &[Lit]) -> Result<Seq<Lit>, AllocError>
     Ok(Seq::from_vec(out))
 }
 
-/// The clauses that are not true of everything, each without repeated literals.
-pub fn cleaned(alloc: Global, clauses: &[Seq<Lit>]) -> Result<Vec<Seq<Lit>>, AllocError>
-    ensures { IfOk result (λ out. out.items ≡ cleaned clauses.now) }
+/// The clause itself where it repeats no literal, as most do, else one without repeats.
+fn tidied(alloc: Global, clause: Seq<Lit>) -> Result<Seq<Lit>, AllocError>
+    ensures { IfOk result (λ c. c ≡ without_repeats clause) }
 {
-    let mut out = Vec::new(alloc);
+    if has_repeats(clause.as_slice()) {
+        return without_repeats(alloc, clause.as_slice());
+    }
+    Ok(clause)
+}
+
+/// The clauses that are not true of everything, each without repeated literals.
+pub fn cleaned(alloc: Global, clauses: Vec<Seq<Lit>>) -> Result<Vec<Seq<Lit>>, AllocError>
+    ensures { IfOk result (λ out. out.items ≡ cleaned clauses.items) }
+{
+    let mut out = Vec::with_capacity(alloc, clauses.len())?;
     for clause in clauses {
         if !is_tautology(clause.as_slice()) {
-            out.push(without_repeats(alloc, clause.as_slice())?)?;
+            out.push(tidied(alloc, clause)?)?;
         }
     }
     Ok(out)

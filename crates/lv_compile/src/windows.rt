@@ -134,5 +134,5 @@ pub fn window_clauses(alloc: Global, model: &Model, steps: u32) -> Result<Vec<Se
     ensures { IfOk result (λ out. out.items ≡ window_clauses model.now steps) }
 {
     let raw = raw_window(alloc, model.plant(), steps)?;
-    cleaned(alloc, raw.as_slice())
+    cleaned(alloc, raw)
 }

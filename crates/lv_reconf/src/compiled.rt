@@ -104,6 +104,6 @@ impl<'a> Compiled<'a> {
         ensures { IfOk result (λ out. SayGoal self.now goal.now sign out.items) }
     {
         let raw = formula_clauses(alloc, &self.after, 0, goal.formula(), sign)?;
-        cleaned(alloc, raw.as_slice())
+        cleaned(alloc, raw)
     }
 }

@@ -151,6 +151,6 @@ impl StepSystem {
         ensures { IfOk result (λ out. out.items ≡ goal_clauses self.now sign (tree_of goal.now)) }
     {
         let raw = formula_clauses(alloc, &self.after, 0, goal, sign)?;
-        cleaned(alloc, raw.as_slice())
+        cleaned(alloc, raw)
     }
 }

@@ -1,1 +1,0 @@
--- test of lemmas
