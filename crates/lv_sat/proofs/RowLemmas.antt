@@ -7,24 +7,24 @@ use Rattle.lv_base.specs.declared.ids.Lit.{Lit}
 use Rattle.lv_base.specs.declared.ids.ClauseId.{ClauseId}
 use Rattle.lv_clauses.proofs.LiteralLemmas.{Contains-nil, Contains-cases}
 use Rattle.lv_sat.specs.declared.occurrences.Link.{Link}
-use Rattle.lv_sat.specs.Rows.{Rows, row_of, head_of, link_at, Holds, here, later, Names}
+use Rattle.lv_sat.specs.Rows.{Rows, row_of, head_of, id_of, link_at, Holds, here, later, Names}
 
 abbrev link_blank : Link
-link_blank = record { id = record { 0 = 0 }; next = 0 }
+link_blank = record { number = 0; next = 0 }
 
 -- a link more leaves those before it as they were
 link_kept : (links : List Link) (link : Link) (place : ℕ) → 0 < place → place ≤ length links → link_at (links ++ link ∷ []) place ≡ link_at links place
 link_kept links link place some within = get_or_append_left links (link ∷ []) link_blank (place - 1) (omega (arith, some, within))
 
 holds_more : (links : List Link) (link : Link) (id : ClauseId) (place : ℕ) → Holds links id place → Holds (links ++ link ∷ []) id place
-holds_more links link id place (here some within is) = here some (omega (arith, within, length-append links (link ∷ []))) (ap (λ (k : Link). k.id) (link_kept links link place some within) ∙ is)
+holds_more links link id place (here some within is) = here some (omega (arith, within, length-append links (link ∷ []))) (ap id_of (link_kept links link place some within) ∙ is)
 holds_more links link id place (later some within rest) =
     later some (omega (arith, within, length-append links (link ∷ [])))
     (subst (Holds (links ++ link ∷ []) id) (sym (ap (λ (k : Link). k.next) (link_kept links link place some within))) (holds_more links link id (link_at links place).next rest))
 
 module _ (heads fitted : List ℕ) (links : List Link) (row : ℕ) (id : ClauseId) (same : (k : ℕ) → get_or fitted k 0 ≡ get_or heads k 0) (within : row < length fitted) where
   abbrev link : Link
-  link = record { id = id; next = get_or fitted row 0 }
+  link = record { number = id.0; next = get_or fitted row 0 }
 
   abbrev more : List Link
   more = links ++ link ∷ []
@@ -58,10 +58,10 @@ module _ (heads fitted : List ℕ) (links : List Link) (row : ℕ) (id : ClauseI
 
       by_lit : (m : Lit) → (l ≡ m) ⊎ Contains [] m → Holds more id (head_of entered m)
       by_lit m (inl this) =
-          subst (Holds more id) (sym (ap (λ j. get_or entered j 0) (ap row_of (sym this) ∙ sym is) ∙ at_row)) (here some (omega arith) (ap (λ (j : Link). j.id) last_link))
+          subst (Holds more id) (sym (ap (λ j. get_or entered j 0) (ap row_of (sym this) ∙ sym is) ∙ at_row)) (here some (omega arith) (ap id_of last_link))
       by_lit m (inr h) = absurd (Contains-nil m h)
 
-pub entered_names : (heads fitted now : List ℕ) (links new : List Link) (row : ℕ) (id : ClauseId) (l : Lit) → ((k : ℕ) → get_or fitted k 0 ≡ get_or heads k 0) → row < length fitted → new ≡ links ++ record { id = id; next = get_or fitted row 0 } ∷ []
+pub entered_names : (heads fitted now : List ℕ) (links new : List Link) (row : ℕ) (id : ClauseId) (l : Lit) → ((k : ℕ) → get_or fitted k 0 ≡ get_or heads k 0) → row < length fitted → new ≡ links ++ record { number = id.0; next = get_or fitted row 0 } ∷ []
     → now ≡ set fitted row (length new) → row ≡ row_of l → Names (l ∷ []) id (record { heads = heads; links = links }) (record { heads = now; links = new })
 entered_names heads fitted now links new row id l same within is made here_is =
     subst (λ (hs : List ℕ). Names (l ∷ []) id (record { heads = heads; links = links }) (record { heads = hs; links = new })) (sym made)
@@ -80,9 +80,9 @@ names_then lits at d id old mid new below first last =
     })
 
 -- what a row holds from a place on is at that place or behind it
-pub held_left : (links : List Link) (place : ℕ) (at : Link) (p : ClauseId → Bool) (id : ClauseId) → at ≡ link_at links place → p at.id ≡ true → Holds links id place ⊎ (p id ≡ true) → Holds links id at.next ⊎ (p id ≡ true)
+pub held_left : (links : List Link) (place : ℕ) (at : Link) (p : ClauseId → Bool) (id : ClauseId) → at ≡ link_at links place → p (id_of at) ≡ true → Holds links id place ⊎ (p id ≡ true) → Holds links id at.next ⊎ (p id ≡ true)
 held_left links place at p id is e (inr holds) = inr holds
-held_left links place at p id is e (inl (here some within same)) = inr (ap p (sym same ∙ sym (ap (λ (k : Link). k.id) is)) ∙ e)
+held_left links place at p id is e (inl (here some within same)) = inr (ap p (sym same ∙ sym (ap id_of is)) ∙ e)
 held_left links place at p id is e (inl (later some within rest)) = inl (subst (λ (k : Link). Holds links id k.next) (sym is) rest)
 
 pub held_end : (links : List Link) (place : ℕ) (id : ClauseId) (b : Bool) → place ≤ 0 → Holds links id place ⊎ (b ≡ true) → b ≡ true

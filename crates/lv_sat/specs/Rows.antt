@@ -17,11 +17,14 @@ abbrev pub head_of : List ℕ → Lit → ℕ
 head_of heads l = slice_index_or heads (row_of l) 0
 
 abbrev pub link_at : List Link → ℕ → Link
-link_at links place = slice_index_or links (place - 1) (record { id = record { 0 = 0 }; next = 0 })
+link_at links place = slice_index_or links (place - 1) (record { number = 0; next = 0 })
+
+abbrev pub id_of : Link → ClauseId
+id_of link = record { 0 = link.number }
 
 -- the links from this place on hold the clause
 pub data Holds (links : List Link) (id : ClauseId) : ℕ → Type 0 where
-  here : {place : ℕ} → 0 < place → place ≤ length links → (link_at links place).id ≡ id → Holds links id place
+  here : {place : ℕ} → 0 < place → place ≤ length links → id_of (link_at links place) ≡ id → Holds links id place
   later : {place : ℕ} → 0 < place → place ≤ length links → Holds links id (link_at links place).next → Holds links id place
 
 -- each row begins at a link or is empty, and each link leads to one before it or ends its row

@@ -299,10 +299,10 @@ fn first_in(
     let mut place = occurrences.head(lit);
     while place > 0 {
         let link = occurrences.link(place);
-        if is_false(set, values, link.id) {
-            return Some(link.id);
+        if is_false(set, values, link.id()) {
+            return Some(link.id());
         }
-        place = link.next;
+        place = link.next();
     }
     None
 }

@@ -79,10 +79,10 @@ fn first_unmet(
     let mut place = occurrences.head(lit);
     while place > 0 {
         let link = occurrences.link(place);
-        if is_unmet(set, marks, values, link.id) {
-            return Some(link.id);
+        if is_unmet(set, marks, values, link.id()) {
+            return Some(link.id());
         }
-        place = link.next;
+        place = link.next();
     }
     None
 }

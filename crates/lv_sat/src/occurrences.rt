@@ -5,24 +5,40 @@ ghost use Rattle.std.specs.Prelude.{◌≡◌, ◌<◌, ◌≤◌, ◌∷◌, []
 ghost use Rattle.lv_clauses.specs.ClauseMap.{clause_at};
 ghost use Rattle.lv_sat.specs.Occurrences.{NamesAll};
 ghost use Rattle.lv_sat.specs.Rows as Rows;
-ghost use Rattle.lv_sat.specs.Rows.{AreRows, Names, head_of, link_at};
+ghost use Rattle.lv_sat.specs.Rows.{AreRows, Names, head_of, id_of, link_at};
 
 use lv_base::{ClauseId, Lit};
 use lv_clauses::ClauseSet;
 use std::alloc::{AllocError, Global};
 use std::marker::Model;
 
-/// A clause in a literal's row, and the place of the link behind it. Places are counted from 1; 0 ends the row.
+/// A clause in a literal's row, by its number, and the place of the link behind it. Places are counted from 1; 0 ends the
+/// row. There is one for each literal of each clause, so that both are of 32 bits; where these don't suffice there are no
+/// occurrences.
 #[derive(Clone, Copy, Debug)]
 pub struct Link {
-    pub id: ClauseId,
-    pub next: usize,
+    number: u32,
+    next: u32,
+}
+
+impl Link {
+    pub fn id(self) -> ClauseId
+        ensures { result ≡ id_of self }
+    {
+        ClauseId(self.number as usize)
+    }
+
+    pub fn next(self) -> usize
+        ensures { result ≡ self.next }
+    {
+        self.next as usize
+    }
 }
 
 /// For each literal the clauses that hold it, and maybe such as held it before they were taken away.
 #[derive(Drop)]
 pub struct Occurrences {
-    heads: Vec<usize>,
+    heads: Vec<u32>,
     links: Vec<Link>,
 }
 
@@ -79,7 +95,7 @@ impl Occurrences {
     {
         let row = row_of(lit);
         if row < self.heads.len() {
-            self.heads[row]
+            self.heads[row] as usize
         } else {
             0
         }
@@ -106,7 +122,7 @@ fn row_of(lit: Lit) -> usize
 
 /// Adds a clause to the row of a literal.
 fn enter(
-    heads: &mut Vec<usize>,
+    heads: &mut Vec<u32>,
     links: &mut Vec<Link>,
     lit: Lit,
     id: ClauseId,
@@ -116,17 +132,28 @@ fn enter(
     ensures names { OnOk result (Names (lit ∷ []) id (record { heads = heads.old.items; links = links.old.items }) (record { heads = heads.new.items; links = links.new.items })) }
 {
     let row = row_of(lit);
+    let number = short(id.0)?;
     fit(heads, row)?;
     links.push(Link {
-        id,
+        number,
         next: heads[row],
     })?;
-    heads[row] = links.len();
+    heads[row] = short(links.len())?;
     Ok(())
 }
 
+/// The same number in 32 bits.
+fn short(number: usize) -> Result<u32, AllocError>
+    ensures { IfOk result (λ short. short ≡ number) }
+{
+    match u32::try_from(number) {
+        Ok(short) => Ok(short),
+        Err(_) => Err(AllocError),
+    }
+}
+
 /// Has a row of this number, by adding empty ones.
-fn fit(heads: &mut Vec<usize>, row: usize) -> Result<(), AllocError>
+fn fit(heads: &mut Vec<u32>, row: usize) -> Result<(), AllocError>
     ensures within { OnOk result (row < length heads.new.items) }
     ensures same { (k : ℕ) → slice_index_or heads.new.items k 0 ≡ slice_index_or heads.old.items k 0 }
 {

@@ -24,7 +24,7 @@ impl Order {
     pub fn new(alloc: Global, bools: u32) -> Result<Order, AllocError> {
         Ok(Order {
             queue: Queue::new(alloc, bools)?,
-            scores: Scores::new(alloc, bools)?,
+            scores: Scores::new(alloc, bools),
             is_hard: false,
         })
     }

@@ -11,7 +11,7 @@ use std::alloc::{AllocError, Global};
 struct Link {
     before: Option<BoolId>,
     behind: Option<BoolId>,
-    stamp: u64,
+    stamp: u32,
     sign: bool,
 }
 
@@ -22,7 +22,7 @@ pub struct Queue {
     links: Vec<Link>,
     first: Option<BoolId>,
     from: Option<BoolId>,
-    stamps: u64,
+    stamps: u32,
 }
 
 impl Queue {
@@ -33,7 +33,7 @@ impl Queue {
             links.push(Link {
                 before: number(0 < var, var.saturating_sub(1)),
                 behind: number(var < bools - 1, var.saturating_add(1)),
-                stamp: u64::from(bools - var),
+                stamp: bools - var,
                 sign: false,
             })?;
         }
@@ -42,7 +42,7 @@ impl Queue {
             links,
             first,
             from: first,
-            stamps: u64::from(bools),
+            stamps: bools,
         })
     }
 
@@ -96,7 +96,7 @@ impl Queue {
         self.links.get(var.0 as usize).copied()
     }
 
-    fn stamp_of(&self, var: Option<BoolId>) -> u64 {
+    fn stamp_of(&self, var: Option<BoolId>) -> u32 {
         match var.and_then(|var| self.link(var)) {
             Some(link) => link.stamp,
             None => 0,

@@ -24,8 +24,14 @@ const DEPTH: u32 = 64;
 #[derive(Clone, Copy, Debug)]
 struct Standing {
     score: u64,
-    place: Option<usize>,
+    place: Option<u32>,
 }
+
+/// Before any conflict there are no scores.
+const UNSCORED: Standing = Standing {
+    score: 0,
+    place: None,
+};
 
 /// In the heap none has a higher score than the one above it, whose place is half of its own.
 #[derive(Drop)]
@@ -38,21 +44,27 @@ pub struct Scores {
 
 impl Scores {
     /// Of so many booleans, none of them in the heap.
-    pub fn new(alloc: Global, bools: u32) -> Result<Scores, AllocError> {
-        let unscored = Standing {
-            score: 0,
-            place: None,
-        };
-        Ok(Scores {
+    pub fn new(alloc: Global, bools: u32) -> Scores {
+        Scores {
             bools,
-            standings: vec![in alloc; unscored; bools as usize]?,
-            heap: Vec::with_capacity(alloc, bools as usize)?,
+            standings: Vec::new(alloc),
+            heap: Vec::new(alloc),
             step: FIRST_STEP,
-        })
+        }
+    }
+
+    /// Has a score for each boolean, as far as memory suffices.
+    fn prepare(&mut self) {
+        if self.standings.is_empty() {
+            match self.standings.resize(self.bools as usize, UNSCORED) {
+                Ok(()) | Err(_) => {}
+            }
+        }
     }
 
     /// Has all booleans in the heap.
     pub fn fill(&mut self) {
+        self.prepare();
         for var in 0..self.bools {
             self.put_back(BoolId(var));
         }
@@ -89,12 +101,13 @@ impl Scores {
 
     /// Raises a boolean's score.
     pub fn touch(&mut self, var: BoolId) {
+        self.prepare();
         let step = self.step;
         if let Some(standing) = self.standings.get_mut(var.0 as usize) {
             standing.score = standing.score.wrapping_add(step);
             let (score, place) = (standing.score, standing.place);
             if let Some(place) = place {
-                self.rise(var, place);
+                self.rise(var, place as usize);
             }
             if score > HIGHEST_SCORE {
                 self.lower_all();
@@ -138,7 +151,7 @@ impl Scores {
 
     fn set_place(&mut self, var: BoolId, place: Option<usize>) {
         if let Some(standing) = self.standings.get_mut(var.0 as usize) {
-            standing.place = place;
+            standing.place = place.and_then(|place| u32::try_from(place).ok());
         }
     }
 

@@ -12,11 +12,21 @@ const LONGEST: usize = 255;
 /// Where the literals of a clause begin, and how many they are; none where no clause is.
 #[derive(Clone, Copy, Debug)]
 struct Span {
-    start: usize,
-    len: usize,
+    start: u32,
+    len: u32,
 }
 
 const ABSENT: Span = Span { start: 0, len: 0 };
+
+impl Span {
+    /// Of so many literals from a place on; none where a number of 32 bits can't say it.
+    fn of(start: usize, len: usize) -> Span {
+        match (u32::try_from(start), u32::try_from(len)) {
+            (Ok(start), Ok(len)) => Span { start, len },
+            _ => ABSENT,
+        }
+    }
+}
 
 /// What becomes of a clause of which a watched literal is false.
 pub enum Turn {
@@ -68,13 +78,10 @@ impl Arena {
         for _ in self.spans.len()..=number {
             self.spans.push(ABSENT)?;
         }
-        let start = self.lits.len();
+        let span = Span::of(self.lits.len(), lits.len());
         self.lits.extend_from_slice(lits)?;
-        if let Some(span) = self.spans.get_mut(number) {
-            *span = Span {
-                start,
-                len: lits.len(),
-            };
+        if let Some(place) = self.spans.get_mut(number) {
+            *place = span;
         }
         Ok(())
     }
@@ -83,9 +90,10 @@ impl Arena {
     fn pack(&mut self) -> Result<(), AllocError> {
         let mut packed = Vec::with_capacity(self.alloc, self.lits.len())?;
         for span in &mut self.spans {
-            let start = packed.len();
-            packed.extend_from_slice(part(self.lits.as_slice(), *span))?;
-            span.start = start;
+            let lits = part(self.lits.as_slice(), *span);
+            let moved = Span::of(packed.len(), lits.len());
+            packed.extend_from_slice(lits)?;
+            *span = moved;
         }
         self.lits = packed;
         self.lost = 0;
@@ -94,7 +102,7 @@ impl Arena {
 
     pub fn remove(&mut self, number: usize) {
         if let Some(span) = self.spans.get_mut(number) {
-            self.lost = self.lost.wrapping_add(span.len);
+            self.lost = self.lost.wrapping_add(span.len as usize);
             *span = ABSENT;
         }
     }
@@ -139,7 +147,7 @@ impl Arena {
         let mut room = room;
         for at in 0..len {
             let newer = len - 1 - at;
-            let size = self.span(newer).len.min(LONGEST);
+            let size = (self.span(newer).len as usize).min(LONGEST);
             if size < limit || size == limit && room > 0 {
                 room = room.saturating_sub((size == limit) as usize);
                 kept[newer] = true;
@@ -152,7 +160,7 @@ impl Arena {
     fn limit(&self, alloc: Global, most: usize) -> Result<(usize, usize), AllocError> {
         let mut counts = vec![in alloc; 0; LONGEST + 1]?;
         for span in &self.spans {
-            if let Some(count) = counts.get_mut(span.len.min(LONGEST)) {
+            if let Some(count) = counts.get_mut((span.len as usize).min(LONGEST)) {
                 *count = usize::wrapping_add(*count, 1);
             }
         }
@@ -169,8 +177,10 @@ impl Arena {
 
 /// The literals of a span; none where it ends past the last one.
 fn part(lits: &[Lit], span: Span) -> &[Lit] {
-    if span.start <= lits.len() && span.len <= lits.len() - span.start {
-        &lits[span.start..span.start + span.len]
+    let start = span.start as usize;
+    let len = span.len as usize;
+    if start <= lits.len() && len <= lits.len() - start {
+        &lits[start..start + len]
     } else {
         &[]
     }
@@ -178,7 +188,8 @@ fn part(lits: &[Lit], span: Span) -> &[Lit] {
 
 /// Looks for another literal to watch in the place of the one that is false, which is then the second.
 fn turn_in(lits: &mut Vec<Lit>, span: Span, marks: &[Option<bool>], turned: Lit) -> Turn {
-    let Span { start, len } = span;
+    let start = span.start as usize;
+    let len = span.len as usize;
     if len < 2 || start > lits.len() || lits.len() - start < len {
         return Turn::Absent;
     }

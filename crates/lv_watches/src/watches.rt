@@ -4,7 +4,7 @@
 #![tactic(auto)]
 
 use super::arena::{Arena, Turn};
-use lv_base::{ClauseId, Lit};
+use lv_base::{BoolId, ClauseId, Lit};
 use lv_clauses::{ClauseSet, is_marked};
 use lv_reflog::Hint;
 use std::alloc::{AllocError, Global};
@@ -17,15 +17,37 @@ pub enum Kind {
     Learned,
 }
 
-/// A clause that watches a literal, by its number in the arena of its kind, and another of its literals: while that one is
-/// true, the clause needs no look.
+/// A clause that watches a literal, by its number in the arena of its kind, and another of its literals, by its boolean and
+/// its sign: while that one is true, the clause needs no look. Watches are most of what propagation reads, so that none is
+/// wider than it has to be.
 #[derive(Clone, Copy, Debug)]
 pub struct Watch {
     number: u32,
+    var: BoolId,
+    sign: bool,
     kind: Kind,
     /// It has no third literal.
     is_pair: bool,
-    other: Lit,
+}
+
+impl Watch {
+    /// The other literal.
+    #[inline(always)]
+    fn other(self) -> Lit {
+        Lit {
+            var: self.var,
+            sign: self.sign,
+        }
+    }
+
+    /// The same watch beside another literal.
+    fn beside(self, other: Lit) -> Watch {
+        Watch {
+            var: other.var,
+            sign: other.sign,
+            ..self
+        }
+    }
 }
 
 /// What becomes of a watch whose literal is false.
@@ -65,7 +87,7 @@ impl Watches {
             alloc,
             of_true: rows_for(alloc, counts.of_true.as_slice())?,
             of_false: rows_for(alloc, counts.of_false.as_slice())?,
-            given: Arena::with_room(alloc, set.bound(), counts.lits)?,
+            given: Arena::with_room(alloc, with_more(set.bound()), with_more(counts.lits))?,
             learned: Arena::new(alloc),
             steps: Vec::new(alloc),
             short: Vec::new(alloc),
@@ -165,7 +187,7 @@ impl Watches {
         watch: Watch,
         turned: Lit,
     ) -> Result<Fate, AllocError> {
-        if is_marked(marks, watch.other) {
+        if is_marked(marks, watch.other()) {
             return Ok(Fate::Stays(watch));
         }
         self.move_on(marks, watch, turned)
@@ -188,16 +210,10 @@ impl Watches {
         };
         match turn {
             Turn::Absent => Ok(Fate::Leaves),
-            Turn::Holds(other) => Ok(Fate::Stays(Watch { other, ..watch })),
+            Turn::Holds(other) => Ok(Fate::Stays(watch.beside(other))),
             Turn::Stuck => Ok(self.asks(watch)),
             Turn::Moves { kept, new } => {
-                self.watch(
-                    new,
-                    Watch {
-                        other: kept,
-                        ..watch
-                    },
-                )?;
+                self.watch(new, watch.beside(kept))?;
                 Ok(Fate::Leaves)
             }
         }
@@ -247,18 +263,13 @@ impl Watches {
         };
         let watch = Watch {
             number,
+            var: second.var,
+            sign: second.sign,
             kind,
             is_pair: others.is_empty(),
-            other: *second,
         };
         self.watch(*first, watch)?;
-        self.watch(
-            *second,
-            Watch {
-                other: *first,
-                ..watch
-            },
-        )
+        self.watch(*second, watch.beside(*first))
     }
 
     fn watch(&mut self, lit: Lit, watch: Watch) -> Result<(), AllocError> {
@@ -288,6 +299,11 @@ fn keep_given(rows: &mut Vec<Row>) {
     for row in rows {
         row.watches.retain(|watch| watch.kind == Kind::Given);
     }
+}
+
+/// So many and a quarter more: clauses that come later need not make all of it move, and room that isn't used costs nothing.
+fn with_more(count: usize) -> usize {
+    count.saturating_add(count / 4)
 }
 
 /// How many clauses watch each literal, true and false, and how many literals these clauses have in all.

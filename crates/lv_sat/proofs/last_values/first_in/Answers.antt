@@ -1,5 +1,5 @@
 -- what is left of the row is what stands behind the link
-use Rattle.std.proofs.Common.{inl, sym, subst, arith}
+use Rattle.std.proofs.Common.{◌≡◌, ◌⊎◌, ℕ, true, inl, sym, ap, ◌∙◌, subst, arith}
 use Rattle.lv_sat.specs.Rows.{Holds}
 use Rattle.lv_sat.specs.Occurrences.{id_holds}
 use Rattle.lv_sat.proofs.RowLemmas.{held_left, held_end}
@@ -11,8 +11,11 @@ loop-place-init c = record { within = c.head-place.ensures.within; left = λ id 
 pub loop-place-preserved : goal.loop-place-preserved
 loop-place-preserved c =
     record {
-      within = omega (arith, c.link-link.ensures.before, c.loop-place.invariant.within);
-      left = λ id held. held_left c.args.occurrences.now.links c.loop-place.place c.link-link.result (id_holds c.args.values.now c.args.set.now.slots) id c.link-link.ensures.value c.if-is_false.ensures (c.loop-place.invariant.left id held);
+      within = omega (arith, c.link-link.ensures.before, c.next-place.ensures, c.loop-place.invariant.within);
+      left = λ id held.
+          subst (λ (n : ℕ). Holds c.args.occurrences.now.links id n ⊎ (id_holds c.args.values.now c.args.set.now.slots id ≡ true)) (sym c.next-place.ensures)
+          (held_left c.args.occurrences.now.links c.loop-place.place c.link-link.result (id_holds c.args.values.now c.args.set.now.slots) id c.link-link.ensures.value
+          (ap (id_holds c.args.values.now c.args.set.now.slots) (sym c.id.ensures) ∙ c.if-is_false.ensures) (c.loop-place.invariant.left id held));
     }
 
 pub returns-clause-none : goal.returns-clause-none
