@@ -1,7 +1,7 @@
 -- What follows from clauses changes nothing beside them.
-use Rattle.std.proofs.Common.{◌≡◌, ◌≢◌, ◌⊎◌, ℕ, ◌-◌, ◌<◌, ◌≤◌, Bool, true, false, IsSome, List, length, map, slice_get, Option, Some, None, option_map, refl, sym, subst, ap, ◌∙◌, arith, inl, inr, All}
+use Rattle.std.proofs.Common.{◌≡◌, ◌≢◌, ◌⊎◌, ℕ, zero, suc, ◌+◌, ◌-◌, ◌<◌, ◌≤◌, Bool, true, false, IsSome, List, [], ◌∷◌, length, take, map, slice_get, Option, Some, None, option_map, refl, sym, subst, ap, ap₂, ◌∙◌, arith, inl, inr, All}
 use Rattle.std.proofs.lemmas.Bool.{cases_eq, cases_lt}
-use Rattle.std.proofs.lemmas.List.{take_all}
+use Rattle.std.proofs.lemmas.List.{take_all, get_or-take}
 use Rattle.std.proofs.lemmas.Option.{slice_get_within, get_or_from_slice_get}
 use Rattle.lv_base.specs.declared.ids.Lit.{Lit}
 use Rattle.lv_clauses.specs.Literals.{neg, clause_holds}
@@ -12,7 +12,7 @@ use Rattle.lv_sat.specs.lv_reflog.Following.{first_bad_step, IsImplied}
 use Rattle.lv_sat.proofs.lv_reflog.SoundLemmas.{checked}
 use Rattle.lv_sat.specs.Answers.{last_clause, IsModel, IsRefutation}
 use Rattle.lv_system.proofs.NumberingLemmas.{all_present_hold}
-use Rattle.lv_asking.specs.Lemmas.{Follows, HaveSameModels}
+use Rattle.lv_asking.specs.Lemmas.{Follows, HaveSameModels, front_of, IsFilled, HasLemmas, AddsLemmas, AreAlikeBelow}
 use Rattle.lv_asking.specs.Replies.{IsCore}
 
 same_by : (a b : Bool) → (a ≡ true → b ≡ true) → (b ≡ true → a ≡ true) → a ≡ b
@@ -101,13 +101,83 @@ absent : (o : Option (List Lit)) → (IsSome o → ⊥) → o ≡ None
 absent None never = refl
 absent (Some c) never = absurd (never refl)
 
--- they are told by the numbers below a bound of both
-pub same_below : (one other : ClauseMap) (m n bound : ℕ) → one.bools ≡ other.bools → IsBound one.slots m → IsBound other.slots n → m ≤ bound → n ≤ bound
-    → ((id : ℕ) → id < bound → clause_at one.slots id ≡ clause_at other.slots id) → HaveSameModels one other
-same_below one other m n bound bools first second low high below = same_by_numbers one other bools (λ id. by id (cases_lt id bound))
+-- the slots before a bound have what all have there, and none behind it
+take_below : (bound : ℕ) (slots : List (Option (List Lit))) (id : ℕ) → id < bound → clause_at (take bound slots) id ≡ clause_at slots id
+take_below bound slots id below = get_or-take bound slots id None below
+
+take_above : (bound : ℕ) (slots : List (Option (List Lit))) (id : ℕ) → bound ≤ id → clause_at (take bound slots) id ≡ None
+take_above zero slots id above = refl
+take_above (suc n) [] id above = refl
+take_above (suc n) (slot ∷ slots) zero above = absurd (omega (arith, above))
+take_above (suc n) (slot ∷ slots) (suc id) above = take_above n slots id (omega (arith, above))
+
+-- where a set has numbers below a bound alone, its clauses are told by those of another below it
+pub same_front : (set all : ClauseMap) (bound : ℕ) → IsBound set.slots bound → AreAlikeBelow bound set all → HaveSameModels set (front_of bound all)
+same_front set all bound told alike = same_by_numbers set (front_of bound all) (sym alike.bools) (λ id. by id (cases_lt id bound))
   where
-    by : (id : ℕ) → (id < bound) ⊎ (bound ≤ id) → clause_at one.slots id ≡ clause_at other.slots id
-    by id (inl less) = below id less
-    by id (inr above) =
-        absent (clause_at one.slots id) (λ some. let less = first.above id some in absurd (omega (arith, low, above, less)))
-        ∙ sym (absent (clause_at other.slots id) (λ some. let less = second.above id some in absurd (omega (arith, high, above, less))))
+    by : (id : ℕ) → (id < bound) ⊎ (bound ≤ id) → clause_at set.slots id ≡ clause_at (take bound all.slots) id
+    by id (inl less) = alike.clauses id less ∙ sym (take_below bound all.slots id less)
+    by id (inr above) = absent (clause_at set.slots id) (λ some. let less = told.above id some in absurd (omega (arith, above, less))) ∙ sym (take_above bound all.slots id above)
+
+pub alike_itself : (bound : ℕ) (set : ClauseMap) → AreAlikeBelow bound set set
+alike_itself bound set = record { bools = refl; clauses = λ id less. refl }
+
+-- a solver of copies has no lemmas yet
+pub none_yet : (set all : ClauseMap) (bound : ℕ) (filled : Bool) → all ≡ set → IsBound set.slots bound → (filled ≡ true → IsFilled bound set) → HasLemmas bound filled all
+none_yet set all bound filled is told fill =
+    subst (λ (s : ClauseMap). HasLemmas bound filled s) (sym is)
+    (record {
+      models = let one = same_front set set bound told (alike_itself bound set) in record { bools = refl; same = λ values len. sym (one.same values len) };
+      filled = fill;
+    })
+
+pub models_yet : (set all : ClauseMap) (bound : ℕ) → all ≡ set → IsBound set.slots bound → HaveSameModels set (front_of bound all)
+models_yet set all bound is told = subst (λ (s : ClauseMap). HaveSameModels set (front_of bound s)) (sym is) (same_front set set bound told (alike_itself bound set))
+
+-- filled slots that are the same below a bound are one list up to it
+take_alike : (bound : ℕ) (one other : List (Option (List Lit))) → ((id : ℕ) → id < bound → IsSome (clause_at one id)) → ((id : ℕ) → id < bound → clause_at other id ≡ clause_at one id) → take bound other ≡ take bound one
+take_alike zero one other filled same = refl
+take_alike (suc n) [] other filled same = absurd (cc (filled 0 (omega arith)))
+take_alike (suc n) (x ∷ xs) [] filled same = absurd (cc (subst IsSome (sym (same 0 (omega arith))) (filled 0 (omega arith))))
+take_alike (suc n) (x ∷ xs) (y ∷ ys) filled same =
+    ap₂ (λ (z : Option (List Lit)) (zs : List (Option (List Lit))). z ∷ zs) (same 0 (omega arith))
+    (take_alike n xs ys (λ id less. filled (suc id) (omega (arith, less))) (λ id less. same (suc id) (omega (arith, less))))
+
+-- one number more that is a clause's
+pub one_filled : (set : ClauseMap) (at : ℕ) → IsFilled at set → IsSome (clause_at set.slots at) → IsFilled (at + 1) set
+one_filled set at filled here id less = by (cases_eq id at)
+  where
+    by : (id ≡ at) ⊎ (id ≢ at) → IsSome (clause_at set.slots id)
+    by (inl this) = subst (λ n. IsSome (clause_at set.slots n)) (sym this) here
+    by (inr other) = filled id (omega (arith, less, other))
+
+-- a clause that follows gets a number behind those that are filled
+pub lemma_added : (bound : ℕ) (old new : ClauseMap) (id : ℕ) (c : List Lit) → clause_at old.slots id ≡ None → Puts old new id (Some c) → Follows old c → IsFilled bound old → AddsLemmas bound true old new
+lemma_added bound old new id c vacant puts follows filled =
+    record {
+      models = same_added old new id c vacant puts follows;
+      front = ap₂ (λ (n : ℕ) (slots : List (Option (List Lit))). record { bools = n; slots = slots }) puts.bools (take_alike bound old.slots new.slots filled same);
+      filled = λ _ _ n less. subst IsSome (sym (same n less)) (filled n less);
+    }
+  where
+    same : (n : ℕ) → n < bound → clause_at new.slots n ≡ clause_at old.slots n
+    same n less = puts.others n (λ (this : n ≡ id). cc (subst IsSome (ap (clause_at old.slots) this ∙ vacant) (filled n less)))
+
+pub none_added : (bound : ℕ) (is_filled : Bool) (set : ClauseMap) → AddsLemmas bound is_filled set set
+none_added bound is_filled set = record { models = same_self set; front = refl; filled = λ _ fill. fill }
+
+pub added_then : (bound : ℕ) (is_filled : Bool) (old mid new : ClauseMap) → AddsLemmas bound is_filled old mid → AddsLemmas bound true mid new → AddsLemmas bound is_filled old new
+added_then bound is_filled old mid new first next =
+    record {
+      models = same_then old mid new first.models next.models;
+      front = next.front ∙ first.front;
+      filled = λ said fill. next.filled refl (first.filled said fill);
+    }
+
+-- with more lemmas there are lemmas
+pub has_more : (bound : ℕ) (is_filled : Bool) (old new : ClauseMap) → HasLemmas bound is_filled old → AddsLemmas bound is_filled old new → HasLemmas bound is_filled new
+has_more bound is_filled old new has adds =
+    record {
+      models = subst (λ (front : ClauseMap). HaveSameModels front new) (sym adds.front) (same_then (front_of bound old) old new has.models adds.models);
+      filled = λ said. adds.filled said (has.filled said);
+    }

@@ -8,7 +8,7 @@ ghost use Rattle.lv_base.specs.declared.search.Pair.{Pair};
 ghost use Rattle.lv_clauses.specs.Literals.{distinct, is_clause};
 ghost use Rattle.lv_asking.specs.Literals.{pair_literals};
 ghost use Rattle.lv_asking.specs.Refutation.{Refutes};
-ghost use Rattle.lv_asking.specs.Asking.{IsPartial, Decides, beside, IsFresh, IsReason};
+ghost use Rattle.lv_asking.specs.Asking.{IsPartial, AskTheSame, Decides, beside, IsFresh, IsReason};
 
 use crate::lemma_solver::LemmaSolver;
 use crate::literals::{first_of, push_pairs};
@@ -52,7 +52,7 @@ impl Asking {
     ) -> Result<Asking, AllocError>
         requires clause { is_clause choices.first assumed.items ≡ true }
         requires fit { choices.first + sum choices.counts ≤ set.now.bools }
-        ensures { IfOk result (λ a. a ≡ record { set = set.now; choices = choices; assumed = assumed.items }) }
+        ensures { IfOk result (λ a. AskTheSame (record { set = set.now; choices = choices; assumed = assumed.items }) a) }
     {
         Ok(Asking::of(alloc, LemmaSolver::new(alloc, set)?, choices, assumed))
     }

@@ -6,7 +6,7 @@ ghost use Rattle.std.specs.Prelude.{◌≡◌, ◌<◌, true, None, IsTrue, IfOk
 ghost use Rattle.lv_clauses.specs.Literals.{is_clause};
 ghost use Rattle.lv_clauses.specs.ClauseMap.{clause_at};
 ghost use Rattle.lv_reflog.specs.Following.{first_bad_step};
-ghost use Rattle.lv_asking.specs.Lemmas.{Follows, HaveSameModels};
+ghost use Rattle.lv_asking.specs.Lemmas.{Follows, HaveSameModels, IsFilled, AddsLemmas, AreAlikeBelow};
 
 use lv_base::{ClauseId, Lit, Seq};
 use lv_clauses::{ClauseSet, is_clause};
@@ -30,23 +30,32 @@ pub enum Reply {
     Core(Seq<Lit>),
 }
 
-/// The clauses given, seen by contracts as the map from their numbers, and a solver of these and of lemmas.
+/// A solver of the clauses given, which contracts see as the map from their numbers, and of lemmas, whose numbers come
+/// behind theirs, so that it need not keep the clauses given once more.
 #[derive(Drop)]
 pub struct LemmaSolver {
-    given: ClauseSet,
     solver: Solver,
+    front: Front,
     lemmas: usize,
+}
+
+/// The number behind those of the clauses given, and whether each before it is that of a clause. Where one is free a lemma
+/// might get it, so that then none is kept.
+#[derive(Clone, Copy, Debug)]
+struct Front {
+    bound: usize,
+    is_filled: bool,
 }
 
 impl Model for LemmaSolver {
     ghost use Rattle.lv_clauses.specs.ClauseMap.{ClauseMap};
-    ghost use Rattle.lv_asking.specs.Lemmas.{HaveSameModels};
+    ghost use Rattle.lv_asking.specs.Lemmas.{front_of, HasLemmas};
 
     ghost Value = { ClauseMap };
 
-    ghost view = { λ s. s.given };
+    ghost view = { λ s. front_of s.front.bound s.solver.set };
 
-    ghost invariant = { λ s. HaveSameModels s.given s.solver.set };
+    ghost invariant = { λ s. HasLemmas s.front.bound s.front.is_filled s.solver.set };
 }
 
 impl LemmaSolver {
@@ -54,10 +63,14 @@ impl LemmaSolver {
 
     /// A solver of copies of a set's clauses.
     pub fn new(alloc: Global, set: &ClauseSet) -> Result<LemmaSolver, AllocError>
-        ensures { IfOk result (λ s. s ≡ set.now) }
+        ensures { IfOk result (λ s. HaveSameModels set.now s) }
     {
+        let bound = set.bound();
         Ok(LemmaSolver {
-            given: set.copy()?,
+            front: Front {
+                bound,
+                is_filled: is_filled(set, bound),
+            },
             lemmas: 0,
             solver: Solver::new(alloc, set)?,
         })
@@ -74,7 +87,7 @@ impl LemmaSolver {
     {
         match spare {
             Some(solver) => {
-                if are_same(set, &solver.given) {
+                if solver.is_of(set) {
                     Ok(solver)
                 } else {
                     LemmaSolver::new(alloc, set)
@@ -84,11 +97,19 @@ impl LemmaSolver {
         }
     }
 
+    /// Whether a set has the same clauses, each with its number.
+    fn is_of(&self, set: &ClauseSet) -> bool
+        ensures { result ≡ true → HaveSameModels set.now self.now }
+    {
+        set.bound() == self.front.bound
+            && are_alike_below(set, self.solver.clauses(), self.front.bound)
+    }
+
     /// The number of booleans.
     pub fn bools(&self) -> u32
         ensures { result ≡ self.now.bools }
     {
-        self.given.bools()
+        self.solver.clauses().bools()
     }
 
     /// Whether some values satisfy the clauses and make the assumptions true, which are of distinct booleans in range. It
@@ -100,11 +121,11 @@ impl LemmaSolver {
     {
         match self.solver.solve(assumptions)? {
             Answer::Sat { values, log } => {
-                self.lemmas = keep_lemmas(&mut self.solver, &log, self.lemmas)?;
+                self.lemmas = keep_lemmas(&mut self.solver, &log, self.front, self.lemmas)?;
                 Ok(Reply::Values(values))
             }
             Answer::Unsat { core, log } => {
-                self.lemmas = keep_lemmas(&mut self.solver, &log, self.lemmas)?;
+                self.lemmas = keep_lemmas(&mut self.solver, &log, self.front, self.lemmas)?;
                 Ok(Reply::Core(core))
             }
         }
@@ -116,16 +137,27 @@ impl LemmaSolver {
     }
 }
 
-/// Whether the sets have the same clauses, each with its number.
-fn are_same(one: &ClauseSet, other: &ClauseSet) -> bool
-    ensures { result ≡ true → HaveSameModels one.now other.now }
+/// Whether each number below the bound is that of a clause.
+fn is_filled(set: &ClauseSet, bound: usize) -> bool
+    ensures { result ≡ true → IsFilled bound set.now }
+{
+    for at in 0..bound {
+        if !set.contains(ClauseId(at)) {
+            return false;
+        }
+    }
+    true
+}
+
+/// Whether the sets are over as many booleans, and have the same clauses of the numbers below the bound.
+fn are_alike_below(one: &ClauseSet, other: &ClauseSet, bound: usize) -> bool
+    ensures { result ≡ true → AreAlikeBelow bound one.now other.now }
 {
     if one.bools() != other.bools() {
         return false;
     }
-    let bound = one.bound().max(other.bound());
     for at in 0..bound {
-        if !are_same_at(one, other, ClauseId(at)) {
+        if !are_alike_at(one, other, ClauseId(at)) {
             return false;
         }
     }
@@ -133,7 +165,7 @@ fn are_same(one: &ClauseSet, other: &ClauseSet) -> bool
 }
 
 /// Whether they have the same clause of this number, or both have none.
-fn are_same_at(one: &ClauseSet, other: &ClauseSet, id: ClauseId) -> bool
+fn are_alike_at(one: &ClauseSet, other: &ClauseSet, id: ClauseId) -> bool
     ensures { result ≡ true → clause_at one.now.slots id.0 ≡ clause_at other.now.slots id.0 }
 {
     match (one.find(id), other.find(id)) {
@@ -145,24 +177,41 @@ fn are_same_at(one: &ClauseSet, other: &ClauseSet, id: ClauseId) -> bool
 
 /// Keeps the short clauses that a log derives, beside so many lemmas. Answers how many there are then. Where propagation alone
 /// refuted, none is kept: it does so again as quickly.
-fn keep_lemmas(solver: &mut Solver, log: &Log, lemmas: usize) -> Result<usize, AllocError>
-    requires { first_bad_step solver.old.set log.now ≡ None }
-    ensures { HaveSameModels solver.old.set solver.new.set }
+fn keep_lemmas(
+    solver: &mut Solver,
+    log: &Log,
+    front: Front,
+    lemmas: usize,
+) -> Result<usize, AllocError>
+    requires valid { first_bad_step solver.old.set log.now ≡ None }
+    requires filled { front.is_filled ≡ true → IsFilled front.bound solver.old.set }
+    ensures { AddsLemmas front.bound front.is_filled solver.old.set solver.new.set }
 {
-    if log.len() < 2 {
+    if !front.is_filled || log.len() < 2 {
         return Ok(lemmas);
     }
     let mut count = lemmas;
     for place in 0..log.len() {
-        count = keep_lemma(solver, log.step(place).clause.as_slice(), count)?;
+        count = keep_lemma(
+            solver,
+            log.step(place).clause.as_slice(),
+            front.bound,
+            count,
+        )?;
     }
     Ok(count)
 }
 
 /// Keeps a clause that follows, where it is short and there aren't too many yet. Answers how many there are then.
-fn keep_lemma(solver: &mut Solver, clause: &[Lit], lemmas: usize) -> Result<usize, AllocError>
-    requires { Follows solver.old.set clause.now }
-    ensures { HaveSameModels solver.old.set solver.new.set }
+fn keep_lemma(
+    solver: &mut Solver,
+    clause: &[Lit],
+    bound: usize,
+    lemmas: usize,
+) -> Result<usize, AllocError>
+    requires follows { Follows solver.old.set clause.now }
+    requires filled { IsFilled bound solver.old.set }
+    ensures { AddsLemmas bound true solver.old.set solver.new.set }
 {
     let bools = solver.clauses().bools();
     if lemmas < MOST && clause.len() <= LONGEST && is_clause(bools, clause) {

@@ -16,7 +16,8 @@ use Rattle.lv_system.proofs.WindowLemmas.{moves_sum}
 use Rattle.lv_meaning.specs.declared.facts.Facts.{Facts}
 use Rattle.lv_meaning.specs.PossibleLaws.{are_below}
 use Rattle.lv_asking.specs.Literals.{IsOnce}
-use Rattle.lv_asking.specs.Asking.{AskingValue, Decides}
+use Rattle.lv_asking.specs.Asking.{AskingValue, AskTheSame, Decides}
+use Rattle.lv_asking.proofs.SameLemmas.{decides_the_same}
 use Rattle.lv_window.specs.Possible.{is_possible_over}
 use Rattle.lv_window_query.specs.Known.{StepFits, window_literals}
 use Rattle.lv_window_query.specs.Trial.{TellsWindow}
@@ -40,14 +41,14 @@ module _ (plant : Plant) (steps : List Facts) (s : WindowValue) (is : IsWindowOf
 
   -- what is asked tells what is possible over the steps
   pub tells_window : is_well_formed plant ≡ true → 1 ≤ length steps → All (StepFits plant) steps → (choices : Choices) → choices ≡ s.choices → (set : ClauseMap) → set ≡ s.set → (n : ℕ) → (lits : List Lit)
-      → lits ≡ window_literals plant 0 steps → (assumed : List Lit) → IsOnce n lits assumed → (a : AskingValue) → a ≡ record { set = set; choices = choices; assumed = assumed } → TellsWindow plant steps a
-  tells_window h some fits choices same set set_is n lits lits_are assumed once a a_is =
+      → lits ≡ window_literals plant 0 steps → (assumed : List Lit) → IsOnce n lits assumed → (a : AskingValue) → AskTheSame (record { set = set; choices = choices; assumed = assumed }) a → TellsWindow plant steps a
+  tells_window h some fits choices same set set_is n lits lits_are assumed once a asks =
       let own : IsOnce n (window_literals plant 0 steps) assumed = subst (λ (ls : List Lit). IsOnce n ls assumed) lits_are once in
       let decides : Decides (own_asking assumed) (is_possible_over plant steps) = window_decides plant h steps some fits s is n assumed own in
-      let made : own_asking assumed ≡ a = sym (a_is ∙ (λ i. record { set = set_is i; choices = same i; assumed = assumed })) in
+      let made : record { set = set; choices = choices; assumed = assumed } ≡ own_asking assumed = (λ i. record { set = set_is i; choices = same i; assumed = assumed }) in
       record {
-        counts = ap (λ (v : AskingValue). v.choices.counts) a_is ∙ ap (λ (c : Choices). c.counts) (same ∙ is.choices);
-        decides = subst (λ (v : AskingValue). Decides v (is_possible_over plant steps)) made decides;
+        counts = ap (λ (c : Choices). c.counts) (asks.choices ∙ same ∙ is.choices);
+        decides = decides_the_same (own_asking assumed) a (subst (λ (v : AskingValue). AskTheSame v a) made asks) (is_possible_over plant steps) decides;
       }
 
 -- a trajectory has few choices

@@ -4,7 +4,7 @@ use Rattle.std.proofs.lemmas.Bool.{and_parts, and_from}
 use Rattle.std.specs.Cmp.{unsigned_Decides, booleans_Decides}
 use Rattle.std.specs.Cmp.Lexicographic.{pointwise_decides}
 use Rattle.lv_base.specs.declared.ids.Lit.{Lit}
-use Rattle.lv_asking.proofs.lemma_solver.are_same_at.Goals as goal
+use Rattle.lv_asking.proofs.lemma_solver.are_alike_at.Goals as goal
 
 pub returns-in-Some-Some : goal.returns-in-Some-Some
 returns-in-Some-Some c told =
