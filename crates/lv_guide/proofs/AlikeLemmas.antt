@@ -22,7 +22,7 @@ use Rattle.lv_search_walk.proofs.RankedLemmas.{one_list}
 use Rattle.lv_search.specs.Frontier.{LeavesFirst, IsLikeFirst, ThinsAlike, LeavesOut}
 use Rattle.lv_search.proofs.NextLemmas.{first_and_rest}
 use Rattle.lv_search.proofs.GroupLemmas.{has_own_groups}
-use Rattle.lv_search.proofs.TimesLemmas.{times_one}
+use Rattle.lv_search.proofs.LeftLemmas.{times_one}
 use Rattle.lv_search.proofs.LeftLemmas.{rises_filtered, filter_among, some_with}
 use Rattle.lv_search.specs.Free.{is_free_rank}
 use Rattle.lv_guide.specs.Guide.{zones_in, left_in, IsQueue, IsReady, HasRoomBy, HasMoreBy, HasSameFree, DropsAlike}

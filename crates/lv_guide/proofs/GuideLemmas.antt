@@ -37,7 +37,7 @@ use Rattle.lv_search.specs.Frontier.{FirstContains, LeavesFirst, Thins}
 use Rattle.lv_search.specs.Free.{is_free_rank, free_of}
 use Rattle.lv_guide.specs.Guide.{zones_in, left_in, IsKeyMember, IsKeyFirst, IsQueue, AreKeptBy, front_is_free, IsReady, HasRoomBy, HasMoreBy, HasMore, HasSameFree, stale_in, LooksAgain, DropsFirst}
 use Rattle.lv_search.proofs.NextLemmas.{first_and_rest}
-use Rattle.lv_search.proofs.TimesLemmas.{times_none, times_one}
+use Rattle.lv_search.proofs.LeftLemmas.{times_none, times_one}
 use Rattle.lv_search.proofs.LeftLemmas.{first_of_rising, none_before_on, filter_among, rises_filtered, among_behind, choices_per_slot, stays, parts_times, some_with, sources_apart}
 
 abbrev Entry : Type 0

@@ -482,7 +482,7 @@ impl Frontier for Guide {
         }
     }
 
-    fn drop_first(&mut self, _number: usize) -> Result<(), AllocError> {
+    fn drop_first(&mut self) -> Result<(), AllocError> {
         let mut queue = mem::replace(&mut self.queue, BTreeMap::new(self.alloc));
         let mut course = mem::replace(&mut self.course, Course::over());
         course.whole = None;
@@ -499,7 +499,7 @@ impl Frontier for Guide {
         Ok(())
     }
 
-    fn split_first(&mut self, _number: usize, conflict: &Conflict) -> Result<(), AllocError> {
+    fn split_first(&mut self, conflict: &Conflict) -> Result<(), AllocError> {
         let mut queue = mem::replace(&mut self.queue, BTreeMap::new(self.alloc));
         let mut course = mem::replace(&mut self.course, Course::over());
         course.allow_more();
@@ -517,9 +517,9 @@ impl Frontier for Guide {
         Ok(())
     }
 
-    fn drop_alike(&mut self, number: usize, groups: &Groups) -> Result<(), AllocError> {
+    fn drop_alike(&mut self, groups: &Groups) -> Result<(), AllocError> {
         if !groups.fit(&self.grid) {
-            return self.drop_first(number);
+            return self.drop_first();
         }
         let mut queue = mem::replace(&mut self.queue, BTreeMap::new(self.alloc));
         let mut course = mem::replace(&mut self.course, Course::over());

@@ -8,7 +8,7 @@ use Rattle.std.proofs.lemmas.List.Folds.{list_all-append}
 use Rattle.lv_base.specs.declared.rank.Rank.{Rank}
 use Rattle.lv_base.specs.declared.search.Pair.{Pair}
 use Rattle.lv_base.specs.declared.search.Candidate.{Candidate}
-use Rattle.lv_base.specs.Choices.{picks, contains_all, pairs_of}
+use Rattle.lv_base.specs.Choices.{picks, pairs_of}
 use Rattle.lv_search_walk.specs.Reason.{reduced}
 use Rattle.lv_search_walk.specs.Walk.{candidate_of, walk_from, distinct_walk}
 use Rattle.lv_search_walk.specs.Laws.{IsMonotone, each_is_needed, is_pair, has_pairs, none_in_another, AreMinimal}

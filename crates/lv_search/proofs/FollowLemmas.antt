@@ -1,8 +1,8 @@
 -- What a turn does leaves the walk as it was.
-use Rattle.std.proofs.Common.{◌≡◌, ◌≢◌, ℕ, suc, ◌+◌, ◌≤◌, Bool, true, false, List, [], ◌∷◌, ◌++◌, length, drop, filter, nat_eq, inl, inr, refl, sym, ◌∙◌, ap, subst, cond, arith}
+use Rattle.std.proofs.Common.{◌≡◌, ◌≢◌, ◌⊎◌, ℕ, suc, ◌+◌, ◌≤◌, Bool, true, false, List, [], ◌∷◌, ◌++◌, length, drop, nat_eq, inl, inr, refl, sym, ◌∙◌, ap, subst, arith}
 use Rattle.std.specs.Prelude.{Option, Some, None}
 use Rattle.std.specs.List.{list_all, list_any}
-use Rattle.std.proofs.lemmas.Bool.{and_from, and_parts, or_left, or_right, eqb-true, eqb-false}
+use Rattle.std.proofs.lemmas.Bool.{and_parts, or_left, or_right, eqb-true, eqb-false}
 use Rattle.std.proofs.lemmas.List.{length-append}
 use Rattle.std.proofs.lemmas.List.Folds.{list_any_at}
 use Rattle.lv_base.specs.declared.rank.Rank.{Rank}
@@ -18,14 +18,7 @@ use Rattle.lv_search.specs.Standing.{Standing, trials_of, walk_on, conflict_at, 
 use Rattle.lv_search.specs.Turn.{PassesOver, IsRepeated, IsTrial, IsListed, GoesOnTo, EndsAt}
 use Rattle.lv_search.proofs.NextLemmas.{first_and_rest, shorter_without}
 use Rattle.lv_search.proofs.GroupLemmas.{has_own_groups, groups_join, alike_listed, alike_last}
-
-all_filtered : (p keeps : Rank → Bool) (rs : List Rank) → list_all p rs ≡ true → list_all p (filter keeps rs) ≡ true
-all_filtered p keeps [] h = refl
-all_filtered p keeps (r ∷ rs) h = by (keeps r) (all_filtered p keeps rs (and_parts (p r) (list_all p rs) h).1)
-  where
-    by : (b : Bool) → list_all p (filter keeps rs) ≡ true → list_all p (cond b (r ∷ filter keeps rs) (filter keeps rs)) ≡ true
-    by true rest = and_from (p r) (list_all p (filter keeps rs)) (and_parts (p r) (list_all p rs) h).0 rest
-    by false rest = rest
+use Rattle.lv_search.proofs.LeftLemmas.{all_filtered}
 
 module _ (suits fits : Candidate → Bool) (reason : Candidate → List Pair) where
   pub follows_itself : (s : Standing) → Follows suits fits reason s s
@@ -158,21 +151,38 @@ module _ (suits fits : Candidate → Bool) (reason : Candidate → List Pair) wh
       more_kept : length old.listed + length (old.kept ++ (reason candidate ∷ [])) ≡ trials_of old + 1
       more_kept = let longer : length (old.kept ++ (reason candidate ∷ [])) ≡ length old.kept + 1 = length-append old.kept (reason candidate ∷ []) in omega (arith, longer)
 
-      -- one that fits is listed
-      pub listed_goes_on : (new : Standing) → fits candidate ≡ true → IsListed rank old new → GoesOnTo suits fits reason budget old new
-      listed_goes_on new fit l =
-          let now = behind old.groups rank rest (old.listed ++ (rank ∷ [])) new.left left_is
-          (λ gs same r e. alike_last (alike_by old.groups) r rank old.listed (ap (λ (g : Option (List (List ℕ))). alike_by g r rank) same ∙ e)) l.left
+      -- the walk comes to it: it fits
+      walk_to : (b : ℕ) → trials_of old + 1 ≤ b → fits candidate ≡ true → walk_on fits reason b old ≡ walk_from (alike_by old.groups) fits reason old.k b (old.listed ++ (rank ∷ [])) old.kept rest
+      walk_to b more fit =
+          ap (λ rs. walk_from (alike_by old.groups) fits reason old.k b old.listed old.kept rs) left_is
+          ∙ walk_listed (alike_by old.groups) fits reason old.k b rank rest old.listed old.kept t.fewer t.not_ruled_out t.fresh (still_below b more) (ap fits (sym t.candidate_is) ∙ fit)
+
+      -- with the last one listed nothing is asked of what is left
+      last_goes_on : fits candidate ≡ true → length (old.listed ++ (rank ∷ [])) ≡ old.k → GoesOnTo suits fits reason budget old (record old { listed = old.listed ++ (rank ∷ []) })
+      last_goes_on fit full =
+          record {
+            follows = record {
+              walk = λ b more. walk_full (alike_by old.groups) fits reason old.k b old.left (old.listed ++ (rank ∷ [])) old.kept full
+                  ∙ sym (walk_to b (omega (arith, more, more_listed)) fit ∙ walk_full (alike_by old.groups) fits reason old.k b rest (old.listed ++ (rank ∷ [])) old.kept full);
+              trials = omega (arith, more_listed);
+              k = refl;
+              groups = refl;
+              suit = λ h. h;
+            };
+            few = omega (arith, more_listed, one_left);
+            nearer = omega (arith, more_listed, one_left);
+          }
+
+      left_goes_on : (left : List Rank) → fits candidate ≡ true → LeftAfter old.groups old.left left → GoesOnTo suits fits reason budget old (record old { listed = old.listed ++ (rank ∷ []); left = left })
+      left_goes_on left fit after =
+          let now = behind old.groups rank rest (old.listed ++ (rank ∷ [])) left left_is
+          (λ gs same r e. alike_last (alike_by old.groups) r rank old.listed (ap (λ (g : Option (List (List ℕ))). alike_by g r rank) same ∙ e)) after
           in
           let short = now.short in
           let long : length old.left ≡ suc (length rest) = ap length left_is in
-          subst (λ (s : Standing). GoesOnTo suits fits reason budget old s) (sym l.is)
           record {
             follows = record {
-              walk = λ b more. now.walk b
-                  ∙ sym (ap (λ rs. walk_from (alike_by old.groups) fits reason old.k b old.listed old.kept rs) left_is
-                  ∙ walk_listed (alike_by old.groups) fits reason old.k b rank rest old.listed old.kept t.fewer t.not_ruled_out t.fresh (still_below b (omega (arith, more, more_listed)))
-                  (ap fits (sym t.candidate_is) ∙ fit));
+              walk = λ b more. now.walk b ∙ sym (walk_to b (omega (arith, more, more_listed)) fit);
               trials = omega (arith, more_listed);
               k = refl;
               groups = refl;
@@ -181,6 +191,15 @@ module _ (suits fits : Candidate → Bool) (reason : Candidate → List Pair) wh
             few = omega (arith, more_listed, one_left);
             nearer = omega (arith, more_listed, one_left, long, short);
           }
+
+      -- one that fits is listed
+      pub listed_goes_on : (new : Standing) → fits candidate ≡ true → IsListed rank old new → GoesOnTo suits fits reason budget old new
+      listed_goes_on new fit l = subst (λ (s : Standing). GoesOnTo suits fits reason budget old s) (sym l.is) (by l.left)
+        where
+          by : ((length (old.listed ++ (rank ∷ [])) ≡ old.k) × (new.left ≡ old.left)) ⊎ LeftAfter old.groups old.left new.left
+              → GoesOnTo suits fits reason budget old (record old { listed = old.listed ++ (rank ∷ []); left = new.left })
+          by (inl last) = subst (λ rs. GoesOnTo suits fits reason budget old (record old { listed = old.listed ++ (rank ∷ []); left = rs })) (sym last.1) (last_goes_on fit last.0)
+          by (inr after) = left_goes_on new.left fit after
 
       -- of one that doesn't the reason is kept
       pub refused_goes_on : (new : Standing) → fits candidate ≡ false → contains_all candidate.choices (reason candidate) ≡ true

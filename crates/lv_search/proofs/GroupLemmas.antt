@@ -1,7 +1,7 @@
 -- Having the same groups: each candidate has its own, and it passes on.
-use Rattle.std.proofs.Common.{◌≡◌, ℕ, ◌||◌, Bool, true, false, nat_eq, nat_lt, List, [], ◌∷◌, ◌++◌, length, cond, ⊎_elim, refl, ◌∙◌, ap, arith}
-use Rattle.std.specs.Prelude.{Option, Some, None, position}
-use Rattle.std.specs.List.{list_any, position_or_len}
+use Rattle.std.proofs.Common.{◌≡◌, ℕ, ◌||◌, Bool, true, false, nat_eq, List, [], ◌∷◌, ◌++◌, ⊎_elim, refl, ◌∙◌}
+use Rattle.std.specs.Prelude.{Option, Some, None}
+use Rattle.std.specs.List.{list_any}
 use Rattle.std.specs.Cmp.Lexicographic.{pointwise}
 use Rattle.std.proofs.lemmas.Bool.{and_from, and_parts, or_left, or_right, or_cases, eqb-true, eq-eqb}
 use Rattle.std.proofs.lemmas.List.Folds.{list_any-append}
@@ -36,17 +36,6 @@ groups_join (Some groups) r q p h k = joined (groups_of groups r.choices) (group
 pub none_listed : (r : Rank) (listed : List Rank) → list_any (none_alike r) listed ≡ false
 none_listed r [] = refl
 none_listed r (q ∷ qs) = none_listed r qs
-
-all_past : (r : Rank) (listed : List Rank) → position_or_len (none_alike r) listed ≡ length listed
-all_past r [] = refl
-all_past r (q ∷ qs) = let rest : position_or_len (none_alike r) qs ≡ length qs = all_past r qs in omega (arith, rest)
-
-not_below : (n m : ℕ) → n ≡ m → nat_lt n m ≡ false
-not_below n m e = grind (arith, e)
-
-pub none_found : (r : Rank) (listed : List Rank) → position (none_alike r) listed ≡ None
-none_found r listed =
-    ap (λ b. cond b (Some (position_or_len (none_alike r) listed)) None) (not_below (position_or_len (none_alike r) listed) (length listed) (all_past r listed))
 
 module _ (alike : Rank → Rank → Bool) where
   -- what is alike an entry is alike the listed one that the entry is alike

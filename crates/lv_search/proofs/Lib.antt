@@ -1,9 +1,7 @@
 pub mod NextLemmas
 pub mod GroupLemmas
 pub mod FollowLemmas
-pub mod TimesLemmas
 pub mod LeftLemmas
-pub mod GroupLeftLemmas
 pub mod RunLemmas
 pub mod DeletedReasons
 pub use Rattle.lv_boxes.proofs as lv_boxes

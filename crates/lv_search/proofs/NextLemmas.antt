@@ -4,7 +4,6 @@ use Rattle.std.specs.Prelude.{slice_get, position, Option, Some, None}
 use Rattle.std.specs.List.{list_any, position_or_len}
 use Rattle.std.proofs.lemmas.Bool.{ltb-false}
 use Rattle.std.proofs.lemmas.List.Quantifiers.{position-Some}
-use Rattle.std.proofs.lemmas.List.Folds.{list_any_at}
 use Rattle.std.proofs.lemmas.List.Sums.{length-filter, count_by-le-length}
 use Rattle.lv_base.specs.declared.rank.Rank.{Rank}
 use Rattle.lv_base.specs.declared.search.Pair.{Pair}
@@ -69,22 +68,17 @@ module _ (s : Standing) (rank : Rank) (first : slice_get s.left 0 ≡ Some rank)
       record { fewer = fewer; within = at.0; inside = first_contains s.left rank (conflict_at s.kept number) first at.1 }
 
   module _ (allowed : is_ruled_out s.kept rank.choices ≡ false) where
-    pub is_repeated : (number : ℕ) → position (alike_by s.groups rank) s.listed ≡ Some number → IsRepeated s
-    is_repeated number found =
-        let at = position-Some (alike_by s.groups rank) s.listed number rank found in
-        record { fewer = fewer; rank = rank; first = first; not_ruled_out = allowed; alike = list_any_at (alike_by s.groups rank) s.listed number rank at.0 at.1 }
+    pub is_repeated : list_any (alike_by s.groups rank) s.listed ≡ true → IsRepeated s
+    is_repeated alike = record { fewer = fewer; rank = rank; first = first; not_ruled_out = allowed; alike = alike }
 
-    fresh : position (alike_by s.groups rank) s.listed ≡ None → list_any (alike_by s.groups rank) s.listed ≡ false
-    fresh none = position-None (alike_by s.groups rank) s.listed none
-
-    pub used_up : (budget : ℕ) → position (alike_by s.groups rank) s.listed ≡ None → trials_of s ≡ budget → EndsHere Unsettled budget s
-    used_up budget none used fits reason =
+    pub used_up : (budget : ℕ) → list_any (alike_by s.groups rank) s.listed ≡ false → trials_of s ≡ budget → EndsHere Unsettled budget s
+    used_up budget fresh used fits reason =
         let rest = first_and_rest s.left rank first in
         subst (λ (rs : List Rank). walk_on fits reason budget (record s { left = rs }) ≡ record { outcome = Unsettled; listed = s.listed; kept = s.kept }) (sym rest.1)
-        (walk_used_up (alike_by s.groups) fits reason s.k budget rank rest.0 s.listed s.kept fewer allowed (fresh none) used)
+        (walk_used_up (alike_by s.groups) fits reason s.k budget rank rest.0 s.listed s.kept fewer allowed fresh used)
 
-    pub is_trial : (candidate : Candidate) (budget : ℕ) → position (alike_by s.groups rank) s.listed ≡ None → trials_of s ≢ budget → candidate ≡ candidate_of rank → IsTrial rank candidate budget s
-    is_trial candidate budget none left is = record { fewer = fewer; first = first; candidate_is = is; not_ruled_out = allowed; fresh = fresh none; not_used_up = left }
+    pub is_trial : (candidate : Candidate) (budget : ℕ) → list_any (alike_by s.groups rank) s.listed ≡ false → trials_of s ≢ budget → candidate ≡ candidate_of rank → IsTrial rank candidate budget s
+    is_trial candidate budget fresh left is = record { fewer = fewer; first = first; candidate_is = is; not_ruled_out = allowed; fresh = fresh; not_used_up = left }
 
 -- what the store finds nothing in is not ruled out
 pub not_ruled_out : (kept : List (List Pair)) (choices : List ℕ) → position (contains_all choices) kept ≡ None → is_ruled_out kept choices ≡ false

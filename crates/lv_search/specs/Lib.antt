@@ -2,7 +2,6 @@ pub mod Trial
 pub mod Frontier
 pub mod Standing
 pub mod Turn
-pub mod Zones
 pub mod Free
 pub mod Search
 pub mod Laws

@@ -1,5 +1,5 @@
 -- What one turn of a search does to where it stands.
-use Rattle.std.specs.Prelude.{◌≡◌, ◌≢◌, ℕ, ◌+◌, ◌-◌, ◌<◌, ◌≤◌, Bool, true, false, List, [], ◌∷◌, ◌++◌, length, slice_get, Some}
+use Rattle.std.specs.Prelude.{◌≡◌, ◌≢◌, ◌⊎◌, ℕ, ◌+◌, ◌-◌, ◌<◌, ◌≤◌, Bool, true, false, List, [], ◌∷◌, ◌++◌, length, slice_get, Some}
 use Rattle.std.specs.List.{list_any}
 use Rattle.lv_base.specs.declared.rank.Rank.{Rank}
 use Rattle.lv_base.specs.declared.search.Pair.{Pair}
@@ -49,13 +49,13 @@ pub record IsTrial (rank : Rank) (candidate : Candidate) (budget : ℕ) (s : Sta
 abbrev pub NextTells : Next → ℕ → Standing → Type 0
 NextTells (Ends outcome) budget s = EndsHere outcome budget s
 NextTells (PassOver number) budget s = PassesOver number s
-NextTells (Repeat number) budget s = IsRepeated s
+NextTells Repeat budget s = IsRepeated s
 NextTells (Try rank candidate) budget s = IsTrial rank candidate budget s
 
--- the first is listed, and left out
+-- the first is listed, and left out, unless it is the last that is to be listed
 pub record IsListed (rank : Rank) (old new : Standing) : Type 0 where
   pub is : new ≡ record old { listed = old.listed ++ (rank ∷ []); left = new.left }
-  pub left : LeftAfter old.groups old.left new.left
+  pub left : ((length (old.listed ++ (rank ∷ [])) ≡ old.k) × (new.left ≡ old.left)) ⊎ LeftAfter old.groups old.left new.left
 
 -- how many turns there are left at most
 abbrev pub turns_left : ℕ → Standing → ℕ

@@ -19,18 +19,18 @@ pub trait Frontier {
     fn first(&self) -> Option<&Rank>
         ensures { option_copied result ≡ slice_get (left self.now) 0 };
 
-    /// Leaves out the first, the listed candidate of this number.
-    fn drop_first(&mut self, number: usize) -> Result<(), AllocError>
+    /// Leaves out the first, which was listed.
+    fn drop_first(&mut self) -> Result<(), AllocError>
         requires { left self.old ≢ [] }
         ensures { IfOk result (λ _. left self.new ≡ drop 1 (left self.old)) };
 
-    /// Leaves out the first, which contains the kept conflict of this number, and maybe others that contain it.
-    fn split_first(&mut self, number: usize, conflict: &Conflict) -> Result<(), AllocError>
+    /// Leaves out the first, which contains the kept conflict, and maybe others that contain it.
+    fn split_first(&mut self, conflict: &Conflict) -> Result<(), AllocError>
         requires { FirstContains conflict.now (left self.old) }
         ensures { IfOk result (λ _. Thins conflict.now (left self.old) (left self.new)) };
 
-    /// Leaves out the first, which has the target of the listed candidate of this number, and maybe others that have it.
-    fn drop_alike(&mut self, number: usize, groups: &Groups) -> Result<(), AllocError>
+    /// Leaves out the first, which has the target of a listed candidate, and maybe others that have it.
+    fn drop_alike(&mut self, groups: &Groups) -> Result<(), AllocError>
         requires { left self.old ≢ [] }
         ensures { IfOk result (λ _. LeavesOut groups.now (left self.old) (left self.new)) };
 }

@@ -1,6 +1,6 @@
 //! The search for the first candidates that fit, best first and for any trial. It tries the candidates of some zones in
 //! the order of their ranks, without ever listing them: what a refused trial leaves behind, a conflict, takes all
-//! candidates that contain it out of the zones. It is proved to come to what the plain walk along all of them comes to.
+//! candidates that contain it out of what is left. It is proved to come to what the plain walk along all of them comes to.
 //!
 //! | file | what it holds |
 //! |---|---|
@@ -8,7 +8,6 @@
 //! | `trial` | `Trial`: what a search wants of its trial |
 //! | `turn` | one turn of a search, and the turns of one run |
 //! | `frontier` | what is left to try, as the turns see it |
-//! | `zones` | what is left to try, as zones that conflicts split |
 //! | `laws` | what the walk's entries are, and where a walk begins |
 #![tactic(auto)]
 
@@ -17,10 +16,8 @@ pub mod laws;
 pub mod search;
 pub mod trial;
 pub mod turn;
-pub mod zones;
 
 pub use frontier::Frontier;
 pub use lv_search_walk::Outcome;
 pub use search::Search;
 pub use trial::{Trial, Tried};
-pub use zones::{By, Split, Zones};

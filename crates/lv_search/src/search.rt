@@ -1,4 +1,4 @@
-//! The search: zones of candidates, what is listed and kept so far, and runs that go on where the last one stopped.
+//! The search: the candidates left, what is listed and kept so far, and runs that go on where the last one stopped.
 #![tactic(auto)]
 
 ghost use Rattle.std.specs.Prelude.{◌≡◌, ◌+◌, ◌<◌, ◌≤◌, ◌^◌, [], true, List, IfOk, Some, None};
@@ -11,7 +11,6 @@ ghost use Rattle.lv_search.specs.Standing.{trials_of, all_suit, first_fitting, A
 use super::frontier::Frontier;
 use super::trial::Trial;
 use super::turn::{Held, take_turns};
-use super::zones::{Split, Zones};
 use lv_base::{Conflict, Rank, Seq};
 use lv_boxes::Groups;
 use lv_conflicts::Store;
@@ -128,22 +127,5 @@ impl<F: Frontier + Drop> Search<F> {
         ensures { result ≡ trials_of self.now.standing }
     {
         self.held.trials()
-    }
-}
-
-impl Search<Zones> {
-    /// The splits made, in order: each a zone and the kept conflict or listed candidate that split it. Zones are numbered
-    /// from 0, first those that the search began with; a split closes its zone and gives one zone for each pair of the
-    /// conflict, or for each slot of the candidate, the next numbers, those without members too. In a search with groups a
-    /// listed candidate splits zones by its target. Takes no memory.
-    pub fn splits(&self) -> &[Split]
-        ensures { result.now ≡ self.now.frontier.splits }
-    {
-        self.frontier.splits()
-    }
-
-    /// How many zones there were so far, the closed ones and those without members too. Takes no memory.
-    pub fn zones(&self) -> u64 {
-        self.frontier.made()
     }
 }

@@ -2,7 +2,7 @@
 //! out what a kept conflict rules out, or tries the candidate.
 #![tactic(auto)]
 
-ghost use Rattle.std.specs.Prelude.{◌≡◌, ◌≢◌, ◌==◌, ◌+◌, ◌-◌, ◌<◌, ◌≤◌, ◌^◌, ◌++◌, ◌∷◌, [], List, true, false, length, slice_get, position, drop, IfOk, OnOk, IsTrue, Some};
+ghost use Rattle.std.specs.Prelude.{◌≡◌, ◌≢◌, ◌==◌, ◌+◌, ◌-◌, ◌<◌, ◌≤◌, ◌^◌, ◌++◌, ◌∷◌, [], List, true, false, length, slice_get, drop, IfOk, OnOk, IsTrue, Some};
 ghost use Rattle.lv_base.specs.declared.rank.Rank.{Rank};
 ghost use Rattle.std.specs.List.{list_any};
 ghost use Rattle.lv_search_walk.specs.Walk.{candidate_of, is_ruled_out};
@@ -42,24 +42,24 @@ impl Held {
         self.listed.len() == self.k as usize
     }
 
-    /// The number of the first listed candidate that has the target of this one; none where the search has no groups.
-    fn alike(&self, rank: &Rank) -> Option<usize>
-        ensures { result ≡ position (alike_by self.now.groups rank.now) self.now.listed }
+    /// Whether a listed candidate has the target of this one; none has where the search has no groups.
+    fn has_alike(&self, rank: &Rank) -> bool
+        ensures { result ≡ list_any (alike_by self.now.groups rank.now) self.now.listed }
     {
         match &self.groups {
-            Some(groups) => first_alike(groups, self.listed.as_slice(), rank.choices.as_slice()),
-            None => None,
+            Some(groups) => any_alike(groups, self.listed.as_slice(), rank.choices.as_slice()),
+            None => false,
         }
     }
 }
 
-/// The number of the first of these that has the target of the choices.
-fn first_alike(groups: &Groups, listed: &[Rank], choices: &[u32]) -> Option<usize>
-    ensures { result ≡ position (λ (q : Rank). have_same_groups groups.now choices.now q.choices) listed.now }
+/// Whether one of these has the target of the choices.
+fn any_alike(groups: &Groups, listed: &[Rank], choices: &[u32]) -> bool
+    ensures { result ≡ list_any (λ (q : Rank). have_same_groups groups.now choices.now q.choices) listed.now }
 {
     listed
         .iter()
-        .position(|other| groups.are_one(choices, other.choices.as_slice()))
+        .any(|other| groups.are_one(choices, other.choices.as_slice()))
 }
 
 /// What comes next: the search ends, or a kept conflict rules the first candidate out, or it has the target of a listed
@@ -68,7 +68,7 @@ fn first_alike(groups: &Groups, listed: &[Rank], choices: &[u32]) -> Option<usiz
 enum Next {
     Ends(Outcome),
     PassOver(usize),
-    Repeat(usize),
+    Repeat,
     Try(Rank, Candidate),
 }
 
@@ -100,11 +100,13 @@ fn next_allowed(held: &Held, budget: u64, rank: Rank, candidate: Candidate) -> N
     requires allowed { is_ruled_out held.now.conflicts rank.choices ≡ false }
     ensures { (left : List Rank) → slice_get left 0 ≡ Some rank → NextTells result budget (standing left held.now) }
 {
-    match held.alike(&rank) {
-        Some(number) => Next::Repeat(number),
-        None if held.trials() == budget => Next::Ends(Outcome::Unsettled),
-        None => Next::Try(rank, candidate),
+    if held.has_alike(&rank) {
+        return Next::Repeat;
     }
+    if held.trials() == budget {
+        return Next::Ends(Outcome::Unsettled);
+    }
+    Next::Try(rank, candidate)
 }
 
 /// What comes next where this candidate is the first.
@@ -142,27 +144,31 @@ fn pass_over<F: Frontier>(frontier: &mut F, held: &Held, number: usize) -> Resul
     requires { PassesOver number (standing (F.left frontier.old) held.now) }
     ensures { IfOk result (λ _. Thins (conflict_at held.now.conflicts number) (F.left frontier.old) (F.left frontier.new)) }
 {
-    frontier.split_first(number, held.conflicts.get(number))
+    frontier.split_first(held.conflicts.get(number))
 }
 
-/// Leaves out the first candidate, which has the target of the listed one of this number; with groups, maybe others too.
-fn leave_out<F: Frontier>(frontier: &mut F, held: &Held, number: usize) -> Result<(), AllocError>
+/// Leaves out the first candidate, which has the target of a listed one; with groups, maybe others too.
+fn leave_out<F: Frontier>(frontier: &mut F, held: &Held) -> Result<(), AllocError>
     requires { F.left frontier.old ≢ [] }
     ensures { IfOk result (λ _. LeftAfter held.now.groups (F.left frontier.old) (F.left frontier.new)) }
 {
     match &held.groups {
-        Some(groups) => frontier.drop_alike(number, groups),
-        None => frontier.drop_first(number),
+        Some(groups) => frontier.drop_alike(groups),
+        None => frontier.drop_first(),
     }
 }
 
-/// Lists the first candidate, and leaves it out of what is left.
+/// Lists the first candidate, and leaves it out of what is left. With the last that is to be listed the search ends, so
+/// that nothing more is asked of what is left.
 fn list_first<F: Frontier>(frontier: &mut F, held: &mut Held, rank: Rank) -> Result<(), AllocError>
     requires { F.left frontier.old ≢ [] }
     ensures { IfOk result (λ _. IsListed rank (standing (F.left frontier.old) held.old) (standing (F.left frontier.new) held.new)) }
 {
-    leave_out(frontier, held, held.listed.len())?;
-    held.listed.push(rank)
+    held.listed.push(rank)?;
+    if held.is_full() {
+        return Ok(());
+    }
+    leave_out(frontier, held)
 }
 
 /// Tries the first candidate: lists it, or keeps its conflict.
@@ -204,8 +210,8 @@ fn take_turn<F: Frontier, T: Trial>(
             pass_over(frontier, held, number)?;
             Ok(Turn::GoesOn)
         }
-        Next::Repeat(number) => {
-            leave_out(frontier, held, number)?;
+        Next::Repeat => {
+            leave_out(frontier, held)?;
             Ok(Turn::GoesOn)
         }
         Next::Try(rank, candidate) => {

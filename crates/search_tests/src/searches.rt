@@ -8,7 +8,8 @@ ghost use Rattle.lv_search.specs.Standing.{trials_of};
 use crate::avoids::Avoids;
 use lv_base::{Cost, Pair, Rank};
 use lv_boxes::{Grid, Groups, Zone};
-use lv_search::{By, Outcome, Search, Split, Zones};
+use lv_guide::Guide;
+use lv_search::{Outcome, Search};
 use std::alloc::{AllocError, Global};
 use std::test::Fail;
 
@@ -23,14 +24,14 @@ fn small_grid(alloc: Global) -> Result<Grid, AllocError>
 }
 
 /// All candidates of one tracked state that costs 10, of which three are to be listed.
-fn small_search(alloc: Global) -> Result<Search<Zones>, AllocError>
+fn small_search(alloc: Global) -> Result<Search<Guide>, AllocError>
     ensures { IfOk result (λ search. trials_of search.standing ≡ 0) }
 {
     let grid = small_grid(alloc)?;
     let zone = Zone::new(alloc, 0, Cost(10), &[0b111, 0b11])?;
     let mut zones = Vec::new(alloc);
     zones.push(zone)?;
-    Search::new(alloc, Zones::new(alloc, grid, zones)?, 3)
+    Search::new(alloc, Guide::new(alloc, grid, zones)?, 3)
 }
 
 /// Groups of these choices: at the first slot two choices of one group and one of another, at the second all of one.
@@ -54,17 +55,17 @@ fn two_zones(alloc: Global) -> Result<Vec<Zone>, AllocError>
 }
 
 /// All candidates of two tracked states that cost 10, of which three of different targets are to be listed.
-fn distinct_search(alloc: Global) -> Result<Search<Zones>, AllocError>
+fn distinct_search(alloc: Global) -> Result<Search<Guide>, AllocError>
     ensures { IfOk result (λ search. trials_of search.standing ≡ 0) }
 {
     let groups = small_groups(alloc)?;
     let grid = small_grid(alloc)?;
     let zones = two_zones(alloc)?;
-    Search::new_distinct(alloc, Zones::new(alloc, grid, zones)?, 3, groups)
+    Search::new_distinct(alloc, Guide::new(alloc, grid, zones)?, 3, groups)
 }
 
 /// Goes on with a trial that every candidate suits.
-fn go_on(search: &mut Search<Zones>, trial: &mut Avoids, more: u64) -> Result<Outcome, AllocError>
+fn go_on(search: &mut Search<Guide>, trial: &mut Avoids, more: u64) -> Result<Outcome, AllocError>
     requires { trials_of search.old.standing + more < 2 ^ 64 }
     ensures { IfOk result (λ _. trials_of search.new.standing ≤ trials_of search.old.standing + more) }
 {
@@ -80,7 +81,6 @@ struct Reached {
     conflicts: usize,
     /// Of each listed candidate its cost, and the tracked state that it is of.
     costs_and_sources: [Option<(Cost, u32)>; 4],
-    splits: [Option<Split>; 5],
 }
 
 /// The cost and the source of the rank at this place.
@@ -99,25 +99,13 @@ fn costs_and_sources(ranks: &[Rank]) -> [Option<(Cost, u32)>; 4] {
     ]
 }
 
-/// The splits at the first five places.
-fn first_splits(splits: &[Split]) -> [Option<Split>; 5] {
-    [
-        splits.get(0).copied(),
-        splits.get(1).copied(),
-        splits.get(2).copied(),
-        splits.get(3).copied(),
-        splits.get(4).copied(),
-    ]
-}
-
-fn look_at(search: &Search<Zones>, outcome: Outcome) -> Reached {
+fn look_at(search: &Search<Guide>, outcome: Outcome) -> Reached {
     Reached {
         outcome,
         trials: search.trials(),
         listed: search.listed().len(),
         conflicts: search.conflicts().len(),
         costs_and_sources: costs_and_sources(search.listed()),
-        splits: first_splits(search.splits()),
     }
 }
 
@@ -128,7 +116,7 @@ struct TwoRuns {
     second: Reached,
 }
 
-fn run_twice(search: &mut Search<Zones>, trial: &mut Avoids) -> Result<TwoRuns, AllocError>
+fn run_twice(search: &mut Search<Guide>, trial: &mut Avoids) -> Result<TwoRuns, AllocError>
     requires { trials_of search.old.standing ≡ 0 }
 {
     let outcome = go_on(search, trial, 1)?;
@@ -144,7 +132,7 @@ fn small_search_run_twice(alloc: Global, pair: Pair) -> Result<TwoRuns, AllocErr
 }
 
 fn run_once(
-    search: &mut Search<Zones>,
+    search: &mut Search<Guide>,
     trial: &mut Avoids,
     most: u64,
 ) -> Result<Reached, AllocError>
@@ -157,10 +145,6 @@ fn run_once(
 fn distinct_search_run(alloc: Global, pair: Pair) -> Result<Reached, AllocError> {
     let mut search = distinct_search(alloc)?;
     run_once(&mut search, &mut Avoids { alloc, pair }, 2)
-}
-
-fn split_by(zone: usize, by: By) -> Option<Split> {
-    Some(Split { zone, by })
 }
 
 #[test]
@@ -183,16 +167,6 @@ fn first_three_without_a_choice(rt: HostRuntime) -> Result<(), Fail> {
         None,
     ];
     assert!(rt; runs.second.costs_and_sources == listed);
-
-    // The zone of all is split by 00 into 1 and 2, 1 by the conflict into 3, 3 by 20, and 2 by 01.
-    let splits = [
-        split_by(0, By::Listed(0)),
-        split_by(1, By::Conflict(0)),
-        split_by(3, By::Listed(1)),
-        split_by(2, By::Listed(2)),
-        None,
-    ];
-    assert!(rt; runs.second.splits == splits);
     Ok(())
 }
 
@@ -206,16 +180,5 @@ fn one_of_each_target(rt: HostRuntime) -> Result<(), Fail> {
     assert_eq!(rt; run.conflicts, 0);
     let listed = [Some((Cost(10), 0)), Some((Cost(11), 0)), None, None];
     assert!(rt; run.costs_and_sources == listed);
-
-    // The first state's zone is split by 00 into 2 and 3, and by it the second's into 4 and 5; 2 is split by 20, and by
-    // it 4. The others are empty.
-    let splits = [
-        split_by(0, By::Listed(0)),
-        split_by(1, By::Listed(0)),
-        split_by(2, By::Listed(1)),
-        split_by(4, By::Listed(1)),
-        None,
-    ];
-    assert!(rt; run.splits == splits);
     Ok(())
 }
