@@ -30,7 +30,7 @@ own_slots_rise slot [] = refl
 own_slots_rise slot (c ∷ cs) = and_from (nat_lt slot (slot + 1)) (slots_rise_from (slot + 1) (pairs_from (slot + 1) cs)) (grind arith) (own_slots_rise (slot + 1) cs)
 
 -- lists as long as each other of which one has all choices of the other are one
-same_choices : (front us vs : List ℕ) → length us ≡ length vs → contains_all (front ++ vs) (pairs_from (length front) us) ≡ true → us ≡ vs
+pub same_choices : (front us vs : List ℕ) → length us ≡ length vs → contains_all (front ++ vs) (pairs_from (length front) us) ≡ true → us ≡ vs
 same_choices front [] [] long all = refl
 same_choices front [] (v ∷ vs) long all = absurd (omega arith)
 same_choices front (u ∷ us) [] long all = absurd (omega arith)
@@ -42,7 +42,7 @@ same_choices front (u ∷ us) (v ∷ vs) long all =
     ap₂ (λ (x : ℕ) (xs : List ℕ). x ∷ xs) same
     (same_choices (front ++ (v ∷ [])) us vs (omega arith) ((λ i. contains_all (append_assoc front (v ∷ []) vs i) (pairs_from (longer i) us)) ∙ parts.1))
 
-same_length : (us sizes : List ℕ) → pointwise nat_lt us sizes ≡ true → length us ≡ length sizes
+pub same_length : (us sizes : List ℕ) → pointwise nat_lt us sizes ≡ true → length us ≡ length sizes
 same_length [] [] h = refl
 same_length [] (n ∷ ns) h = absurd (cc h)
 same_length (u ∷ us) [] h = absurd (cc h)

@@ -22,10 +22,10 @@ use Rattle.lv_meaning.proofs.CommandSets.{sets_rise, set_among, among_is_set}
 use Rattle.lv_meaning.proofs.CommandReasons.{reasons_are_sound}
 
 -- the first of ranks in order that passes
-record IsFirst (p : Rank → Bool) (rs : List Rank) (r : Rank) : Type 0 where
-  listed : Among r rs
-  passes : p r ≡ true
-  first : (other : Rank) → Among other rs → p other ≡ true → ranks_before other r ≡ false
+pub record IsFirst (p : Rank → Bool) (rs : List Rank) (r : Rank) : Type 0 where
+  pub listed : Among r rs
+  pub passes : p r ≡ true
+  pub first : (other : Rank) → Among other rs → p other ≡ true → ranks_before other r ≡ false
 
 never_before : (r other : Rank) → ranks_before r other ≡ true → ranks_before other r ≡ false
 never_before r other h = by (ranks_before other r) refl
@@ -35,7 +35,7 @@ never_before r other h = by (ranks_before other r) refl
     by false e = refl
 
 module _ (p : Rank → Bool) where
-  is_first : (rs : List Rank) (r : Rank) → rises rs ≡ true → Among r (take 1 (filter p rs)) → IsFirst p rs r
+  pub is_first : (rs : List Rank) (r : Rank) → rises rs ≡ true → Among r (take 1 (filter p rs)) → IsFirst p rs r
   is_first [] r rising h = absurd h
   is_first (x ∷ xs) r rising h = by (p x) refl h (is_first xs r halves.1)
     where
@@ -58,7 +58,7 @@ module _ (p : Rank → Bool) where
           let f : IsFirst p xs r = rest a in
           record { listed = inr f.listed; passes = f.passes; first = λ other there passes. first_behind f e other there passes }
 
-  none_passes : (rs : List Rank) → take 1 (filter p rs) ≡ [] → (r : Rank) → Among r rs → p r ≡ false
+  pub none_passes : (rs : List Rank) → take 1 (filter p rs) ≡ [] → (r : Rank) → Among r rs → p r ≡ false
   none_passes [] none r h = absurd h
   none_passes (x ∷ xs) none r h = by (p x) refl none (none_passes xs) h
     where

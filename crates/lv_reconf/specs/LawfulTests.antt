@@ -17,30 +17,12 @@ use Rattle.lv_search_walk.specs.Reason.{reduced}
 use Rattle.lv_search_walk.proofs.ReasonLemmas.{still_impossible, part_of_all, still_rising}
 use Rattle.lv_meaning.proofs.Among.{Among, all_among}
 use Rattle.lv_meaning.proofs.Reasons.{own_pairs, at_pairs, apart_by}
+use Rattle.lv_meaning.proofs.CommandReasons.{same_choices, same_length}
 use Rattle.lv_meaning.proofs.NominalSteps.{some_step_less}
 use Rattle.lv_meaning.specs.declared.aim.Aim.{Aim}
 use Rattle.lv_meaning.specs.Recovers.{has_control}
 use Rattle.lv_meaning.specs.Commands.{control_sizes, is_command_set}
 use Rattle.lv_reconf.specs.Tests.{can_step, some_shared, tests, first_stuck, test_reason, candidate_tests, candidate_test_reason}
-
--- lists as long as each other of which one has all choices of the other are one
-same_choices : (front us vs : List ℕ) → length us ≡ length vs → contains_all (front ++ vs) (pairs_from (length front) us) ≡ true → us ≡ vs
-same_choices front [] [] long all = refl
-same_choices front [] (v ∷ vs) long all = absurd (omega arith)
-same_choices front (u ∷ us) [] long all = absurd (omega arith)
-same_choices front (u ∷ us) (v ∷ vs) long all =
-    let longer : length (front ++ (v ∷ [])) ≡ length front + 1 = length-append front (v ∷ []) ∙ omega arith in
-    let parts = and_parts (picks (front ++ (v ∷ vs)) (record { slot = length front; choice = u })) (contains_all (front ++ (v ∷ vs)) (pairs_from (length front + 1) us)) all in
-    let picked = and_parts (nat_lt (length front) (length (front ++ (v ∷ vs)))) (nat_eq (get_or (front ++ (v ∷ vs)) (length front) 0) u) parts.0 in
-    let same : u ≡ v = sym (eqb-true (get_or (front ++ (v ∷ vs)) (length front) 0) u picked.1) ∙ get_or-append_seam front v vs 0 in
-    ap₂ (λ (x : ℕ) (xs : List ℕ). x ∷ xs) same
-    (same_choices (front ++ (v ∷ [])) us vs (omega arith) ((λ i. contains_all (append_assoc front (v ∷ []) vs i) (pairs_from (longer i) us)) ∙ parts.1))
-
-same_length : (us sizes : List ℕ) → pointwise nat_lt us sizes ≡ true → length us ≡ length sizes
-same_length [] [] h = refl
-same_length [] (n ∷ ns) h = absurd (cc h)
-same_length (u ∷ us) [] h = absurd (cc h)
-same_length (u ∷ us) (n ∷ ns) h = ap suc (same_length us ns ((and_parts (nat_lt u n) (pointwise nat_lt us ns) h).1))
 
 module _ {X : Type 0} (p : X → Bool) where
   -- an item that doesn't pass

@@ -15,58 +15,13 @@ use Rattle.lv_search_walk.proofs.RankedLemmas.{not_before_itself, not_both_befor
 use Rattle.lv_search_walk.proofs.WalkLemmas.{plain_exact, with_ample}
 use Rattle.lv_meaning.proofs.Among.{Among, among, all_among}
 use Rattle.lv_meaning.proofs.NominalSteps.{each_passes}
+use Rattle.lv_meaning.proofs.RecoveryWalks.{IsFirst, is_first, none_passes}
 use Rattle.lv_meaning.proofs.CommandSets.{sets_rise, set_among, among_is_set}
 use Rattle.lv_meaning.specs.declared.aim.Aim.{Aim}
 use Rattle.lv_meaning.specs.Commands.{is_command_set, command_rank, command_sets}
 use Rattle.lv_reconf.specs.LawfulTests.{reason_apart}
 use Rattle.lv_reconf.specs.Tests.{candidate_tests, candidate_test_reason, rank_tests, test_walk}
 use Rattle.lv_session_state.specs.TestLaws.{IsTest, NoneTests}
-
--- the first of ranks in order that passes
-record IsFirst (p : Rank → Bool) (rs : List Rank) (r : Rank) : Type 0 where
-  listed : Among r rs
-  passes : p r ≡ true
-  first : (other : Rank) → Among other rs → p other ≡ true → ranks_before other r ≡ false
-
-never_before : (r other : Rank) → ranks_before r other ≡ true → ranks_before other r ≡ false
-never_before r other h = by (ranks_before other r) refl
-  where
-    by : (b : Bool) → ranks_before other r ≡ b → b ≡ false
-    by true e = absurd (not_both_before r other h e)
-    by false e = refl
-
-module _ (p : Rank → Bool) where
-  is_first : (rs : List Rank) (r : Rank) → rises rs ≡ true → Among r (take 1 (filter p rs)) → IsFirst p rs r
-  is_first [] r rising h = absurd h
-  is_first (x ∷ xs) r rising h = by (p x) refl h (is_first xs r halves.1)
-    where
-      halves : (list_all (ranks_before x) xs ≡ true) × (rises xs ≡ true)
-      halves = and_parts (list_all (ranks_before x) xs) (rises xs) rising
-
-      after : (other : Rank) → Among other (x ∷ xs) → ranks_before other x ≡ false
-      after other (inl e) = ap (λ (y : Rank). ranks_before y x) e ∙ not_before_itself x
-      after other (inr a) = never_before x other (all_among (ranks_before x) xs other halves.0 a)
-
-      first_behind : IsFirst p xs r → p x ≡ false → (other : Rank) → Among other (x ∷ xs) → p other ≡ true → ranks_before other r ≡ false
-      first_behind f never other (inl is) passes = let clash : true ≡ false = sym passes ∙ ap p is ∙ never in absurd (cc clash)
-      first_behind f never other (inr there) passes = f.first other there passes
-
-      by : (b : Bool) → p x ≡ b → Among r (take 1 (cond b (x ∷ filter p xs) (filter p xs))) → (Among r (take 1 (filter p xs)) → IsFirst p xs r) → IsFirst p (x ∷ xs) r
-      by true e (inl is) rest =
-          record { listed = inl is; passes = ap p is ∙ e; first = λ other a passes. ap (λ (y : Rank). ranks_before other y) is ∙ after other a }
-      by true e (inr none) rest = absurd none
-      by false e a rest =
-          let f : IsFirst p xs r = rest a in
-          record { listed = inr f.listed; passes = f.passes; first = λ other there passes. first_behind f e other there passes }
-
-  none_passes : (rs : List Rank) → take 1 (filter p rs) ≡ [] → (r : Rank) → Among r rs → p r ≡ false
-  none_passes [] none r h = absurd h
-  none_passes (x ∷ xs) none r h = by (p x) refl none (none_passes xs) h
-    where
-      by : (b : Bool) → p x ≡ b → take 1 (cond b (x ∷ filter p xs) (filter p xs)) ≡ [] → (take 1 (filter p xs) ≡ [] → (s : Rank) → Among s xs → p s ≡ false) → Among r (x ∷ xs) → p r ≡ false
-      by true e nothing rest there = absurd (cc nothing)
-      by false e nothing rest (inl is) = ap p is ∙ e
-      by false e nothing rest (inr there) = rest nothing r there
 
 module _ (plant : Plant) (aim : Aim) (x : VarId) (budget : ℕ) where
   reasons_sound : IsSound (λ (c : Candidate). is_command_set plant c.choices) (candidate_tests plant aim x) (candidate_test_reason plant aim)
