@@ -10,7 +10,6 @@ ghost use Rattle.lv_sat.specs.Front.{assumed, AreLevels, Assumes, IsFront, IsKep
 
 use super::analysis::refute;
 use super::guide::{Guide, take_back};
-use super::notes::Notes;
 use super::propagation::{propagate, visit_all};
 use super::trail::{Entry, Trail};
 use lv_base::Lit;
@@ -170,15 +169,7 @@ fn assume(
         return Ok(true);
     }
     if !front.trail.is_open(lit) {
-        contradict(
-            alloc,
-            set,
-            log,
-            &mut guide.notes,
-            &mut guide.seen,
-            front.trail.entries(),
-            lit,
-        )?;
+        contradict(alloc, set, log, guide, &mut front.trail, lit)?;
         return Ok(false);
     }
     match take_on(set, log, guide, &mut front.trail, lit)? {
@@ -219,37 +210,40 @@ fn take_on(
     propagate(set, log, &mut guide.watches, place, trail)
 }
 
-/// Adds the step that refutes an assumption whose negation is on the trail. No other assumption is its negation, so a clause
-/// forces that; it is false once the assumption stands in its place.
+/// Adds the step that refutes an assumption whose negation is on the trail, which stays as it is. No other assumption is its
+/// negation, so a clause forces that; it is false once the assumption stands in its place, where it is put for the look back.
 fn contradict(
     alloc: Global,
     set: &ClauseSet,
     log: &mut Log,
-    notes: &mut Notes,
-    seen: &mut Vec<bool>,
-    entries: &[Entry],
+    guide: &mut Guide,
+    trail: &mut Trail,
     lit: Lit,
 ) -> Result<(), AllocError>
     requires log { log.old ≡ [] }
-    requires chain { IsChain set.now log.old entries.now }
-    requires there { among (lits_of entries.now) (neg lit) ≡ true }
-    ensures { OnOk result ((assumptions : List Lit) → IsFront assumptions entries.now → is_clause set.now.bools (assumptions ++ lit ∷ []) ≡ true → IsRefuted set.now (assumptions ++ lit ∷ []) log.new) }
+    requires chain { IsChain set.now log.old trail.old.entries.items }
+    requires there { among (lits_of trail.old.entries.items) (neg lit) ≡ true }
+    ensures refuted { OnOk result ((assumptions : List Lit) → IsFront assumptions trail.old.entries.items → is_clause set.now.bools (assumptions ++ lit ∷ []) ≡ true → IsRefuted set.now (assumptions ++ lit ∷ []) log.new) }
+    ensures entries { OnOk result (trail.new.entries.items ≡ trail.old.entries.items) }
+    ensures marks { OnOk result (trail.new.marks.items ≡ trail.old.marks.items) }
 {
-    let place = place_of(entries, negation(lit));
-    let Some(hint) = entries[place].reason else {
+    let place = place_of(trail.entries(), negation(lit));
+    let negated = trail.entries()[place];
+    let Some(hint) = negated.reason else {
         return Ok(());
     };
-    let instead = put_instead(alloc, &entries[..place], lit)?;
-    refute(alloc, set, log, notes, seen, instead.as_slice(), hint)
-}
-
-/// The entries and the assumption behind them.
-fn put_instead(alloc: Global, entries: &[Entry], lit: Lit) -> Result<Vec<Entry>, AllocError>
-    ensures { IfOk result (λ instead. instead.items ≡ entries.now ++ record { lit = lit; reason = None } ∷ []) }
-{
-    let mut instead = Vec::from_slice(alloc, entries)?;
-    instead.push(Entry { lit, reason: None })?;
-    Ok(instead)
+    trail.put(place, Entry { lit, reason: None });
+    refute(
+        alloc,
+        set,
+        log,
+        &mut guide.notes,
+        &mut guide.seen,
+        &trail.entries()[..place + 1],
+        hint,
+    )?;
+    trail.put(place, negated);
+    Ok(())
 }
 
 /// The place of the literal among the entries.

@@ -94,6 +94,16 @@ impl Trail {
         Ok(())
     }
 
+    /// Puts an entry in the place of another, while the marks stay: for a look at the trail with it, after which the other
+    /// is put back.
+    pub fn put(&mut self, place: usize, entry: Entry)
+        requires { place < length self.old.entries.items }
+        ensures entries { self.new.entries.items ≡ slice_set self.old.entries.items place entry }
+        ensures marks { self.new.marks.items ≡ self.old.marks.items }
+    {
+        self.entries[place] = entry;
+    }
+
     /// Takes back all entries from a place on.
     pub fn cut(&mut self, len: usize)
         requires { len ≤ length self.old.entries.items }

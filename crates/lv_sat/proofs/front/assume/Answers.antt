@@ -27,7 +27,7 @@ pub returns-in_ok-refute-in-Some-clause-told : goal.returns-in_ok-refute-in-Some
 returns-in_ok-refute-in-Some-clause-told c =
     refuted_open c.args.set.now c.args.front.now.levels.items c.args.front.now.trail.marks.items c.args.front.now.trail.entries.items c.requires.standing c.args.lit c.take_on.new.trail.marks.items c.take_on.new.trail.entries.items c.in_ok-hint.field-0
     (subst (λ (steps : List Step). IsPropagated c.args.set.now steps (c.args.front.now.trail.entries.items ++ record { lit = c.args.lit; reason = None } ∷ []) c.take_on.new.trail.marks.items c.take_on.new.trail.entries.items c.in_ok-hint.field-0) c.requires.log c.in_ok-hint.ensures)
-    c.args.log.now c.refute.new.log c.requires.log (subst (λ (es : List Entry). IsDerived c.args.set.now c.args.log.now c.refute.new.log (unforced es)) c.entries-in-Some.ensures c.in_ok-refute-in-Some.ensures)
+    c.args.log.now c.refute.new.log c.requires.log (subst (λ (es : List Entry). IsDerived c.args.set.now c.args.log.now c.refute.new.log (unforced es)) c.entries.ensures c.in_ok-refute-in-Some.ensures)
 
 pub returns-in_ok-push-in-None-clause-standing : goal.returns-in_ok-push-in-None-clause-standing
 returns-in_ok-push-in-None-clause-standing c =
