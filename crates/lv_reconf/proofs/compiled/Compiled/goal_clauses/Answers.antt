@@ -22,5 +22,5 @@ returns c =
     subst (λ (p : Plant). SayGoal p c.args.goal.now c.args.sign out.items) c.self.view_is
     (goal_is_said c.self.inside.model.now c.self.invariant.system c.self.invariant.of_plant c.self.inside.after c.self.invariant.next_are c.args.goal.now
     (subst (λ (p : Plant). fits (plant_ranges p) c.args.goal.now ≡ true) (sym c.self.view_is) c.requires.equations) (tree_of c.formula.result.now) c.formula.ensures
-    c.args.sign out.items (told ∙ ap cleaned (c.as_slice.ensures.value ∙ c.in_ok-raw.ensures))))
+    c.args.sign out.items (told ∙ ap cleaned c.in_ok-raw.ensures)))
     c.cleaned.ensures
