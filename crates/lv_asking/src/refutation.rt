@@ -18,7 +18,7 @@ use std::alloc::{AllocError, Global};
 use std::marker::Model;
 
 /// How many of the values found are kept.
-pub const KEPT: usize = 8;
+pub const KEPT: usize = 128;
 
 /// The last values that a solver found, at most `KEPT` of them, the oldest first.
 #[derive(Drop)]
