@@ -16,7 +16,7 @@ use std::alloc::{AllocError, Global};
 use std::marker::Model;
 
 /// A clause of more literals is no lemma.
-const LONGEST: usize = 6;
+const LONGEST: usize = 12;
 
 /// So many lemmas are kept at most.
 const MOST: usize = 10_000;
