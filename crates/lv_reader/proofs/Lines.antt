@@ -29,7 +29,9 @@ use Rattle.lv_reader.specs.declared.statement.Statement.{Statement}
 use Rattle.lv_reader.specs.declared.statement.Statement.TheVariants.{VersionLine}
 use Rattle.lv_reader.specs.Keywords.{keyword_of}
 use Rattle.lv_reader.specs.Statements.{HasForm, IsStatement}
-use Rattle.lv_reader.specs.Lines.{Says, SaysOf, SaysBy}
+use Rattle.lv_reader.specs.declared.fault.LineFault.{LineFault}
+use Rattle.lv_reader.specs.declared.fault.LineFault.TheVariants.{Refused, Memory}
+use Rattle.lv_reader.specs.Lines.{Says, SaysOf, SaysBy, RefusedOf, TellsSome, Tells}
 use Rattle.lv_reader.specs.CanonicalTokens.{number, statement_tokens, statement_text}
 use Rattle.lv_reader.specs.CanonicalTexts.{default_name, ended_line}
 use Rattle.lv_reader.proofs.Numerals.{number_told, number_is_lexeme}
@@ -193,3 +195,8 @@ line_before v s h rest =
 pub lines_printed : (ss : List Statement) → AllPrinted ss → lines_of (flat_map ended_line ss) ≡ map statement_text ss
 lines_printed [] h = refl
 lines_printed (s ∷ ss) h = line_before Two s h.0 (flat_map ended_line ss) ∙ ap (λ (xs : List (List ℕ)). statement_text s ∷ xs) (lines_printed ss h.1)
+
+-- what the lexemes of a line tell is what the line tells
+pub tokens_tell : (version : Version) (line : List ℕ) (lexemes : List Lexeme) (fault : LineFault) → line_reading line ≡ reads lexemes → TellsSome fault version lexemes → Tells fault version line
+tokens_tell version line lexemes (Refused code) read told = subst (λ (r : Reading). RefusedOf version r code) (sym read) told
+tokens_tell version line lexemes Memory read told = tt

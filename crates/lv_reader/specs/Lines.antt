@@ -43,6 +43,11 @@ abbrev pub TellsBy : LineFault → Version → List Lexeme → Type 0
 TellsBy (Refused code) version line = IsRefusedBy version line code
 TellsBy Memory version line = Unit {0}
 
+-- the same of lexemes that may be none, which aren't refused
+abbrev pub TellsSome : LineFault → Version → List Lexeme → Type 0
+TellsSome (Refused code) version line = RefusedBy version line code
+TellsSome Memory version line = Unit {0}
+
 -- the same of a line
 abbrev pub Tells : LineFault → Version → List ℕ → Type 0
 Tells (Refused code) version line = IsRefused version line code

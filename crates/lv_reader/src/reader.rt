@@ -4,7 +4,7 @@
 ghost use Rattle.std.specs.Prelude.{◌≡◌, ◌≤◌, length, IfOk, IfErr};
 ghost use Rattle.lv_base.specs.declared.limits.TheConstants.{MODEL_BYTES as MOST_BYTES};
 ghost use Rattle.lv_text.specs.Lines.{lines_of};
-ghost use Rattle.lv_reader.specs.Lines.{Says, Tells};
+ghost use Rattle.lv_reader.specs.Lines.{Says, SaysBy, Tells, TellsSome};
 ghost use Rattle.lv_reader.specs.Texts.{ReadsAs, TellsReading, TellsLines, AddsLine, TellsLine};
 
 use crate::code::ModelCode;
@@ -14,33 +14,53 @@ use crate::statement::{ModelText, NumberedStatement, Statement};
 use crate::version::{Version, gives_version, known_behind, version_in};
 use lv_base::Seq;
 use lv_base::limits::MODEL_BYTES;
-use lv_text::{TextFault, TokenLine, next_line};
+use lv_text::{TextFault, Token, TokenLine, next_line};
 use std::alloc::Global;
 
-/// What a line says in a text of the version, which is given without its end: nothing where it has no tokens.
-fn read_line(alloc: Global, version: Version, line: &[u8]) -> Result<Option<Statement>, LineFault>
-    ensures ok { IfOk result (Says version line.now) }
-    ensures fault { IfErr result (λ fault. Tells fault version line.now) }
+/// What the tokens of a line say in a text of the version: nothing where there are none.
+fn said_by(
+    alloc: Global,
+    version: Version,
+    tokens: &TokenLine<'_>,
+) -> Result<Option<Statement>, LineFault>
+    ensures ok { IfOk result (SaysBy version tokens.now) }
+    ensures fault { IfErr result (λ fault. TellsSome fault version tokens.now) }
 {
-    let tokens = match TokenLine::read(alloc, line) {
-        Ok(tokens) => tokens,
-        Err(TextFault::LongLine) => return Err(LineFault::Refused(ModelCode::LongLine)),
-        Err(TextFault::BadByte(_)) => return Err(LineFault::Refused(ModelCode::BadByte)),
-        Err(TextFault::Memory) => return Err(LineFault::Memory),
-    };
     if tokens.is_empty() {
         return Ok(None);
     }
-    match statement_of(alloc, &tokens, version) {
+    match statement_of(alloc, tokens, version) {
         Ok(statement) => Ok(Some(statement)),
         Err(LineFault::Refused(code)) => Err(LineFault::Refused(code)),
         Err(LineFault::Memory) => Err(LineFault::Memory),
     }
 }
 
+/// What a line says in a text of the version, which is given without its end. Its tokens lie in the room while it is read.
+fn read_line(
+    alloc: Global,
+    room: &mut Vec<Token>,
+    version: Version,
+    line: &[u8],
+) -> Result<Option<Statement>, LineFault>
+    ensures ok { IfOk result (Says version line.now) }
+    ensures fault { IfErr result (λ fault. Tells fault version line.now) }
+{
+    let tokens = match TokenLine::read_into(alloc, room, line) {
+        Ok(tokens) => tokens,
+        Err(TextFault::LongLine) => return Err(LineFault::Refused(ModelCode::LongLine)),
+        Err(TextFault::BadByte(_)) => return Err(LineFault::Refused(ModelCode::BadByte)),
+        Err(TextFault::Memory) => return Err(LineFault::Memory),
+    };
+    let said = said_by(alloc, version, &tokens);
+    *room = tokens.into_room();
+    said
+}
+
 /// Adds what the line of this number says, and tells what is known of the version then.
 fn add_line(
     alloc: Global,
+    room: &mut Vec<Token>,
     statements: &mut Vec<NumberedStatement>,
     known: Option<Version>,
     at: usize,
@@ -49,7 +69,7 @@ fn add_line(
     ensures ok { IfOk result (AddsLine known at line.now statements.old.items statements.new.items) }
     ensures fault { IfErr result (λ fault. TellsLine fault known at line.now) }
 {
-    match read_line(alloc, version_in(known), line) {
+    match read_line(alloc, room, version_in(known), line) {
         Ok(Some(statement)) => {
             let version = known_behind(known, &statement);
             if !gives_version(known, &statement) {
@@ -72,13 +92,15 @@ fn read_lines(alloc: Global, bytes: &[u8]) -> Result<ModelText, ModelFault>
     ensures ok { IfOk result (ReadsAs bytes.now) }
     ensures fault { IfErr result (λ fault. TellsLines fault (lines_of bytes.now)) }
 {
+    let mut room = Vec::new(alloc);
     let mut statements = Vec::new(alloc);
     let mut known = None;
     let mut lines: usize = 0;
     let mut rest = bytes;
     while let Some(line) = next_line(rest) {
         lines += 1;
-        known = add_line(alloc, &mut statements, known, lines, &rest[..line.length])?;
+        let text = &rest[..line.length];
+        known = add_line(alloc, &mut room, &mut statements, known, lines, text)?;
         rest = &rest[line.whole..];
     }
     Ok(ModelText {
