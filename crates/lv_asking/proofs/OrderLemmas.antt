@@ -1,78 +1,83 @@
--- Two lists of literals with the first one turned round and put behind the second: they are a clause still, and say the same.
-use Rattle.std.proofs.Common.{◌≡◌, ℕ, Bool, true, false, not, nat_eq, ◌&&◌, List, [], ◌∷◌, ◌++◌, reverse, refl, sym, subst, ap, ◌∙◌, arith, ◌⊎◌, inl, inr, Contains, IsPermutation}
-use Rattle.std.specs.List.{list_all}
+-- Literals in another order: they are a clause still, and say the same.
+use Rattle.std.proofs.Common.{◌≡◌, ℕ, ◌+◌, ◌≤◌, Bool, true, false, not, nat_eq, ◌&&◌, List, [], ◌∷◌, ◌++◌, cond, reverse, refl, sym, subst, ap, ◌∙◌, arith, ◌⊎◌, Contains, IsPermutation}
+use Rattle.std.specs.List.{list_all, sum_by}
 use Rattle.std.proofs.lemmas.Bool.{and_parts, and_from}
 use Rattle.std.proofs.lemmas.Bool.Decides.{nat_tests}
-use Rattle.std.proofs.lemmas.Grind.{reverse_onto}
-use Rattle.std.proofs.lemmas.List.{reverse-reverse, append_assoc, append-nil}
 use Rattle.std.proofs.lemmas.List.Elements.{Contains-append_cases}
-use Rattle.std.proofs.lemmas.List.Folds.{list_all-append}
-use Rattle.std.proofs.lemmas.List.Sorted.{IsPermutation-reverse, Contains-permutation}
+use Rattle.std.proofs.lemmas.List.{append_assoc}
+use Rattle.std.proofs.lemmas.List.Sums.{sum_by-cons}
+use Rattle.std.proofs.lemmas.List.Sorted.{IsPermutation-sym, IsPermutation-trans, IsPermutation-append_left, IsPermutation-append_right, IsPermutation-append_comm, IsPermutation-reverse, Contains-permutation, sum_by-IsPermutation}
 use Rattle.lv_base.specs.declared.ids.Lit.{Lit}
-use Rattle.lv_clauses.specs.Literals.{same_var, in_range, distinct, is_clause}
+use Rattle.lv_clauses.specs.Literals.{in_range, distinct, is_clause}
 
-module _ (p : Lit → Bool) where
-  last_first : (a b : Bool) → (a && (b && true)) ≡ (b && a)
-  last_first true true = refl
-  last_first true false = refl
-  last_first false true = refl
-  last_first false false = refl
+-- how many of the literals fail a test
+abbrev fails : (Lit → Bool) → Lit → ℕ
+fails p l = cond (p l) 0 1
 
-  all_reverse : (xs : List Lit) → list_all p (reverse xs) ≡ list_all p xs
-  all_reverse [] = refl
-  all_reverse (x ∷ xs) =
-      ap (list_all p) (reverse_onto xs x [])
-      ∙ list_all-append p (reverse xs) (x ∷ [])
-      ∙ last_first (list_all p (reverse xs)) (p x)
-      ∙ ap (λ (b : Bool). p x && b) (all_reverse xs)
+abbrev failing : (Lit → Bool) → List Lit → ℕ
+failing p ls = sum_by (fails p) ls
 
-  other_first : (a b : Bool) → (a && b) ≡ (b && a)
-  other_first true true = refl
-  other_first true false = refl
-  other_first false true = refl
-  other_first false false = refl
-
-  pub all_turned : (xs ys : List Lit) → list_all p (ys ++ reverse xs) ≡ list_all p (xs ++ ys)
-  all_turned xs ys =
-      list_all-append p ys (reverse xs)
-      ∙ ap (λ (b : Bool). list_all p ys && b) (all_reverse xs)
-      ∙ other_first (list_all p ys) (list_all p xs)
-      ∙ sym (list_all-append p xs ys)
-
-apart_back : (l m : Lit) → not (same_var l m) ≡ true → not (same_var m l) ≡ true
-apart_back l m h = ap (λ (b : Bool). not b) (either_way m.var.0 l.var.0) ∙ h
+none_fails : (p : Lit → Bool) (ls : List Lit) → nat_eq (failing p ls) 0 ≡ list_all p ls
+none_fails p [] = refl
+none_fails p (l ∷ ls) = ap (λ (n : ℕ). nat_eq n 0) (sum_by-cons (fails p) l ls) ∙ first (p l) (failing p ls) ∙ ap (λ (b : Bool). p l && b) (none_fails p ls)
   where
-    either_way : (a b : ℕ) → nat_eq a b ≡ nat_eq b a
-    either_way a b = grind (arith, nat_tests)
+    first : (b : Bool) (n : ℕ) → nat_eq (cond b 0 1 + n) 0 ≡ (b && nat_eq n 0)
+    first true n = ap (λ (m : ℕ). nat_eq m 0) (let is : 0 + n ≡ n = omega arith in is)
+    first false n = grind (arith, nat_tests)
 
--- the first one may stand at the end
-first_last : (l : Lit) (ls : List Lit) → distinct (l ∷ ls) ≡ true → distinct (ls ++ (l ∷ [])) ≡ true
-first_last l [] h = refl
-first_last l (m ∷ ms) h =
-    let whole = and_parts (list_all (λ (n : Lit). not (same_var l n)) (m ∷ ms)) (distinct (m ∷ ms)) h in
-    let own = and_parts (not (same_var l m)) (list_all (λ (n : Lit). not (same_var l n)) ms) whole.0 in
-    let rest = and_parts (list_all (λ (n : Lit). not (same_var m n)) ms) (distinct ms) whole.1 in
-    and_from (list_all (λ (n : Lit). not (same_var m n)) (ms ++ (l ∷ []))) (distinct (ms ++ (l ∷ [])))
-    (list_all-append (λ (n : Lit). not (same_var m n)) ms (l ∷ [])
-    ∙ and_from (list_all (λ (n : Lit). not (same_var m n)) ms) (not (same_var m l) && true) rest.0 (and_from (not (same_var m l)) true (apart_back l m own.0) refl))
-    (first_last l ms (and_from (list_all (λ (n : Lit). not (same_var l n)) ms) (distinct ms) own.1 rest.1))
+pub all_permuted : (p : Lit → Bool) (xs ys : List Lit) → IsPermutation xs ys → list_all p xs ≡ list_all p ys
+all_permuted p xs ys s = sym (none_fails p xs) ∙ ap (λ (n : ℕ). nat_eq n 0) (sym (sum_by-IsPermutation (fails p) xs ys s)) ∙ none_fails p ys
 
-distinct_turned : (xs ys : List Lit) → distinct (xs ++ ys) ≡ true → distinct (ys ++ reverse xs) ≡ true
-distinct_turned [] ys h = ap distinct (append-nil ys) ∙ h
-distinct_turned (x ∷ xs) ys h =
-    let two = and_parts (list_all (λ (n : Lit). not (same_var x n)) (xs ++ ys)) (distinct (xs ++ ys)) h in
-    ap distinct (ap (λ (ls : List Lit). ys ++ ls) (reverse_onto xs x []) ∙ sym (append_assoc ys (reverse xs) (x ∷ [])))
-    ∙ first_last x (ys ++ reverse xs)
-    (and_from (list_all (λ (n : Lit). not (same_var x n)) (ys ++ reverse xs)) (distinct (ys ++ reverse xs)) (all_turned (λ (n : Lit). not (same_var x n)) xs ys ∙ two.0) (distinct_turned xs ys two.1))
+-- the literal is of another boolean; so how many are of this one
+abbrev is_other : ℕ → Lit → Bool
+is_other n l = not (nat_eq n l.var.0)
 
-pub clause_turned : (bools : ℕ) (xs ys : List Lit) → is_clause bools (xs ++ ys) ≡ true → is_clause bools (ys ++ reverse xs) ≡ true
-clause_turned bools xs ys h =
-    let two = and_parts (list_all (in_range bools) (xs ++ ys)) (distinct (xs ++ ys)) h in
-    and_from (list_all (in_range bools) (ys ++ reverse xs)) (distinct (ys ++ reverse xs)) (all_turned (in_range bools) xs ys ∙ two.0) (distinct_turned xs ys two.1)
+counted_once : (ls : List Lit) → distinct ls ≡ true → (n : ℕ) → failing (is_other n) ls ≤ 1
+counted_once [] h n = let none : failing (is_other n) [] ≡ 0 = refl in omega (arith, none)
+counted_once (l ∷ ls) h n =
+    let two = and_parts (list_all (is_other l.var.0) ls) (distinct ls) h in
+    let step = sum_by-cons (fails (is_other n)) l ls in
+    let rest = counted_once ls two.1 n in
+    by (nat_eq n l.var.0) refl step rest
+    (λ (is : n ≡ l.var.0). none_fails (is_other n) ls ∙ subst (λ (m : ℕ). list_all (is_other m) ls ≡ true) (sym is) two.0)
+  where
+    by : (b : Bool) → nat_eq n l.var.0 ≡ b → failing (is_other n) (l ∷ ls) ≡ fails (is_other n) l + failing (is_other n) ls → failing (is_other n) ls ≤ 1
+        → (n ≡ l.var.0 → nat_eq (failing (is_other n) ls) 0 ≡ true) → failing (is_other n) (l ∷ ls) ≤ 1
+    by false e step rest none = let own : fails (is_other n) l ≡ 0 = ap (λ (b : Bool). cond (not b) 0 1) e in omega (arith, step, rest, own)
+    by true e step rest none =
+        let own : fails (is_other n) l ≡ 1 = ap (λ (b : Bool). cond (not b) 0 1) e in
+        let same : n ≡ l.var.0 = grind (arith, nat_tests, e) in
+        let nothing : failing (is_other n) ls ≡ 0 = grind (arith, nat_tests, none same) in
+        omega (arith, step, own, nothing)
 
--- what is in the two turned round is in one of them
-pub one_of_turned : (xs ys : List Lit) (l : Lit) → Contains (ys ++ reverse xs) l → Contains xs l ⊎ Contains ys l
-one_of_turned xs ys l h = elim (Contains-append_cases ys (reverse xs) l h) [
-  | inl second ↦ inr second
-  | inr first ↦ inl (Contains-permutation (reverse xs) xs l (subst (λ (ls : List Lit). IsPermutation (reverse xs) ls) (reverse-reverse xs) (IsPermutation-reverse (reverse xs))) first)
-]
+distinct_by_counts : (ls : List Lit) → ((n : ℕ) → failing (is_other n) ls ≤ 1) → distinct ls ≡ true
+distinct_by_counts [] h = refl
+distinct_by_counts (l ∷ ls) h =
+    let n : ℕ = l.var.0 in
+    let step = sum_by-cons (fails (is_other n)) l ls in
+    let once : failing (is_other n) (l ∷ ls) ≤ 1 = h n in
+    let itself : nat_eq n n ≡ true = grind (arith, nat_tests) in
+    let own : fails (is_other n) l ≡ 1 = ap (λ (b : Bool). cond (not b) 0 1) itself in
+    let nothing : failing (is_other n) ls ≡ 0 = omega (arith, step, once, own) in
+    and_from (list_all (is_other n) ls) (distinct ls) (sym (none_fails (is_other n) ls) ∙ ap (λ (m : ℕ). nat_eq m 0) nothing)
+    (distinct_by_counts ls (λ (m : ℕ). let later = sum_by-cons (fails (is_other m)) l ls in let most : failing (is_other m) (l ∷ ls) ≤ 1 = h m in omega (arith, later, most)))
+
+pub clause_permuted : (bools : ℕ) (xs ys : List Lit) → IsPermutation xs ys → is_clause bools xs ≡ true → is_clause bools ys ≡ true
+clause_permuted bools xs ys s h =
+    let two = and_parts (list_all (in_range bools) xs) (distinct xs) h in
+    and_from (list_all (in_range bools) ys) (distinct ys) (sym (all_permuted (in_range bools) xs ys s) ∙ two.0)
+    (distinct_by_counts ys (λ (n : ℕ). subst (λ (m : ℕ). m ≤ 1) (sym (sum_by-IsPermutation (fails (is_other n)) xs ys s)) (counted_once xs two.1 n)))
+
+-- what is in the two in another order is in one of them
+pub one_of_permuted : (xs ys out : List Lit) (l : Lit) → IsPermutation (xs ++ ys) out → Contains out l → Contains xs l ⊎ Contains ys l
+one_of_permuted xs ys out l s h = Contains-append_cases xs ys l (Contains-permutation out (xs ++ ys) l (IsPermutation-sym (xs ++ ys) out s) h)
+
+-- a list in four parts, of which the last comes first and the third is turned round
+pub parts_permuted : (a b c d : List Lit) → IsPermutation (((a ++ b) ++ c) ++ d) (((d ++ a) ++ reverse c) ++ b)
+parts_permuted a b c d =
+    IsPermutation-trans (((a ++ b) ++ c) ++ d) (d ++ ((a ++ b) ++ c)) (((d ++ a) ++ reverse c) ++ b)
+    (IsPermutation-append_comm ((a ++ b) ++ c) d)
+    (subst (λ (ls : List Lit). IsPermutation ls (((d ++ a) ++ reverse c) ++ b)) (append_assoc d a (b ++ c) ∙ ap (λ (ls : List Lit). d ++ ls) (sym (append_assoc a b c)))
+    (subst (IsPermutation ((d ++ a) ++ (b ++ c))) (sym (append_assoc (d ++ a) (reverse c) b))
+    (IsPermutation-append_right (d ++ a) (b ++ c) (reverse c ++ b)
+    (IsPermutation-trans (b ++ c) (c ++ b) (reverse c ++ b) (IsPermutation-append_comm b c) (IsPermutation-append_left b c (reverse c) (IsPermutation-reverse c))))))

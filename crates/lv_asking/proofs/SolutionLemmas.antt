@@ -1,5 +1,5 @@
 -- Values that satisfy the clauses and make the assumed literals true, and what they say of chosen ones.
-use Rattle.std.proofs.Common.{◌≡◌, ◌-◌, Bool, true, false, ◌||◌, List, [], ◌∷◌, ◌++◌, length, reverse, refl, sym, ◌∙◌, arith, All}
+use Rattle.std.proofs.Common.{◌≡◌, ◌-◌, Bool, true, false, ◌||◌, List, [], ◌∷◌, ◌++◌, length, refl, sym, ◌∙◌, arith, All, IsPermutation}
 use Rattle.std.specs.List.{list_all, list_any}
 use Rattle.std.proofs.lemmas.Bool.{and_parts, and_from}
 use Rattle.std.proofs.lemmas.List.Elements.{All-tail, All-append, All-drop, All-cons, All-nil}
@@ -10,15 +10,15 @@ use Rattle.lv_clauses.specs.ClauseMap.{ClauseMap}
 use Rattle.lv_sat.specs.Answers.{IsModel}
 use Rattle.lv_asking.specs.declared.refutation.TheConstants.{KEPT}
 use Rattle.lv_asking.specs.Refutation.{HasModel, latest}
-use Rattle.lv_asking.proofs.OrderLemmas.{all_turned}
+use Rattle.lv_asking.proofs.OrderLemmas.{all_permuted}
 
--- what is a model of the two turned round is one of them as they stand
-pub model_turned : (set : ClauseMap) (chosen assumed : List Lit) (values : List Bool) → IsModel set (assumed ++ reverse chosen) values → IsModel set (chosen ++ assumed) values
-model_turned set chosen assumed values m =
+-- what is a model of literals in another order is one of them as they stand
+pub model_permuted : (set : ClauseMap) (lits out : List Lit) (values : List Bool) → IsPermutation lits out → IsModel set out values → IsModel set lits values
+model_permuted set lits out values s m =
     record {
       len = m.len;
       all_clauses = m.all_clauses;
-      all_assumptions = sym (all_turned (lit_holds values) chosen assumed) ∙ m.all_assumptions;
+      all_assumptions = all_permuted (lit_holds values) lits out s ∙ m.all_assumptions;
     }
 
 -- a model of both is one of the assumed ones

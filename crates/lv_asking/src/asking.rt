@@ -79,9 +79,14 @@ impl Asking {
         self.solver
     }
 
-    /// Asks for the pairs and more literals, beside what is assumed: nothing where they can be true together, else marks of
-    /// those of them that already can't.
-    fn ask(&mut self, pairs: &[Pair], more: &[Lit]) -> Result<Option<Marks>, AllocError>
+    /// Asks for the pairs, of which so many are kept whatever is left out, and more literals, beside what is assumed: nothing
+    /// where they can be true together, else marks of those of them that already can't.
+    fn ask(
+        &mut self,
+        pairs: &[Pair],
+        kept: usize,
+        more: &[Lit],
+    ) -> Result<Option<Marks>, AllocError>
         requires partial { IsPartial self.old.choices.counts pairs.now }
         requires more { All (IsFresh self.old) more.now }
         requires distinct { distinct more.now ≡ true }
@@ -96,6 +101,7 @@ impl Asking {
             &mut self.solver,
             &mut self.solutions,
             chosen.as_slice(),
+            kept,
             self.assumed.as_slice(),
         )
     }
@@ -106,7 +112,7 @@ impl Asking {
         ensures answer { (possible : List Pair → Bool) → Decides self.old possible → IfOk result (λ answer. answer ≡ possible pairs.now) }
         ensures same { self.new ≡ self.old }
     {
-        Ok(self.refuted(pairs)?.is_none())
+        Ok(self.refuted(pairs, 0)?.is_none())
     }
 
     /// Whether the pairs are possible together where this literal is true too, of a boolean before those of the choices.
@@ -118,7 +124,7 @@ impl Asking {
         ensures same { self.new ≡ self.old }
     {
         match first_of(self.assumed.as_slice(), lit.var).copied() {
-            None => Ok(self.ask(pairs, &[lit])?.is_none()),
+            None => Ok(self.ask(pairs, 0, &[lit])?.is_none()),
             Some(assumed) => {
                 if assumed.sign == lit.sign {
                     self.possible(pairs)
@@ -141,7 +147,7 @@ impl Asking {
         ensures reason { (possible : List Pair → Bool) → Decides self.old possible → IfOk result (IsReason possible pairs.now) }
         ensures same { self.new ≡ self.old }
     {
-        match self.refuted(pairs)? {
+        match self.refuted(pairs, 0)? {
             None => Ok(None),
             Some(core) => {
                 let left = reduced(self.alloc, self, pairs, Some(core))?;
@@ -166,8 +172,8 @@ impl Refuter for Asking {
 
     ghost is_monotone = { λ a possible decides. decided_is_monotone a possible decides };
 
-    fn refuted(&mut self, pairs: &[Pair]) -> Result<Option<Marks>, AllocError> {
-        self.ask(pairs, &[])
+    fn refuted(&mut self, pairs: &[Pair], kept: usize) -> Result<Option<Marks>, AllocError> {
+        self.ask(pairs, kept, &[])
     }
 
     fn is_needed(&self, core: &Marks, pair: Pair) -> bool {

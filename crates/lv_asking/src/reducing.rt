@@ -26,8 +26,9 @@ pub trait Refuter {
     ghost needs: { Self → Marks → Pair → Bool };
 
     /// Asks whether the pairs are possible together: nothing where they are, else marks of those of them that already
-    /// aren't.
-    fn refuted(&mut self, pairs: &[Pair]) -> Result<Option<Marks>, AllocError>
+    /// aren't. The first of them, so many, are kept by a deletion, which has still to look at the others: that may help to ask,
+    /// and says nothing of the answer.
+    fn refuted(&mut self, pairs: &[Pair], kept: usize) -> Result<Option<Marks>, AllocError>
         requires { fits self.old pairs.now }
         ensures told { (possible : List Pair → Bool) → tells self.old possible → IfOk result (RefutesPairs possible (needs self.old) pairs.now) }
         ensures same { self.new ≡ self.old };
@@ -99,7 +100,8 @@ fn leap<R: Refuter>(
     ensures same { refuter.new ≡ refuter.old }
 {
     if deletion.kept.len().is_power_of_two() && needs_one(refuter, &deletion.core, &pairs[at..]) {
-        if let Some(core) = refuter.refuted(deletion.kept.as_slice())? {
+        let kept = deletion.kept.len();
+        if let Some(core) = refuter.refuted(deletion.kept.as_slice(), kept)? {
             deletion.core = Some(core);
         }
     }
@@ -126,7 +128,7 @@ fn look_at<R: Refuter>(
         return Ok(());
     }
     let others = all_but(alloc, deletion.kept.as_slice(), pairs, at)?;
-    match refuter.refuted(others.as_slice())? {
+    match refuter.refuted(others.as_slice(), deletion.kept.len())? {
         Some(core) => {
             deletion.core = Some(core);
             Ok(())

@@ -4,6 +4,7 @@
 #![tactic(auto)]
 
 ghost use Rattle.std.specs.Prelude.{◌≡◌, ◌++◌, [], ◌∷◌, true, All, IfOk, OnOk, OnErr, reverse};
+ghost use Rattle.std.specs.List.Sorted.{IsPermutation};
 ghost use Rattle.std.specs.List.{list_all, list_any};
 ghost use Rattle.lv_clauses.specs.Literals.{is_clause, lit_holds};
 ghost use Rattle.lv_clauses.specs.Marks.{is_marked};
@@ -102,16 +103,38 @@ enum Found {
     Core(Marks),
 }
 
-/// The assumed literals, and behind them the chosen ones from the last to the first. A deletion takes the first ones out,
-/// so that its questions begin alike.
-fn assumptions(alloc: Global, chosen: &[Lit], assumed: &[Lit]) -> Result<Vec<Lit>, AllocError>
-    ensures { IfOk result (λ out. out.items ≡ assumed.now ++ reverse chosen.now) }
+/// So many kept literals at a time are put in front.
+const BLOCK: usize = 16;
+
+/// The assumed literals, and behind them the chosen ones. Of these the first are those that a deletion keeps, so many, and the
+/// others those that it has still to look at. The others come from the last to the first, so that the questions of a deletion
+/// begin alike while it takes them out from the first on. Kept ones come behind them, but for whole blocks, which come before:
+/// so a question that begins alike has few literals behind, and not all that are kept.
+fn assumptions(
+    alloc: Global,
+    chosen: &[Lit],
+    kept: usize,
+    assumed: &[Lit],
+) -> Result<Vec<Lit>, AllocError>
+    ensures { IfOk result (λ out. IsPermutation (chosen.now ++ assumed.now) out.items) }
 {
-    let mut backwards = Vec::from_slice(alloc, chosen)?;
-    backwards.reverse();
+    let (kept, others) = chosen.split_at(kept.min(chosen.len()));
+    let (blocks, last) = kept.split_at(kept.len() - kept.len() % BLOCK);
     let mut out = Vec::from_slice(alloc, assumed)?;
-    out.extend_from_slice(backwards.as_slice())?;
+    out.extend_from_slice(blocks)?;
+    push_backwards(alloc, others, &mut out)?;
+    out.extend_from_slice(last)?;
     Ok(out)
+}
+
+/// Adds literals from the last to the first.
+fn push_backwards(alloc: Global, lits: &[Lit], out: &mut Vec<Lit>) -> Result<(), AllocError>
+    ensures { OnOk result (out.new.items ≡ out.old.items ++ reverse lits.now) }
+{
+    let mut backwards = Vec::from_slice(alloc, lits)?;
+    backwards.reverse();
+    out.extend_from_slice(backwards.as_slice())?;
+    Ok(())
 }
 
 /// Values that satisfy the solver's clauses and make the chosen and the assumed literals true; where there are none, marks
@@ -120,13 +143,14 @@ fn ask(
     alloc: Global,
     solver: &mut LemmaSolver,
     chosen: &[Lit],
+    kept: usize,
     assumed: &[Lit],
 ) -> Result<Found, AllocError>
     requires { is_clause solver.old.bools (chosen.now ++ assumed.now) ≡ true }
     ensures answer { IfOk result (Tells solver.old chosen.now assumed.now) }
     ensures kept { solver.new ≡ solver.old }
 {
-    let lits = assumptions(alloc, chosen, assumed)?;
+    let lits = assumptions(alloc, chosen, kept, assumed)?;
     match solver.solve(lits.as_slice())? {
         Reply::Values(values) => Ok(Found::Values(values)),
         Reply::Core(core) => {
@@ -139,12 +163,13 @@ fn ask(
 /// Whether some values satisfy the solver's clauses and make the chosen and the assumed literals true: nothing where they
 /// do, else marks of chosen literals of which, with the assumed ones, this holds of no values. All literals are of distinct
 /// booleans. The solutions satisfy the clauses and the assumed literals; the solver is asked only where none of them makes
-/// the chosen ones true.
+/// the chosen ones true. How many of the chosen ones are kept, whatever is left out, is for the order of the question alone.
 pub fn refute(
     alloc: Global,
     solver: &mut LemmaSolver,
     solutions: &mut Solutions,
     chosen: &[Lit],
+    kept: usize,
     assumed: &[Lit],
 ) -> Result<Option<Marks>, AllocError>
     requires clause { is_clause solver.old.bools (chosen.now ++ assumed.now) ≡ true }
@@ -156,7 +181,7 @@ pub fn refute(
     if solutions.has(chosen) {
         return Ok(None);
     }
-    match ask(alloc, solver, chosen, assumed)? {
+    match ask(alloc, solver, chosen, kept, assumed)? {
         Found::Values(values) => {
             solutions.keep(values)?;
             Ok(None)
@@ -176,8 +201,8 @@ pub fn refute_once(
     ensures answer { IfOk result (λ core. Refutes solver.old.set lits.now [] core) }
     ensures kept { solver.new.set ≡ solver.old.set }
 {
-    let backwards = assumptions(alloc, lits, &[])?;
-    match solver.solve(backwards.as_slice())? {
+    let asked = assumptions(alloc, lits, 0, &[])?;
+    match solver.solve(asked.as_slice())? {
         Answer::Sat { .. } => Ok(None),
         Answer::Unsat { core, log: _ } => {
             let bools = solver.clauses().bools();

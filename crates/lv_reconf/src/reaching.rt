@@ -136,7 +136,7 @@ impl Refuter for Reaching<'_, '_> {
 
     ghost is_monotone = { λ r possible is. reaching_is_monotone r possible is };
 
-    fn refuted(&mut self, pairs: &[Pair]) -> Result<Option<Marks>, AllocError> {
+    fn refuted(&mut self, pairs: &[Pair], _kept: usize) -> Result<Option<Marks>, AllocError> {
         match self.setting.aim().tracked.as_slice().get(self.at) {
             Some(s) => refuted(
                 self.alloc,
