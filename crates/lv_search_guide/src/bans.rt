@@ -6,6 +6,7 @@ ghost use Rattle.std.specs.Prelude.{◌≡◌, true, false, map, IfOk, IfSome, O
 ghost use Rattle.lv_base.specs.Choices.{slots_rise};
 ghost use Rattle.lv_search_guide.specs.Bans.{without_these, sets_rise, set_of, AreBans, IsAlikeBut, TakesIn, HasOneMore};
 
+use super::alike::Alike;
 use lv_base::{Conflict, Pair};
 use lv_boxes::mask;
 use std::alloc::{AllocError, Global};
@@ -165,8 +166,37 @@ pub(crate) fn bans_of(alloc: Global, conflicts: &[Conflict]) -> Result<Vec<Ban>,
 {
     let rows = rows_of(alloc, conflicts)?;
     let mut bans = Vec::new(alloc);
+    let mut alike = Alike::new(alloc, rows.len())?;
     for row in rows.as_slice() {
-        put(alloc, row.sets(), 0, &mut bans)?;
+        put_alike(alloc, row.sets(), &mut alike, &mut bans)?;
     }
     Ok(bans)
+}
+
+/// Adds a ban of these, or has one take it in that has the same slots.
+fn put_alike(
+    alloc: Global,
+    sets: &[Choices],
+    alike: &mut Alike,
+    bans: &mut Vec<Ban>,
+) -> Result<(), AllocError>
+    requires { IsTrue (sets_rise sets.now) }
+    ensures { OnOk result (HasOneMore bans.old.items sets.now bans.new.items) }
+{
+    let row = alike.row_of(sets);
+    let mut next = alike.last_in(row);
+    for _ban in 0..bans.len() {
+        match next {
+            Some(place) if place < bans.len() => {
+                if bans[place].take_in(sets) {
+                    return Ok(());
+                }
+                next = alike.before(place);
+            }
+            _ => break,
+        }
+    }
+    alike.note(row)?;
+    bans.push(Ban::from_slice(alloc, sets)?)?;
+    Ok(())
 }

@@ -2,9 +2,13 @@
 #![tactic(auto)]
 
 use super::bans::{Ban, Choices};
+use super::masks::has_several;
 use lv_base::Pair;
 use lv_boxes::mask;
 use std::alloc::{AllocError, Global};
+
+/// The bans beyond so many tell nothing more of what is best: they come last where short ones come first.
+const MOST: usize = 256;
 
 /// Of each slot how many choices of the box the choice of these pairs there can't stand together with, by each ban;
 /// nothing of any slot, where there are no bans. The pairs have each slot once at most.
@@ -19,7 +23,7 @@ pub(crate) fn counts_of(
     }
     let mut counts = vec![in alloc; 0; masks.len()]?;
     let open = open_choices(alloc, masks, pairs)?;
-    for ban in bans {
+    for ban in bans.iter().take(MOST) {
         add_ban(ban.sets(), masks, open.as_slice(), &mut counts);
     }
     Ok(counts)
@@ -55,10 +59,15 @@ fn add_ban(sets: &[Choices], masks: &[u64], open: &[u64], counts: &mut [u64]) {
     for set in sets {
         let slot = set.slot as usize;
         if slot < open.len() && slot < counts.len() && open[slot] & set.mask != 0 {
-            let beside = ways / ways_at(*set, masks).max(1);
-            counts[slot] = counts[slot].saturating_add(beside);
+            counts[slot] = counts[slot].saturating_add(ways_beside(ways, ways_at(*set, masks)));
         }
     }
+}
+
+/// Of the ways in which a ban can be met those beside a slot at which it has so many.
+#[inline(always)]
+fn ways_beside(ways: u64, own: u64) -> u64 {
+    if own <= 1 { ways } else { ways / own }
 }
 
 /// In how many ways a ban can be met in a box.
@@ -78,8 +87,18 @@ fn ways_of(sets: &[Choices], masks: &[u64]) -> u64 {
 fn ways_at(set: Choices, masks: &[u64]) -> u64 {
     let slot = set.slot as usize;
     if slot < masks.len() {
-        (masks[slot] & set.mask).count_ones() as u64
+        count_in(masks[slot] & set.mask)
     } else {
         1
+    }
+}
+
+/// How many choices a mask has.
+#[inline(always)]
+fn count_in(mask: u64) -> u64 {
+    if has_several(mask) {
+        mask.count_ones() as u64
+    } else {
+        (mask != 0) as u64
     }
 }

@@ -17,6 +17,7 @@
 //! | `least_free` | the member that ranks first |
 //! | `conflicts` | conflicts with the bans that they come to |
 //! | `bans` | conflicts drawn together |
+//! | `alike` | where bans of the same slots stand |
 //! | `order` | in which order a search goes through them |
 //! | `parts` | the same part by part of a box |
 //! | `cheapest` | a cheapest member, by a stack of boxes |
@@ -32,6 +33,7 @@
 //! | `laws` | that there is one answer |
 #![tactic(auto)]
 
+mod alike;
 pub mod bans;
 mod behind;
 mod cheapest;

@@ -25,9 +25,10 @@ pub(crate) struct Row {
     prices: Vec<Cost>,
     /// The choices left.
     mask: u64,
-    /// A least priced of the choices left.
-    least: usize,
-    /// What the dearest choice costs.
+    /// Those of them that have no price.
+    free: u64,
+    /// The choices that cost nothing, and what the dearest choice costs.
+    costless: u64,
     dearest: u64,
 }
 
@@ -68,7 +69,8 @@ impl Row {
         Row {
             prices: Vec::new(alloc),
             mask: 0,
-            least: 0,
+            free: 0,
+            costless: 0,
             dearest: 0,
         }
     }
@@ -78,11 +80,12 @@ impl Row {
         ensures { OnOk result (self.new ≡ costs.now) }
     {
         if self.prices.len() != costs.len() {
+            self.costless = free_in(costs, u64::MAX);
             self.dearest = dearest(costs);
         }
         refill(&mut self.prices, costs)?;
         self.mask = mask;
-        self.least = least_choice(costs, mask);
+        self.free = self.costless & mask;
         Ok(())
     }
 
@@ -97,9 +100,9 @@ impl Row {
         self.dearest
     }
 
-    /// Whether a least priced of the choices left has a price.
+    /// Whether choices are left, and each has a price.
     fn is_priced(&self) -> bool {
-        self.least < self.prices.len() && self.prices[self.least].0 > 0
+        self.mask != 0 && self.free == 0
     }
 
     /// Prices each choice that the mask has at so much less.
@@ -110,7 +113,7 @@ impl Row {
             return;
         }
         lower_each(&mut self.prices, mask, by);
-        self.least = least_choice(self.prices.as_slice(), self.mask);
+        self.free |= free_in(self.prices.as_slice(), mask & self.mask);
     }
 }
 
@@ -132,23 +135,17 @@ fn dearest(costs: &[Cost]) -> u64 {
     costs.iter().map(|cost| cost.0).max().unwrap_or(0)
 }
 
-/// A least priced of the choices that the mask has; past all choices, where it has none.
-fn least_choice(prices: &[Cost], mask: u64) -> usize {
-    if !has_several(mask) {
-        return mask.trailing_zeros() as usize;
-    }
-    let mut least = prices.len();
-    for choice in 0..prices.len() {
-        if mask::has(mask, choice)
-            && (least >= prices.len() || prices[choice].0 < prices[least].0)
-        {
-            if prices[choice].0 == 0 {
-                return choice;
-            }
-            least = choice;
+/// Of the choices that the mask has those that have no price.
+fn free_in(prices: &[Cost], mask: u64) -> u64 {
+    let mut free = 0;
+    let mut own: u64 = 1;
+    for price in prices {
+        if price.0 == 0 {
+            free |= mask & own;
         }
+        own <<= 1;
     }
-    least
+    free
 }
 
 /// Prices each choice that the mask has at so much less.
@@ -196,16 +193,16 @@ fn lesser(least: Option<u64>, price: u64) -> u64
     }
 }
 
-/// Whether of each of these slots a choice of these is the least priced, so that what breaks them may all have a price.
-fn are_tight(sets: &[Choices], rows: &[Row]) -> bool {
-    sets.iter().all(|set| is_tight(*set, rows))
+/// Whether all that breaks these has a price.
+fn are_priced(sets: &[Choices], rows: &[Row]) -> bool {
+    sets.iter().all(|set| is_priced_beside(*set, rows))
 }
 
-/// As `are_tight`, of one slot.
+/// Whether all choices of the slot that are left beside these have a price.
 #[inline(always)]
-fn is_tight(set: Choices, rows: &[Row]) -> bool {
+fn is_priced_beside(set: Choices, rows: &[Row]) -> bool {
     match rows.get(set.slot as usize) {
-        Some(row) => mask::has(set.mask, row.least),
+        Some(row) => without_these(row.free, set.mask) == 0,
         None => false,
     }
 }
@@ -322,7 +319,7 @@ fn raise_by_slot(masks: &[u64], slot: usize, low: u64, rows: &mut Vec<Row>) -> u
     raise_bound(masks, &[none], low, rows)
 }
 
-/// Whether a least priced of the choices left of a slot has a price.
+/// Whether choices of a slot are left, and each has a price.
 fn is_priced(slot: usize, rows: &[Row]) -> bool {
     match rows.get(slot) {
         Some(row) => row.is_priced(),
@@ -364,7 +361,7 @@ fn raise_by_ban(
     ensures long { length rows.new.items ≡ length rows.old.items }
 {
     let bans = conflicts.bans();
-    if place >= bans.len() || !are_tight(bans[place].sets(), rows.as_slice()) {
+    if place >= bans.len() || !are_priced(bans[place].sets(), rows.as_slice()) {
         return low;
     }
     raise_bound(masks, bans[place].sets(), low, rows)
