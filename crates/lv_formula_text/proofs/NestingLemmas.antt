@@ -2,10 +2,10 @@
 use Rattle.std.proofs.Common.{◌≡◌, ℕ, ◌+◌, ◌-◌, ◌<◌, ◌≤◌, Bool, true, false, ◌||◌, nat_lt, List, [], ◌∷◌, drop, length, zero, suc, Option, Some, None, refl, sym, ap, ap₂, ◌∙◌, arith}
 use Rattle.std.proofs.lemmas.Bool.Decides.{nat_tests}
 use Rattle.std.specs.Option.{option_map_or}
-use Rattle.lv_base.specs.declared.limits.TheConstants.{OPEN_PARENTHESES}
+use Rattle.lv_base.specs.declared.limits.TheConstants.{OPEN_PARENTHESES, NESTING_OPERATORS}
 use Rattle.lv_text.specs.declared.lexer.TokenKind.{TokenKind}
 use Rattle.lv_text.specs.Lexemes.{Lexeme, kind_at}
-use Rattle.lv_formula_text.specs.Nesting.{one_if, opens, closes, how_many, some_front, open_by, is_too_open}
+use Rattle.lv_formula_text.specs.Nesting.{one_if, opens, closes, nests, how_many, some_front, open_by, is_too_open, is_too_deep}
 use Rattle.lv_formula_text.proofs.CursorLemmas.{token_at}
 
 is_there : (ts : List Lexeme) (place : ℕ) → place < length ts → kind_at ts place ≡ None → ⊥
@@ -80,3 +80,20 @@ too_many n m e h = grind (arith, nat_tests)
 
 pub few_enough : (n m : ℕ) → n ≡ m → n ≤ OPEN_PARENTHESES → nat_lt OPEN_PARENTHESES m ≡ false
 few_enough n m e h = grind (arith, nat_tests)
+
+-- a line with no more tokens than parentheses may be open
+none_at_front : (test : List Lexeme → Bool) (ts : List Lexeme) → ((front : List Lexeme) → length front ≤ length ts → test front ≡ false) → some_front test ts ≡ false
+none_at_front test [] none = none [] (omega arith)
+none_at_front test (t ∷ ts) none =
+    ap₂ (λ (x y : Bool). x || y) (none [] (omega arith))
+    (none_at_front (λ front. test (t ∷ front)) ts (λ front short. let more : length (t ∷ front) ≤ length (t ∷ ts) = omega (arith, short) in none (t ∷ front) more))
+
+at_most_all : (test : TokenKind → Bool) (ts : List Lexeme) → how_many test ts ≤ length ts
+at_most_all test [] = omega arith
+at_most_all test (t ∷ ts) = let own = one_if_small (test t.kind) in let rest = at_most_all test ts in omega (arith, own, rest)
+
+pub short_is_shallow : (ts : List Lexeme) → length ts ≤ OPEN_PARENTHESES → is_too_deep ts ≡ false
+short_is_shallow ts short =
+    ap₂ (λ (x y : Bool). x || y)
+    (none_at_front (λ front. nat_lt OPEN_PARENTHESES (open_by front)) ts (λ front part. let few = at_most_all opens front in let some : open_by front ≤ OPEN_PARENTHESES = omega (arith, few, part, short) in grind (arith, nat_tests, some)))
+    (let few = at_most_all nests ts in let some : how_many nests ts ≤ NESTING_OPERATORS = omega (arith, few, short) in grind (arith, nat_tests, some))

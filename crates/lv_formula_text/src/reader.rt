@@ -35,10 +35,15 @@ pub fn read_phrase(alloc: Global, line: &TokenLine<'_>, from: usize) -> Result<P
     Ok(Phrase::new(Box::into_inner(root)))
 }
 
-/// Whether parentheses or operators of a line nest deeper than is allowed, whatever else the line holds. Takes no memory.
+/// Whether parentheses or operators of a line nest deeper than is allowed, whatever else the line holds. Takes no memory. A
+/// line of few tokens isn't gone along.
+#[tactic(auto, using(crate::proofs::NestingLemmas::short_is_shallow))]
 pub fn is_too_deep(line: &TokenLine<'_>) -> bool
     ensures { result ≡ is_too_deep line.now }
 {
+    if line.len() <= limits::OPEN_PARENTHESES as usize {
+        return false;
+    }
     is_too_open(line) || nests_too_often(line)
 }
 

@@ -69,6 +69,21 @@ impl LineWriter {
     {
         self.text
     }
+
+    /// The text so far.
+    pub fn text(&self) -> &[u8]
+        ensures { result.now ≡ self.now.0 }
+    {
+        self.text.as_slice()
+    }
+
+    /// Begins a line again, in the room of the one before.
+    pub fn clear(&mut self)
+        ensures { self.new ≡ ([], false) }
+    {
+        self.text.clear();
+        self.after_word = false;
+    }
 }
 
 fn is_wordlike(kind: TokenKind) -> bool

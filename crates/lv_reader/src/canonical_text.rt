@@ -17,17 +17,18 @@ pub fn print_model(alloc: Global, text: &ModelText) -> Result<Vec<u8>, AllocErro
 {
     let statements = text.statements.as_slice();
     let mut bytes = Vec::new(alloc);
-    push_version(alloc, &mut bytes)?;
+    let mut line = LineWriter::new(alloc);
+    push_version(&mut line, &mut bytes)?;
     push_name(&mut bytes, statements)?;
-    push_lines(alloc, &mut bytes, statements)?;
+    push_lines(&mut line, &mut bytes, statements)?;
     Ok(bytes)
 }
 
 /// Adds the line that gives the version.
-fn push_version(alloc: Global, bytes: &mut Vec<u8>) -> Result<(), AllocError>
+fn push_version(line: &mut LineWriter, bytes: &mut Vec<u8>) -> Result<(), AllocError>
     ensures { OnOk result (bytes.new.items ≡ bytes.old.items ++ version_line) }
 {
-    push_line(alloc, bytes, &Statement::VersionLine(NEWEST))
+    push_line(line, bytes, &Statement::VersionLine(NEWEST))
 }
 
 /// Adds the line that gives the model's name, where the statements don't begin with it.
@@ -51,25 +52,29 @@ fn begins_with_name(statements: &[NumberedStatement]) -> bool
 
 /// Adds a line for each statement.
 fn push_lines(
-    alloc: Global,
+    line: &mut LineWriter,
     bytes: &mut Vec<u8>,
     statements: &[NumberedStatement],
 ) -> Result<(), AllocError>
     ensures { OnOk result (bytes.new.items ≡ bytes.old.items ++ flat_map ended_line (statements_of statements.now)) }
 {
     'lines: for numbered in statements {
-        push_line(alloc, bytes, &numbered.statement)?;
+        push_line(line, bytes, &numbered.statement)?;
     }
     Ok(())
 }
 
-/// Adds the line of a statement.
-fn push_line(alloc: Global, bytes: &mut Vec<u8>, statement: &Statement) -> Result<(), AllocError>
+/// Adds the line of a statement, written in the room that is given.
+fn push_line(
+    line: &mut LineWriter,
+    bytes: &mut Vec<u8>,
+    statement: &Statement,
+) -> Result<(), AllocError>
     ensures { OnOk result (bytes.new.items ≡ bytes.old.items ++ ended_line statement.now) }
 {
-    let mut writer = LineWriter::new(alloc);
-    write_statement(&mut writer, statement)?;
-    bytes.extend_from_slice(writer.into_bytes().as_slice())?;
+    line.clear();
+    write_statement(line, statement)?;
+    bytes.extend_from_slice(line.text())?;
     bytes.extend_from_slice(b"\n")?;
     Ok(())
 }
