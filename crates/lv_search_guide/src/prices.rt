@@ -80,7 +80,7 @@ impl Row {
         ensures { OnOk result (self.new ≡ costs.now) }
     {
         if self.prices.len() != costs.len() {
-            self.costless = free_in(costs, u64::MAX);
+            self.costless = costless_in(costs);
             self.dearest = dearest(costs);
         }
         refill(&mut self.prices, costs)?;
@@ -112,8 +112,7 @@ impl Row {
         if mask == 0 {
             return;
         }
-        lower_each(&mut self.prices, mask, by);
-        self.free |= free_in(self.prices.as_slice(), mask & self.mask);
+        self.free |= lower_each(&mut self.prices, mask, by) & self.mask;
     }
 }
 
@@ -135,27 +134,35 @@ fn dearest(costs: &[Cost]) -> u64 {
     costs.iter().map(|cost| cost.0).max().unwrap_or(0)
 }
 
-/// Of the choices that the mask has those that have no price.
-fn free_in(prices: &[Cost], mask: u64) -> u64 {
-    let mut free = 0;
+/// The choices that cost nothing, among the first 64.
+fn costless_in(costs: &[Cost]) -> u64 {
+    let mut costless = 0;
     let mut own: u64 = 1;
-    for price in prices {
-        if price.0 == 0 {
-            free |= mask & own;
+    for cost in costs {
+        if cost.0 == 0 {
+            costless |= own;
         }
         own <<= 1;
     }
-    free
+    costless
 }
 
-/// Prices each choice that the mask has at so much less.
-fn lower_each(prices: &mut [Cost], mask: u64, by: u64)
+/// Prices each choice that the mask has at so much less. Answers which of them have no price then.
+fn lower_each(prices: &mut [Cost], mask: u64, by: u64) -> u64
     ensures { prices.new ≡ lowered_from 0 mask by prices.old }
 {
+    let mut free = 0;
+    let mut own: u64 = 1;
     for choice in 0..prices.len() {
         let lowers = mask::has(mask, choice);
-        prices[choice] = Cost(price_after(lowers, by, prices[choice].0));
+        let price = price_after(lowers, by, prices[choice].0);
+        prices[choice] = Cost(price);
+        if price == 0 {
+            free |= own;
+        }
+        own <<= 1;
     }
+    free & mask
 }
 
 /// A price, or so much less, as far as it goes.
