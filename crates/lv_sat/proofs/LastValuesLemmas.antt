@@ -1,5 +1,5 @@
 -- What the last values leave to be judged, and how they and the rows are kept up to date.
-use Rattle.std.proofs.Common.{◌≡◌, ◌≢◌, ◌⊎◌, ℕ, suc, ◌+◌, ◌<◌, ◌≤◌, Bool, true, false, List, [], ◌∷◌, ◌++◌, length, get_or, set, Option, Some, None, IfSome, IsSome, Result, Ok, Err, OnOk, IfOk, if◌then◌else◌, refl, sym, ap, subst, ◌∙◌, arith, inl, inr, Contains}
+use Rattle.std.proofs.Common.{◌≡◌, ◌≢◌, ◌⊎◌, ℕ, suc, ◌+◌, ◌<◌, ◌≤◌, Bool, true, false, List, [], ◌∷◌, ◌++◌, length, get_or, set, Option, Some, None, IfSome, IsSome, Result, Ok, Err, OnOk, IfOk, refl, sym, ap, subst, ◌∙◌, arith, inl, inr, Contains}
 use Rattle.std.specs.Result.{is_err, result_ok}
 use Rattle.std.proofs.lemmas.Bool.{cases_eq, cases_lt}
 use Rattle.std.proofs.lemmas.List.{get_or_past, get_or_append_left, get_or_push, get_or-set_same, get_or-set_other, length-append, length-set}
@@ -133,10 +133,9 @@ marked_within ms l e = elim (cases_lt l.var.0 (length ms)) [
 pub keep_all : (ms : Marks) (vs : List Bool) (at : ℕ) → length ms ≤ at → KeepBefore ms vs at → KeepMarks ms vs
 keep_all ms vs at past kept = record { len = kept.len; marked = λ l e. kept.marked l (omega (arith, past, marked_within ms l e)) e }
 
--- those that turned so far are told, of the booleans before this one
+-- those that turned are told, of the booleans before this one
 pub record TellTurned (old new : List Bool) (at : ℕ) (turned : List BoolId) : Type 0 where
-  pub told : (var : ℕ) → (get_or new var false ≡ get_or old var false) ⊎ Contains turned (record { 0 = var })
-  pub later : (var : ℕ) → at ≤ var → get_or new var false ≡ get_or old var false
+  pub told : (var : ℕ) → var < at → (get_or new var false ≡ get_or old var false) ⊎ Contains turned (record { 0 = var })
 
 contains_more : {X : Type 0} (xs : List X) (x y : X) → Contains xs x → Contains (xs ++ y ∷ []) x
 contains_more xs x y has = (has.0, omega (arith, has.1, length-append xs (y ∷ [])), get_or_append_left xs (y ∷ []) x has.0 has.1 ∙ has.2)
@@ -144,31 +143,32 @@ contains_more xs x y has = (has.0, omega (arith, has.1, length-append xs (y ∷ 
 contains_last : {X : Type 0} (xs : List X) (x : X) → Contains (xs ++ x ∷ []) x
 contains_last xs x = (length xs, omega (arith, length-append xs (x ∷ [])), get_or_push xs x x (length xs) refl)
 
-pub tell_none : (old : List Bool) (turned : List BoolId) → TellTurned old old 0 turned
-tell_none old turned = record { told = λ var. inl refl; later = λ var past. refl }
+pub tell_none : (old new : List Bool) (turned : List BoolId) → TellTurned old new 0 turned
+tell_none old new turned = record { told = λ var before. absurd (omega (arith, before)) }
 
--- a boolean more, which is told where it turned
-pub tell_next : (old vs : List Bool) (i : ℕ) (v b : Bool) (turned more : List BoolId) → i < length vs → (b ≡ false → v ≡ get_or vs i false) → more ≡ (if b then turned ++ record { 0 = i } ∷ [] else turned)
-    → TellTurned old vs i turned → TellTurned old (set vs i v) (i + 1) more
-tell_next old vs i v b turned more within same is tells =
-    record { told = λ var. by_place var (cases_eq var i); later = λ var past. get_or-set_other vs i var v false (λ e. omega (arith, e, past)) ∙ tells.later var (omega (arith, past)) }
+-- a boolean more, which is the same, or is told
+pub tell_same : (old new : List Bool) (i : ℕ) (turned : List BoolId) → get_or old i false ≡ get_or new i false → TellTurned old new i turned → TellTurned old new (i + 1) turned
+tell_same old new i turned same tells = record { told = λ var before. by_place var before (cases_eq var i) }
   where
-    at_place : (c : Bool) → b ≡ c → (get_or (set vs i v) i false ≡ get_or old i false) ⊎ Contains (if c then turned ++ record { 0 = i } ∷ [] else turned) (record { 0 = i })
-    at_place false e = inl (get_or-set_same vs i v false within ∙ same e ∙ tells.later i (omega arith))
-    at_place true e = inr (contains_last turned (record { 0 = i }))
+    by_place : (var : ℕ) → var < i + 1 → (var ≡ i) ⊎ (var ≢ i) → (get_or new var false ≡ get_or old var false) ⊎ Contains turned (record { 0 = var })
+    by_place var before (inl at) = inl (subst (λ (k : ℕ). get_or new k false ≡ get_or old k false) (sym at) (sym same))
+    by_place var before (inr differs) = tells.told var (omega (arith, before, differs))
 
-    still : (c : Bool) (x : BoolId) → Contains turned x → Contains (if c then turned ++ record { 0 = i } ∷ [] else turned) x
-    still false x has = has
-    still true x has = contains_more turned x (record { 0 = i }) has
-
-    by_place : (var : ℕ) → (var ≡ i) ⊎ (var ≢ i) → (get_or (set vs i v) var false ≡ get_or old var false) ⊎ Contains more (record { 0 = var })
-    by_place var (inl at) =
-        subst (λ (k : ℕ). (get_or (set vs i v) k false ≡ get_or old k false) ⊎ Contains more (record { 0 = k })) (sym at)
-        (subst (λ (ls : List BoolId). (get_or (set vs i v) i false ≡ get_or old i false) ⊎ Contains ls (record { 0 = i })) (sym is) (at_place b refl))
-    by_place var (inr differs) = elim (tells.told var) [
-      | inl e ↦ inl (get_or-set_other vs i var v false differs ∙ e)
-      | inr has ↦ inr (subst (λ (ls : List BoolId). Contains ls (record { 0 = var })) (sym is) (still b (record { 0 = var }) has))
+pub tell_more : (old new : List Bool) (i : ℕ) (turned more : List BoolId) → more ≡ turned ++ record { 0 = i } ∷ [] → TellTurned old new i turned → TellTurned old new (i + 1) more
+tell_more old new i turned more is tells = record { told = λ var before. subst (λ (ls : List BoolId). (get_or new var false ≡ get_or old var false) ⊎ Contains ls (record { 0 = var })) (sym is) (by_place var before (cases_eq var i)) }
+  where
+    by_place : (var : ℕ) → var < i + 1 → (var ≡ i) ⊎ (var ≢ i) → (get_or new var false ≡ get_or old var false) ⊎ Contains (turned ++ record { 0 = i } ∷ []) (record { 0 = var })
+    by_place var before (inl at) = inr (subst (λ (k : ℕ). Contains (turned ++ record { 0 = i } ∷ []) (record { 0 = k })) (sym at) (contains_last turned (record { 0 = i })))
+    by_place var before (inr differs) = elim (tells.told var (omega (arith, before, differs))) [
+      | inl e ↦ inl e
+      | inr has ↦ inr (contains_more turned (record { 0 = var }) (record { 0 = i }) has)
     ]
+
+pub tell_all : (old new : List Bool) (at : ℕ) (turned : List BoolId) → length old ≤ at → length new ≤ at → TellTurned old new at turned → AreTurned old new turned
+tell_all old new at turned past past_too tells var = elim (cases_lt var at) [
+  | inl before ↦ tells.told var before
+  | inr behind ↦ inl (get_or_past new var false (omega (arith, behind, past_too)) ∙ sym (get_or_past old var false (omega (arith, behind, past))))
+]
 
 -- all booleans that turned were looked at
 pub each_settled : (slots : Slots) (rows : Rows) (last values : List Bool) (turned : List BoolId) → AreTurned last values turned

@@ -101,8 +101,8 @@ impl LastValues {
         ensures turned { IfOk result (λ guess. IfSome self.now.values (λ last. AreTurned last guess.values guess.turned.items)) }
     {
         let mut values = self.copied_for(alloc, set)?;
-        let mut turned = Vec::new(alloc);
-        write_marks(marks, set.bools(), &mut values, &mut turned)?;
+        write_marks(marks, set.bools(), &mut values);
+        let turned = self.turned_in(alloc, set, values.as_slice())?;
         Ok(Guess {
             values: Seq::from_vec(values),
             turned,
@@ -119,6 +119,24 @@ impl LastValues {
             Some(values) => Ok(Vec::from_slice(alloc, values.as_slice())?),
             None => Ok(vec![in alloc; false; set.bools() as usize]?),
         }
+    }
+
+    /// The booleans at which these differ from the values; none, where there are no values.
+    fn turned_in(
+        &self,
+        alloc: Global,
+        set: &ClauseSet,
+        values: &[bool],
+    ) -> Result<Vec<BoolId>, AllocError>
+        requires kept { IsUpToDate set.now self.now.values self.now.occurrences }
+        requires len { length values.now ≡ set.now.bools }
+        ensures { IfOk result (λ turned. IfSome self.now.values (λ last. AreTurned last values.now turned.items)) }
+    {
+        let mut turned = Vec::new(alloc);
+        if let Some(last) = &self.values {
+            push_turned(last.as_slice(), values, set.bools(), &mut turned)?;
+        }
+        Ok(turned)
     }
 
     /// A clause that a guess makes false; None exactly where it satisfies all.
@@ -143,23 +161,36 @@ impl LastValues {
     }
 }
 
-/// Writes the marks of so many booleans in place of their values, and adds those booleans whose values turn.
-fn write_marks(
-    marks: &[Option<bool>],
-    bools: u32,
-    values: &mut [bool],
-    turned: &mut Vec<BoolId>,
-) -> Result<(), AllocError>
+/// Writes the marks of so many booleans in place of their values. A loop that does nothing else is gone through many booleans
+/// at a time.
+fn write_marks(marks: &[Option<bool>], bools: u32, values: &mut [bool])
     requires marks { length marks.now ≡ bools }
     requires values { length values.old ≡ bools }
-    ensures keep { OnOk result (KeepMarks marks.now values.new) }
-    ensures turned { OnOk result (AreTurned values.old values.new turned.new.items) }
+    ensures keep { KeepMarks marks.now values.new }
+    ensures len { length values.new ≡ length values.old }
 {
     for var in 0..bools {
         let at = var as usize;
-        let value = marked_or(marks[at], values[at]);
-        add_if(differ(value, values[at]), BoolId(var), turned)?;
-        values[at] = value;
+        values[at] = marked_or(marks[at], values[at]);
+    }
+}
+
+/// Adds the booleans, of so many, at which the values differ from the last ones.
+fn push_turned(
+    last: &[bool],
+    values: &[bool],
+    bools: u32,
+    turned: &mut Vec<BoolId>,
+) -> Result<(), AllocError>
+    requires last { length last.now ≡ bools }
+    requires values { length values.now ≡ bools }
+    ensures { OnOk result (AreTurned last.now values.now turned.new.items) }
+{
+    for var in 0..bools {
+        let at = var as usize;
+        if differ(last[at], values[at]) {
+            turned.push(BoolId(var))?;
+        }
     }
     Ok(())
 }
@@ -180,17 +211,6 @@ fn differ(one: bool, other: bool) -> bool
     ensures { result ≡ false → one ≡ other }
 {
     one != other
-}
-
-/// Adds a boolean, where that is so.
-#[inline(always)]
-fn add_if(is: bool, var: BoolId, vars: &mut Vec<BoolId>) -> Result<(), AllocError>
-    ensures { OnOk result (vars.new.items ≡ (if is then vars.old.items ++ var ∷ [] else vars.old.items)) }
-{
-    if is {
-        vars.push(var)?;
-    }
-    Ok(())
 }
 
 /// Finds the occurrences where they aren't known, if memory suffices.

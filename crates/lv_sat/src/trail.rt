@@ -82,6 +82,7 @@ impl Trail {
     }
 
     /// Takes a literal as true.
+    #[inline(always)]
     pub fn push(&mut self, entry: Entry) -> Result<(), AllocError>
         ensures marks { OnOk result (self.new.marks.items ≡ marked self.old.marks.items entry.lit) }
         ensures entries { OnOk result (self.new.entries.items ≡ self.old.entries.items ++ entry ∷ []) }
