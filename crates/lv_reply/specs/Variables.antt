@@ -1,5 +1,5 @@
 -- Variables and their values by the names of the plant.
-use Rattle.std.specs.Prelude.{ℕ, ◌+◌, ◌-◌, Bool, ◌&&◌, nat_eq, nat_le, nat_lt, if◌then◌else◌, List, [], ◌++◌, slice_get, codes}
+use Rattle.std.specs.Prelude.{ℕ, ◌+◌, ◌-◌, ◌≤◌, ◌<◌, Bool, ◌&&◌, nat_eq, nat_le, nat_lt, if◌then◌else◌, List, [], ◌++◌, slice_get, codes}
 use Rattle.std.specs.List.{find}
 use Rattle.std.specs.Option.{option_map_or}
 use Rattle.lv_model.specs.declared.plant.Plant.{Plant}
@@ -26,6 +26,13 @@ own_values domains t n =
 -- a value of a type's n-th variable, as `cmd=open`, with this sign between
 abbrev pub own_equation : List Domain → List ℕ → ComponentType → ℕ → ℕ → List ℕ
 own_equation domains sign t n value = own_name t n ++ sign ++ name_at (own_values domains t n) value
+
+-- whether the part's variables begin at or before this one, or behind it
+abbrev pub begins_by : ℕ → Part → Type 0
+begins_by x p = p.first.0 ≤ x
+
+abbrev pub begins_behind : ℕ → Part → Type 0
+begins_behind x p = x < p.first.0
 
 -- whether the variable of this number is the part's
 abbrev pub has_variable : List ComponentType → ℕ → Part → Bool

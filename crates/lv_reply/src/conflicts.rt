@@ -35,14 +35,14 @@ fn text_of_choice(
 /// The value of a control that a pair names; nothing where there is no such control.
 fn text_of_command(
     alloc: Global,
-    plant: &Plant,
+    model: &Model,
     controls: &[VarId],
     pair: Pair,
 ) -> Result<Vec<u8>, AllocError>
-    ensures { IfOk result (λ out. out.items ≡ command_text plant.now controls.now pair) }
+    ensures { IfOk result (λ out. out.items ≡ command_text model.now controls.now pair) }
 {
     match controls.get(pair.slot as usize) {
-        Some(control) => text_of_setting(alloc, plant, *control, pair.choice),
+        Some(control) => text_of_setting(alloc, model, *control, pair.choice),
         None => Ok(Vec::new(alloc)),
     }
 }
@@ -129,15 +129,15 @@ impl PairText for TimedChoices<'_> {
 /// Pairs of a place among the controls and a value.
 #[derive(Drop)]
 struct Commands<'a> {
-    plant: &'a Plant,
+    model: &'a Model,
     controls: &'a [VarId],
 }
 
 impl PairText for Commands<'_> {
-    ghost text = { λ s. command_text s.plant.now s.controls.now };
+    ghost text = { λ s. command_text s.model.now s.controls.now };
 
     fn text(&self, alloc: Global, pair: Pair) -> Result<Vec<u8>, AllocError> {
-        text_of_command(alloc, self.plant, self.controls, pair)
+        text_of_command(alloc, self.model, self.controls, pair)
     }
 }
 
@@ -246,7 +246,7 @@ pub fn command_conflicts_text(
 {
     let controls = model.controls(alloc)?;
     let texts = Commands {
-        plant: model.plant(),
+        model,
         controls: controls.as_slice(),
     };
     conflicts_by(alloc, &texts, kept, trials)

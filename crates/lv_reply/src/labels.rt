@@ -8,7 +8,7 @@ ghost use Rattle.lv_reply.specs.Labels.{moment_word, label_line, labels_text};
 use crate::pieces::push_number;
 use crate::variables::push_equation;
 use lv_base::{ValId, VarId};
-use lv_model::Plant;
+use lv_model::Model;
 use std::alloc::{AllocError, Global};
 
 /// Before the step that the next diagnosis is of, or after it.
@@ -36,34 +36,34 @@ fn moment_word(moment: Moment) -> &'static [u8]
 }
 
 /// Adds the line of a label.
-fn push_line(out: &mut Vec<u8>, plant: &Plant, label: Label) -> Result<(), AllocError>
-    ensures { IfOk result (λ _. out.new.items ≡ out.old.items ++ label_line plant.now label) }
+fn push_line(out: &mut Vec<u8>, model: &Model, label: Label) -> Result<(), AllocError>
+    ensures { IfOk result (λ _. out.new.items ≡ out.old.items ++ label_line model.now label) }
 {
     out.extend_from_slice(moment_word(label.moment))?;
     out.extend_from_slice(b" ")?;
-    push_equation(out, plant, b" = ", label.var, label.val)?;
+    push_equation(out, model, b" = ", label.var, label.val)?;
     out.extend_from_slice(b"\n")?;
     Ok(())
 }
 
 /// Adds the lines of the labels.
-fn push_lines(out: &mut Vec<u8>, plant: &Plant, labels: &[Label]) -> Result<(), AllocError>
-    ensures { IfOk result (λ _. out.new.items ≡ out.old.items ++ flat_map (label_line plant.now) labels.now) }
+fn push_lines(out: &mut Vec<u8>, model: &Model, labels: &[Label]) -> Result<(), AllocError>
+    ensures { IfOk result (λ _. out.new.items ≡ out.old.items ++ flat_map (label_line model.now) labels.now) }
 {
     for label in labels {
-        push_line(out, plant, *label)?;
+        push_line(out, model, *label)?;
     }
     Ok(())
 }
 
 /// The text of these labels.
 #[tactic(auto, unfolding(crate::specs::Labels::labels_text))]
-pub fn labels_text(alloc: Global, plant: &Plant, labels: &[Label]) -> Result<Vec<u8>, AllocError>
-    ensures { IfOk result (λ out. out.items ≡ labels_text plant.now labels.now) }
+pub fn labels_text(alloc: Global, model: &Model, labels: &[Label]) -> Result<Vec<u8>, AllocError>
+    ensures { IfOk result (λ out. out.items ≡ labels_text model.now labels.now) }
 {
     let mut out = Vec::from_slice(alloc, b"labels ")?;
     push_number(&mut out, labels.len() as u64)?;
     out.extend_from_slice(b"\n")?;
-    push_lines(&mut out, plant, labels)?;
+    push_lines(&mut out, model, labels)?;
     Ok(out)
 }

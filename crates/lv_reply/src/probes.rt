@@ -10,7 +10,7 @@ use crate::pieces::{push_joined, push_number};
 use crate::variables::{own_values, owner_of, push_own_name};
 use lv_base::{Seq, VarId};
 use lv_model::lookup::type_of;
-use lv_model::{Name, Part, Plant};
+use lv_model::{Model, Name, Part, Plant};
 use std::alloc::{AllocError, Global};
 
 /// An observable, and for each of its values the number of the listed candidates that go with it.
@@ -38,11 +38,11 @@ fn push_part_variable(
 }
 
 /// Adds a variable by its names; nothing where there is no such variable.
-fn push_variable(out: &mut Vec<u8>, plant: &Plant, x: u32) -> Result<(), AllocError>
-    ensures { IfOk result (λ _. out.new.items ≡ out.old.items ++ variable_text plant.now x) }
+fn push_variable(out: &mut Vec<u8>, model: &Model, x: u32) -> Result<(), AllocError>
+    ensures { IfOk result (λ _. out.new.items ≡ out.old.items ++ variable_text model.now x) }
 {
-    match owner_of(plant.types.as_slice(), plant.parts.as_slice(), x) {
-        Some(part) => push_part_variable(out, plant, x, part),
+    match owner_of(model, x) {
+        Some(part) => push_part_variable(out, model.plant(), x, part),
         None => Ok(()),
     }
 }
@@ -58,11 +58,11 @@ fn part_values<'a>(plant: &'a Plant, x: u32, part: &Part) -> &'a [Name]
 }
 
 /// The names of the values of a variable; none where there is no such variable.
-fn value_names(plant: &Plant, x: u32) -> &[Name]
-    ensures { result.now ≡ value_names plant.now x }
+fn value_names(model: &Model, x: u32) -> &[Name]
+    ensures { result.now ≡ value_names model.now x }
 {
-    match owner_of(plant.types.as_slice(), plant.parts.as_slice(), x) {
-        Some(part) => part_values(plant, x, part),
+    match owner_of(model, x) {
+        Some(part) => part_values(model.plant(), x, part),
         None => &[],
     }
 }
@@ -106,16 +106,16 @@ fn all_counted(alloc: Global, names: &[Name], numbers: &[u64]) -> Result<Vec<Nam
 fn push_probed(
     alloc: Global,
     out: &mut Vec<u8>,
-    plant: &Plant,
+    model: &Model,
     probed: &Probed,
 ) -> Result<(), AllocError>
-    ensures { IfOk result (λ _. out.new.items ≡ out.old.items ++ probed_line plant.now probed.now) }
+    ensures { IfOk result (λ _. out.new.items ≡ out.old.items ++ probed_line model.now probed.now) }
 {
-    push_variable(out, plant, probed.var.0)?;
+    push_variable(out, model, probed.var.0)?;
     out.extend_from_slice(b": ")?;
     let values = all_counted(
         alloc,
-        value_names(plant, probed.var.0),
+        value_names(model, probed.var.0),
         probed.numbers.as_slice(),
     )?;
     push_joined(out, values.as_slice())?;
@@ -127,23 +127,23 @@ fn push_probed(
 fn push_lines(
     alloc: Global,
     out: &mut Vec<u8>,
-    plant: &Plant,
+    model: &Model,
     observables: &[Probed],
 ) -> Result<(), AllocError>
-    ensures { IfOk result (λ _. out.new.items ≡ out.old.items ++ flat_map (probed_line plant.now) observables.now) }
+    ensures { IfOk result (λ _. out.new.items ≡ out.old.items ++ flat_map (probed_line model.now) observables.now) }
 {
     for probed in observables {
-        push_probed(alloc, out, plant, probed)?;
+        push_probed(alloc, out, model, probed)?;
     }
     Ok(())
 }
 
 /// Adds the observable that is best looked at, or `-` where none tells anything.
-fn push_best(out: &mut Vec<u8>, plant: &Plant, best: Option<VarId>) -> Result<(), AllocError>
-    ensures { IfOk result (λ _. out.new.items ≡ out.old.items ++ best_text plant.now best) }
+fn push_best(out: &mut Vec<u8>, model: &Model, best: Option<VarId>) -> Result<(), AllocError>
+    ensures { IfOk result (λ _. out.new.items ≡ out.old.items ++ best_text model.now best) }
 {
     match best {
-        Some(x) => push_variable(out, plant, x.0),
+        Some(x) => push_variable(out, model, x.0),
         None => {
             out.extend_from_slice(b"-")?;
             Ok(())
@@ -155,19 +155,19 @@ fn push_best(out: &mut Vec<u8>, plant: &Plant, best: Option<VarId>) -> Result<()
 #[tactic(auto, unfolding(crate::specs::Probes::probe_text))]
 pub fn probe_text(
     alloc: Global,
-    plant: &Plant,
+    model: &Model,
     listed: u64,
     observables: &[Probed],
     best: Option<VarId>,
 ) -> Result<Vec<u8>, AllocError>
-    ensures { IfOk result (λ out. out.items ≡ probe_text plant.now listed observables.now best) }
+    ensures { IfOk result (λ out. out.items ≡ probe_text model.now listed observables.now best) }
 {
     let mut out = Vec::from_slice(alloc, b"probe ")?;
     push_number(&mut out, listed)?;
     out.extend_from_slice(b"\n")?;
-    push_lines(alloc, &mut out, plant, observables)?;
+    push_lines(alloc, &mut out, model, observables)?;
     out.extend_from_slice(b"best ")?;
-    push_best(&mut out, plant, best)?;
+    push_best(&mut out, model, best)?;
     out.extend_from_slice(b"\n")?;
     Ok(out)
 }

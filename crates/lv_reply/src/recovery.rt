@@ -9,20 +9,20 @@ ghost use Rattle.lv_reply.specs.Recovery.{shown_setting, shown_settings, command
 use crate::pieces::{push_joined, push_number};
 use crate::variables::push_equation;
 use lv_base::{Rank, Seq, ValId, VarId};
-use lv_model::{Model, Name, Plant};
+use lv_model::{Model, Name};
 use std::alloc::{AllocError, Global};
 
 /// A value that a control is set to.
 pub fn text_of_setting(
     alloc: Global,
-    plant: &Plant,
+    model: &Model,
     control: VarId,
     value: u32,
 ) -> Result<Vec<u8>, AllocError>
-    ensures { IfOk result (λ out. out.items ≡ setting_text plant.now control.0 value) }
+    ensures { IfOk result (λ out. out.items ≡ setting_text model.now control.0 value) }
 {
     let mut out = Vec::new(alloc);
-    push_equation(&mut out, plant, b"=", control, ValId(value))?;
+    push_equation(&mut out, model, b"=", control, ValId(value))?;
     Ok(out)
 }
 
@@ -30,14 +30,14 @@ pub fn text_of_setting(
 fn push_shown(
     alloc: Global,
     out: &mut Vec<Name>,
-    plant: &Plant,
+    model: &Model,
     control: VarId,
     value: u32,
 ) -> Result<(), AllocError>
-    ensures { IfOk result (λ _. out.new.items ≡ out.old.items ++ shown_setting plant.now control value) }
+    ensures { IfOk result (λ _. out.new.items ≡ out.old.items ++ shown_setting model.now control value) }
 {
     if value != 0 {
-        out.push(Seq::from_vec(text_of_setting(alloc, plant, control, value)?))?;
+        out.push(Seq::from_vec(text_of_setting(alloc, model, control, value)?))?;
     }
     Ok(())
 }
@@ -45,18 +45,18 @@ fn push_shown(
 /// What the controls of these values show, in order.
 fn shown_settings(
     alloc: Global,
-    plant: &Plant,
+    model: &Model,
     controls: &[VarId],
     values: &[u32],
 ) -> Result<Vec<Name>, AllocError>
-    ensures { IfOk result (λ out. out.items ≡ shown_settings plant.now controls.now values.now) }
+    ensures { IfOk result (λ out. out.items ≡ shown_settings model.now controls.now values.now) }
 {
     let mut out = Vec::new(alloc);
     for (i, control) in controls.iter().enumerate() {
         if i >= values.len() {
             return Ok(out);
         }
-        push_shown(alloc, &mut out, plant, *control, values[i])?;
+        push_shown(alloc, &mut out, model, *control, values[i])?;
     }
     Ok(out)
 }
@@ -73,12 +73,7 @@ pub fn commands_text(
     ensures { IfOk result (λ out. out.items ≡ commands_text answer.now model.now rank.now) }
 {
     let controls = model.controls(alloc)?;
-    let settings = shown_settings(
-        alloc,
-        model.plant(),
-        controls.as_slice(),
-        rank.choices.as_slice(),
-    )?;
+    let settings = shown_settings(alloc, model, controls.as_slice(), rank.choices.as_slice())?;
     let mut out = Vec::from_slice(alloc, answer)?;
     out.extend_from_slice(b" cost ")?;
     push_number(&mut out, rank.cost.0)?;

@@ -46,11 +46,11 @@ pub fn reply_text(alloc: Global, model: &Model, reply: &Reply) -> Result<Vec<u8>
         Reply::CommandConflicts(kept, trials) => {
             command_conflicts_text(alloc, model, kept.as_slice(), *trials)
         }
-        Reply::Labels(labels) => labels_text(alloc, plant, labels.as_slice()),
+        Reply::Labels(labels) => labels_text(alloc, model, labels.as_slice()),
         Reply::Contradiction => Vec::from_slice(alloc, b"contradiction\n"),
         Reply::Certificate => Ok(Vec::new(alloc)),
         Reply::Probed(listed, observables, best) => {
-            probe_text(alloc, plant, *listed, observables.as_slice(), *best)
+            probe_text(alloc, model, *listed, observables.as_slice(), *best)
         }
         Reply::Tested(rank) => commands_text(alloc, b"test", model, rank),
         Reply::NoTest => Vec::from_slice(alloc, b"no test\n"),

@@ -1,17 +1,18 @@
 //! Variables and their values by the names of the plant.
 #![tactic(auto)]
 
-ghost use Rattle.std.specs.Prelude.{◌≡◌, ◌-◌, ◌++◌, [], IfOk, nat_lt, slice_get, codes};
+ghost use Rattle.std.specs.Prelude.{◌≡◌, ◌-◌, ◌++◌, ◌≤◌, [], length, IfOk, nat_lt, slice_get, codes};
 ghost use Rattle.std.specs.List.{find};
+ghost use Rattle.std.specs.List.Sorted.{IsPartitionPoint};
 ghost use Rattle.std.specs.Option.{option_copied, option_map_or};
 ghost use Rattle.lv_model.specs.Lists.{part_width};
 ghost use Rattle.lv_reply.specs.Pieces.{name_at};
-ghost use Rattle.lv_reply.specs.Variables.{own_name, names_of_values, own_values, own_equation, has_variable, part_equation, equation};
+ghost use Rattle.lv_reply.specs.Variables.{own_name, names_of_values, own_values, own_equation, begins_by, begins_behind, has_variable, part_equation, equation};
 
 use crate::pieces::push_name;
 use lv_base::{ValId, VarId};
 use lv_model::lookup::type_of;
-use lv_model::{ComponentType, Domain, Name, Part, Plant, Variable};
+use lv_model::{ComponentType, Domain, Model, Name, Part, Plant, Variable};
 use std::alloc::AllocError;
 
 /// The names of the values of a domain; none where there is no such domain.
@@ -87,18 +88,33 @@ fn is_wider(types: &[ComponentType], part: &Part, n: u32) -> bool
     }
 }
 
-/// Whether the variable of this number is the part's.
-fn has_variable(types: &[ComponentType], x: u32, part: &Part) -> bool
-    ensures { result ≡ has_variable types.now x part.now }
+/// How many parts begin at or before this variable. They stand in the order of their variables.
+fn begun_by(model: &Model, x: u32) -> usize
+    ensures place { IsPartitionPoint (begins_by x) (begins_behind x) model.now.parts result }
+    ensures few { result ≤ length model.now.parts }
 {
-    part.first.0 <= x && is_wider(types, part, x - part.first.0)
+    let plant = model.plant();
+    plant
+        .parts
+        .as_slice()
+        .partition_point(|part| part.first.0 <= x)
 }
 
-/// The part whose variable this is.
-pub fn owner_of<'a>(types: &[ComponentType], parts: &'a [Part], x: u32) -> Option<&'a Part>
-    ensures { option_copied result ≡ find (has_variable types.now x) parts.now }
+/// The part whose variable this is: if any, the last that begins at or before it.
+pub fn owner_of(model: &Model, x: u32) -> Option<&Part>
+    ensures { option_copied result ≡ find (has_variable model.now.types x) model.now.parts }
 {
-    parts.iter().find(|part| has_variable(types, x, part))
+    let plant = model.plant();
+    let begun = begun_by(model, x);
+    if begun == 0 {
+        return None;
+    }
+    let part = &plant.parts.as_slice()[begun - 1];
+    if is_wider(plant.types.as_slice(), part, x - part.first.0) {
+        Some(part)
+    } else {
+        None
+    }
 }
 
 /// Adds a value of a variable of the part, with the sign between.
@@ -130,15 +146,15 @@ fn push_part_equation(
 /// Adds a value of a variable, with the sign between; nothing where there is no such variable.
 pub fn push_equation(
     out: &mut Vec<u8>,
-    plant: &Plant,
+    model: &Model,
     sign: &[u8],
     variable: VarId,
     value: ValId,
 ) -> Result<(), AllocError>
-    ensures { IfOk result (λ _. out.new.items ≡ out.old.items ++ equation plant.now sign.now variable.0 value.0) }
+    ensures { IfOk result (λ _. out.new.items ≡ out.old.items ++ equation model.now sign.now variable.0 value.0) }
 {
-    match owner_of(plant.types.as_slice(), plant.parts.as_slice(), variable.0) {
-        Some(part) => push_part_equation(out, plant, sign, variable.0, value, part),
+    match owner_of(model, variable.0) {
+        Some(part) => push_part_equation(out, model.plant(), sign, variable.0, value, part),
         None => Ok(()),
     }
 }

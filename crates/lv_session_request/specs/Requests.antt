@@ -108,6 +108,14 @@ retract_of line = if has_at_form line then and_then (retraction_of line) (λ r. 
 abbrev pub labels_of : List Lexeme → Result Request Refusal
 labels_of line = if nat_eq (length line) 1 then Ok ToLabel else and_then (number_to TRACKED line) (λ n. Ok (LabelsFrom n))
 
+-- `drop NAME`
+abbrev pub drop_of : List Lexeme → Result Request Refusal
+drop_of line = and_then (retracted_of line) (λ name. Ok (DropGoal name))
+
+-- `window W`
+abbrev pub window_of : List Lexeme → Result Request Refusal
+window_of line = and_then (number_to WINDOW line) (λ n. Ok (ToWindow n))
+
 -- what a line that begins with this word asks for
 abbrev pub request_by : Plant → Lists → Word → List Lexeme → Result Request Refusal
 request_by plant lists Track line = track_of line
@@ -117,7 +125,7 @@ request_by plant lists Release line = and_then (release_of plant lists line) (λ
 request_by plant lists Observe line = and_then (sighting_of plant lists line) (λ s. Ok (ToObserve s))
 request_by plant lists Retract line = retract_of line
 request_by plant lists GoalWord line = and_then (goal_of plant lists line) (λ g. Ok (SetGoal g))
-request_by plant lists DropWord line = and_then (retracted_of line) (λ name. Ok (DropGoal name))
+request_by plant lists DropWord line = drop_of line
 request_by plant lists Diagnose line = alone ToDiagnose line
 request_by plant lists Recover line = alone ToRecover line
 request_by plant lists More line = more_of line
@@ -130,7 +138,7 @@ request_by plant lists Reset line = alone ToReset line
 request_by plant lists Quit line = alone ToQuit line
 request_by plant lists Probe line = alone ToProbe line
 request_by plant lists Test line = and_then (tested_of plant lists line) (λ x. Ok (ToTest x))
-request_by plant lists WindowWord line = and_then (number_to WINDOW line) (λ n. Ok (ToWindow n))
+request_by plant lists WindowWord line = window_of line
 
 abbrev pub asked_by_first : Plant → Lists → List Lexeme → Option Word → Result Request Refusal
 asked_by_first plant lists line None = Err UnknownWord

@@ -11,9 +11,8 @@ ghost use Rattle.lv_model_names.specs.declared.lists.Lists.{Lists as ListsOf};
 ghost use Rattle.lv_model_names.specs.Lists.{lists_of};
 ghost use Rattle.lv_formula_text.specs.Nesting.{is_too_deep};
 ghost use Rattle.lv_session_request.specs.Goals.{AreRead};
-ghost use Rattle.lv_session_request.specs.declared.request.TheConstants.{WINDOW};
-ghost use Rattle.lv_session_request.specs.Forms.{number_to, IsUpTo};
-ghost use Rattle.lv_session_request.specs.Requests.{alone, track_of, budget_of, more_of, command_to, command_of, release_of, seen_as, tested_of, sighting_of, retracted_of, retraction_of, retract_of, labels_of, request_by, asked, asked_by, request_of, Explains, IsSightingIn, IsCommandIn, IsObservableOf, IsRequestOf};
+ghost use Rattle.lv_session_request.specs.declared.words.Word.TheVariants.{Command as CommandWord, Release as ReleaseWord, Observe as ObserveWord, Goal as GoalWord, Test as TestWord};
+ghost use Rattle.lv_session_request.specs.Requests.{alone, track_of, budget_of, more_of, command_to, command_of, release_of, seen_as, tested_of, sighting_of, retracted_of, retraction_of, retract_of, labels_of, drop_of, window_of, request_by, asked, asked_by, request_of, Explains, IsSightingIn, IsCommandIn, IsObservableOf, IsRequestOf};
 
 use crate::forms::{
     has_at_form, has_command_signs, has_distinct_form, has_observe_signs, has_release_signs,
@@ -104,19 +103,22 @@ pub enum Request {
 }
 
 /// The request of a word that stands alone.
-fn alone(request: Request, line: &TokenLine<'_>) -> Result<Request, Refusal>
-    ensures { result ≡ alone request line.now }
+fn alone(request: Request, line: &TokenLine<'_>) -> Result<Request, Unread>
+    ensures ok { IfOk result (λ found. alone request line.now ≡ Ok found) }
+    ensures fault { IfErr result (λ fault. Explains fault (alone request line.now)) }
+    ensures same { IfOk result (λ found. found ≡ request) }
 {
     if line.len() == 1 {
         Ok(request)
     } else {
-        Err(Refusal::Form)
+        Err(Unread::Refused(Refusal::Form))
     }
 }
 
 /// `track K`, or `track K distinct`.
-fn track_of(line: &TokenLine<'_>) -> Result<Request, Refusal>
-    ensures request { result ≡ track_of line.now }
+fn track_of(line: &TokenLine<'_>) -> Result<Request, Unread>
+    ensures ok { IfOk result (λ request. track_of line.now ≡ Ok request) }
+    ensures fault { IfErr result (λ fault. Explains fault (track_of line.now)) }
     ensures within { (plant : Plant) → IfOk result (IsRequestOf plant) }
 {
     if has_distinct_form(line) {
@@ -126,15 +128,18 @@ fn track_of(line: &TokenLine<'_>) -> Result<Request, Refusal>
 }
 
 /// `budget B`
-fn budget_of(line: &TokenLine<'_>) -> Result<Request, Refusal>
-    ensures { result ≡ budget_of line.now }
+fn budget_of(line: &TokenLine<'_>) -> Result<Request, Unread>
+    ensures ok { IfOk result (λ request. budget_of line.now ≡ Ok request) }
+    ensures fault { IfErr result (λ fault. Explains fault (budget_of line.now)) }
+    ensures within { (plant : Plant) → IfOk result (IsRequestOf plant) }
 {
     Ok(Request::SetBudget(number_to(BUDGET, line)?))
 }
 
 /// `more B`
-fn more_of(line: &TokenLine<'_>) -> Result<Request, Refusal>
-    ensures request { result ≡ more_of line.now }
+fn more_of(line: &TokenLine<'_>) -> Result<Request, Unread>
+    ensures ok { IfOk result (λ request. more_of line.now ≡ Ok request) }
+    ensures fault { IfErr result (λ fault. Explains fault (more_of line.now)) }
     ensures within { (plant : Plant) → IfOk result (IsRequestOf plant) }
 {
     Ok(Request::More(number_to(BUDGET, line)?))
@@ -293,16 +298,18 @@ fn retract_of(alloc: Global, line: &TokenLine<'_>) -> Result<Request, Unread>
 }
 
 /// `window W`.
-fn window_of(line: &TokenLine<'_>) -> Result<u32, Refusal>
-    ensures steps { result ≡ number_to WINDOW line.now }
-    ensures within { IfOk result (IsUpTo WINDOW) }
+fn window_of(line: &TokenLine<'_>) -> Result<Request, Unread>
+    ensures ok { IfOk result (λ request. window_of line.now ≡ Ok request) }
+    ensures fault { IfErr result (λ fault. Explains fault (window_of line.now)) }
+    ensures within { (plant : Plant) → IfOk result (IsRequestOf plant) }
 {
-    Ok(number_to(WINDOW as u64, line)? as u32)
+    Ok(Request::Window(number_to(WINDOW as u64, line)? as u32))
 }
 
 /// `labels`, or `labels I`.
-fn labels_of(line: &TokenLine<'_>) -> Result<Request, Refusal>
-    ensures request { result ≡ labels_of line.now }
+fn labels_of(line: &TokenLine<'_>) -> Result<Request, Unread>
+    ensures ok { IfOk result (λ request. labels_of line.now ≡ Ok request) }
+    ensures fault { IfErr result (λ fault. Explains fault (labels_of line.now)) }
     ensures within { (plant : Plant) → IfOk result (IsRequestOf plant) }
 {
     if line.len() == 1 {
@@ -311,7 +318,80 @@ fn labels_of(line: &TokenLine<'_>) -> Result<Request, Refusal>
     Ok(Request::LabelsFrom(number_to(TRACKED as u64, line)? as u32))
 }
 
-/// What a line that begins with this word asks for.
+/// The request of a `command` line.
+fn commanding(plant: &PlantLists, lists: &Lists, line: &TokenLine<'_>) -> Result<Request, Unread>
+    requires lists { lists.now ≡ lists_of plant.now }
+    ensures ok { IfOk result (λ request. request_by plant.now lists.now CommandWord line.now ≡ Ok request) }
+    ensures fault { IfErr result (λ fault. Explains fault (request_by plant.now lists.now CommandWord line.now)) }
+    ensures within { IfOk result (IsRequestOf plant.now) }
+{
+    Ok(Request::SetControl(command_of(plant, lists, line)?))
+}
+
+/// The request of a `release` line.
+fn releasing(plant: &PlantLists, lists: &Lists, line: &TokenLine<'_>) -> Result<Request, Unread>
+    requires lists { lists.now ≡ lists_of plant.now }
+    ensures ok { IfOk result (λ request. request_by plant.now lists.now ReleaseWord line.now ≡ Ok request) }
+    ensures fault { IfErr result (λ fault. Explains fault (request_by plant.now lists.now ReleaseWord line.now)) }
+    ensures within { IfOk result (IsRequestOf plant.now) }
+{
+    Ok(Request::Release(release_of(plant, lists, line)?))
+}
+
+/// The request of an `observe` line.
+fn observing(
+    alloc: Global,
+    plant: &PlantLists,
+    lists: &Lists,
+    line: &TokenLine<'_>,
+) -> Result<Request, Unread>
+    requires lists { lists.now ≡ lists_of plant.now }
+    ensures ok { IfOk result (λ request. request_by plant.now lists.now ObserveWord line.now ≡ Ok request) }
+    ensures fault { IfErr result (λ fault. Explains fault (request_by plant.now lists.now ObserveWord line.now)) }
+    ensures within { IfOk result (IsRequestOf plant.now) }
+{
+    Ok(Request::Observe(sighting_of(alloc, plant, lists, line)?))
+}
+
+/// The request of a `goal` line.
+fn wanting(
+    alloc: Global,
+    plant: &PlantLists,
+    lists: &Lists,
+    line: &TokenLine<'_>,
+) -> Result<Request, Unread>
+    requires lists { lists.now ≡ lists_of plant.now }
+    requires shallow { is_too_deep line.now ≡ false }
+    requires read { AreRead line.now }
+    requires word { word_at line.now 0 ≢ None }
+    ensures ok { IfOk result (λ request. request_by plant.now lists.now GoalWord line.now ≡ Ok request) }
+    ensures fault { IfErr result (λ fault. Explains fault (request_by plant.now lists.now GoalWord line.now)) }
+    ensures within { IfOk result (IsRequestOf plant.now) }
+{
+    Ok(Request::SetGoal(goal_of(alloc, plant, lists, line)?))
+}
+
+/// The request of a `drop` line.
+fn dropping(alloc: Global, line: &TokenLine<'_>) -> Result<Request, Unread>
+    ensures ok { IfOk result (λ request. drop_of line.now ≡ Ok request) }
+    ensures fault { IfErr result (λ fault. Explains fault (drop_of line.now)) }
+    ensures within { (plant : Plant) → IfOk result (IsRequestOf plant) }
+{
+    Ok(Request::DropGoal(retracted_of(alloc, line)?))
+}
+
+/// The request of a `test` line.
+fn testing(plant: &PlantLists, lists: &Lists, line: &TokenLine<'_>) -> Result<Request, Unread>
+    requires lists { lists.now ≡ lists_of plant.now }
+    ensures ok { IfOk result (λ request. request_by plant.now lists.now TestWord line.now ≡ Ok request) }
+    ensures fault { IfErr result (λ fault. Explains fault (request_by plant.now lists.now TestWord line.now)) }
+    ensures within { IfOk result (IsRequestOf plant.now) }
+{
+    Ok(Request::Test(tested_of(plant, lists, line)?))
+}
+
+/// What a line that begins with this word asks for. Each arm hands on what it is answered, so that a line pays for the
+/// room of its own request alone.
 fn request_by(
     alloc: Global,
     plant: &PlantLists,
@@ -328,27 +408,27 @@ fn request_by(
     ensures within { IfOk result (IsRequestOf plant.now) }
 {
     match word {
-        Word::Track => Ok(track_of(line)?),
-        Word::Budget => Ok(budget_of(line)?),
-        Word::Command => Ok(Request::SetControl(command_of(plant, lists, line)?)),
-        Word::Release => Ok(Request::Release(release_of(plant, lists, line)?)),
-        Word::Observe => Ok(Request::Observe(sighting_of(alloc, plant, lists, line)?)),
+        Word::Track => track_of(line),
+        Word::Budget => budget_of(line),
+        Word::Command => commanding(plant, lists, line),
+        Word::Release => releasing(plant, lists, line),
+        Word::Observe => observing(alloc, plant, lists, line),
         Word::Retract => retract_of(alloc, line),
-        Word::Goal => Ok(Request::SetGoal(goal_of(alloc, plant, lists, line)?)),
-        Word::Drop => Ok(Request::DropGoal(retracted_of(alloc, line)?)),
-        Word::Diagnose => Ok(alone(Request::Diagnose, line)?),
-        Word::Recover => Ok(alone(Request::Recover, line)?),
-        Word::More => Ok(more_of(line)?),
-        Word::Commit => Ok(alone(Request::Commit, line)?),
-        Word::Conflicts => Ok(alone(Request::Conflicts, line)?),
-        Word::Certificate => Ok(alone(Request::Certificate, line)?),
-        Word::Labels => Ok(labels_of(line)?),
-        Word::States => Ok(alone(Request::States, line)?),
-        Word::Reset => Ok(alone(Request::Reset, line)?),
-        Word::Quit => Ok(alone(Request::Quit, line)?),
-        Word::Probe => Ok(alone(Request::Probe, line)?),
-        Word::Test => Ok(Request::Test(tested_of(plant, lists, line)?)),
-        Word::Window => Ok(Request::Window(window_of(line)?)),
+        Word::Goal => wanting(alloc, plant, lists, line),
+        Word::Drop => dropping(alloc, line),
+        Word::Diagnose => alone(Request::Diagnose, line),
+        Word::Recover => alone(Request::Recover, line),
+        Word::More => more_of(line),
+        Word::Commit => alone(Request::Commit, line),
+        Word::Conflicts => alone(Request::Conflicts, line),
+        Word::Certificate => alone(Request::Certificate, line),
+        Word::Labels => labels_of(line),
+        Word::States => alone(Request::States, line),
+        Word::Reset => alone(Request::Reset, line),
+        Word::Quit => alone(Request::Quit, line),
+        Word::Probe => alone(Request::Probe, line),
+        Word::Test => testing(plant, lists, line),
+        Word::Window => window_of(line),
     }
 }
 

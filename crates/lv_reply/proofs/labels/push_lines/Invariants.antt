@@ -5,4 +5,4 @@ use Rattle.lv_reply.proofs.labels.push_lines.Given as goal
 
 -- what was added, with the lines of the labels that are left, is all
 abbrev pub invariant-loop-label : goal.invariant-loop-label
-invariant-loop-label l = l.out.items ++ flat_map (label_line l.plant) (drop l.label-index l.labels) ≡ l.initial.out.items ++ flat_map (label_line l.plant) l.labels
+invariant-loop-label l = l.out.items ++ flat_map (label_line l.model) (drop l.label-index l.labels) ≡ l.initial.out.items ++ flat_map (label_line l.model) l.labels

@@ -5,4 +5,4 @@ use Rattle.lv_reply.proofs.probes.push_lines.Given as goal
 
 -- what was added, with the lines of the observables that are left, is all
 abbrev pub invariant-loop-probed : goal.invariant-loop-probed
-invariant-loop-probed l = l.out.items ++ flat_map (probed_line l.plant) (drop l.probed-index l.observables) ≡ l.initial.out.items ++ flat_map (probed_line l.plant) l.observables
+invariant-loop-probed l = l.out.items ++ flat_map (probed_line l.model) (drop l.probed-index l.observables) ≡ l.initial.out.items ++ flat_map (probed_line l.model) l.observables

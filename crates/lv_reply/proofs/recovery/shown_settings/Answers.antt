@@ -12,5 +12,5 @@ nothing_shown plant (c ∷ cs) vs e = subst (λ ws. shown_settings plant (c ∷ 
 
 pub returns-then-i-values : goal.returns-then-i-values
 returns-then-i-values c =
-    let none = nothing_shown c.args.plant.now (drop c.loop-i.i c.args.controls.now) (drop c.loop-i.i c.args.values.now) (drop_all c.loop-i.i c.args.values.now c.if-i-values.true) in
+    let none = nothing_shown c.args.model.now (drop c.loop-i.i c.args.controls.now) (drop c.loop-i.i c.args.values.now) (drop_all c.loop-i.i c.args.values.now c.if-i-values.true) in
     rw (none, append-nil) at c.loop-i.invariant
