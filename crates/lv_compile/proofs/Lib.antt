@@ -19,3 +19,4 @@ pub mod InRangeLemmas
 pub mod ApartLemmas
 pub mod WindowLemmas
 pub mod WindowDecoding
+pub mod TautologyLemmas

@@ -21,6 +21,10 @@ abbrev pub is_tautology : List Lit → Bool
 is_tautology [] = false
 is_tautology (l ∷ ls) = list_any (same_literal (neg l)) ls || is_tautology ls
 
+-- the clause alone, or nothing where it is one
+abbrev pub unless_tautology : List Lit → Clauses
+unless_tautology c = if is_tautology c then [] else c ∷ []
+
 -- a literal stands in it twice
 abbrev pub has_repeats : List Lit → Bool
 has_repeats [] = false

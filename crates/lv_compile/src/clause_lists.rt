@@ -2,7 +2,7 @@
 //! of one or all of the other do.
 #![tactic(auto)]
 
-ghost use Rattle.std.specs.Prelude.{◌≡◌, ◌++◌, IfOk, map};
+ghost use Rattle.std.specs.Prelude.{◌≡◌, ◌++◌, ◌∷◌, [], IfOk, map};
 ghost use Rattle.lv_compile.specs.FormulaClauses.{each_after, product, gather, when_true};
 ghost use Rattle.lv_compile.specs.ModelClauses.{unless};
 
@@ -48,6 +48,23 @@ pub fn product(
     Ok(out)
 }
 
+/// The literals of each clause of the list, and behind them those of the one clause. Each grows where it lies.
+fn each_before(
+    alloc: Global,
+    fronts: Vec<Seq<Lit>>,
+    back: &Seq<Lit>,
+) -> Result<Vec<Seq<Lit>>, AllocError>
+    ensures { IfOk result (λ out. out.items ≡ product fronts.items (back.now ∷ [])) }
+{
+    let mut out = Vec::with_capacity(alloc, fronts.len())?;
+    for front in fronts {
+        let mut lits = front.into_vec();
+        lits.extend_from_slice(back.as_slice())?;
+        out.push(Seq::from_vec(lits))?;
+    }
+    Ok(out)
+}
+
 /// The clauses of the one list, then those of the other.
 pub fn both_lists(
     mut front: Vec<Seq<Lit>>,
@@ -82,9 +99,11 @@ pub fn gather(
     ensures { IfOk result (λ out. out.items ≡ gather of_all front.items back.items) }
 {
     if of_all {
-        both_lists(front, back)
-    } else {
-        product(alloc, front.as_slice(), back.as_slice())
+        return both_lists(front, back);
+    }
+    match back.as_slice() {
+        [only] => each_before(alloc, front, only),
+        backs => product(alloc, front.as_slice(), backs),
     }
 }
 

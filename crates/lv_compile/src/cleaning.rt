@@ -1,9 +1,9 @@
 //! Clauses without repeated literals, and without those that are true of everything.
 #![tactic(auto)]
 
-ghost use Rattle.std.specs.Prelude.{◌≡◌, IfOk};
+ghost use Rattle.std.specs.Prelude.{◌≡◌, ◌++◌, IfOk};
 ghost use Rattle.std.specs.List.{list_any};
-ghost use Rattle.lv_compile.specs.Cleaning.{same_literal, is_tautology, has_repeats, without_repeats, cleaned, is_repeated, with_new};
+ghost use Rattle.lv_compile.specs.Cleaning.{same_literal, is_tautology, unless_tautology, has_repeats, without_repeats, cleaned, is_repeated, with_new};
 
 use lv_base::{Lit, Seq};
 use lv_clauses::negation;
@@ -86,15 +86,23 @@ fn tidied(alloc: Global, clause: Seq<Lit>) -> Result<Seq<Lit>, AllocError>
     Ok(clause)
 }
 
+/// Adds the clause, which repeats no literal, unless it is true of everything.
+fn push_clean(out: &mut Vec<Seq<Lit>>, clause: Seq<Lit>) -> Result<(), AllocError>
+    ensures { IfOk result (λ _. out.new.items ≡ out.old.items ++ unless_tautology clause) }
+{
+    if !is_tautology(clause.as_slice()) {
+        out.push(clause)?;
+    }
+    Ok(())
+}
+
 /// The clauses that are not true of everything, each without repeated literals.
 pub fn cleaned(alloc: Global, clauses: Vec<Seq<Lit>>) -> Result<Vec<Seq<Lit>>, AllocError>
     ensures { IfOk result (λ out. out.items ≡ cleaned clauses.items) }
 {
     let mut out = Vec::with_capacity(alloc, clauses.len())?;
     for clause in clauses {
-        if !is_tautology(clause.as_slice()) {
-            out.push(tidied(alloc, clause)?)?;
-        }
+        push_clean(&mut out, tidied(alloc, clause)?)?;
     }
     Ok(out)
 }
