@@ -1,4 +1,5 @@
 pub mod VerdictLemmas
+pub mod TextLemmas
 pub mod JudgedLemmas
 pub mod SecondLemmas
 pub mod ExpectedLemmas

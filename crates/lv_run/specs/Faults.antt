@@ -4,6 +4,8 @@ use Rattle.lv_io.specs.declared.IoFault.{IoFault}
 use Rattle.lv_io.specs.declared.IoFault.TheVariants.{Failed, Memory}
 use Rattle.lv_reader.specs.Codes.{number_of}
 use Rattle.lv_reader.specs.declared.code.ModelCode.{ModelCode}
+use Rattle.lv_reader.specs.declared.fault.ModelFault.{ModelFault}
+use Rattle.lv_reader.specs.declared.fault.ModelFault.TheVariants.{At, Memory as NoRoomForText}
 use Rattle.lv_checker.specs.Verdicts.{IsVerdict, refused}
 use Rattle.lv_run_words.specs.declared.WordsFault.{WordsFault}
 use Rattle.lv_run_words.specs.declared.WordsFault.TheVariants.{Refused, Memory as NoRoom}
@@ -61,6 +63,11 @@ line_of NoMemory = line (codes "out of memory")
 abbrev pub fault_of_sink : IoFault → RunFault
 fault_of_sink Failed = NoOutput
 fault_of_sink Memory = NoMemory
+
+-- what a fault of a model's text ends a run with
+abbrev pub fault_of_text : ModelFault → RunFault
+fault_of_text (At code line) = BadModel code line
+fault_of_text NoRoomForText = NoMemory
 
 -- what a fault of the words ends a run with
 abbrev pub fault_of_words : WordsFault → RunFault

@@ -35,6 +35,12 @@ pub record IsCanonical (bytes canonical : List ℕ) : Type 0 where
   pub reads : ReadsAs bytes text
   pub printed : canonical ≡ canonical_model text
 
+-- the bytes read as that text, and have an accepted model
+pub record IsAccepted (bytes : List ℕ) (text : ModelText) : Type 0 where
+  pub plant : Plant
+  pub verdict : IsVerdict bytes (accepted plant)
+  pub reads : ReadsAs bytes text
+
 -- the bytes have an accepted model, and that canonical text
 pub record IsPrinted (bytes canonical : List ℕ) : Type 0 where
   pub plant : Plant

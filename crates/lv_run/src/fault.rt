@@ -2,13 +2,13 @@
 //! why, and where.
 
 ghost use Rattle.std.specs.Prelude.{◌≡◌, ◌++◌, IfOk, decimal};
-ghost use Rattle.lv_run.specs.Faults.{status_of, line_of, model_line, two_digits, fault_of_sink, fault_of_serving, fault_of_words};
+ghost use Rattle.lv_run.specs.Faults.{status_of, line_of, model_line, two_digits, fault_of_sink, fault_of_serving, fault_of_text, fault_of_words};
 ghost use Rattle.lv_run.specs.declared.fault.RunFault.TheVariants.{OutOfMemory as NoMemory};
 
 use crate::status::Status;
 use itoa::Buffer;
 use lv_io::IoFault;
-use lv_reader::ModelCode;
+use lv_reader::{ModelCode, ModelFault};
 use lv_run_words::WordsFault;
 use lv_serve::ServeFault;
 use std::alloc::{AllocError, Global};
@@ -128,6 +128,18 @@ impl From<ServeFault> for RunFault {
             ServeFault::Write => RunFault::OutputFailed,
             ServeFault::TooLong => RunFault::SessionTooLong,
             ServeFault::Memory => RunFault::OutOfMemory,
+        }
+    }
+}
+
+/// What a fault of a model's text ends a run with.
+impl From<ModelFault> for RunFault {
+    ghost from_gives = { λ fault ended. ended ≡ fault_of_text fault };
+
+    fn from(fault: ModelFault) -> RunFault {
+        match fault {
+            ModelFault::At { code, line } => RunFault::ModelRefused { code, line },
+            ModelFault::Memory => RunFault::OutOfMemory,
         }
     }
 }

@@ -8,17 +8,17 @@ ghost use Rattle.lv_io.specs.declared.Role.TheVariants.{Model as OfModel};
 ghost use Rattle.lv_checker.specs.Verdicts.{IsVerdict, accepted};
 ghost use Rattle.lv_gen.specs.Series.{model_text};
 ghost use Rattle.lv_run.specs.Inputs as Inputs;
-ghost use Rattle.lv_run.specs.Inputs.{IsCanonical, IsPrinted, IsDriven, model_open, AddsOpens};
+ghost use Rattle.lv_run.specs.Inputs.{IsAccepted, IsPrinted, IsDriven, model_open, AddsOpens};
 ghost use Rattle.lv_run.specs.Faults.{EndsModel, RefusesBy};
 
 use crate::fault::RunFault;
 use crate::summary::drive;
 use lv_base::limits::MODEL_BYTES;
-use lv_checker::model_of;
+use lv_checker::{check_model, model_of};
 use lv_gen::{make_model, make_session};
 use lv_io::{ReadFault, Role, Shelf, read_file};
 use lv_model::Model;
-use lv_reader::{ModelCode, ModelFault, print_model, read_model};
+use lv_reader::{ModelCode, ModelText, print_model, read_model};
 use lv_run_words::Kind;
 use std::alloc::{AllocError, Global};
 
@@ -56,39 +56,30 @@ fn accepted_model(alloc: Global, bytes: &[u8]) -> Result<Model, RunFault>
     ensures ends { IfErr result EndsModel }
     ensures read { result ≢ Err RunFault.ModelUnread }
 {
-    match model_of(alloc, bytes) {
-        Ok(model) => Ok(model),
-        Err(ModelFault::At { code, line }) => Err(RunFault::ModelRefused { code, line }),
-        Err(ModelFault::Memory) => Err(RunFault::OutOfMemory),
-    }
+    Ok(model_of(alloc, bytes)?)
 }
 
-/// The canonical text of what the bytes read as.
-fn canonical_text(alloc: Global, bytes: &[u8]) -> Result<Vec<u8>, RunFault>
-    ensures text { IfOk result (λ canonical. IsCanonical bytes.now canonical.items) }
+/// The statements of the bytes, where they give a model.
+fn accepted_text(alloc: Global, bytes: &[u8]) -> Result<ModelText, RunFault>
+    ensures text { IfOk result (λ text. IsAccepted bytes.now text) }
     ensures refused { IfErr result (λ fault. RefusesBy fault (Some bytes.now)) }
     ensures ends { IfErr result EndsModel }
     ensures read { result ≢ Err RunFault.ModelUnread }
 {
-    match read_model(alloc, bytes) {
-        Ok(text) => match print_model(alloc, &text) {
-            Ok(canonical) => Ok(canonical),
-            Err(_) => Err(RunFault::OutOfMemory),
-        },
-        Err(ModelFault::At { code, line }) => Err(RunFault::ModelRefused { code, line }),
-        Err(ModelFault::Memory) => Err(RunFault::OutOfMemory),
-    }
+    let text = read_model(alloc, bytes)?;
+    check_model(alloc, &text)?;
+    Ok(text)
 }
 
-/// The canonical text of the model that the bytes give.
+/// The canonical text of the model that the bytes give, which are read once.
 fn printed_model(alloc: Global, bytes: &[u8]) -> Result<Vec<u8>, RunFault>
     ensures text { IfOk result (λ canonical. IsPrinted bytes.now canonical.items) }
     ensures refused { IfErr result (λ fault. RefusesBy fault (Some bytes.now)) }
     ensures ends { IfErr result EndsModel }
     ensures read { result ≢ Err RunFault.ModelUnread }
 {
-    accepted_model(alloc, bytes)?;
-    canonical_text(alloc, bytes)
+    let text = accepted_text(alloc, bytes)?;
+    Ok(print_model(alloc, &text)?)
 }
 
 /// Opens the model's file, reads it to its end and checks it.
