@@ -2,6 +2,7 @@ pub mod Choices
 pub mod WordLists
 pub mod FormLemmas
 pub mod TextLemmas
+pub mod TakingLemmas
 pub mod ReadingLemmas
 pub mod Writing
 pub mod Numerals

@@ -5,6 +5,7 @@ pub mod Statements
 pub mod Versions
 pub mod Lines
 pub mod Texts
+pub mod Taking
 pub mod Laws
 pub mod CanonicalTokens
 pub mod CanonicalTexts

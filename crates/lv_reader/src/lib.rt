@@ -7,7 +7,7 @@
 //!
 //! | part | items |
 //! |---|---|
-//! | a text | `read_model`, `ModelText`, `NumberedStatement` |
+//! | a text | `read_each`, `TakesStatements`; `read_model`, `ModelText`, `NumberedStatement` |
 //! | one statement | `Statement` |
 //! | the versions of the language | `Version` |
 //! | why not | `ModelFault`, `ModelCode` |
@@ -38,6 +38,6 @@ pub use canonical_statement::write_statement;
 pub use canonical_text::print_model;
 pub use code::ModelCode;
 pub use fault::ModelFault;
-pub use reader::read_model;
+pub use reader::{TakesStatements, read_each, read_model};
 pub use statement::{ModelText, NumberedStatement, Repair, Statement};
 pub use version::Version;

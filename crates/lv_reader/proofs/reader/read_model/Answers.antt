@@ -1,10 +1,14 @@
-use Rattle.std.proofs.Common.{arith}
-use Rattle.std.proofs.lemmas.Result.{IfErr-weaker}
-use Rattle.lv_reader.proofs.TextLemmas.{lines_tell, beyond_limit}
+-- the list has the statements that were taken
+use Rattle.std.proofs.Common.{◌++◌, sym, ◌∙◌, ap, subst, List}
+use Rattle.lv_reader.specs.declared.statement.NumberedStatement.{NumberedStatement}
+use Rattle.lv_reader.specs.declared.reader.Listed.{Listed}
+use Rattle.lv_reader.specs.Texts.{ReadsAs}
+use Rattle.lv_reader.proofs.TakingLemmas.{all_listed}
 use Rattle.lv_reader.proofs.reader.read_model.Goals as goal
 
-pub returns-then-bytes-gt-MODEL_BYTES-clause-fault : goal.returns-then-bytes-gt-MODEL_BYTES-clause-fault
-returns-then-bytes-gt-MODEL_BYTES-clause-fault c = beyond_limit _ (omega (arith, c.if-bytes-gt-MODEL_BYTES.true))
-
-pub returns-clause-fault : goal.returns-clause-fault
-returns-clause-fault c = IfErr-weaker c.read_lines.result _ _ (lines_tell _ (omega (arith, c.if-bytes-gt-MODEL_BYTES.false))) c.read_lines.ensures.fault
+pub returns-clause-ok : goal.returns-clause-ok
+returns-clause-ok c =
+    let text = c.in_ok-lines.ensures.ok in
+    let listed = all_listed _ (λ (l : Listed). l.statements.items) (λ s t x taken. taken) _ _ text.statements text.taken in
+    let all = c.from_vec.ensures ∙ listed ∙ ap (λ (xs : List NumberedStatement). xs ++ text.statements) c.new.ensures.items in
+    subst (λ (ss : List NumberedStatement). ReadsAs c.args.bytes.now (record { statements = ss; lines = c.in_ok-lines.lines })) (sym all) text.reads
