@@ -15,3 +15,4 @@ pub mod Statements
 pub mod Lines
 pub mod Texts
 pub mod Lengths
+pub mod CanonicalWriting

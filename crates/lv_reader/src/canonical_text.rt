@@ -1,66 +1,86 @@
 //! The canonical text of a model, line by line.
 #![tactic(auto)]
 
-ghost use Rattle.std.specs.Prelude.{◌≡◌, ◌++◌, IfOk, OnOk};
-ghost use Rattle.std.specs.List.{flat_map};
-ghost use Rattle.lv_reader.specs.CanonicalTexts.{statements_of, begins_with_name, name_before, version_line, ended_line, canonical_model};
+ghost use Rattle.std.specs.Prelude.{◌≡◌, ◌++◌, [], false, IfOk, OnOk};
+ghost use Rattle.lv_reader.specs.CanonicalTexts.{names_model, version_line, ended_line, written_lines, canonical_model, WritesLine};
 
 use crate::canonical_statement::write_statement;
 use crate::version::NEWEST;
-use crate::{ModelText, NumberedStatement, Statement};
+use crate::{ModelText, Statement};
 use lv_formula_text::LineWriter;
 use std::alloc::{AllocError, Global};
+
+/// A model's canonical text as far as its statements have come.
+#[derive(Drop)]
+pub struct Canonical {
+    line: LineWriter,
+    bytes: Vec<u8>,
+    has_begun: bool,
+}
+
+impl Canonical {
+    /// The line that gives the version.
+    pub fn new(alloc: Global) -> Result<Canonical, AllocError>
+        ensures bytes { IfOk result (λ canonical. canonical.bytes.items ≡ version_line) }
+        ensures begun { IfOk result (λ canonical. canonical.has_begun ≡ false) }
+    {
+        let mut line = LineWriter::new(alloc);
+        let mut bytes = Vec::new(alloc);
+        push_line(&mut line, &mut bytes, &Statement::VersionLine(NEWEST))?;
+        Ok(Canonical {
+            line,
+            bytes,
+            has_begun: false,
+        })
+    }
+
+    /// Adds the line of a statement, and before the first the line of the model's name where it isn't given.
+    pub fn push(&mut self, statement: &Statement) -> Result<(), AllocError>
+        ensures { OnOk result (WritesLine statement.now self.old self.new) }
+    {
+        if !self.has_begun {
+            self.has_begun = true;
+            if !names_model(statement) {
+                push_default_name(&mut self.bytes)?;
+            }
+        }
+        push_line(&mut self.line, &mut self.bytes, statement)
+    }
+
+    /// The whole text. Where no statement has come, it has a model's name.
+    pub fn into_bytes(self) -> Result<Vec<u8>, AllocError>
+        ensures { IfOk result (λ bytes. bytes.items ≡ self.bytes.items ++ written_lines self.has_begun []) }
+    {
+        let mut bytes = self.bytes;
+        if !self.has_begun {
+            push_default_name(&mut bytes)?;
+        }
+        Ok(bytes)
+    }
+}
 
 /// The canonical text of a model.
 pub fn print_model(alloc: Global, text: &ModelText) -> Result<Vec<u8>, AllocError>
     ensures { IfOk result (λ bytes. bytes.items ≡ canonical_model text.now) }
 {
-    let statements = text.statements.as_slice();
-    let mut bytes = Vec::new(alloc);
-    let mut line = LineWriter::new(alloc);
-    push_version(&mut line, &mut bytes)?;
-    push_name(&mut bytes, statements)?;
-    push_lines(&mut line, &mut bytes, statements)?;
-    Ok(bytes)
-}
-
-/// Adds the line that gives the version.
-fn push_version(line: &mut LineWriter, bytes: &mut Vec<u8>) -> Result<(), AllocError>
-    ensures { OnOk result (bytes.new.items ≡ bytes.old.items ++ version_line) }
-{
-    push_line(line, bytes, &Statement::VersionLine(NEWEST))
-}
-
-/// Adds the line that gives the model's name, where the statements don't begin with it.
-fn push_name(bytes: &mut Vec<u8>, statements: &[NumberedStatement]) -> Result<(), AllocError>
-    ensures { OnOk result (bytes.new.items ≡ bytes.old.items ++ flat_map ended_line (name_before (statements_of statements.now))) }
-{
-    if !begins_with_name(statements) {
-        bytes.extend_from_slice(b"model model\n")?;
+    let mut canonical = Canonical::new(alloc)?;
+    'lines: for numbered in text.statements.as_slice() {
+        canonical.push(&numbered.statement)?;
     }
-    Ok(())
+    canonical.into_bytes()
 }
 
-fn begins_with_name(statements: &[NumberedStatement]) -> bool
-    ensures { result ≡ begins_with_name (statements_of statements.now) }
+fn names_model(statement: &Statement) -> bool
+    ensures { result ≡ names_model statement.now }
 {
-    match statements.first() {
-        Some(first) => matches!(&first.statement, Statement::ModelLine(_)),
-        None => false,
-    }
+    matches!(statement, Statement::ModelLine(_))
 }
 
-/// Adds a line for each statement.
-fn push_lines(
-    line: &mut LineWriter,
-    bytes: &mut Vec<u8>,
-    statements: &[NumberedStatement],
-) -> Result<(), AllocError>
-    ensures { OnOk result (bytes.new.items ≡ bytes.old.items ++ flat_map ended_line (statements_of statements.now)) }
+/// Adds the line of the name that a model has where none is given.
+fn push_default_name(bytes: &mut Vec<u8>) -> Result<(), AllocError>
+    ensures { OnOk result (bytes.new.items ≡ bytes.old.items ++ written_lines false []) }
 {
-    'lines: for numbered in statements {
-        push_line(line, bytes, &numbered.statement)?;
-    }
+    bytes.extend_from_slice(b"model model\n")?;
     Ok(())
 }
 
