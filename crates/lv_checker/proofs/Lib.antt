@@ -14,3 +14,4 @@ pub mod FitsParts
 pub mod FitsDrafts
 pub mod OneLemmas
 pub mod Ending
+pub mod StandingLemmas

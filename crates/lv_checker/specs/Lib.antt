@@ -7,3 +7,4 @@ pub mod Checking
 pub mod Verdicts
 pub mod VersionOne
 pub mod Caches
+pub mod Standing

@@ -10,8 +10,7 @@ ghost use Rattle.lv_checker.specs.declared.draft.Entry.TheVariants.{Named, NewDo
 ghost use Rattle.lv_checker.specs.Entries.{TellsEntry};
 ghost use Rattle.lv_checker.specs.Faults.{fault_of_entry, judged};
 ghost use Rattle.lv_checker.specs.Drafts.{bare, empty, limited_size, is_end, with_type, with_part, with_law, with_outside, with_where, with_entry};
-ghost use Rattle.lv_checker.specs.Checking.{fine, one_added, all_added, finished, checked, EndsWell, IsRead, Finds};
-ghost use Rattle.lv_checker.specs.Verdicts.{IsVerdict, accepted, Tells};
+ghost use Rattle.lv_checker.specs.Checking.{fine, one_added, finished, EndsWell, Finds};
 
 use crate::draft::{CheckFault, Draft, Entry, TypeDraft};
 use crate::faults::{judged, share_of};
@@ -23,7 +22,7 @@ use lv_model::ranges::push_part;
 use lv_model::totals::{limited, with};
 use lv_model::{Domain, Model, Part, Plant, Price};
 use lv_model_draft::{NamedPlant, NamedType};
-use lv_reader::{ModelCode, ModelFault, ModelText, NumberedStatement, Statement, read_model};
+use lv_reader::{ModelCode, ModelFault, NumberedStatement, Statement};
 use std::alloc::{AllocError, Global};
 
 /// A plant before any statement; the model's name is `model` until a statement gives one.
@@ -34,7 +33,7 @@ fn bare(alloc: Global) -> Result<NamedPlant, AllocError>
     Ok(NamedPlant::new(alloc, name))
 }
 
-fn empty(alloc: Global) -> Result<Draft, AllocError>
+pub(crate) fn empty(alloc: Global) -> Result<Draft, AllocError>
     ensures { IfOk result (λ draft. draft ≡ empty) }
 {
     Ok(Draft {
@@ -248,23 +247,12 @@ fn add_entry(alloc: Global, draft: &mut Draft, entry: Entry) -> Result<(), Alloc
     add_where(alloc, draft, entry)
 }
 
-/// Adds what these statements add, one after the other.
-fn add_all(
+/// Adds what one more statement adds.
+pub(crate) fn add_one(
     alloc: Global,
     draft: &mut Draft,
-    statements: &[NumberedStatement],
+    numbered: &NumberedStatement,
 ) -> Result<(), ModelFault>
-    ensures ok { OnOk result (all_added draft.old statements.now ≡ fine draft.new) }
-    ensures fault { IfErr result (λ fault. Finds fault (all_added draft.old statements.now)) }
-{
-    for numbered in statements {
-        add_one(alloc, draft, numbered)?;
-    }
-    Ok(())
-}
-
-/// Adds what one more statement adds.
-fn add_one(alloc: Global, draft: &mut Draft, numbered: &NumberedStatement) -> Result<(), ModelFault>
     ensures ok { OnOk result (one_added draft.old numbered.now ≡ fine draft.new) }
     ensures fault { IfErr result (λ fault. Finds fault (one_added draft.old numbered.now)) }
 {
@@ -302,7 +290,7 @@ fn model_of_draft(draft: Draft) -> Model
 }
 
 /// What a draft comes to where the text ends, behind so many lines.
-fn finished(draft: Draft, lines: usize) -> Result<Model, ModelFault>
+pub(crate) fn finished(draft: Draft, lines: usize) -> Result<Model, ModelFault>
     requires lines { lines < 2 ^ 63 }
     requires well { EndsWell draft }
     ensures ok { IfOk result (λ m. finished lines draft ≡ fine m) }
@@ -316,30 +304,4 @@ fn finished(draft: Draft, lines: usize) -> Result<Model, ModelFault>
         }
         None => Ok(model_of_draft(draft)),
     }
-}
-
-/// The model of a text that was read, or its first fault of checking.
-#[tactic(auto, unfolding(crate::specs::Checking::checked))]
-pub fn check_model(alloc: Global, text: &ModelText) -> Result<Model, ModelFault>
-    requires { IsRead text.now }
-    ensures ok { IfOk result (λ m. checked text.now ≡ fine m) }
-    ensures fault { IfErr result (λ fault. Finds fault (checked text.now)) }
-{
-    let mut draft = empty(alloc)?;
-    match add_all(alloc, &mut draft, text.statements.as_slice()) {
-        Ok(()) => finished(draft, text.lines),
-        Err(fault) => {
-            drop(draft);
-            Err(fault)
-        }
-    }
-}
-
-/// The model of a text's bytes, or its first fault: those of reading come first.
-pub fn model_of(alloc: Global, bytes: &[u8]) -> Result<Model, ModelFault>
-    ensures ok { IfOk result (λ m. IsVerdict bytes.now (accepted m)) }
-    ensures fault { IfErr result (λ fault. Tells fault bytes.now) }
-{
-    let text = read_model(alloc, bytes)?;
-    check_model(alloc, &text)
 }

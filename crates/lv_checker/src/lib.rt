@@ -6,7 +6,7 @@
 //!
 //! | part | items |
 //! |---|---|
-//! | the model of a text | `model_of` |
+//! | the model of a text, and its canonical text | `model_of`, `printed_model` |
 //! | statements so far, and what one more adds | `Draft`, `TypeDraft`, `Entry` |
 //! | what names stand for | `places`, `scope` |
 //! | what a statement adds, or why its place or names are wrong | `entries` |
@@ -14,7 +14,8 @@
 //! | what holds of every text | `laws` |
 #![tactic(auto)]
 
-pub mod checker;
+mod checker;
+mod checking;
 mod copies;
 pub mod draft;
 mod entries;
@@ -24,5 +25,5 @@ mod places;
 mod scope;
 mod types;
 
-pub use checker::{check_model, model_of};
+pub use checking::{model_of, printed_model};
 pub use draft::{Draft, Entry, TypeDraft};

@@ -20,7 +20,8 @@ use Rattle.lv_certcheck.specs.declared.check.Verdict.TheVariants.{Valid as IsVal
 use Rattle.lv_run_words.specs.Words.{Said, runs, checks, prints, generates, drives}
 use Rattle.lv_run_words.specs.declared.WordsFault.{WordsFault}
 use Rattle.lv_run_words.specs.declared.WordsFault.TheVariants.{Refused, Memory as NoRoom}
-use Rattle.lv_run.specs.Inputs.{model_told, made_text, IsPrinted, IsDriven}
+use Rattle.lv_checker.specs.Standing.{IsPrinted}
+use Rattle.lv_run.specs.Inputs.{model_told, made_text, IsDriven}
 use Rattle.lv_run.specs.Faults.{EndsModel, EndsSession, EndsCheck, RefusesBy, status_of, ended_status, fault_of_sink, fault_of_words}
 use Rattle.lv_run.specs.Judged.{verdict_line, verdict_end, TellsJudgement, JudgesTold}
 use Rattle.lv_run.specs.Statuses.{status_ended}

@@ -1,5 +1,4 @@
 pub mod VerdictLemmas
-pub mod TextLemmas
 pub mod JudgedLemmas
 pub mod SecondLemmas
 pub mod ExpectedLemmas

@@ -9,7 +9,7 @@ use Rattle.lv_reader.proofs.ReadingLemmas.{text_one}
 use Rattle.lv_checker.specs.Verdicts.{IsVerdict, accepted, refused, not_read}
 use Rattle.lv_checker.proofs.VerdictLemmas.{verdict_one}
 use Rattle.lv_reader.specs.CanonicalTexts.{canonical_model}
-use Rattle.lv_run.specs.Inputs.{IsCanonical}
+use Rattle.lv_checker.specs.Standing.{IsCanonical}
 use Rattle.lv_run.specs.Expected.{fails}
 use Rattle.lv_run.specs.declared.fault.RunFault.TheVariants.{ModelRefused as BadModel}
 

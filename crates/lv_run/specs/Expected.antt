@@ -17,7 +17,8 @@ use Rattle.lv_gen.specs.Series.{model_text}
 use Rattle.lv_run.specs.Drives.{drive_text}
 use Rattle.lv_run_words.specs.Words.{Said, runs, checks, prints, generates, drives}
 use Rattle.lv_run_words.specs.declared.commands.Kind.{Kind}
-use Rattle.lv_run.specs.Inputs.{model_told, made_text, IsCanonical}
+use Rattle.lv_checker.specs.Standing.{IsCanonical}
+use Rattle.lv_run.specs.Inputs.{model_told, made_text}
 use Rattle.lv_run.specs.Faults.{status_of}
 use Rattle.lv_run.specs.Judged.{verdict_line, verdict_end, verdict_status}
 use Rattle.lv_run.specs.declared.status.Ended.{Ended}

@@ -4,10 +4,7 @@ use Rattle.std.specs.Option.{option_map_or}
 use Rattle.lv_io.specs.Outside.{Opened}
 use Rattle.lv_io.specs.declared.Role.TheVariants.{Model as OfModel, Second as OfSecond}
 use Rattle.lv_model.specs.declared.plant.Plant.{Plant}
-use Rattle.lv_reader.specs.declared.statement.ModelText.{ModelText}
-use Rattle.lv_reader.specs.Texts.{ReadsAs}
 use Rattle.lv_checker.specs.Verdicts.{IsVerdict, accepted}
-use Rattle.lv_reader.specs.CanonicalTexts.{canonical_model}
 use Rattle.lv_run.specs.Drives.{drive_text}
 use Rattle.lv_gen.specs.Series.{model_text}
 use Rattle.lv_gen.specs.Session.{session_text}
@@ -28,24 +25,6 @@ model_told file (drives n) = Some (model_text n)
 abbrev pub made_text : Kind → ℕ → List ℕ
 made_text Model n = model_text n
 made_text Session n = session_text n
-
--- the canonical text of the text that these bytes read as
-pub record IsCanonical (bytes canonical : List ℕ) : Type 0 where
-  pub text : ModelText
-  pub reads : ReadsAs bytes text
-  pub printed : canonical ≡ canonical_model text
-
--- the bytes read as that text, and have an accepted model
-pub record IsAccepted (bytes : List ℕ) (text : ModelText) : Type 0 where
-  pub plant : Plant
-  pub verdict : IsVerdict bytes (accepted plant)
-  pub reads : ReadsAs bytes text
-
--- the bytes have an accepted model, and that canonical text
-pub record IsPrinted (bytes canonical : List ℕ) : Type 0 where
-  pub plant : Plant
-  pub verdict : IsVerdict bytes (accepted plant)
-  pub canonical_is : IsCanonical bytes canonical
 
 -- the open of the model's file, and of the session's or the certificate's
 abbrev pub model_open : List ℕ → Opened

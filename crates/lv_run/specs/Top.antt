@@ -16,7 +16,8 @@ use Rattle.lv_run_words.specs.Words.{Said, runs, checks, prints, generates, driv
 use Rattle.lv_run_words.specs.declared.commands.Kind.{Kind}
 use Rattle.lv_run_words.specs.declared.commands.Service.{Service}
 use Rattle.lv_run.specs.Expected.{Expected, Expects, Meets, TellsVerdict}
-use Rattle.lv_run.specs.Inputs.{IsCanonical, made_text}
+use Rattle.lv_checker.specs.Standing.{IsCanonical}
+use Rattle.lv_run.specs.Inputs.{made_text}
 use Rattle.lv_run.specs.Faults.{ended_status}
 use Rattle.lv_run.specs.Judged.{verdict_line, verdict_status}
 use Rattle.lv_run.specs.Telling.{Tells}

@@ -8,17 +8,18 @@ ghost use Rattle.lv_io.specs.declared.Role.TheVariants.{Model as OfModel};
 ghost use Rattle.lv_checker.specs.Verdicts.{IsVerdict, accepted};
 ghost use Rattle.lv_gen.specs.Series.{model_text};
 ghost use Rattle.lv_run.specs.Inputs as Inputs;
-ghost use Rattle.lv_run.specs.Inputs.{IsAccepted, IsPrinted, IsDriven, model_open, AddsOpens};
+ghost use Rattle.lv_checker.specs.Standing.{IsPrinted};
+ghost use Rattle.lv_run.specs.Inputs.{IsDriven, model_open, AddsOpens};
 ghost use Rattle.lv_run.specs.Faults.{EndsModel, RefusesBy};
 
 use crate::fault::RunFault;
 use crate::summary::drive;
 use lv_base::limits::MODEL_BYTES;
-use lv_checker::{check_model, model_of};
+use lv_checker::{model_of, printed_model};
 use lv_gen::{make_model, make_session};
 use lv_io::{ReadFault, Role, Shelf, read_file};
 use lv_model::Model;
-use lv_reader::{ModelCode, ModelText, print_model, read_model};
+use lv_reader::ModelCode;
 use lv_run_words::Kind;
 use std::alloc::{AllocError, Global};
 
@@ -59,27 +60,14 @@ fn accepted_model(alloc: Global, bytes: &[u8]) -> Result<Model, RunFault>
     Ok(model_of(alloc, bytes)?)
 }
 
-/// The statements of the bytes, where they give a model.
-fn accepted_text(alloc: Global, bytes: &[u8]) -> Result<ModelText, RunFault>
-    ensures text { IfOk result (λ text. IsAccepted bytes.now text) }
-    ensures refused { IfErr result (λ fault. RefusesBy fault (Some bytes.now)) }
-    ensures ends { IfErr result EndsModel }
-    ensures read { result ≢ Err RunFault.ModelUnread }
-{
-    let text = read_model(alloc, bytes)?;
-    check_model(alloc, &text)?;
-    Ok(text)
-}
-
-/// The canonical text of the model that the bytes give, which are read once.
-fn printed_model(alloc: Global, bytes: &[u8]) -> Result<Vec<u8>, RunFault>
+/// The canonical text of the model that the bytes give.
+fn canonical_text(alloc: Global, bytes: &[u8]) -> Result<Vec<u8>, RunFault>
     ensures text { IfOk result (λ canonical. IsPrinted bytes.now canonical.items) }
     ensures refused { IfErr result (λ fault. RefusesBy fault (Some bytes.now)) }
     ensures ends { IfErr result EndsModel }
     ensures read { result ≢ Err RunFault.ModelUnread }
 {
-    let text = accepted_text(alloc, bytes)?;
-    Ok(print_model(alloc, &text)?)
+    Ok(printed_model(alloc, bytes)?)
 }
 
 /// Opens the model's file, reads it to its end and checks it.
@@ -122,7 +110,7 @@ pub fn load_canonical<F: Shelf>(
     ensures as_before { result ≢ Err RunFault.ModelUnread → (r : Role) → F.faults shelf.new r ≡ F.faults shelf.old r }
 {
     let text = load_text(alloc, shelf, name)?;
-    printed_model(alloc, text.as_slice())
+    canonical_text(alloc, text.as_slice())
 }
 
 /// The summary of the session of a number over the model of the number.
