@@ -1,27 +1,17 @@
 -- Where a text ends, its draft is a model.
-use Rattle.std.proofs.Common.{◌≡◌, ◌<◌, ◌^◌, ◌+◌, ℕ, List, refl, Some, None, if◌then◌else◌, Bool, true, false, nat_eq, is_some, length, subst}
+use Rattle.std.proofs.Common.{◌≡◌, ◌<◌, ◌^◌, ◌+◌, ℕ, refl, Some, None, if◌then◌else◌, Bool, true, false, nat_eq, is_some, length, subst}
 use Rattle.lv_reader.specs.declared.code.ModelCode.{ModelCode}
 use Rattle.lv_reader.specs.declared.code.ModelCode.TheVariants.{NotEnded, NoPart}
 use Rattle.lv_reader.specs.declared.fault.ModelFault.TheVariants.{At}
-use Rattle.lv_reader.specs.declared.fault.ModelFault.{ModelFault}
-use Rattle.lv_reader.specs.declared.statement.NumberedStatement.{NumberedStatement}
 use Rattle.lv_reader.specs.declared.statement.ModelText.{ModelText}
 use Rattle.lv_checker.specs.declared.draft.Draft.{Draft}
 use Rattle.lv_checker.specs.Drafts.{empty}
-use Rattle.lv_checker.specs.Checking.{fine, faulty, all_added, finished, checked, EndsWell, Finds, IsRead}
-use Rattle.lv_checker.proofs.ModelLemmas.{few_lines, first_found}
+use Rattle.lv_checker.specs.Checking.{fine, faulty, all_added, finished, EndsWell, Finds, IsRead}
+use Rattle.lv_checker.proofs.ModelLemmas.{few_lines}
 use Rattle.lv_checker.proofs.FitsDrafts.{gives_model}
 
 pub read_few : (text : ModelText) → IsRead text → text.lines < 2 ^ 63
 read_few text read = few_lines read.bytes text read.reads
-
--- the fault of a text's statements is the text's
-pub statements_tell : (text : ModelText) (ss : List NumberedStatement) (d : Draft) (fault : ModelFault) → ss ≡ text.statements → d ≡ empty
-    → Finds fault (all_added d ss) → Finds fault (checked text)
-unfolding checked
-statements_tell text ss d fault same is h =
-    first_found (all_added empty text.statements) (finished text.lines) fault
-    (subst (λ (x : Draft). Finds fault (all_added x text.statements)) is (subst (λ (xs : List NumberedStatement). Finds fault (all_added d xs)) same h))
 
 -- the draft that the statements of a text give
 pub ends_there : (text : ModelText) (d e : Draft) → IsRead text → e ≡ empty → all_added e text.statements ≡ fine d → EndsWell d

@@ -4,13 +4,16 @@ use Rattle.lv_model.specs.declared.plant.Plant.{Plant}
 use Rattle.lv_reader.specs.declared.fault.ModelFault.{ModelFault}
 use Rattle.lv_reader.specs.declared.statement.NumberedStatement.{NumberedStatement}
 use Rattle.lv_reader.specs.declared.statement.ModelText.{ModelText}
-use Rattle.lv_reader.specs.Taking.{TakesAll, none_taken, one_taken}
+use Rattle.lv_reader.specs.Texts.{ReadsAs}
+use Rattle.lv_reader.specs.Taking.{TakesAll, none_taken, one_taken, TakesText}
 use Rattle.lv_checker.specs.declared.draft.Draft.{Draft}
 use Rattle.lv_checker.specs.declared.checking.Checking.{Checking}
 use Rattle.lv_checker.specs.Drafts.{empty}
 use Rattle.lv_checker.specs.Checking.{Checked, fine, faulty, after, one_added, all_added, finished, checked, EndsWell, Finds}
 use Rattle.lv_checker.specs.Standing.{standing, ended, AddsOne, HasRead}
+use Rattle.lv_checker.specs.Verdicts.{IsVerdict, accepted, Tells}
 use Rattle.lv_checker.proofs.Ending.{ends_there}
+use Rattle.lv_checker.proofs.ModelLemmas.{text_accepted, checking_tells}
 
 nothing_more : (c : Checked Draft) → c ≡ after c (λ d. all_added d [])
 nothing_more (fine d) = refl
@@ -34,7 +37,29 @@ pub ends_well : (lines : ℕ) (c : Checking) (d : Draft) → HasRead lines c →
 ends_well lines c d h is = ends_there h.text d empty h.read refl (sym h.stands ∙ is)
 
 -- what is found where a text ends is what is found of the text
-pub ended_is_checked : (lines : ℕ) (c : Checking) (h : HasRead lines c) → ended lines c ≡ checked h.text
+ended_is_checked : (text : ModelText) (c : Checking) → standing c ≡ all_added empty text.statements → ended text.lines c ≡ checked text
 unfolding checked
-ended_is_checked lines c h =
-    ap (λ (e : Checked Draft). after e (finished lines)) h.stands ∙ ap (λ (n : ℕ). after (all_added empty h.text.statements) (finished n)) (sym h.lines_are)
+ended_is_checked text c stands = ap (λ (e : Checked Draft). after e (finished text.lines)) stands
+
+pub accepted_at_end : (bytes : List ℕ) (text : ModelText) (reads : ReadsAs bytes text) (c : Checking) → standing c ≡ all_added empty text.statements
+    → (plant : Plant) → ended text.lines c ≡ fine plant → IsVerdict bytes (accepted plant)
+accepted_at_end bytes text reads c stands plant e = text_accepted bytes text plant reads (sym (ended_is_checked text c stands) ∙ e)
+
+pub refused_at_end : (bytes : List ℕ) (text : ModelText) (reads : ReadsAs bytes text) (c : Checking) → standing c ≡ all_added empty text.statements
+    → (fault : ModelFault) → Finds fault (ended text.lines c) → Tells fault bytes
+refused_at_end bytes text reads c stands fault told =
+    checking_tells bytes text reads fault (subst (λ (e : Checked Plant). Finds fault e) (ended_is_checked text c stands) told)
+
+module _ {S : Type 0} (takes : S → NumberedStatement → S → Type 0) (checking : S → Checking) (step : (s t : S) (x : NumberedStatement) → takes s x t → AddsOne x (checking s) (checking t))
+    (bytes : List ℕ) (start end : S) (lines : ℕ) (t : TakesText takes bytes start end lines) (nothing : standing (checking start) ≡ fine empty) where
+  -- all statements of the text are added
+  pub stands_at_end : standing (checking end) ≡ all_added empty t.statements
+  stands_at_end = all_are_added takes checking step start end t.statements t.taken ∙ ap (λ (c : Checked Draft). after c (λ d. all_added d t.statements)) nothing
+
+  pub has_read : HasRead lines (checking end)
+  has_read = record {
+    text = record { statements = t.statements; lines = lines };
+    read = record { bytes = bytes; reads = t.reads };
+    lines_are = refl;
+    stands = stands_at_end;
+  }

@@ -19,7 +19,7 @@ standing_by d (Some r) = faulty r.code r.line
 
 -- what the statements give so far, or the first that is refused
 abbrev pub standing : Checking → Checked Draft
-standing c = standing_by c.draft c.refused
+standing c = standing_by c.draft.value c.refused
 
 -- a statement was added
 abbrev pub AddsOne : NumberedStatement → Checking → Checking → Type 0

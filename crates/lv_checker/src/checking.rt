@@ -25,7 +25,8 @@ struct Refused {
 #[derive(Drop)]
 struct Checking {
     alloc: Global,
-    draft: Draft,
+    /// In a box, since letting go of it where it lies is slow to check.
+    draft: Box<Draft>,
     refused: Option<Refused>,
 }
 
@@ -36,7 +37,7 @@ impl Checking {
     {
         Ok(Checking {
             alloc,
-            draft: empty(alloc)?,
+            draft: Box::new(alloc, empty(alloc)?)?,
             refused: None,
         })
     }
@@ -65,11 +66,8 @@ impl Checking {
         ensures fault { IfErr result (λ fault. Finds fault (ended lines self)) }
     {
         match self.refused {
-            Some(Refused { code, line }) => {
-                drop(self.draft);
-                Err(ModelFault::At { code, line })
-            }
-            None => finished(self.draft, lines),
+            Some(Refused { code, line }) => Err(ModelFault::At { code, line }),
+            None => finished(Box::into_inner(self.draft), lines),
         }
     }
 }

@@ -1,8 +1,9 @@
 //! Small texts, with the verdict that an independent reference program gives.
 
 use lv_base::{PartId, ValId, VarId};
-use lv_checker::model_of;
+use lv_checker::{model_of, printed_model};
 use lv_model::Model;
+use lv_reader::{ModelCode, ModelFault};
 use std::alloc::{AllocError, Global};
 use test_texts::VALVE;
 
@@ -24,6 +25,45 @@ fn reads_a_valve(rt: HostRuntime) -> Result<(), AllocError> {
     }
     assert!(rt; lines.as_slice() == &[1, 0, 3, 6, 2, 0, 4, 5, 0, 0][..]);
     Ok(())
+}
+
+/// Whether the text is printed so.
+fn is_printed_so(alloc: Global, text: &[u8], canonical: &[u8]) -> bool {
+    match printed_model(alloc, text) {
+        Ok(printed) => printed.as_slice() == canonical,
+        Err(_) => false,
+    }
+}
+
+#[test]
+fn prints_a_model(rt: HostRuntime) {
+    let alloc = rt.alloc();
+    let small = b"version 2\nmodel model\ntype t\nmode m\nend\npart p t m\n";
+    assert!(rt; is_printed_so(alloc, b"type t\nmode m # one\nend\npart  p t m", small));
+    assert!(rt; is_printed_so(alloc, small, small));
+}
+
+/// Whether the text is refused for that, when it is read and when it is printed.
+fn is_refused_for(alloc: Global, text: &[u8], code: ModelCode, line: usize) -> bool {
+    let fault = ModelFault::At { code, line };
+    let read = match model_of(alloc, text) {
+        Ok(_) => false,
+        Err(found) => found == fault,
+    };
+    let printed = match printed_model(alloc, text) {
+        Ok(_) => false,
+        Err(found) => found == fault,
+    };
+    read && printed
+}
+
+#[test]
+fn what_cannot_be_read_is_told_before_what_cannot_be(rt: HostRuntime) {
+    let alloc = rt.alloc();
+    let unread = b"type t\nmode m\nmode m\nend\nwrong\n";
+    assert!(rt; is_refused_for(alloc, unread, ModelCode::UnknownStatement, 5));
+    let twice = b"type t\nmode m\nmode m\nmode m\nend\n";
+    assert!(rt; is_refused_for(alloc, twice, ModelCode::NameInUse, 3));
 }
 
 /// The first move from the first mode, and how many there are; what the command to open costs, and what rest does.
