@@ -1,18 +1,13 @@
 -- Repeated literals and clauses with a literal and its negation make no difference to what clauses say.
-use Rattle.std.proofs.Common.{◌≡◌, ℕ, Bool, true, false, not, ◌&&◌, ◌||◌, nat_eq, List, [], ◌∷◌, filter, refl, sym, ap, ap₂, ◌∙◌, arith}
+use Rattle.std.proofs.Common.{◌≡◌, ℕ, Bool, true, false, not, ◌&&◌, ◌||◌, List, [], ◌∷◌, filter, refl, sym, ap, ap₂, ◌∙◌}
 use Rattle.std.specs.List.{list_any}
-use Rattle.std.proofs.lemmas.Bool.{and_parts, or_right}
+use Rattle.std.proofs.lemmas.Bool.{or_right}
 use Rattle.lv_base.specs.declared.ids.Lit.{Lit}
-use Rattle.lv_clauses.specs.Literals.{neg, same_truth, same_var}
+use Rattle.lv_clauses.specs.Literals.{neg, same_truth}
 use Rattle.lv_compile.specs.FormulaClauses.{Clauses}
 use Rattle.lv_compile.specs.Cleaning.{same_literal, is_tautology, without_repeats, cleaned}
 use Rattle.lv_compile.specs.Laws.{literal_is_true, clause_is_true, are_true}
-
-same_signs : (s t : Bool) → same_truth s t ≡ true → s ≡ t
-same_signs true true e = refl
-same_signs true false e = absurd (cc)
-same_signs false true e = absurd (cc)
-same_signs false false e = refl
+use Rattle.lv_compile.proofs.TautologyLemmas.{one_literal}
 
 other_sign : (b s : Bool) → same_truth b s ≡ false → same_truth b (not s) ≡ true
 other_sign true true e = absurd (cc)
@@ -20,14 +15,9 @@ other_sign true false e = refl
 other_sign false true e = refl
 other_sign false false e = absurd (cc)
 
-same_number : (a b : ℕ) → nat_eq a b ≡ true → a ≡ b
-same_number a b e = grind (arith, e)
-
 module _ (truth : ℕ → Bool) where
   same_literal_true : (l m : Lit) → same_literal l m ≡ true → literal_is_true truth l ≡ literal_is_true truth m
-  same_literal_true l m e =
-      let two = and_parts (same_var l m) (same_truth l.sign m.sign) e in
-      ap₂ (λ (n : ℕ) (s : Bool). same_truth (truth n) s) (same_number l.var.0 m.var.0 two.0) (same_signs l.sign m.sign two.1)
+  same_literal_true l m e = ap (literal_is_true truth) (one_literal l m e)
 
   -- where the literal is false, its negation is a true literal of the list
   negation_true : (l : Lit) → literal_is_true truth l ≡ false → (ls : List Lit) → list_any (same_literal (neg l)) ls ≡ true → clause_is_true truth ls ≡ true

@@ -1,13 +1,12 @@
 -- Literals that don't stand among those before them, one literal more.
-use Rattle.std.proofs.Common.{◌≡◌, ℕ, Bool, true, false, not, ◌&&◌, ◌||◌, nat_eq, if◌then◌else◌, List, [], ◌∷◌, ◌++◌, filter, refl, sym, ap, ap₂, ◌∙◌, cond}
+use Rattle.std.proofs.Common.{◌≡◌, ℕ, Bool, true, false, not, ◌&&◌, ◌||◌, if◌then◌else◌, List, [], ◌∷◌, ◌++◌, filter, refl, sym, ap, ap₂, ◌∙◌, cond}
 use Rattle.std.specs.List.{list_any}
-use Rattle.std.proofs.lemmas.Bool.{and_parts, or_parts}
+use Rattle.std.proofs.lemmas.Bool.{or_parts}
 use Rattle.std.proofs.lemmas.List.{append_assoc}
 use Rattle.std.proofs.lemmas.List.Folds.{list_any-append}
-use borrow.Author.Tests.{eqb-true}
 use Rattle.lv_base.specs.declared.ids.Lit.{Lit}
-use Rattle.lv_clauses.specs.Literals.{same_truth, same_var}
 use Rattle.lv_compile.specs.Cleaning.{same_literal, is_repeated, with_new, has_repeats, without_repeats}
+use Rattle.lv_compile.proofs.TautologyLemmas.{one_literal}
 
 abbrev pub is_new : List Lit → Lit → Bool
 is_new earlier l = not (is_repeated earlier l)
@@ -40,16 +39,8 @@ longer out l m =
     and_not (is_repeated out m) (same_literal l m)
     ∙ ap not (sym (list_any-append (λ (o : Lit). same_literal o m) out (l ∷ [])))
 
-same_signs : (s t : Bool) → same_truth s t ≡ true → s ≡ t
-same_signs true true e = refl
-same_signs true false e = absurd (cc)
-same_signs false true e = absurd (cc)
-same_signs false false e = refl
-
 like : (out : List Lit) (l m : Lit) → same_literal l m ≡ true → is_repeated out l ≡ is_repeated out m
-like out l m e =
-    let two = and_parts (same_var l m) (same_truth l.sign m.sign) e in
-    ap₂ (λ (n : ℕ) (s : Bool). list_any (λ (o : Lit). nat_eq o.var.0 n && same_truth o.sign s) out) (eqb-true l.var.0 m.var.0 two.0) (same_signs l.sign m.sign two.1)
+like out l m e = ap (is_repeated out) (one_literal l m e)
 
 no_longer : (out : List Lit) (l : Lit) → is_repeated out l ≡ true → (m : Lit) → (is_new out m && not (same_literal l m)) ≡ is_new out m
 no_longer out l stands m = by (same_literal l m) refl (is_repeated out m) refl

@@ -16,7 +16,7 @@ same_signs false true e = absurd (cc)
 same_signs false false e = refl
 
 -- literals that are alike are one
-one_literal : (l m : Lit) → same_literal l m ≡ true → l ≡ m
+pub one_literal : (l m : Lit) → same_literal l m ≡ true → l ≡ m
 one_literal l m e =
     let two = and_parts (same_var l m) (same_truth l.sign m.sign) e in
     ap₂ (λ (n : ℕ) (s : Bool). record { var = record { 0 = n }; sign = s }) (eqb-true l.var.0 m.var.0 two.0) (same_signs l.sign m.sign two.1)
