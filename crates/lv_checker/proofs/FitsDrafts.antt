@@ -2,7 +2,7 @@
 use Rattle.std.proofs.Common.{◌≡◌, ◌+◌, ◌-◌, ◌<◌, ◌≤◌, ℕ, zero, suc, Bool, true, false, not, ◌&&◌, ◌||◌, nat_eq, nat_lt, nat_le, List, [], ◌∷◌, ◌++◌, length, map, position, slice_get, if◌then◌else◌, Option, Some, None, is_some, option_map, take, drop, Result, Ok, Err, refl, sym, ap, ap₂, subst, ◌∙◌, arith}
 use Rattle.std.specs.List.{list_all, list_any}
 use Rattle.std.specs.Option.{option_map_or, option_and_then}
-use Rattle.std.proofs.lemmas.Bool.{and_parts, and_from, or_parts, lt-ltb, le-leb, ltb-true, ltb-false, eqb-false, not-false, not-true}
+use Rattle.std.proofs.lemmas.Bool.{and_parts, and_from, or_parts, lt-ltb, le-leb, ltb-true, ltb-false, eqb-false, not-false}
 use Rattle.std.proofs.lemmas.List.{map_push, take-append-drop}
 use Rattle.std.proofs.lemmas.List.Folds.{list_all-append}
 use Rattle.std.proofs.lemmas.Option.{slice_get-map}
@@ -42,8 +42,8 @@ use Rattle.lv_checker.specs.Scopes.{variable_of_part, value_of_system}
 use Rattle.lv_checker.specs.Entries.{system_formula, own_variable, is_control_of, has_control, priced_entry, outside_entry, entry_where}
 use Rattle.lv_checker.specs.Faults.{fault_where, judged, in_use_inside, is_too_long_inside, passes_inside, in_use_outside, is_too_long_outside, passes_outside, is_long_name, share_of}
 use Rattle.lv_checker.specs.Drafts.{empty, begun, with_type, with_inside, with_part, with_law, with_outside, with_where, with_entry, type_with, limited_size}
-use Rattle.lv_checker.specs.Checking.{Checked, fine, faulty, checked_by, after, all_added, finished, checked, GivesModel}
-use Rattle.lv_checker.specs.Caches.{KeepsCounts, CountsAreKept}
+use Rattle.lv_checker.specs.Checking.{Checked, fine, faulty, checked_by, after, all_added, finished, checked}
+use Rattle.lv_checker.specs.Caches.{CountsAreKept}
 use Rattle.lv_checker.specs.Verdicts.{Verdict, IsVerdict, not_read, is_checked, accepted, refused, verdict_of, AcceptedIsWellFormed}
 use Rattle.lv_checker.proofs.FitsLists.{chained, mapped, passed, placed_is}
 use Rattle.lv_checker.proofs.FitsNames.{is_spelled, has_names, is_sound, statements_sound}
@@ -442,17 +442,6 @@ checked_well bytes text d reads added some =
     by zero f = absurd (f refl)
     by (suc n) f = omega arith
 
--- a text that is read gives a model, if it may end where it does
-pub gives_model : (bytes : List ℕ) (text : ModelText) → ReadsAs bytes text → GivesModel text
-gives_model bytes text reads =
-    record {
-      ends = λ d added.
-          record {
-            well_formed = λ whole.
-                checked_well bytes text d reads added (not-true (nat_eq (length d.plant.parts) 0) (and_parts (not (is_some d.current)) (not (nat_eq (length d.plant.parts) 0)) whole).1);
-          };
-    }
-
 -- what a draft comes to
 finished_parts : (lines : ℕ) (d : Draft) (plant : Plant) → finished lines d ≡ fine plant → (nat_eq (length d.plant.parts) 0 ≡ false) × (d.plant ≡ plant)
 finished_parts lines d plant h = by (is_some d.current) (nat_eq (length d.plant.parts) 0) refl h
@@ -463,7 +452,7 @@ finished_parts lines d plant h = by (is_some d.current) (nat_eq (length d.plant.
     by false true e h = absurd (cc)
     by false false e h = let same : d.plant ≡ plant = cc h in (e, same)
 
-text_well : (bytes : List ℕ) (text : ModelText) (plant : Plant) → ReadsAs bytes text → (c : Checked Draft) → all_added empty text.statements ≡ c → after c (finished text.lines) ≡ fine plant
+pub text_well : (bytes : List ℕ) (text : ModelText) (plant : Plant) → ReadsAs bytes text → (c : Checked Draft) → all_added empty text.statements ≡ c → after c (finished text.lines) ≡ fine plant
     → is_well_formed plant ≡ true
 text_well bytes text plant reads (fine d) added h =
     let two = finished_parts text.lines d plant h in

@@ -1,6 +1,7 @@
 -- Statements that are added as they are read.
-use Rattle.std.proofs.Common.{◌≡◌, ℕ, List, [], ◌∷◌, Option, Some, None, refl, sym, ap, ◌∙◌, subst}
+use Rattle.std.proofs.Common.{◌≡◌, ℕ, List, [], ◌∷◌, true, refl, sym, ap, ◌∙◌, subst}
 use Rattle.lv_model.specs.declared.plant.Plant.{Plant}
+use Rattle.lv_model.specs.WellFormed.{is_well_formed}
 use Rattle.lv_reader.specs.declared.fault.ModelFault.{ModelFault}
 use Rattle.lv_reader.specs.declared.statement.NumberedStatement.{NumberedStatement}
 use Rattle.lv_reader.specs.declared.statement.ModelText.{ModelText}
@@ -9,10 +10,10 @@ use Rattle.lv_reader.specs.Taking.{TakesAll, none_taken, one_taken, TakesText}
 use Rattle.lv_checker.specs.declared.draft.Draft.{Draft}
 use Rattle.lv_checker.specs.declared.checking.Checking.{Checking}
 use Rattle.lv_checker.specs.Drafts.{empty}
-use Rattle.lv_checker.specs.Checking.{Checked, fine, faulty, after, one_added, all_added, finished, checked, EndsWell, Finds}
+use Rattle.lv_checker.specs.Checking.{Checked, fine, faulty, after, one_added, all_added, finished, checked, Finds}
 use Rattle.lv_checker.specs.Standing.{standing, ended, AddsOne, HasRead}
 use Rattle.lv_checker.specs.Verdicts.{IsVerdict, accepted, Tells}
-use Rattle.lv_checker.proofs.Ending.{ends_there}
+use Rattle.lv_checker.proofs.FitsDrafts.{text_well}
 use Rattle.lv_checker.proofs.ModelLemmas.{text_accepted, checking_tells}
 
 nothing_more : (c : Checked Draft) → c ≡ after c (λ d. all_added d [])
@@ -32,9 +33,10 @@ all_are_added takes checking step s t (x ∷ xs) (one_taken {t = u} first rest) 
     ∙ ap (λ (c : Checked Draft). after c (λ d. all_added d xs)) (step s u x first)
     ∙ one_first (standing (checking s)) x xs
 
--- the draft of a text that was read is a model where it ends
-pub ends_well : (lines : ℕ) (c : Checking) (d : Draft) → HasRead lines c → standing c ≡ fine d → EndsWell d
-ends_well lines c d h is = ends_there h.text d empty h.read refl (sym h.stands ∙ is)
+-- what a text that was read comes to is well formed
+pub ends_well : (lines : ℕ) (c : Checking) (plant : Plant) → HasRead lines c → ended lines c ≡ fine plant → is_well_formed plant ≡ true
+ends_well lines c plant h is =
+    text_well h.read.bytes h.text plant h.read.reads (standing c) (sym h.stands) (subst (λ (n : ℕ). ended n c ≡ fine plant) (sym h.lines_are) is)
 
 -- what is found where a text ends is what is found of the text
 ended_is_checked : (text : ModelText) (c : Checking) → standing c ≡ all_added empty text.statements → ended text.lines c ≡ checked text

@@ -1,7 +1,6 @@
 -- The model that statements give, or the first of them that is refused.
-use Rattle.std.specs.Prelude.{◌≡◌, ℕ, ◌+◌, Bool, true, not, ◌&&◌, List, [], ◌∷◌, length, nat_eq, is_some, if◌then◌else◌, Result, Ok, Err}
+use Rattle.std.specs.Prelude.{◌≡◌, ℕ, ◌+◌, List, [], ◌∷◌, length, nat_eq, is_some, if◌then◌else◌, Option, Some, None, Result, Ok, Err}
 use Rattle.lv_model.specs.declared.plant.Plant.{Plant}
-use Rattle.lv_model.specs.WellFormed.{is_well_formed}
 use Rattle.lv_reader.specs.declared.code.ModelCode.{ModelCode}
 use Rattle.lv_reader.specs.declared.code.ModelCode.TheVariants.{NotEnded, NoPart}
 use Rattle.lv_reader.specs.declared.fault.ModelFault.{ModelFault}
@@ -35,21 +34,13 @@ abbrev pub all_added : Draft → List NumberedStatement → Checked Draft
 all_added d [] = fine d
 all_added d (s ∷ ss) = after (one_added d s) (λ e. all_added e ss)
 
--- what a draft comes to where the text ends, behind so many lines: no type is left that has not ended, and there is a part
+-- why a text may not end there, if it may not: a type is left that has not ended, or there is no part
+abbrev pub ending_code : Draft → Option ModelCode
+ending_code d = if is_some d.current then Some NotEnded else (if nat_eq (length d.plant.parts) 0 then Some NoPart else None)
+
+-- what a draft comes to where the text ends, behind so many lines
 abbrev pub finished : ℕ → Draft → Checked Plant
 finished lines d = if is_some d.current then faulty NotEnded (lines + 1) else (if nat_eq (length d.plant.parts) 0 then faulty NoPart (lines + 1) else fine d.plant)
-
--- a text may end there
-abbrev pub is_complete : Draft → Bool
-is_complete d = not (is_some d.current) && not (nat_eq (length d.plant.parts) 0)
-
--- where a text may end, the plant is well formed
-pub record EndsWell (d : Draft) : Type 0 where
-  pub well_formed : is_complete d ≡ true → is_well_formed d.plant ≡ true
-
--- the same of the draft that the statements of a text give
-pub record GivesModel (text : ModelText) : Type 0 where
-  pub ends : (d : Draft) → all_added empty text.statements ≡ fine d → EndsWell d
 
 -- a text that some bytes read as
 pub record IsRead (text : ModelText) : Type 0 where

@@ -1,16 +1,15 @@
 //! The model that statements give, or the first of them that is refused.
 #![tactic(auto)]
 
-ghost use Rattle.std.specs.Prelude.{◌≡◌, ◌+◌, ◌<◌, ◌^◌, [], ◌∷◌, ◌++◌, IfOk, IfErr, IsTrue, OnOk, if◌then◌else◌, false, is_some, length, map, nat_eq, None, Some};
+ghost use Rattle.std.specs.Prelude.{◌≡◌, ◌+◌, [], ◌∷◌, ◌++◌, IfOk, IfErr, IsTrue, OnOk, false, map, None};
 ghost use Rattle.lv_model.specs.Ranges.{part_ranges};
 ghost use Rattle.lv_model.specs.Counts.{held, type_count};
 ghost use Rattle.lv_model.specs.WellFormed.{is_well_formed};
-ghost use Rattle.lv_reader.specs.declared.code.ModelCode.TheVariants.{NotEnded, NoPart};
 ghost use Rattle.lv_checker.specs.declared.draft.Entry.TheVariants.{Named, NewDomain, TypeBegins, NewPrice, TypeEnds};
 ghost use Rattle.lv_checker.specs.Entries.{TellsEntry};
 ghost use Rattle.lv_checker.specs.Faults.{fault_of_entry, judged};
 ghost use Rattle.lv_checker.specs.Drafts.{bare, empty, limited_size, is_end, with_type, with_part, with_law, with_outside, with_where, with_entry};
-ghost use Rattle.lv_checker.specs.Checking.{fine, one_added, finished, EndsWell, Finds};
+ghost use Rattle.lv_checker.specs.Checking.{fine, one_added, ending_code, Finds};
 
 use crate::draft::{CheckFault, Draft, Entry, TypeDraft};
 use crate::faults::{judged, share_of};
@@ -270,8 +269,8 @@ pub(crate) fn add_one(
 }
 
 /// Why a text may not end there, if it may not.
-fn ending_code(draft: &Draft) -> Option<ModelCode>
-    ensures { result ≡ (if is_some draft.now.current then Some NotEnded else (if nat_eq (length draft.now.plant.parts) 0 then Some NoPart else None)) }
+pub(crate) fn ending_code(draft: &Draft) -> Option<ModelCode>
+    ensures { result ≡ ending_code draft.now }
 {
     if draft.current.is_some() {
         return Some(ModelCode::NotEnded);
@@ -282,26 +281,10 @@ fn ending_code(draft: &Draft) -> Option<ModelCode>
     None
 }
 
-fn model_of_draft(draft: Draft) -> Model
+/// The model of a draft with which a text may end.
+pub(crate) fn model_of_draft(draft: Draft) -> Model
     requires { IsTrue (is_well_formed draft.plant) }
     ensures { result ≡ draft.plant }
 {
     Model::of_well_formed(draft.plant.into_plant())
-}
-
-/// What a draft comes to where the text ends, behind so many lines.
-pub(crate) fn finished(draft: Draft, lines: usize) -> Result<Model, ModelFault>
-    requires lines { lines < 2 ^ 63 }
-    requires well { EndsWell draft }
-    ensures ok { IfOk result (λ m. finished lines draft ≡ fine m) }
-    ensures fault { IfErr result (λ fault. Finds fault (finished lines draft)) }
-{
-    let line = lines + 1;
-    match ending_code(&draft) {
-        Some(code) => {
-            drop(draft);
-            Err(ModelFault::At { code, line })
-        }
-        None => Ok(model_of_draft(draft)),
-    }
 }

@@ -8,7 +8,7 @@ ghost use Rattle.lv_checker.specs.Checking.{fine, Finds};
 ghost use Rattle.lv_checker.specs.Standing.{standing, ended, AddsOne, HasRead, IsPrinted, BeginsPrinting};
 ghost use Rattle.lv_checker.specs.Verdicts.{IsVerdict, accepted, Tells};
 
-use crate::checker::{add_one, empty, finished};
+use crate::checker::{add_one, empty, ending_code, model_of_draft};
 use crate::draft::Draft;
 use lv_model::Model;
 use lv_reader::{Canonical, ModelCode, ModelFault, NumberedStatement, TakesStatements, read_each};
@@ -59,16 +59,30 @@ impl Checking {
         }
     }
 
+    /// That the text may end here, behind so many lines; else why it is refused.
+    fn end(&self, lines: usize) -> Result<(), ModelFault>
+        requires { HasRead lines self.now }
+        ensures ok { OnOk result (ended lines self.now ≡ fine self.now.draft.value.plant) }
+        ensures fault { IfErr result (λ fault. Finds fault (ended lines self.now)) }
+    {
+        if let Some(Refused { code, line }) = self.refused {
+            return Err(ModelFault::At { code, line });
+        }
+        let line = lines + 1;
+        match ending_code(&self.draft) {
+            Some(code) => Err(ModelFault::At { code, line }),
+            None => Ok(()),
+        }
+    }
+
     /// What it comes to where the text ends, behind so many lines.
     fn finish(self, lines: usize) -> Result<Model, ModelFault>
         requires { HasRead lines self }
         ensures ok { IfOk result (λ model. ended lines self ≡ fine model) }
         ensures fault { IfErr result (λ fault. Finds fault (ended lines self)) }
     {
-        match self.refused {
-            Some(Refused { code, line }) => Err(ModelFault::At { code, line }),
-            None => finished(Box::into_inner(self.draft), lines),
-        }
+        self.end(lines)?;
+        Ok(model_of_draft(Box::into_inner(self.draft)))
     }
 }
 
@@ -129,6 +143,6 @@ pub fn printed_model(alloc: Global, bytes: &[u8]) -> Result<Vec<u8>, ModelFault>
 {
     let mut printing = Printing::new(alloc)?;
     let lines = read_each(alloc, bytes, &mut printing)?;
-    drop(printing.checking.finish(lines)?);
+    printing.checking.end(lines)?;
     Ok(printing.canonical.into_bytes()?)
 }

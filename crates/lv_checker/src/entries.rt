@@ -1,10 +1,13 @@
 //! What a statement adds to the statements before it, or why its place or its names are refused.
 #![tactic(auto)]
 
-ghost use Rattle.std.specs.Prelude.{◌≡◌, [], ◌∷◌, IfOk, IfErr, Ok, false, length, map};
+ghost use Rattle.std.specs.Prelude.{◌≡◌, [], ◌∷◌, IfOk, IfErr, Ok, Some, None, false, length, map};
 ghost use Rattle.std.specs.Option.{option_copied, option_map_or};
+ghost use Rattle.lv_reader.specs.declared.code.ModelCode.TheVariants.{UnknownName};
 ghost use Rattle.lv_reader.specs.declared.statement.Statement.TheVariants.{LawLine};
-ghost use Rattle.lv_checker.specs.Entries.{variable_entry, mode_entry, mode_places, law_in, mode_laws_entry, line_number, fault_of, step_of, step_entry, guard_in, fault_entry, faults_to, is_short, faults_entry, repair_in, repair_entry, end_entry, inside_entry, name_entry, part_entry, own_variable, is_control_of, has_control, priced_entry, price_entry, outside_entry, entry_of, TellsEntry, TellsFound};
+ghost use Rattle.lv_checker.specs.Entries.{variable_entry, mode_entry, mode_places, law_in, mode_laws_entry, line_number, fault_of, step_of, step_entry, guard_in, fault_entry, faults_to, is_short, faults_entry, repair_in, repair_entry, end_entry, inside_entry, name_entry, part_entry, own_variable, type_formula, is_control_of, has_control, priced_entry, price_entry, outside_entry, entry_of, TellsEntry, TellsFound};
+ghost use Rattle.lv_checker.specs.Places.{mode_place};
+ghost use Rattle.lv_checker.specs.declared.draft.CheckFault.TheVariants.{Refused};
 ghost use Rattle.lv_checker.specs.declared.draft.Entry.TheVariants.{NewMoves};
 ghost use Rattle.lv_model.specs.Lists.{is_control};
 ghost use Rattle.lv_model.specs.declared.plant.Variable.{Variable};
@@ -77,19 +80,6 @@ fn mode_entry(alloc: Global, of: &ComponentType, name: &Name) -> Result<Entry, C
     Ok(Entry::NewMode(copied(alloc, name)?, number))
 }
 
-#[tactic(auto, unfolding(crate::specs::Entries::inside_entry))]
-fn law_entry(
-    alloc: Global,
-    domains: &[Domain],
-    of: &TypeDraft,
-    phrase: &Phrase,
-) -> Result<Entry, CheckFault>
-    ensures ok { IfOk result (λ e. inside_entry domains.now of.now (LawLine phrase.now) ≡ Ok e) }
-    ensures fault { IfErr result (λ fault. TellsEntry fault (inside_entry domains.now of.now (LawLine phrase.now))) }
-{
-    Ok(Entry::TypeLaw(type_formula(alloc, domains, &of.lists, phrase)?))
-}
-
 /// The modes of these names.
 #[tactic(auto, using(crate::proofs::PlaceLists::place_taken, crate::proofs::PlaceLists::place_missing, crate::proofs::PlaceLists::joined_none, crate::proofs::PlaceLists::left_at, crate::proofs::PlaceLists::places_taken))]
 fn mode_places(alloc: Global, of: &ComponentType, names: &[Name]) -> Result<Vec<ValId>, CheckFault>
@@ -119,21 +109,6 @@ fn laws_in(alloc: Global, law: &Condition, modes: &[ValId]) -> Result<Seq<ModeFo
     Ok(Seq::from_vec(laws))
 }
 
-fn mode_laws_entry(
-    alloc: Global,
-    domains: &[Domain],
-    of: &NamedType,
-    names: &[Name],
-    phrase: &Phrase,
-) -> Result<Entry, CheckFault>
-    ensures ok { IfOk result (λ e. mode_laws_entry domains.now of.now names.now phrase.now ≡ Ok e) }
-    ensures fault { IfErr result (λ fault. TellsEntry fault (mode_laws_entry domains.now of.now names.now phrase.now)) }
-{
-    let modes = mode_places(alloc, of.as_type(), names)?;
-    let law = type_formula(alloc, domains, of, phrase)?;
-    Ok(Entry::ModeLaws(laws_in(alloc, &law, modes.as_slice())?))
-}
-
 /// The number of the next step or fault line of a type, from 1.
 fn line_number(of: &TypeDraft) -> Option<u32>
     ensures { result ≡ line_number of.now }
@@ -148,25 +123,6 @@ fn one_move(alloc: Global, line: u32, m: Move) -> Result<Entry, AllocError>
     let mut moves = Seq::new(alloc);
     moves.push(m)?;
     Ok(Entry::NewMoves(line, moves))
-}
-
-fn step_entry(
-    alloc: Global,
-    domains: &[Domain],
-    of: &TypeDraft,
-    source: &Name,
-    target: &Name,
-    guard: &Phrase,
-) -> Result<Entry, CheckFault>
-    ensures ok { IfOk result (λ e. step_entry domains.now of.now source.now target.now guard.now ≡ Ok e) }
-    ensures fault { IfErr result (λ fault. TellsEntry fault (step_entry domains.now of.now source.now target.now guard.now)) }
-{
-    let modes = of.lists.as_type();
-    let source = mode_place(modes, source.as_slice()).ok_or(UNKNOWN)?;
-    let target = mode_place(modes, target.as_slice()).ok_or(UNKNOWN)?;
-    let guard = type_formula(alloc, domains, &of.lists, guard)?;
-    let line = line_number(of).ok_or(PASSED)?;
-    Ok(one_move(alloc, line, step_of(source, target, guard, line))?)
 }
 
 /// A step.
@@ -197,59 +153,16 @@ fn fault_of(source: ValId, target: ValId, cost: u64, guard: Option<Condition>, l
     }
 }
 
-/// The guard of a fault, if it has one.
-fn guard_in(
-    alloc: Global,
-    domains: &[Domain],
-    of: &NamedType,
-    guard: &Option<Phrase>,
-) -> Result<Option<Condition>, CheckFault>
-    ensures ok { IfOk result (λ g. guard_in domains.now of.now guard.now ≡ Ok g) }
-    ensures fault { IfErr result (λ fault. TellsFound fault (guard_in domains.now of.now guard.now)) }
-{
-    match guard {
-        Some(guard) => Ok(Some(type_formula(alloc, domains, of, guard)?)),
-        None => Ok(None),
-    }
-}
-
-fn fault_entry(
-    alloc: Global,
-    domains: &[Domain],
-    of: &TypeDraft,
-    source: &Name,
-    target: &Name,
-    cost: u64,
-    guard: &Option<Phrase>,
-) -> Result<Entry, CheckFault>
-    ensures ok { IfOk result (λ e. fault_entry domains.now of.now source.now target.now cost guard.now ≡ Ok e) }
-    ensures fault { IfErr result (λ fault. TellsEntry fault (fault_entry domains.now of.now source.now target.now cost guard.now)) }
-{
-    let modes = of.lists.as_type();
-    let source = mode_place(modes, source.as_slice()).ok_or(UNKNOWN)?;
-    let target = mode_place(modes, target.as_slice()).ok_or(UNKNOWN)?;
-    let guard = guard_in(alloc, domains, &of.lists, guard)?;
-    let line = line_number(of).ok_or(PASSED)?;
-    Ok(one_move(alloc, line, fault_of(source, target, cost, guard, line))?)
-}
-
-/// A fault to the mode from each other one of so many modes.
+/// The fault's target is reached by a fault like it from each other one of so many modes.
 #[tactic(auto, using(crate::proofs::FaultLists::mode_passed_over, crate::proofs::FaultLists::mode_gives))]
-fn faults_to(
-    alloc: Global,
-    target: ValId,
-    cost: u64,
-    guard: &Option<Condition>,
-    line: u32,
-    modes: u32,
-) -> Result<Seq<Move>, AllocError>
-    ensures { IfOk result (λ faults. faults ≡ faults_to target cost guard.now line modes) }
+fn faults_like(alloc: Global, fault: &Move, modes: u32) -> Result<Seq<Move>, AllocError>
+    ensures { IfOk result (λ faults. faults ≡ faults_to fault.now.target fault.now.cost.0 fault.now.guard fault.now.line modes) }
 {
     let mut faults = Vec::new(alloc);
     'modes: for mode in 0..modes {
-        if mode != target.0 {
-            let guard = guard_copied(alloc, guard)?;
-            faults.push(fault_of(ValId(mode), target, cost, guard, line))?;
+        if mode != fault.target.0 {
+            let guard = guard_copied(alloc, &fault.guard)?;
+            faults.push(fault_of(ValId(mode), fault.target, fault.cost.0, guard, fault.line))?;
         }
     }
     Ok(Seq::from_vec(faults))
@@ -263,29 +176,6 @@ fn is_short(of: &TypeDraft, guard: &Option<Condition>) -> bool
         Some(guard) => guard.clause_count(true, of.sizes.as_slice()).is_some(),
         None => true,
     }
-}
-
-fn faults_entry(
-    alloc: Global,
-    domains: &[Domain],
-    of: &TypeDraft,
-    target: &Name,
-    cost: u64,
-    guard: &Option<Phrase>,
-) -> Result<Entry, CheckFault>
-    ensures ok { IfOk result (λ e. faults_entry domains.now of.now target.now cost guard.now ≡ Ok e) }
-    ensures fault { IfErr result (λ fault. TellsEntry fault (faults_entry domains.now of.now target.now cost guard.now)) }
-{
-    let target = mode_place(of.lists.as_type(), target.as_slice()).ok_or(UNKNOWN)?;
-    let guard = guard_in(alloc, domains, &of.lists, guard)?;
-    if !is_short(of, &guard) {
-        drop(guard);
-        return Err(CheckFault::Refused(ModelCode::TooManyClauses));
-    }
-    let line = line_number(of).ok_or(PASSED)?;
-    let modes = placed(of.lists.as_type().modes.len()).ok_or(PASSED)?;
-    let faults = faults_to(alloc, target, cost, &guard, line, modes)?;
-    Ok(Entry::NewMoves(line, faults))
 }
 
 /// The variable at a place of a type, counted from its mode.
@@ -341,29 +231,6 @@ fn two_moves(alloc: Global, line: u32, first: Move, second: Move) -> Result<Entr
     Ok(Entry::NewMoves(line, moves))
 }
 
-fn repair_entry(
-    alloc: Global,
-    domains: &[Domain],
-    of: &TypeDraft,
-    ends: (&Name, &Name),
-    cost: u64,
-    repair: &Repair,
-    guard: &Option<Phrase>,
-) -> Result<Entry, CheckFault>
-    ensures ok { IfOk result (λ e. repair_entry domains.now of.now ends.entry.0.now ends.entry.1.now cost repair.now guard.now ≡ Ok e) }
-    ensures fault { IfErr result (λ fault. TellsEntry fault (repair_entry domains.now of.now ends.entry.0.now ends.entry.1.now cost repair.now guard.now)) }
-{
-    let modes = of.lists.as_type();
-    let source = mode_place(modes, ends.0.as_slice()).ok_or(UNKNOWN)?;
-    let target = mode_place(modes, ends.1.as_slice()).ok_or(UNKNOWN)?;
-    let way_back = repair_in(domains, &of.lists, repair)?;
-    let guard = guard_in(alloc, domains, &of.lists, guard)?;
-    let line = line_number(of).ok_or(PASSED)?;
-    let fault = fault_of(source, target, cost, guard, line);
-    let step = step_of(target, source, way_back, line);
-    Ok(two_moves(alloc, line, fault, step)?)
-}
-
 fn end_entry(of: &ComponentType) -> Result<Entry, CheckFault>
     ensures ok { IfOk result (λ e. end_entry of.now ≡ Ok e) }
     ensures fault { IfErr result (λ fault. TellsEntry fault (end_entry of.now)) }
@@ -372,6 +239,129 @@ fn end_entry(of: &ComponentType) -> Result<Entry, CheckFault>
         return Err(CheckFault::Refused(ModelCode::NotEnded));
     }
     Ok(Entry::TypeEnds)
+}
+
+/// A type that has begun, with the domains so far, by which the formulas and the modes of its lines are found.
+#[derive(Drop)]
+struct Inside<'a> {
+    alloc: Global,
+    domains: &'a [Domain],
+    of: &'a TypeDraft,
+}
+
+impl Inside<'_> {
+    #[tactic(auto, unfolding(crate::specs::Entries::inside_entry))]
+    fn law(&self, phrase: &Phrase) -> Result<Entry, CheckFault>
+        ensures ok { IfOk result (λ e. inside_entry self.now.domains.now self.now.of.now (LawLine phrase.now) ≡ Ok e) }
+        ensures fault { IfErr result (λ fault. TellsEntry fault (inside_entry self.now.domains.now self.now.of.now (LawLine phrase.now))) }
+    {
+        Ok(Entry::TypeLaw(self.formula(phrase)?))
+    }
+
+    fn mode_laws(&self, names: &[Name], phrase: &Phrase) -> Result<Entry, CheckFault>
+        ensures ok { IfOk result (λ e. mode_laws_entry self.now.domains.now self.now.of.now.lists names.now phrase.now ≡ Ok e) }
+        ensures fault { IfErr result (λ fault. TellsEntry fault (mode_laws_entry self.now.domains.now self.now.of.now.lists names.now phrase.now)) }
+    {
+        let modes = mode_places(self.alloc, self.of.lists.as_type(), names)?;
+        let law = self.formula(phrase)?;
+        Ok(Entry::ModeLaws(laws_in(self.alloc, &law, modes.as_slice())?))
+    }
+
+    fn step(&self, source: &Name, target: &Name, guard: &Phrase) -> Result<Entry, CheckFault>
+        ensures ok { IfOk result (λ e. step_entry self.now.domains.now self.now.of.now source.now target.now guard.now ≡ Ok e) }
+        ensures fault { IfErr result (λ fault. TellsEntry fault (step_entry self.now.domains.now self.now.of.now source.now target.now guard.now)) }
+    {
+        let source = self.mode(source)?;
+        let target = self.mode(target)?;
+        let guard = self.formula(guard)?;
+        let line = line_number(self.of).ok_or(PASSED)?;
+        Ok(one_move(self.alloc, line, step_of(source, target, guard, line))?)
+    }
+
+    fn fault(
+        &self,
+        source: &Name,
+        target: &Name,
+        cost: u64,
+        guard: &Option<Phrase>,
+    ) -> Result<Entry, CheckFault>
+        ensures ok { IfOk result (λ e. fault_entry self.now.domains.now self.now.of.now source.now target.now cost guard.now ≡ Ok e) }
+        ensures fault { IfErr result (λ fault. TellsEntry fault (fault_entry self.now.domains.now self.now.of.now source.now target.now cost guard.now)) }
+    {
+        let source = self.mode(source)?;
+        let target = self.mode(target)?;
+        let guard = self.guard(guard)?;
+        let line = line_number(self.of).ok_or(PASSED)?;
+        Ok(one_move(
+            self.alloc,
+            line,
+            fault_of(source, target, cost, guard, line),
+        )?)
+    }
+
+    fn faults(&self, target: &Name, cost: u64, guard: &Option<Phrase>) -> Result<Entry, CheckFault>
+        ensures ok { IfOk result (λ e. faults_entry self.now.domains.now self.now.of.now target.now cost guard.now ≡ Ok e) }
+        ensures fault { IfErr result (λ fault. TellsEntry fault (faults_entry self.now.domains.now self.now.of.now target.now cost guard.now)) }
+    {
+        let target = self.mode(target)?;
+        let guard = self.guard(guard)?;
+        if !is_short(self.of, &guard) {
+            drop(guard);
+            return Err(CheckFault::Refused(ModelCode::TooManyClauses));
+        }
+        let line = line_number(self.of).ok_or(PASSED)?;
+        let modes = placed(self.of.lists.as_type().modes.len()).ok_or(PASSED)?;
+        let fault = fault_of(target, target, cost, guard, line);
+        let faults = faults_like(self.alloc, &fault, modes)?;
+        Ok(Entry::NewMoves(line, faults))
+    }
+
+    fn repair(
+        &self,
+        ends: (&Name, &Name),
+        cost: u64,
+        repair: &Repair,
+        guard: &Option<Phrase>,
+    ) -> Result<Entry, CheckFault>
+        ensures ok { IfOk result (λ e. repair_entry self.now.domains.now self.now.of.now ends.entry.0.now ends.entry.1.now cost repair.now guard.now ≡ Ok e) }
+        ensures fault { IfErr result (λ fault. TellsEntry fault (repair_entry self.now.domains.now self.now.of.now ends.entry.0.now ends.entry.1.now cost repair.now guard.now)) }
+    {
+        let source = self.mode(ends.0)?;
+        let target = self.mode(ends.1)?;
+        let way_back = repair_in(self.domains, &self.of.lists, repair)?;
+        let guard = self.guard(guard)?;
+        let line = line_number(self.of).ok_or(PASSED)?;
+        let fault = fault_of(source, target, cost, guard, line);
+        let step = step_of(target, source, way_back, line);
+        Ok(two_moves(self.alloc, line, fault, step)?)
+    }
+
+    /// The mode of a name.
+    fn mode(&self, name: &Name) -> Result<ValId, CheckFault>
+        ensures ok { IfOk result (λ mode. mode_place self.now.of.now.lists name.now ≡ Some mode) }
+        ensures fault { IfErr result (λ fault. (mode_place self.now.of.now.lists name.now ≡ None) × (fault ≡ Refused UnknownName)) }
+    {
+        mode_place(self.of.lists.as_type(), name.as_slice()).ok_or(UNKNOWN)
+    }
+
+    /// A formula over the type's own variables.
+    fn formula(&self, phrase: &Phrase) -> Result<Condition, CheckFault>
+        ensures ok { IfOk result (λ f. type_formula self.now.domains.now self.now.of.now.lists phrase.now ≡ Ok f) }
+        ensures fault { IfErr result (λ fault. TellsFound fault (type_formula self.now.domains.now self.now.of.now.lists phrase.now)) }
+    {
+        type_formula(self.alloc, self.domains, &self.of.lists, phrase)
+    }
+
+    /// The guard of a fault, if it has one.
+    fn guard(&self, guard: &Option<Phrase>) -> Result<Option<Condition>, CheckFault>
+        ensures ok { IfOk result (λ g. guard_in self.now.domains.now self.now.of.now.lists guard.now ≡ Ok g) }
+        ensures fault { IfErr result (λ fault. TellsFound fault (guard_in self.now.domains.now self.now.of.now.lists guard.now)) }
+    {
+        match guard {
+            Some(guard) => Ok(Some(self.formula(guard)?)),
+            None => Ok(None),
+        }
+    }
 }
 
 /// What a statement adds in a type that has not ended.
@@ -385,27 +375,25 @@ fn inside_entry(
     ensures ok { IfOk result (λ e. inside_entry plant.now.domains of.now statement.now ≡ Ok e) }
     ensures fault { IfErr result (λ fault. TellsEntry fault (inside_entry plant.now.domains of.now statement.now)) }
 {
-    let domains = plant.as_plant().domains.as_slice();
+    let inside = Inside {
+        alloc,
+        domains: plant.as_plant().domains.as_slice(),
+        of,
+    };
     match statement {
         Statement::VariableLine(class, name, domain) => {
             variable_entry(alloc, plant, *class, name, domain)
         }
         Statement::ModeLine(name) => mode_entry(alloc, of.lists.as_type(), name),
-        Statement::LawLine(phrase) => { law_entry(alloc, domains, of, phrase) }
-        Statement::InLine(modes, phrase) => {
-            mode_laws_entry(alloc, domains, &of.lists, modes.as_slice(), phrase)
-        }
-        Statement::StepLine(source, target, guard) => {
-            step_entry(alloc, domains, of, source, target, guard)
-        }
+        Statement::LawLine(phrase) => inside.law(phrase),
+        Statement::InLine(modes, phrase) => inside.mode_laws(modes.as_slice(), phrase),
+        Statement::StepLine(source, target, guard) => inside.step(source, target, guard),
         Statement::FaultLine(source, target, cost, guard) => {
-            fault_entry(alloc, domains, of, source, target, *cost, guard)
+            inside.fault(source, target, *cost, guard)
         }
-        Statement::FaultsLine(target, cost, guard) => {
-            faults_entry(alloc, domains, of, target, *cost, guard)
-        }
+        Statement::FaultsLine(target, cost, guard) => inside.faults(target, *cost, guard),
         Statement::RepairLine(source, target, cost, repair, guard) => {
-            repair_entry(alloc, domains, of, (source, target), *cost, repair, guard)
+            inside.repair((source, target), *cost, repair, guard)
         }
         Statement::EndLine => end_entry(of.lists.as_type()),
         _ => Err(MISPLACED),

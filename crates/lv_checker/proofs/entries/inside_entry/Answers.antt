@@ -16,5 +16,5 @@ told_alike r ds es t s u e f h =
 
 pub returns-in-LawLine-clause-fault : goal.returns-in-LawLine-clause-fault
 returns-in-LawLine-clause-fault c =
-    told_alike c.law_entry.result c.as_slice-domains.result.now c.args.plant.now.domains c.args.of.now c.args.statement.now _ (c.as_slice-domains.ensures ∙ ap (λ (p : Plant). p.domains) c.as_plant.ensures) c.in-LawLine.is
-    c.law_entry.ensures.fault
+    told_alike c.law.result c.as_slice.result.now c.args.plant.now.domains c.args.of.now c.args.statement.now _ (c.as_slice.ensures ∙ ap (λ (p : Plant). p.domains) c.as_plant.ensures) c.in-LawLine.is
+    c.law.ensures.fault

@@ -1,7 +1,7 @@
 use Rattle.std.proofs.Common.{◌≡◌}
 use Rattle.lv_checker.specs.Entries.{faults_to}
-use Rattle.lv_checker.proofs.entries.faults_to.Given as goal
+use Rattle.lv_checker.proofs.entries.faults_like.Given as goal
 
 -- the faults from the modes so far
 abbrev pub invariant-modes : goal.invariant-modes
-invariant-modes l = l.faults.items ≡ faults_to l.target l.cost l.guard l.line l.mode
+invariant-modes l = l.faults.items ≡ faults_to l.fault.target l.fault.cost.0 l.fault.guard l.fault.line l.mode
