@@ -6,7 +6,7 @@ ghost use Rattle.certificate_tests.specs.Small.{small_slots, small_zone, ranked_
 use lv_base::{Conflict, Cost, Pair, Rank, Seq};
 use lv_boxes::{Grid, Zone};
 use lv_cert::{Evidence, Question};
-use lv_cert_writing::{Split, close, last_if_full};
+use lv_cert_writing::{Explanations, Split, close, last_if_full};
 use std::alloc::{AllocError, Global};
 use std::test::Fail;
 
@@ -63,18 +63,14 @@ fn three_listed(alloc: Global) -> Result<Vec<Rank>, AllocError>
 fn three_shown(alloc: Global) -> Result<Vec<Split>, AllocError> {
     let excluded = one_excluded(alloc)?;
     let listed = three_listed(alloc)?;
-    let last = last_if_full(listed.as_slice(), 3);
-    let (grid, zones) = (small_grid(alloc)?, small_zones(alloc)?);
-    close(
-        alloc,
-        Question::Diagnosis,
-        None,
-        grid,
-        zones,
-        excluded.as_slice(),
-        listed.as_slice(),
-        last,
-    )
+    let why = Explanations {
+        question: Question::Diagnosis,
+        targets: None,
+        excluded: excluded.as_slice(),
+        listed: listed.as_slice(),
+        last: last_if_full(listed.as_slice(), 3),
+    };
+    close(alloc, &why, small_grid(alloc)?, small_zones(alloc)?)
 }
 
 #[test]

@@ -44,12 +44,8 @@ impl Talk {
         if self.is_spent {
             return Err(AllocError);
         }
-        match self.session.answer_text(line) {
-            Ok(text) => {
-                let length = text.len();
-                self.reply = text;
-                Ok(length)
-            }
+        match self.session.answer_into(line, &mut self.reply) {
+            Ok(()) => Ok(self.reply.len()),
             Err(error) => {
                 self.is_spent = true;
                 Err(error)

@@ -19,7 +19,7 @@ use lv_base::Seq;
 use lv_boxes::Groups;
 use lv_cert::{Cert, Line, Question};
 use lv_cert_writing::stating::push_splits;
-use lv_cert_writing::{Refuter, Settled, Split, close, last_if_full};
+use lv_cert_writing::{Explanations, Refuter, Settled, Split, close, last_if_full};
 use lv_meaning::Facts;
 use lv_model::{Model, TrackedState};
 use lv_search_zones::{move_grid, move_targets, zones_of};
@@ -76,18 +76,15 @@ fn splits_of(
 {
     let grid = move_grid(alloc, model)?;
     let zones = zones_of(alloc, model, tracked)?;
-    let last = last_if_full(answer.listed, limit.most as usize);
     let targets = targets_of(alloc, model, limit)?;
-    close(
-        alloc,
-        Question::Diagnosis,
-        targets.as_ref(),
-        grid,
-        zones,
-        answer.kept,
-        answer.listed,
-        last,
-    )
+    let why = Explanations {
+        question: Question::Diagnosis,
+        targets: targets.as_ref(),
+        excluded: answer.kept,
+        listed: answer.listed,
+        last: last_if_full(answer.listed, limit.most as usize),
+    };
+    close(alloc, &why, grid, zones)
 }
 
 /// A certificate of a settled diagnosis: it states the tracked states, the facts and the limit, and shows, line by line,

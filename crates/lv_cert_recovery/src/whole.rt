@@ -15,7 +15,7 @@ use crate::showing::push_recovery;
 use lv_base::{Seq, pairs_of};
 use lv_cert::{Cert, Line, Question};
 use lv_cert_writing::stating::push_splits;
-use lv_cert_writing::{Refuter, Settled, Split, close, last_if_full};
+use lv_cert_writing::{Explanations, Refuter, Settled, Split, close, last_if_full};
 use lv_meaning::Aim;
 use lv_model::Model;
 use lv_search_zones::{command_grid, command_zone};
@@ -72,16 +72,14 @@ fn splits_of(
     let grid = command_grid(alloc, model)?;
     let mut zones = Vec::new(alloc);
     zones.push(command_zone(alloc, model)?)?;
-    close(
-        alloc,
-        Question::Recovery,
-        None,
-        grid,
-        zones,
-        answer.kept,
-        answer.listed,
-        last_if_full(answer.listed, 1),
-    )
+    let why = Explanations {
+        question: Question::Recovery,
+        targets: None,
+        excluded: answer.kept,
+        listed: answer.listed,
+        last: last_if_full(answer.listed, 1),
+    };
+    close(alloc, &why, grid, zones)
 }
 
 /// A certificate of a settled recovery: it states the tracked states, what is seen and the goals, which have these texts,

@@ -10,7 +10,7 @@ ghost use Rattle.lv_boxes.specs.lv_search_walk.Ranked.{is_rank};
 ghost use Rattle.lv_cert_numbers.specs.lv_cert_meaning.Space as Spaces;
 ghost use Rattle.lv_cert_writing.specs.Explained.{stands_for, AreExplained};
 ghost use Rattle.lv_cert_writing.specs.Explained as Explanations;
-ghost use Rattle.lv_cert_writing.specs.Closing.{Cut, can_be_listed, AreForQuestion, cut_of_target, cut_of_listed, cut_of, cut_at, with_cut, after_cut, Closes, EvidenceIsSmall, SplitIsSmall};
+ghost use Rattle.lv_cert_writing.specs.Closing.{Cut, can_be_listed, AreForQuestion, cut_of_listed, cut_of, cut_at, with_cut, after_cut, Closes, EvidenceIsSmall, SplitIsSmall};
 ghost use Rattle.lv_cert_writing.specs.Closing as Closings;
 
 use lv_base::{Conflict, Rank, contains};
@@ -26,26 +26,34 @@ pub struct Split {
     pub by: Evidence,
 }
 
+/// Why candidates need not be listed: each contains an excluded conflict, is listed, has the target of a listed one, or
+/// ranks behind the last that counts. A recovery lists one command set at most, and has no targets.
+#[derive(Drop)]
+pub struct Explanations<'a> {
+    pub question: Question,
+    /// Which choices lead to the same mode, where candidates are to have distinct targets.
+    pub targets: Option<&'a Groups>,
+    pub excluded: &'a [Conflict],
+    pub listed: &'a [Rank],
+    /// The last that counts, where as many are listed as are wanted.
+    pub last: Option<&'a Rank>,
+}
+
 /// Splits of these zones, with what their choices cost, until each that is open is empty or its least member ranks behind
-/// `last`. A zone is split by the first excluded conflict in its least member, or else by all choices of the listed
-/// candidate that this is; or, where targets are given by which candidates are alike, by that of the listed candidate that
-/// it has. So each member must contain an excluded conflict, be listed or have a target that was listed before, or rank
-/// behind `last`. Conflicts, listed candidates and zones are numbered from 1, and the zones that a split makes come behind
-/// the others. A recovery lists one command set at most, and has no targets.
+/// the last that counts. A zone is split by the first excluded conflict in its least member, or else by all choices of the
+/// listed candidate that this is; or, where targets are given, by that of the listed candidate that it has. So each member
+/// must be explained. Conflicts, listed candidates and zones are numbered from 1, and the zones that a split makes come
+/// behind the others.
 pub fn close(
     alloc: Global,
-    question: Question,
-    targets: Option<&Groups>,
+    why: &Explanations<'_>,
     grid: Grid,
     zones: Vec<Zone>,
-    excluded: &[Conflict],
-    listed: &[Rank],
-    last: Option<&Rank>,
 ) -> Result<Vec<Split>, AllocError>
-    requires explained { AreExplained (option_copied targets) grid zones.items (option_copied last) listed.now excluded.now }
-    requires few { can_be_listed question (length listed.now) ≡ true }
-    requires targets { AreForQuestion (option_copied targets) question }
-    ensures closes { IfOk result (λ made. Closes (option_copied targets.entry) question grid zones.items (option_copied last.entry) listed.now excluded.now made.items) }
+    requires explained { AreExplained (option_copied why.now.targets) grid zones.items (option_copied why.now.last) why.now.listed.now why.now.excluded.now }
+    requires few { can_be_listed why.now.question (length why.now.listed.now) ≡ true }
+    requires targets { AreForQuestion (option_copied why.now.targets) why.now.question }
+    ensures closes { IfOk result (λ made. Closes (option_copied why.now.targets) why.now.question grid zones.items (option_copied why.now.last) why.now.listed.now why.now.excluded.now made.items) }
     ensures small { IfOk result (λ made. All SplitIsSmall made.items) }
 {
     let mut space = Space::new(alloc, grid, zones)?;
@@ -53,9 +61,7 @@ pub fn close(
     let mut at = 0;
     while at < space.len() {
         let zone = at as u128 + 1;
-        if let Some(by) = close_zone(
-            alloc, question, targets, &mut space, zone, excluded, listed, last,
-        )? {
+        if let Some(by) = why.close_zone(alloc, &mut space, zone)? {
             made.push(Split { zone, by })?;
         }
         at += 1;
@@ -74,29 +80,6 @@ pub fn last_if_full(listed: &[Rank], k: usize) -> Option<&Rank>
     }
 }
 
-/// Splits the zone of this number, if its least member doesn't rank behind the last, by what explains that member.
-fn close_zone(
-    alloc: Global,
-    question: Question,
-    targets: Option<&Groups>,
-    space: &mut Space,
-    n: u128,
-    excluded: &[Conflict],
-    listed: &[Rank],
-    last: Option<&Rank>,
-) -> Result<Option<Evidence>, AllocError>
-    ensures by { IfOk result (λ by. by ≡ option_map (λ (cut : Cut). cut.by) (cut_at (option_copied targets.entry) question (option_copied last.entry) listed.now excluded.now space.old n)) }
-    ensures small { IfOk result (λ by. IfSome by EvidenceIsSmall) }
-    ensures space { OnOk result (space.new ≡ after_cut space.old n (cut_at (option_copied targets.entry) question (option_copied last.entry) listed.now excluded.now space.old n)) }
-{
-    match space.least_of(alloc, n)? {
-        Some(least) if !is_behind(last, &least) => {
-            split_zone(alloc, question, targets, space, n, excluded, listed, &least)
-        }
-        _ => Ok(None),
-    }
-}
-
 /// Whether the rank is behind the last one, where this is asked for.
 fn is_behind(last: Option<&Rank>, r: &Rank) -> bool
     ensures { result ≡ Spaces.is_behind (option_copied last.entry) r.now }
@@ -107,76 +90,78 @@ fn is_behind(last: Option<&Rank>, r: &Rank) -> bool
     }
 }
 
-/// Splits the zone of this number, whose least member has this rank, by the first excluded conflict in that, or else by
-/// the listed candidate that stands for it.
-fn split_zone(
-    alloc: Global,
-    question: Question,
-    targets: Option<&Groups>,
-    space: &mut Space,
-    n: u128,
-    excluded: &[Conflict],
-    listed: &[Rank],
-    least: &Rank,
-) -> Result<Option<Evidence>, AllocError>
-    requires { length least.now.choices ≤ 4096 }
-    ensures by { IfOk result (λ by. by ≡ option_map (λ (cut : Cut). cut.by) (cut_of (option_copied targets.entry) question listed.now excluded.now least.now)) }
-    ensures small { IfOk result (λ by. IfSome by EvidenceIsSmall) }
-    ensures space { (zone : ZoneValue) → Spaces.open_zone space.old n ≡ Some zone → OnOk result (space.new ≡ with_cut space.old n zone (cut_of (option_copied targets.entry) question listed.now excluded.now least.now)) }
-{
-    if let Some(place) = first_inside(excluded, least.choices.as_slice()) {
-        space.split(alloc, n, &excluded[place])?;
-        return Ok(Some(Evidence::Conflict(place as u128 + 1)));
-    }
-    match targets {
-        None => split_by_listed(alloc, question, space, n, listed, least),
-        Some(groups) => split_by_target(alloc, groups, space, n, listed, least),
-    }
-}
-
-/// Splits the zone of this number, whose least member has this rank, by all choices of the listed one that it is.
-fn split_by_listed(
-    alloc: Global,
-    question: Question,
-    space: &mut Space,
-    n: u128,
-    listed: &[Rank],
-    least: &Rank,
-) -> Result<Option<Evidence>, AllocError>
-    requires { length least.now.choices ≤ 4096 }
-    ensures by { IfOk result (λ by. by ≡ option_map (λ (cut : Cut). cut.by) (cut_of_listed None question listed.now least.now)) }
-    ensures small { IfOk result (λ by. IfSome by EvidenceIsSmall) }
-    ensures space { (zone : ZoneValue) → Spaces.open_zone space.old n ≡ Some zone → OnOk result (space.new ≡ with_cut space.old n zone (cut_of_listed None question listed.now least.now)) }
-{
-    match place_of(listed, least) {
-        Some(place) => {
-            let own = choices_as_conflict(alloc, least.choices.as_slice())?;
-            space.split(alloc, n, &own)?;
-            Ok(Some(listed_evidence(question, place as u128 + 1)))
+impl Explanations<'_> {
+    /// Splits the zone of this number, if its least member doesn't rank behind the last, by what explains that member.
+    fn close_zone(
+        &self,
+        alloc: Global,
+        space: &mut Space,
+        n: u128,
+    ) -> Result<Option<Evidence>, AllocError>
+        ensures by { IfOk result (λ by. by ≡ option_map (λ (cut : Cut). cut.by) (cut_at (option_copied self.now.targets) self.now.question (option_copied self.now.last) self.now.listed.now self.now.excluded.now space.old n)) }
+        ensures small { IfOk result (λ by. IfSome by EvidenceIsSmall) }
+        ensures space { OnOk result (space.new ≡ after_cut space.old n (cut_at (option_copied self.now.targets) self.now.question (option_copied self.now.last) self.now.listed.now self.now.excluded.now space.old n)) }
+    {
+        match space.least_of(alloc, n)? {
+            Some(least) if !is_behind(self.last, &least) => {
+                self.split_zone(alloc, space, n, &least)
+            }
+            _ => Ok(None),
         }
-        None => Ok(None),
     }
-}
 
-/// Splits the zone of this number, whose least member has this rank, by the target of the listed one that stands for it.
-fn split_by_target(
-    alloc: Global,
-    groups: &Groups,
-    space: &mut Space,
-    n: u128,
-    listed: &[Rank],
-    least: &Rank,
-) -> Result<Option<Evidence>, AllocError>
-    ensures by { IfOk result (λ by. by ≡ option_map (λ (cut : Cut). cut.by) (cut_of_target groups.now listed.now least.now)) }
-    ensures small { IfOk result (λ by. IfSome by EvidenceIsSmall) }
-    ensures space { (zone : ZoneValue) → Spaces.open_zone space.old n ≡ Some zone → OnOk result (space.new ≡ with_cut space.old n zone (cut_of_target groups.now listed.now least.now)) }
-{
-    match first_standing(groups, listed, least) {
-        Some(place) => {
-            space.split_by_groups(alloc, n, groups, listed[place].choices.as_slice())?;
-            Ok(Some(Evidence::Target(place as u128 + 1)))
+    /// Splits the zone of this number, whose least member has this rank, by the first excluded conflict in that, or else
+    /// by the listed candidate that it is, or whose target it has.
+    fn split_zone(
+        &self,
+        alloc: Global,
+        space: &mut Space,
+        n: u128,
+        least: &Rank,
+    ) -> Result<Option<Evidence>, AllocError>
+        requires { length least.now.choices ≤ 4096 }
+        ensures by { IfOk result (λ by. by ≡ option_map (λ (cut : Cut). cut.by) (cut_of (option_copied self.now.targets) self.now.question self.now.listed.now self.now.excluded.now least.now)) }
+        ensures small { IfOk result (λ by. IfSome by EvidenceIsSmall) }
+        ensures space { (zone : ZoneValue) → Spaces.open_zone space.old n ≡ Some zone → OnOk result (space.new ≡ with_cut space.old n zone (cut_of (option_copied self.now.targets) self.now.question self.now.listed.now self.now.excluded.now least.now)) }
+    {
+        if let Some(place) = first_inside(self.excluded, least.choices.as_slice()) {
+            space.split(alloc, n, &self.excluded[place])?;
+            return Ok(Some(Evidence::Conflict(place as u128 + 1)));
         }
-        None => Ok(None),
+        match self.targets {
+            None => self.split_by_listed(alloc, space, n, least),
+            Some(groups) => match first_standing(groups, self.listed, least) {
+                Some(place) => {
+                    let choices = self.listed[place].choices.as_slice();
+                    space.split_by_groups(alloc, n, groups, choices)?;
+                    Ok(Some(Evidence::Target(place as u128 + 1)))
+                }
+                None => Ok(None),
+            },
+        }
+    }
+
+    /// Splits the zone of this number, whose least member has this rank, by all choices of the listed one that it is.
+    fn split_by_listed(
+        &self,
+        alloc: Global,
+        space: &mut Space,
+        n: u128,
+        least: &Rank,
+    ) -> Result<Option<Evidence>, AllocError>
+        requires { length least.now.choices ≤ 4096 }
+        ensures by { IfOk result (λ by. by ≡ option_map (λ (cut : Cut). cut.by) (cut_of_listed None self.now.question self.now.listed.now least.now)) }
+        ensures small { IfOk result (λ by. IfSome by EvidenceIsSmall) }
+        ensures space { (zone : ZoneValue) → Spaces.open_zone space.old n ≡ Some zone → OnOk result (space.new ≡ with_cut space.old n zone (cut_of_listed None self.now.question self.now.listed.now least.now)) }
+    {
+        match place_of(self.listed, least) {
+            Some(place) => {
+                let own = choices_as_conflict(alloc, least.choices.as_slice())?;
+                space.split(alloc, n, &own)?;
+                Ok(Some(listed_evidence(self.question, place as u128 + 1)))
+            }
+            None => Ok(None),
+        }
     }
 }
 

@@ -42,7 +42,7 @@ pub mod settled;
 pub mod split_laws;
 pub mod stating;
 
-pub use closing::{Split, close, last_if_full};
+pub use closing::{Explanations, Split, close, last_if_full};
 pub use derivation::Derivation;
 pub use refuter::{Refuted, Refuter};
 pub use settled::Settled;

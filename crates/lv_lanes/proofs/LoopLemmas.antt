@@ -125,11 +125,11 @@ module _ {S : Type 0} (says : S → List ℕ → List ℕ → Type 0) where
 
 module _ {S : Type 0} (next : S → List ℕ → S) (says : S → List ℕ → List ℕ → Type 0) where
   -- the first lane of a name was handed a line
-  pub answered_at : (name line : List ℕ) (start : S) (all ls : List (Named S)) (i : ℕ) (l here : Named S) (after : S) (text told : List ℕ)
+  pub answered_at : (name line : List ℕ) (start : S) (all ls : List (Named S)) (i : ℕ) (l here : Named S) (after : S) (told : List ℕ)
       → slice_get all i ≡ Some l → here ≡ l → all ≡ ls → list_any (is_lane name) (take i ls) ≡ false → is_lane name here ≡ true
-      → after ≡ next here.lane line → says here.lane line text → told ≡ text
+      → after ≡ next here.lane line → says here.lane line told
       → (list_any (is_lane name) ls ≡ true) × (set all i (record { name = here.name; lane = after }) ≡ handed next name line start ls) × says (lane_of name start ls) line told
-  answered_at name line start all ls i l here after text told read same alike none is goes said told_is =
+  answered_at name line start all ls i l here after told read same alike none is goes said =
       let has : slice_get ls i ≡ Some l = ap (λ (xs : List (Named S)). slice_get xs i) (sym alike) ∙ read in
       let found = found_at next name line start ls i l has none (ap (is_lane name) (sym same) ∙ is) in (
         found.2,
@@ -137,8 +137,7 @@ module _ {S : Type 0} (next : S → List ℕ → S) (says : S → List ℕ → L
             ∙ ap (λ (n : Named S). set all i (gone_on next line n)) same
             ∙ ap (λ (xs : List (Named S)). set xs i (gone_on next line l)) alike
             ∙ sym found.0,
-        subst (λ (s : S). says s line told) (ap (λ (n : Named S). n.lane) same ∙ sym found.1)
-            (subst (λ (t : List ℕ). says here.lane line t) (sym told_is) said),
+        subst (λ (s : S). says s line told) (ap (λ (n : Named S). n.lane) same ∙ sym found.1) said,
       )
 
   found_fresh : (name : List ℕ) (l : Named S) (ls : List (Named S)) → l.name ≡ name → list_any (is_lane name) (ls ++ l ∷ []) ≡ true

@@ -135,9 +135,10 @@ impl<L: Lane> Responder for Lanes<L> {
 
     ghost has_ended = { λ _. false };
 
-    fn answer(&mut self, line: &[u8]) -> Result<Vec<u8>, AllocError> {
+    fn answer(&mut self, line: &[u8], text: &mut Vec<u8>) -> Result<(), AllocError> {
         let reply = self.step(line)?;
-        lanes_text(self.alloc, &reply)
+        *text = lanes_text(self.alloc, &reply)?;
+        Ok(())
     }
 
     fn is_ended(&self) -> bool {

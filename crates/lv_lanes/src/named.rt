@@ -22,8 +22,19 @@ pub struct Named<L> {
     pub lane: L,
 }
 
+/// Hands a line to a lane: its text.
+fn answer_of<L: Lane>(alloc: Global, lane: &mut L, line: &[u8]) -> Result<Seq<u8>, AllocError>
+    ensures goes { OnOk result (lane.new ≡ L.next lane.old line.now) }
+    ensures says { IfOk result (λ text. L.says lane.old line.now text) }
+{
+    let mut text = Vec::new(alloc);
+    lane.answer(line, &mut text)?;
+    Ok(Seq::from_vec(text))
+}
+
 /// Hands a line to the lane of a name: its text. None where it isn't there.
 fn answer_named<L: Lane>(
+    alloc: Global,
     lanes: &mut [Named<L>],
     name: &[u8],
     line: &[u8],
@@ -32,7 +43,7 @@ fn answer_named<L: Lane>(
 {
     for lane in lanes.iter_mut() {
         if has_name(&lane.name, name) {
-            return Ok(Some(Seq::from_vec(lane.lane.answer(line)?)));
+            return Ok(Some(answer_of(alloc, &mut lane.lane, line)?));
         }
     }
     Ok(None)
@@ -64,14 +75,14 @@ pub fn answer_for<L: Lane>(
 ) -> Result<Option<Seq<u8>>, AllocError>
     ensures { IfOk result (IsHandedOn L.says L.next (has_place name.now lanes.old.items) name.now line.now (L.start first.now) lanes.old.items lanes.new.items) }
 {
-    if let Some(text) = answer_named(lanes, name, line)? {
+    if let Some(text) = answer_named(alloc, lanes, name, line)? {
         return Ok(Some(text));
     }
     if lanes.len() >= LANES {
         return Ok(None);
     }
     push_fresh(alloc, lanes, first, name)?;
-    answer_named(lanes, name, line)
+    answer_named(alloc, lanes, name, line)
 }
 
 /// The line that goes on with a query, for so many trials.
@@ -97,10 +108,10 @@ fn answer_open<L: Lane>(
     if !lane.lane.is_unsettled() {
         return Ok(None);
     }
-    let text = lane.lane.answer(line)?;
+    let text = answer_of(alloc, &mut lane.lane, line)?;
     Ok(Some(LaneText {
         name: Name::from_slice(alloc, lane.name.as_slice())?,
-        text: Seq::from_vec(text),
+        text,
     }))
 }
 

@@ -351,15 +351,16 @@ impl<'a> Plant<'a> {
         plant_text(self.alloc, self.compiled.model(), reply)
     }
 
-    /// Does what a line asks for, and answers the text of the reply.
-    pub fn answer_text(&mut self, line: &[u8]) -> Result<Vec<u8>, AllocError>
+    /// Does what a line asks for, and writes the text of the reply in place of what stands in `text`.
+    pub fn answer_into(&mut self, line: &[u8], text: &mut Vec<u8>) -> Result<(), AllocError>
         ensures state { OnOk result (self.new ≡ next_at self.old line.now) }
-        ensures text { IfOk result (λ text. SaysAt self.old line.now text.items) }
+        ensures text { OnOk result (SaysAt self.old line.now text.new.items) }
     {
         let reply = self.step(line)?;
-        let text = self.text_of(&reply);
+        let made = self.text_of(&reply);
         drop(reply);
-        text
+        *text = made?;
+        Ok(())
     }
 }
 
@@ -375,8 +376,8 @@ impl Responder for Plant<'_> {
 
     ghost has_ended = { λ _. false };
 
-    fn answer(&mut self, line: &[u8]) -> Result<Vec<u8>, AllocError> {
-        self.answer_text(line)
+    fn answer(&mut self, line: &[u8], text: &mut Vec<u8>) -> Result<(), AllocError> {
+        self.answer_into(line, text)
     }
 
     fn is_ended(&self) -> bool {

@@ -10,7 +10,7 @@ use itoa::Buffer;
 use lv_base::{Seq, ValId};
 use lv_model::{Model, Plant};
 use lv_reply::states::push_modes;
-use lv_reply::{Reply, reply_text};
+use lv_reply::{Reply, write_reply};
 use std::alloc::{AllocError, Global};
 
 /// Whether the goals that are held are true after a step.
@@ -112,7 +112,8 @@ fn push_reply(
 ) -> Result<(), AllocError>
     ensures { IfOk result (λ _. out.new.items ≡ out.old.items ++ reply_text model.now reply.now) }
 {
-    let text = reply_text(alloc, model, reply)?;
+    let mut text = Vec::new(alloc);
+    write_reply(&mut text, alloc, model, reply)?;
     out.extend_from_slice(text.as_slice())?;
     Ok(())
 }

@@ -3,7 +3,7 @@
 //! | part | items |
 //! |---|---|
 //! | what a reply says | `Reply`, `Refusal`, `Label`, `Moment`, `Probed` |
-//! | its text | `reply_text` |
+//! | its text | `write_reply` |
 //!
 //! | file | the text of |
 //! |---|---|
@@ -32,4 +32,4 @@ mod variables;
 pub use labels::{Label, Moment};
 pub use probes::Probed;
 pub use reply::{Refusal, Reply};
-pub use text::reply_text;
+pub use text::write_reply;

@@ -1,7 +1,7 @@
 //! What can be served: something that answers lines.
 #![tactic(auto)]
 
-ghost use Rattle.std.specs.Prelude.{◌≡◌, ◌<◌, ℕ, List, [], Bool, true, IfOk, OnOk, length};
+ghost use Rattle.std.specs.Prelude.{◌≡◌, ◌<◌, ℕ, List, [], Bool, true, OnOk, length};
 ghost use Rattle.lv_base.specs.declared.limits.TheConstants.{LINE_BYTES};
 
 use std::alloc::AllocError;
@@ -18,11 +18,11 @@ pub trait Responder {
 
     ghost has_ended: { Self → Bool };
 
-    /// Does what a line asks for, which is given without its end, and answers a text of the reply. After want of memory
-    /// nothing is known of where it stands.
-    fn answer(&mut self, line: &[u8]) -> Result<Vec<u8>, AllocError>
+    /// Does what a line asks for, which is given without its end, and writes a text of the reply in place of what stands in
+    /// `text`. After want of memory nothing is known of where it stands, nor of the text.
+    fn answer(&mut self, line: &[u8], text: &mut Vec<u8>) -> Result<(), AllocError>
         ensures goes { OnOk result (self.new ≡ next self.old line.now) }
-        ensures says { IfOk result (λ text. says self.old line.now text.items) };
+        ensures says { OnOk result (says self.old line.now text.new.items) };
 
     /// Whether later lines get no reply and change nothing. Takes no memory.
     fn is_ended(&self) -> bool

@@ -30,6 +30,8 @@ const ENOUGH: usize = 65_536;
 pub struct Serving<L> {
     at: L,
     line: Unfinished,
+    /// The text of the last reply, whose room the next one is written in.
+    text: Vec<u8>,
     replies: Waiting,
 }
 
@@ -43,6 +45,7 @@ impl<L: Responder> Serving<L> {
         Serving {
             at: responder,
             line: Unfinished::new(alloc),
+            text: Vec::new(alloc),
             replies: Waiting::new(alloc),
         }
     }
@@ -148,8 +151,8 @@ impl<L: Responder> Serving<L> {
         ensures ok { OnOk result (IsReplied L.next L.says self.old self.new) }
         ensures err { OnErr result (self.new.replies ≡ self.old.replies) }
     {
-        let text = self.at.answer(self.line.line())?;
-        self.replies.push(text.as_slice())?;
+        self.at.answer(self.line.line(), &mut self.text)?;
+        self.replies.push(self.text.as_slice())?;
         self.line.clear();
         Ok(())
     }

@@ -21,7 +21,7 @@ use crate::workings::{Workings, answer, perform};
 use lv_base::ValId;
 use lv_lanes::Lane;
 use lv_model::TrackedState;
-use lv_reply::{Reply, reply_text};
+use lv_reply::{Reply, write_reply};
 use lv_serve::Responder;
 use lv_session_state::{Facts, Goal, Held, QueryEffort, Request, State, values_of};
 use std::alloc::{AllocError, Global};
@@ -105,13 +105,13 @@ impl<'a> Session<'a> {
         reply
     }
 
-    /// Does what a line asks for, and answers a text of the reply.
-    pub fn answer_text(&mut self, line: &[u8]) -> Result<Vec<u8>, AllocError>
+    /// Does what a line asks for, and writes a text of the reply in place of what stands in `text`.
+    pub fn answer_into(&mut self, line: &[u8], text: &mut Vec<u8>) -> Result<(), AllocError>
         ensures state { OnOk result (self.new ≡ next_at self.old line.now) }
-        ensures text { IfOk result (λ text. SaysAt self.old line.now text.items) }
+        ensures text { OnOk result (SaysAt self.old line.now text.new.items) }
     {
         let reply = self.step(line)?;
-        self.text_of(&reply)
+        self.write_text(&reply, text)
     }
 
     /// Whether the session has ended: exactly where a `quit` was accepted. Takes no memory.
@@ -235,16 +235,19 @@ impl<'a> Session<'a> {
         self.workings.running.effort()
     }
 
-    /// The text of the last reply of this session, or of any other that is no certificate. A certificate is made here, of
-    /// the current query.
-    pub fn text_of(&self, reply: &Reply) -> Result<Vec<u8>, AllocError>
+    /// Writes the text of the last reply of this session, or of any other that is no certificate, in place of what stands
+    /// in `text`. A certificate is made here, of the current query.
+    pub fn write_text(&self, reply: &Reply, text: &mut Vec<u8>) -> Result<(), AllocError>
         requires { IsDue self.now.plant self.now.state reply.now }
-        ensures { IfOk result (λ text. IsTextOf self.now.plant self.now.state reply.now text.items) }
+        ensures { OnOk result (IsTextOf self.now.plant self.now.state reply.now text.new.items) }
     {
         let compiled = self.compiled;
         match reply {
-            Reply::Certificate => self.certificate_text(),
-            _ => reply_text(self.alloc, compiled.model, reply),
+            Reply::Certificate => {
+                *text = self.certificate_text()?;
+                Ok(())
+            }
+            _ => write_reply(text, self.alloc, compiled.model, reply),
         }
     }
 
@@ -286,8 +289,8 @@ impl Responder for Session<'_> {
 
     ghost ended_silent = { quit_silent };
 
-    fn answer(&mut self, line: &[u8]) -> Result<Vec<u8>, AllocError> {
-        self.answer_text(line)
+    fn answer(&mut self, line: &[u8], text: &mut Vec<u8>) -> Result<(), AllocError> {
+        self.answer_into(line, text)
     }
 
     fn is_ended(&self) -> bool {

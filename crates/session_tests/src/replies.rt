@@ -27,21 +27,18 @@ fn valve(alloc: Global) -> Result<Model, AllocError> {
     }
 }
 
-/// Whether a line gets this reply.
-fn replies(session: &mut Session<'_>, line: &str, wanted: &str) -> Result<bool, AllocError> {
-    let reply = session.step(line.as_bytes())?;
-    let text = session.text_of(&reply)?;
-    Ok(text.as_slice() == wanted.as_bytes())
-}
-
-/// Whether each line of a text gets the reply that stands at its place.
+/// Whether each line of a text gets the reply that stands at its place, all written in the same room.
 fn all_reply(
+    alloc: Global,
     session: &mut Session<'_>,
     lines: &[&str],
     wanted: &[&str],
 ) -> Result<bool, AllocError> {
-    for (line, reply) in lines.iter().zip(wanted.iter()) {
-        if !replies(session, line, reply)? {
+    let mut text = Vec::new(alloc);
+    for (line, wanted) in lines.iter().zip(wanted.iter()) {
+        let reply = session.step(line.as_bytes())?;
+        session.write_text(&reply, &mut text)?;
+        if text.as_slice() != wanted.as_bytes() {
             return Ok(false);
         }
     }
@@ -61,7 +58,7 @@ fn talks_over(
     talk: &Talk,
 ) -> Result<bool, AllocError> {
     let mut session = Session::new(alloc, compiled)?;
-    all_reply(&mut session, talk.lines, talk.replies)
+    all_reply(alloc, &mut session, talk.lines, talk.replies)
 }
 
 /// Whether the lines get their replies.

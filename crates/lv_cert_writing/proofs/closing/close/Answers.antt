@@ -9,14 +9,14 @@ use Rattle.lv_cert_writing.proofs.closing.close.Goals.{in-Some+in_ok-push, in_de
 
 pub loop-at-init : goal.loop-at-init
 loop-at-init c = (
-  stands_at_start (option_copied c.args.targets) c.args.question c.args.grid c.args.zones.items (option_copied c.args.last) c.args.listed.now c.args.excluded.now
+  stands_at_start (option_copied c.args.why.now.targets) c.args.why.now.question c.args.grid c.args.zones.items (option_copied c.args.why.now.last) c.args.why.now.listed.now c.args.why.now.excluded.now
       c.in_ok-space.space c.new-made.result.items c.in_ok-space.ensures c.new-made.ensures.items c.requires.explained,
   subst (All SplitIsSmall) (sym c.new-made.ensures.items) (All-nil SplitIsSmall),
 )
 
 pub loop-at-smaller : goal.loop-at-smaller
 loop-at-smaller c =
-    turn_weighs_less (option_copied c.args.targets) c.args.question c.args.grid c.args.zones.items (option_copied c.args.last) c.args.listed.now c.args.excluded.now
+    turn_weighs_less (option_copied c.args.why.now.targets) c.args.why.now.question c.args.grid c.args.zones.items (option_copied c.args.why.now.last) c.args.why.now.listed.now c.args.why.now.excluded.now
     c.loop-at.at c.loop-at.space c.close_zone.new.space c.loop-at.made.items c.loop-at.invariant.0 (search rules) c.requires.targets c.requires.few c.in_ok-by.ensures.space
 
 pub loop-at-preserved : goal.loop-at-preserved
@@ -26,7 +26,7 @@ loop-at-preserved c =
       | in-Some+in_ok-push w ↦
           let added : c.match-branch-3.made.items ≡ c.loop-at.made.items ++ record { zone = c.loop-at.at + 1; by = w.in-Some.by } ∷ [] = search rules in
           let small : SplitIsSmall (record { zone = c.loop-at.at + 1; by = w.in-Some.by }) = record { zone = search rules; by = search rules } in (
-            turn_split (option_copied c.args.targets) c.args.question c.args.grid c.args.zones.items (option_copied c.args.last) c.args.listed.now c.args.excluded.now
+            turn_split (option_copied c.args.why.now.targets) c.args.why.now.question c.args.grid c.args.zones.items (option_copied c.args.why.now.last) c.args.why.now.listed.now c.args.why.now.excluded.now
                 c.loop-at.at c.loop-at.space c.close_zone.new.space c.loop-at.made.items c.loop-at.invariant.0 within c.requires.targets c.requires.few c.in_ok-by.ensures.space
                 w.in-Some.by c.match-branch-3.made.items (search rules) (search rules),
             subst (All SplitIsSmall) (sym added) (All-append SplitIsSmall c.loop-at.made.items (record { zone = c.loop-at.at + 1; by = w.in-Some.by } ∷ []) c.loop-at.invariant.1
@@ -34,7 +34,7 @@ loop-at-preserved c =
           )
       | in_default w ↦
           let same : c.match-branch-3.made.items ≡ c.loop-at.made.items = search rules in (
-            turn_left (option_copied c.args.targets) c.args.question c.args.grid c.args.zones.items (option_copied c.args.last) c.args.listed.now c.args.excluded.now
+            turn_left (option_copied c.args.why.now.targets) c.args.why.now.question c.args.grid c.args.zones.items (option_copied c.args.why.now.last) c.args.why.now.listed.now c.args.why.now.excluded.now
                 c.loop-at.at c.loop-at.space c.close_zone.new.space c.loop-at.made.items c.loop-at.invariant.0 within c.requires.targets c.requires.few c.in_ok-by.ensures.space
                 c.match-branch-3.made.items (search rules) (search rules),
             subst (All SplitIsSmall) (sym same) c.loop-at.invariant.1,
