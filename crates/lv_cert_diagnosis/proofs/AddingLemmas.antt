@@ -11,7 +11,7 @@ use Rattle.lv_model.specs.declared.plant.Plant.{Plant}
 use Rattle.lv_meaning.specs.declared.facts.Facts.{Facts}
 use Rattle.lv_search_zones.specs.lv_compile.Booleans.{bool_count}
 use Rattle.lv_search_zones.specs.lv_compile.ModelClauses.{model_clauses}
-use Rattle.lv_cert_laws.specs.lv_cert_blocks.Deriving.{refutes}
+use Rattle.lv_cert_laws.specs.lv_cert_meaning.Deriving.{refutes}
 use Rattle.lv_cert_writing.specs.declared.derivation.Derivation.{Derivation}
 use Rattle.lv_cert_writing.specs.BlockLines.{derived_of}
 use Rattle.lv_cert.specs.declared.line.Head.TheVariants as head

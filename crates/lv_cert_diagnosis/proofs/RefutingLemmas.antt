@@ -13,7 +13,7 @@ use Rattle.lv_model.proofs.Sizes.{few-move_counts}
 use Rattle.lv_meaning.specs.declared.facts.Facts.{Facts}
 use Rattle.lv_search_zones.specs.lv_compile.Booleans.{bool_count}
 use Rattle.lv_search_zones.specs.lv_compile.ModelClauses.{model_clauses}
-use Rattle.lv_cert_laws.specs.lv_cert_blocks.Deriving.{clause_of_line, derives, ends_empty as lines_end_empty}
+use Rattle.lv_cert_laws.specs.lv_cert_meaning.Deriving.{clause_of_line, derives, ends_empty as lines_end_empty}
 use Rattle.lv_cert.specs.declared.line.Question.TheVariants.{Diagnosis}
 use Rattle.lv_cert.specs.declared.line.Head.TheVariants as head
 use Rattle.lv_cert.specs.declared.line.Line.{Line}

@@ -31,10 +31,10 @@ use Rattle.lv_system.specs.Encoding.{truth_in}
 use Rattle.lv_system.specs.Laws.{IsWholeStep, IsModelOf}
 use Rattle.lv_system.specs.Decoding.{IsDecoded}
 use Rattle.lv_system.proofs.SystemLemmas.{model_is_a_step, choices_fit, kept_of}
-use Rattle.lv_cert_laws.specs.lv_cert_blocks.Blocks.{clauses_of}
-use Rattle.lv_cert_laws.specs.lv_cert_blocks.Deriving.{Derived, refutes}
-use Rattle.lv_cert_laws.proofs.lv_cert_blocks.DerivingLemmas.{refuted_fail}
-use Rattle.lv_cert_laws.proofs.lv_cert_blocks.NumberLemmas.{clauses_are}
+use Rattle.lv_cert_laws.specs.lv_cert_meaning.Blocks.{clauses_of}
+use Rattle.lv_cert_laws.specs.lv_cert_meaning.Deriving.{Derived, refutes}
+use Rattle.lv_cert_laws.proofs.lv_cert_meaning.DerivingLemmas.{refuted_fail}
+use Rattle.lv_cert_laws.proofs.lv_cert_meaning.ClauseNumberLemmas.{clauses_are}
 use Rattle.lv_ident.specs.Literals.{observed_literals, fact_literals, pair_literals, HasMove, plant_choices, IsPositive}
 use Rattle.lv_ident.proofs.MeaningLemmas.{facts_hold, pairs_hold, step_makes_possible}
 use Rattle.lv_ident.proofs.ClauseLemmas.{facts_positive}

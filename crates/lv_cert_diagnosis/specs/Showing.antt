@@ -22,7 +22,7 @@ use Rattle.lv_search_zones.specs.lv_compile.Booleans.{booleans_now, booleans_nex
 use Rattle.lv_search_zones.specs.lv_compile.FormulaClauses.{Clauses}
 use Rattle.lv_search_zones.specs.lv_compile.ModelClauses.{model_clauses}
 use Rattle.lv_system.specs.System.{SystemValue}
-use Rattle.lv_cert_laws.specs.lv_cert_blocks.Deriving.{Derived, refutes}
+use Rattle.lv_cert_laws.specs.lv_cert_meaning.Deriving.{Derived, refutes}
 use Rattle.lv_cert_writing.specs.declared.refuter.Refuted.{Refuted}
 use Rattle.lv_cert_writing.specs.declared.refuter.Refuted.TheVariants.{Values, Lines}
 use Rattle.lv_cert_writing.specs.BlockLines.{derived_of}

@@ -11,7 +11,7 @@ ghost use Rattle.lv_meaning.specs.PossibleLaws.{are_below};
 ghost use Rattle.lv_search_zones.specs.lv_compile.Booleans.{bool_count};
 ghost use Rattle.lv_search_zones.specs.lv_compile.ModelClauses.{model_clauses};
 ghost use Rattle.lv_system.specs.System.{IsSystemOf};
-ghost use Rattle.lv_cert_laws.specs.lv_cert_blocks.Deriving.{refutes};
+ghost use Rattle.lv_cert_laws.specs.lv_cert_meaning.Deriving.{refutes};
 ghost use Rattle.lv_ident.specs.Literals.{HasMove, fact_literals};
 ghost use Rattle.lv_cert_writing.specs.BlockLines.{derived_of};
 ghost use Rattle.lv_cert_diagnosis.specs.Showing.{own_clauses, ShowsStep, TellsOf};

@@ -24,7 +24,7 @@ use Rattle.lv_cert_meaning.specs.lv_compile.Booleans.{bool_count}
 use Rattle.lv_cert_meaning.specs.lv_compile.FormulaClauses.{Clauses}
 use Rattle.lv_cert_meaning.specs.lv_compile.ModelClauses.{model_clauses}
 use Rattle.lv_cert_meaning.specs.lv_search_zones.Moves.{zones_from}
-use Rattle.lv_cert_meaning.specs.lv_cert_blocks.Following.{literal_of, follows}
+use Rattle.lv_cert_meaning.specs.Following.{literal_of, follows}
 use Rattle.lv_cert_meaning.specs.lv_cert.declared.line.Question.{Question}
 use Rattle.lv_cert_meaning.specs.lv_cert.declared.line.Question.TheVariants.{Diagnosis, Recovery}
 use Rattle.lv_cert_meaning.specs.lv_cert.declared.line.Moment.{Moment}

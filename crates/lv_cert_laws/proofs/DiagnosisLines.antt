@@ -23,7 +23,7 @@ use Rattle.lv_cert_meaning.specs.lv_cert.declared.line.Line.{Line}
 use Rattle.lv_cert_meaning.specs.lv_cert.declared.order.Witness.{Witness}
 use Rattle.lv_cert_meaning.specs.lv_cert.declared.order.Place.TheVariants as place
 use Rattle.lv_cert_meaning.specs.lv_cert.Order.{place_behind}
-use Rattle.lv_cert_meaning.specs.lv_cert_blocks.Following.{literal_of, follows}
+use Rattle.lv_cert_meaning.specs.Following.{literal_of, follows}
 use Rattle.lv_cert_meaning.specs.lv_compile.Booleans.{bool_count}
 use Rattle.lv_cert_meaning.specs.lv_compile.ModelClauses.{model_clauses}
 use Rattle.lv_cert_meaning.specs.Counting.{pairs_of_numbers, values_of, are_of}

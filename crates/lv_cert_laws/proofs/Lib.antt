@@ -26,4 +26,4 @@ pub mod RecoveryWhole
 pub mod Contents
 pub mod Right
 pub mod LeastRanks
-pub use Rattle.lv_cert_meaning.proofs.lv_cert_blocks as lv_cert_blocks
+pub use Rattle.lv_cert_meaning.proofs as lv_cert_meaning

@@ -20,7 +20,7 @@ use Rattle.lv_cert_meaning.specs.lv_meaning.Commands.{control_sizes, is_command_
 use Rattle.lv_cert_meaning.specs.lv_meaning.Recovery.{rank_recovers}
 use Rattle.lv_cert_meaning.proofs.lv_meaning.NominalSteps.{found_step}
 use Rattle.lv_cert_meaning.specs.lv_search_zones.Commands.{control_slots, command_zone}
-use Rattle.lv_cert_meaning.specs.lv_cert_blocks.Following.{literal_of, follows}
+use Rattle.lv_cert_meaning.specs.Following.{literal_of, follows}
 use Rattle.lv_cert_meaning.specs.lv_cert.declared.line.Question.TheVariants.{Recovery}
 use Rattle.lv_cert_meaning.specs.lv_cert.declared.line.Literal.{Literal}
 use Rattle.lv_cert_meaning.specs.lv_cert.declared.line.Evidence.{Evidence}

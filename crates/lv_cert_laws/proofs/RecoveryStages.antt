@@ -20,7 +20,7 @@ use Rattle.lv_cert_meaning.specs.lv_search_zones.Commands.{control_slots, comman
 use Rattle.lv_cert_meaning.specs.lv_compile.Booleans.{bool_count}
 use Rattle.lv_cert_meaning.specs.lv_compile.FormulaClauses.{Clauses}
 use Rattle.lv_cert_meaning.specs.lv_compile.ModelClauses.{model_clauses}
-use Rattle.lv_cert_meaning.specs.lv_cert_blocks.Following.{literal_of, follows}
+use Rattle.lv_cert_meaning.specs.Following.{literal_of, follows}
 use Rattle.lv_cert_meaning.specs.lv_cert.declared.line.Question.TheVariants.{Recovery}
 use Rattle.lv_cert_meaning.specs.lv_cert.declared.line.Literal.{Literal}
 use Rattle.lv_cert_meaning.specs.lv_cert.declared.line.Line.{Line}

@@ -16,8 +16,8 @@ use Rattle.lv_cert_meaning.specs.lv_cert.declared.line.Question.{Question}
 use Rattle.lv_cert_meaning.specs.lv_cert.declared.line.Literal.{Literal}
 use Rattle.lv_cert_meaning.specs.lv_cert.declared.line.Line.{Line}
 use Rattle.lv_cert_meaning.specs.lv_cert.declared.line.Line.TheVariants as line
-use Rattle.lv_cert_meaning.specs.lv_cert_blocks.Following.{literal_of, follows}
-use Rattle.lv_cert_meaning.proofs.lv_cert_blocks.LogLemmas.{follows_sound}
+use Rattle.lv_cert_meaning.specs.Following.{literal_of, follows}
+use Rattle.lv_cert_meaning.proofs.LogLemmas.{follows_sound}
 use Rattle.lv_cert_meaning.specs.Judging.{Judged, judge_line, judge_clause, judge_lines, comes_to, is_bad_at, ends_empty, ends_empty_after}
 
 -- a line that isn't bad, and what it comes to

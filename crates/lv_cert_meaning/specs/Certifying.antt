@@ -17,10 +17,10 @@ use Rattle.lv_search_zones.specs.lv_meaning.declared.aim.Aim.{Aim}
 use Rattle.lv_search_zones.specs.lv_meaning.Ranges.{StateFits, AimFits}
 use Rattle.lv_search_zones.specs.lv_meaning.Recovery.{recovery_walk}
 use Rattle.lv_model_names.specs.Names.{classes, is_observable}
-use Rattle.lv_cert_blocks.specs.lv_cert.declared.line.Question.TheVariants.{Diagnosis, Recovery}
-use Rattle.lv_cert_blocks.specs.lv_cert.declared.line.Line.{Line}
-use Rattle.lv_cert_blocks.specs.lv_cert.Words.{is_word}
-use Rattle.lv_cert_blocks.specs.lv_cert.Form.{is_formed}
+use Rattle.lv_cert.specs.declared.line.Question.TheVariants.{Diagnosis, Recovery}
+use Rattle.lv_cert.specs.declared.line.Line.{Line}
+use Rattle.lv_cert.specs.Words.{is_word}
+use Rattle.lv_cert.specs.Form.{is_formed}
 use Rattle.lv_cert_meaning.specs.Stated.{goal_of}
 use Rattle.lv_cert_meaning.specs.Judging.{Judged, question_of}
 use Rattle.lv_cert_meaning.specs.Laws.{aim_of, IsValid}

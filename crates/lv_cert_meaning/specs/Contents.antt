@@ -12,10 +12,10 @@ use Rattle.lv_search_zones.specs.lv_meaning.declared.facts.Facts.{Facts}
 use Rattle.lv_search_zones.specs.lv_meaning.declared.aim.Aim.{Aim}
 use Rattle.lv_search_zones.specs.lv_meaning.CandidateLaws.{moves_cost}
 use Rattle.lv_search_zones.specs.lv_meaning.Commands.{command_rank}
-use Rattle.lv_cert_blocks.specs.lv_cert.declared.line.Moment.TheVariants as moment
-use Rattle.lv_cert_blocks.specs.lv_cert.declared.line.Head.TheVariants as head
-use Rattle.lv_cert_blocks.specs.lv_cert.declared.line.Line.{Line}
-use Rattle.lv_cert_blocks.specs.lv_cert.declared.line.Line.TheVariants as line
+use Rattle.lv_cert.specs.declared.line.Moment.TheVariants as moment
+use Rattle.lv_cert.specs.declared.line.Head.TheVariants as head
+use Rattle.lv_cert.specs.declared.line.Line.{Line}
+use Rattle.lv_cert.specs.declared.line.Line.TheVariants as line
 use Rattle.lv_cert_meaning.specs.Counting.{places_of, values_of}
 use Rattle.lv_cert_meaning.specs.Stated.{Limit, goal_of}
 

@@ -4,7 +4,6 @@ use Rattle.std.specs.List.{list_all, list_any, flat_map, range_with_len}
 use Rattle.std.specs.Option.{option_and_then, option_map_or}
 use Rattle.std.specs.Cmp.Lexicographic.{pointwise}
 use Rattle.lv_model_names.specs.lv_base.declared.limits.TheConstants.{TRACKED}
-use Rattle.lv_model_names.specs.lv_base.declared.ids.Lit.{Lit}
 use Rattle.lv_model_names.specs.lv_base.declared.ids.ValId.{ValId}
 use Rattle.lv_model_names.specs.lv_base.declared.rank.Rank.{Rank}
 use Rattle.lv_model_names.specs.lv_base.declared.search.Pair.{Pair}
@@ -13,7 +12,7 @@ use Rattle.lv_model_names.specs.lv_base.Rank.{ranks_before}
 use Rattle.lv_search_zones.specs.lv_boxes.Members.{ZoneValue}
 use Rattle.lv_search_zones.specs.lv_boxes.Parts.{parts_of}
 use Rattle.lv_search_zones.specs.lv_boxes.GroupParts.{parts_by_groups}
-use Rattle.lv_cert_blocks.specs.lv_clauses.Literals.{same_truth}
+use Rattle.lv_clauses.specs.Literals.{same_truth}
 use Rattle.lv_model_names.specs.lv_formula.Tree.{Tree}
 use Rattle.lv_model_names.specs.lv_model.declared.plant.Plant.{Plant}
 use Rattle.lv_model_names.specs.lv_model.declared.plant.ComponentType.{ComponentType}
@@ -32,16 +31,16 @@ use Rattle.lv_search_zones.specs.lv_meaning.Recovers.{has_modes, has_controls, m
 use Rattle.lv_search_zones.specs.lv_meaning.Commands.{control_sizes, is_command_set, command_rank}
 use Rattle.lv_search_zones.specs.Moves.{move_slots, zones_from}
 use Rattle.lv_search_zones.specs.Commands.{control_slots, command_zone}
-use Rattle.lv_cert_blocks.specs.Following.{literal_of, follows}
-use Rattle.lv_cert_blocks.specs.lv_cert.declared.line.Question.{Question}
-use Rattle.lv_cert_blocks.specs.lv_cert.declared.line.Question.TheVariants.{Diagnosis, Recovery}
-use Rattle.lv_cert_blocks.specs.lv_cert.declared.line.Literal.{Literal}
-use Rattle.lv_cert_blocks.specs.lv_cert.declared.line.Evidence.{Evidence}
-use Rattle.lv_cert_blocks.specs.lv_cert.declared.line.Evidence.TheVariants as evidence
-use Rattle.lv_cert_blocks.specs.lv_cert.declared.line.Head.{Head}
-use Rattle.lv_cert_blocks.specs.lv_cert.declared.line.Head.TheVariants as head
-use Rattle.lv_cert_blocks.specs.lv_cert.declared.line.Line.{Line}
-use Rattle.lv_cert_blocks.specs.lv_cert.declared.line.Line.TheVariants as line
+use Rattle.lv_cert_meaning.specs.Following.{literal_of, follows}
+use Rattle.lv_cert.specs.declared.line.Question.{Question}
+use Rattle.lv_cert.specs.declared.line.Question.TheVariants.{Diagnosis, Recovery}
+use Rattle.lv_cert.specs.declared.line.Literal.{Literal}
+use Rattle.lv_cert.specs.declared.line.Evidence.{Evidence}
+use Rattle.lv_cert.specs.declared.line.Evidence.TheVariants as evidence
+use Rattle.lv_cert.specs.declared.line.Head.{Head}
+use Rattle.lv_cert.specs.declared.line.Head.TheVariants as head
+use Rattle.lv_cert.specs.declared.line.Line.{Line}
+use Rattle.lv_cert.specs.declared.line.Line.TheVariants as line
 use Rattle.lv_cert_meaning.specs.Counting.{is_one_of, are_of, places_of, values_of, at_number, pairs_of_numbers}
 use Rattle.lv_cert_meaning.specs.Stated.{Limit, Stated, nothing_stated, with_limit, state_of, with_state, with_controls, observation_of, with_observation, goal_of, with_goal, candidate_of_numbers}
 use Rattle.lv_cert_meaning.specs.Space.{Space, open_zone, with_parts, has_before, all_passed}

@@ -1,5 +1,5 @@
 -- What a valid certificate proves.
-use Rattle.std.specs.Prelude.{◌≡◌, ℕ, true, false, List, [], ◌∷◌, take, filter, Some, None}
+use Rattle.std.specs.Prelude.{◌≡◌, true, false, List, take, filter, Some, None}
 use Rattle.lv_model_names.specs.lv_base.declared.ids.Cost.{Cost}
 use Rattle.lv_model_names.specs.lv_base.declared.rank.Rank.{Rank}
 use Rattle.lv_model_names.specs.lv_base.declared.search.Candidate.{Candidate}
@@ -13,10 +13,10 @@ use Rattle.lv_search_zones.specs.lv_meaning.Commands.{command_sets}
 use Rattle.lv_search_zones.specs.lv_meaning.Recovery.{rank_recovers}
 use Rattle.lv_search_zones.specs.lv_boxes.Members.{ZoneValue, is_member}
 use Rattle.lv_search_zones.specs.lv_boxes.RankedMembers.{IsLeastRank}
-use Rattle.lv_cert_blocks.specs.lv_cert.declared.line.Question.TheVariants.{Diagnosis, Recovery}
-use Rattle.lv_cert_blocks.specs.lv_cert.declared.line.Line.{Line}
-use Rattle.lv_cert_blocks.specs.lv_cert.declared.order.Place.TheVariants.{Start, Done}
-use Rattle.lv_cert_blocks.specs.lv_cert.Order.{place_behind}
+use Rattle.lv_cert.specs.declared.line.Question.TheVariants.{Diagnosis, Recovery}
+use Rattle.lv_cert.specs.declared.line.Line.{Line}
+use Rattle.lv_cert.specs.declared.order.Place.TheVariants.{Start, Done}
+use Rattle.lv_cert.specs.Order.{place_behind}
 use Rattle.lv_cert_meaning.specs.Stated.{Limit, Stated, stated_limit}
 use Rattle.lv_cert_meaning.specs.Space.{least_rank}
 use Rattle.lv_cert_meaning.specs.Contents.{limit_of, states_of, facts_of, aim_in, answer_of}

@@ -1,5 +1,5 @@
 -- Zones by their numbers, which count from 1: a split closes its zone and opens zones with the next numbers.
-use Rattle.std.specs.Prelude.{ℕ, ◌-◌, Bool, true, false, ◌||◌, nat_eq, List, [], ◌∷◌, ◌++◌, length, map, Option, Some, None, option_map, slice_get, slice_set}
+use Rattle.std.specs.Prelude.{ℕ, ◌-◌, Bool, true, false, List, ◌++◌, map, Option, Some, None, option_map, slice_set}
 use Rattle.std.specs.List.{list_all}
 use Rattle.std.specs.Option.{option_and_then, option_map_or}
 use Rattle.lv_model_names.specs.lv_base.declared.ids.Cost.{Cost}

@@ -1,12 +1,12 @@
 -- What a certificate states: for which tracked states, facts and goals it answers.
-use Rattle.std.specs.Prelude.{ℕ, ◌+◌, ◌-◌, Bool, true, false, nat_lt, nat_le, nat_eq, ◌&&◌, List, [], ◌∷◌, ◌++◌, length, map, Option, Some, None, option_map, slice_index_or, if◌then◌else◌, Result, Ok, Err}
+use Rattle.std.specs.Prelude.{ℕ, ◌+◌, ◌-◌, Bool, true, false, nat_lt, nat_le, nat_eq, ◌&&◌, List, [], ◌∷◌, ◌++◌, length, map, Option, Some, None, slice_index_or, if◌then◌else◌, Result, Ok, Err}
 use Rattle.std.specs.List.{list_all}
 use Rattle.std.specs.Option.{option_and_then}
 use Rattle.std.specs.Cmp.Lexicographic.{pointwise}
 use Rattle.lv_model_names.specs.lv_base.declared.limits.TheConstants.{TRACKED_COST}
 use Rattle.lv_model_names.specs.lv_base.declared.ids.Lit.{Lit}
 use Rattle.lv_model_names.specs.lv_base.declared.rank.Rank.{Rank}
-use Rattle.lv_model_names.specs.lv_text.Lexemes.{Lexeme, Reading, reads, has_bad_byte, is_too_long, line_reading}
+use Rattle.lv_model_names.specs.lv_text.Lexemes.{Reading, reads, has_bad_byte, is_too_long, line_reading}
 use Rattle.lv_model_names.specs.lv_formula.Tree.{Tree}
 use Rattle.lv_model_names.specs.lv_model.declared.plant.Plant.{Plant}
 use Rattle.lv_model_names.specs.lv_model.declared.state.TrackedState.{TrackedState}
@@ -24,8 +24,8 @@ use Rattle.lv_search_zones.specs.lv_meaning.declared.facts.Facts.{Facts}
 use Rattle.lv_search_zones.specs.lv_meaning.Facts.{commanded}
 use Rattle.lv_search_zones.specs.lv_meaning.CandidateLaws.{are_moves, moves_cost}
 use Rattle.lv_search_zones.specs.lv_compile.Booleans.{Booleans, value_literal, booleans_now, booleans_next}
-use Rattle.lv_cert_blocks.specs.lv_cert.declared.line.Moment.{Moment}
-use Rattle.lv_cert_blocks.specs.lv_cert.declared.line.Moment.TheVariants.{Now, Next}
+use Rattle.lv_cert.specs.declared.line.Moment.{Moment}
+use Rattle.lv_cert.specs.declared.line.Moment.TheVariants.{Now, Next}
 use Rattle.lv_cert_meaning.specs.Counting.{is_one_of, are_of, places_of, values_of, at_number, mode_counts}
 
 -- how many candidates a diagnosis lists at most, and whether no two of them may lead to one state

@@ -1,7 +1,5 @@
 -- The clauses of a block behind the model's: what is stated, and what is to be refuted.
-use Rattle.std.specs.Prelude.{ℕ, ◌+◌, Bool, true, false, List, [], ◌∷◌, ◌++◌, map, slice_get, slice_index_or, if◌then◌else◌}
-use Rattle.std.specs.List.{flat_map}
-use Rattle.std.specs.Option.{option_map_or}
+use Rattle.std.specs.Prelude.{ℕ, ◌+◌, Bool, true, false, List, [], ◌∷◌, ◌++◌, map, slice_index_or, if◌then◌else◌}
 use Rattle.lv_model_names.specs.lv_base.declared.ids.Lit.{Lit}
 use Rattle.lv_model_names.specs.lv_base.declared.ids.ValId.{ValId}
 use Rattle.lv_model_names.specs.lv_base.declared.search.Pair.{Pair}

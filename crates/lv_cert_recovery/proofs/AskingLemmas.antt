@@ -35,9 +35,9 @@ use Rattle.lv_search_zones.specs.lv_compile.ModelClauses.{model_clauses}
 use Rattle.lv_search_zones.proofs.lv_compile.PlantBoundLemmas.{few_clauses, count_within}
 use Rattle.lv_system.specs.Laws.{IsModelOf}
 use Rattle.lv_system.specs.declared.step_pair.StepPair.{StepPair}
-use Rattle.lv_cert_laws.specs.lv_cert_blocks.Blocks.{clauses_of}
-use Rattle.lv_cert_laws.specs.lv_cert_blocks.Deriving.{Derived, refutes}
-use Rattle.lv_cert_laws.proofs.lv_cert_blocks.NumberLemmas.{clauses_are}
+use Rattle.lv_cert_laws.specs.lv_cert_meaning.Blocks.{clauses_of}
+use Rattle.lv_cert_laws.specs.lv_cert_meaning.Deriving.{Derived, refutes}
+use Rattle.lv_cert_laws.proofs.lv_cert_meaning.ClauseNumberLemmas.{clauses_are}
 use Rattle.lv_cert_writing.specs.BlockLines.{derived_of}
 use Rattle.lv_cert_recovery.specs.declared.asking.Told.{Told}
 use Rattle.lv_cert_recovery.specs.declared.asking.Told.TheVariants.{Step, Lines}

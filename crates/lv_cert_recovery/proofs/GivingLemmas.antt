@@ -27,7 +27,7 @@ use Rattle.lv_search_zones.specs.lv_compile.Booleans.{first_choice, bool_count}
 use Rattle.lv_system.specs.declared.step_pair.StepPair.{StepPair}
 use Rattle.lv_system.proofs.SystemLemmas.{choices_fit}
 use Rattle.lv_search_zones.proofs.ControlLemmas.{few_controls}
-use Rattle.lv_cert_laws.specs.lv_cert_blocks.Deriving.{Derived}
+use Rattle.lv_cert_laws.specs.lv_cert_meaning.Deriving.{Derived}
 use Rattle.lv_cert_writing.specs.BlockLines.{derived_of}
 use Rattle.lv_cert_writing.specs.declared.derivation.Derivation.{Derivation}
 use Rattle.lv_cert_laws.specs.lv_cert_meaning.Units.{goal_clauses}

@@ -22,7 +22,7 @@ use Rattle.lv_meaning.specs.Commands.{control_sizes, is_command_set, command_ran
 use Rattle.lv_search_zones.specs.lv_compile.Booleans.{bool_count}
 use Rattle.lv_search_zones.specs.lv_compile.FormulaClauses.{Clauses}
 use Rattle.lv_search_zones.specs.lv_compile.ModelClauses.{model_clauses}
-use Rattle.lv_cert_laws.specs.lv_cert_blocks.Deriving.{Derived, clause_of_line, derives, ends_empty as lines_end_empty}
+use Rattle.lv_cert_laws.specs.lv_cert_meaning.Deriving.{Derived, clause_of_line, derives, ends_empty as lines_end_empty}
 use Rattle.lv_cert.specs.declared.line.Question.TheVariants.{Recovery}
 use Rattle.lv_cert.specs.declared.line.Head.TheVariants as head
 use Rattle.lv_cert.specs.declared.line.Line.{Line}

@@ -27,8 +27,8 @@ use Rattle.lv_search_zones.specs.lv_compile.FormulaClauses.{Clauses}
 use Rattle.lv_search_zones.specs.lv_compile.ModelClauses.{model_clauses}
 use Rattle.lv_search_zones.specs.lv_compile.Laws.{literal_is_true, Encode}
 use Rattle.lv_system.proofs.LiteralLemmas.{value_true}
-use Rattle.lv_cert_laws.specs.lv_cert_blocks.Deriving.{Derived}
-use Rattle.lv_cert_laws.proofs.lv_cert_blocks.DerivingLemmas.{refuted_fail}
+use Rattle.lv_cert_laws.specs.lv_cert_meaning.Deriving.{Derived}
+use Rattle.lv_cert_laws.proofs.lv_cert_meaning.DerivingLemmas.{refuted_fail}
 use Rattle.lv_cert_laws.specs.lv_cert_meaning.Stated.{observed_literal}
 use Rattle.lv_cert_laws.specs.lv_cert_meaning.Units.{goal_clauses}
 use Rattle.lv_cert_writing.proofs.Numbers.{have_value}

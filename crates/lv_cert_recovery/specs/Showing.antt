@@ -11,7 +11,7 @@ use Rattle.lv_meaning.specs.RecoveryLaws.{NominalStep}
 use Rattle.lv_search_zones.specs.lv_compile.Booleans.{booleans_now, bool_count}
 use Rattle.lv_search_zones.specs.lv_compile.FormulaClauses.{Clauses}
 use Rattle.lv_search_zones.specs.lv_compile.ModelClauses.{model_clauses}
-use Rattle.lv_cert_laws.specs.lv_cert_blocks.Deriving.{Derived, refutes}
+use Rattle.lv_cert_laws.specs.lv_cert_meaning.Deriving.{Derived, refutes}
 use Rattle.lv_cert.specs.declared.line.Question.TheVariants.{Recovery}
 use Rattle.lv_cert.specs.declared.line.Moment.TheVariants.{Now}
 use Rattle.lv_cert.specs.declared.line.Head.TheVariants as head

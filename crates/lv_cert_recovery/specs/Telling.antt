@@ -13,8 +13,8 @@ use Rattle.lv_meaning.specs.RecoveryLaws.{NominalStep}
 use Rattle.lv_system.specs.Decoding.{IsDecoded}
 use Rattle.lv_system.specs.System.{SystemValue}
 use Rattle.lv_system.specs.declared.step_pair.StepPair.{StepPair}
-use Rattle.lv_cert_laws.specs.lv_cert_blocks.Blocks.{clauses_of}
-use Rattle.lv_cert_laws.specs.lv_cert_blocks.Deriving.{Derived, refutes}
+use Rattle.lv_cert_laws.specs.lv_cert_meaning.Blocks.{clauses_of}
+use Rattle.lv_cert_laws.specs.lv_cert_meaning.Deriving.{Derived, refutes}
 use Rattle.lv_cert_writing.specs.BlockLines.{derived_of}
 use Rattle.lv_cert_writing.specs.Refuting.{MakeTrue}
 use Rattle.lv_cert_laws.specs.lv_cert_meaning.Units.{goal_clauses}

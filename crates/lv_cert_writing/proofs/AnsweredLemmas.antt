@@ -6,7 +6,7 @@ use Rattle.lv_reflog.specs.lv_clauses.Literals.{neg}
 use Rattle.lv_reflog.proofs.lv_clauses.LiteralLemmas.{neg_neg, Contains-nil, Contains-head, Contains-tail, Contains-cases}
 use Rattle.lv_reflog.specs.declared.log.Step.{Step}
 use Rattle.lv_sat.specs.Answers.{IsSublist, nothing as no_literals, left_out, taken, IsRefutation}
-use Rattle.lv_cert_numbers.specs.lv_cert_blocks.Following.{numbered}
+use Rattle.lv_cert_meaning.specs.Following.{numbered}
 use Rattle.lv_cert_writing.specs.BlockNumbers.{HaveNumbers, HaveUnits}
 use Rattle.lv_cert_writing.specs.BlockLines.{unit_number, IsDenied, IsRefuting}
 use Rattle.lv_cert_writing.specs.Needed.{AreNeeded}

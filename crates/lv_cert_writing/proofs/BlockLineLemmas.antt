@@ -15,7 +15,7 @@ use Rattle.lv_reflog.specs.declared.log.Hint.{Hint}
 use Rattle.lv_reflog.specs.declared.log.Step.{Step}
 use Rattle.lv_reflog.specs.Following as Log
 use Rattle.lv_reflog.specs.Following.{goes_on, goes_on_from, denied}
-use Rattle.lv_cert_numbers.specs.lv_cert_blocks.Following.{names_boolean, literal_of, numbered, is_last, ends_well, follows}
+use Rattle.lv_cert_meaning.specs.Following.{names_boolean, literal_of, numbered, is_last, ends_well, follows}
 use Rattle.lv_cert_writing.specs.BlockLines.{literal_with, hint_number, unit_number}
 use Rattle.lv_cert_writing.specs.Needed.{has_named}
 

@@ -12,8 +12,8 @@ use Rattle.lv_reflog.specs.lv_clauses.ClauseMap.{ClauseMap, clause_at, Puts}
 use Rattle.lv_model.specs.declared.plant.Plant.{Plant}
 use Rattle.lv_system.specs.Numbering.{clause_of, has_number}
 use Rattle.lv_system.specs.System.{SystemValue, IsSystemOf}
-use Rattle.lv_cert_numbers.specs.lv_cert_blocks.Following.{numbered}
-use Rattle.lv_cert_numbers.specs.lv_cert_blocks.Blocks.{clauses_of}
+use Rattle.lv_cert_meaning.specs.Following.{numbered}
+use Rattle.lv_cert_meaning.specs.Blocks.{clauses_of}
 use Rattle.lv_cert_writing.specs.BlockNumbers.{HaveNumbers, AreSystemNumbers, Keeps}
 use Rattle.lv_cert_writing.proofs.PlaceLemmas.{by_place, numbered-more, numbered-last}
 

@@ -23,9 +23,9 @@ use Rattle.lv_cert.specs.declared.order.Place.{Place}
 use Rattle.lv_cert.specs.declared.order.Place.TheVariants.{Done}
 use Rattle.lv_cert.specs.Order.{place_after, place_behind}
 use Rattle.lv_cert.specs.Form.{is_formed, is_formed_literal, is_formed_hint, is_within_limit}
-use Rattle.lv_cert_numbers.specs.lv_cert_blocks.Following.{names_boolean, literal_of, numbered, is_last, ends_well, follows}
-use Rattle.lv_cert_numbers.specs.lv_cert_blocks.Deriving.{Derived, clause_of_line, derives, ends_empty as lines_end_empty}
-use Rattle.lv_cert_numbers.specs.lv_cert_meaning.Judging.{Judged, ends_empty_after}
+use Rattle.lv_cert_meaning.specs.Following.{names_boolean, literal_of, numbered, is_last, ends_well, follows}
+use Rattle.lv_cert_meaning.specs.Deriving.{Derived, clause_of_line, derives, ends_empty as lines_end_empty}
+use Rattle.lv_cert_meaning.specs.Judging.{Judged, ends_empty_after}
 use Rattle.lv_cert_writing.specs.Lines.{clause_line, clause_lines}
 use Rattle.lv_cert_writing.specs.Ending.{Ends, BeginApart}
 use Rattle.lv_cert_writing.proofs.Ending.{line_first}

@@ -11,7 +11,7 @@ use Rattle.lv_cert.specs.declared.line.Evidence.TheVariants as evidence
 use Rattle.lv_cert.specs.declared.line.Line.TheVariants as line
 use Rattle.lv_cert.specs.Order.{splits}
 use Rattle.lv_cert.specs.Form.{is_formed, is_formed_evidence, is_within_limit}
-use Rattle.lv_cert_numbers.specs.lv_cert_meaning.Judging.{Judged, judge_split}
+use Rattle.lv_cert_meaning.specs.Judging.{Judged, judge_split}
 use Rattle.lv_cert_writing.specs.declared.closing.Split.{Split}
 use Rattle.lv_cert_writing.specs.Closing.{judge_splits, EvidenceIsSmall, SplitIsSmall}
 use Rattle.lv_cert_writing.specs.Lines.{split_lines}

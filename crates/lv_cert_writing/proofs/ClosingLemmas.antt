@@ -14,8 +14,8 @@ use Rattle.lv_model.specs.declared.plant.Plant.{Plant}
 use Rattle.lv_cert.specs.declared.line.Question.{Question}
 use Rattle.lv_cert.specs.declared.line.Evidence.{Evidence}
 use Rattle.lv_cert.specs.Order.{splits}
-use Rattle.lv_cert_numbers.specs.lv_cert_meaning.Space.{Space, same_zone, open_zone, with_parts, least_rank, is_behind, is_passed}
-use Rattle.lv_cert_numbers.specs.lv_cert_meaning.Judging.{Judged, split_parts, judge_split}
+use Rattle.lv_cert_meaning.specs.Space.{Space, same_zone, open_zone, with_parts, least_rank, is_behind, is_passed}
+use Rattle.lv_cert_meaning.specs.Judging.{Judged, split_parts, judge_split}
 use Rattle.lv_cert_writing.specs.Explained.{is_explained, AreExplained}
 use Rattle.lv_cert_writing.specs.Closing.{can_be_listed, Cut, cut_before, cut_at, after_cut, judge_splits, AreForQuestion, MayHaveTargets, Closes}
 use Rattle.lv_cert_writing.specs.declared.closing.Split.{Split}

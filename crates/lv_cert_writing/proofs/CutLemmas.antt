@@ -24,9 +24,9 @@ use Rattle.lv_cert.specs.declared.line.Question.{Question}
 use Rattle.lv_cert.specs.declared.line.Question.TheVariants.{Diagnosis, Recovery}
 use Rattle.lv_cert.specs.declared.line.Evidence.TheVariants as evidence
 use Rattle.lv_cert.specs.Order.{splits}
-use Rattle.lv_cert_numbers.specs.lv_cert_meaning.Counting.{at_number}
-use Rattle.lv_cert_numbers.specs.lv_cert_meaning.Space.{least_rank, has_before, is_behind}
-use Rattle.lv_cert_numbers.specs.lv_cert_meaning.Judging.{Judged, listed_choices, parts_by_target, split_parts}
+use Rattle.lv_cert_meaning.specs.Counting.{at_number}
+use Rattle.lv_cert_meaning.specs.Space.{least_rank, has_before, is_behind}
+use Rattle.lv_cert_meaning.specs.Judging.{Judged, listed_choices, parts_by_target, split_parts}
 use Rattle.lv_cert_writing.specs.Explained.{stands_for, is_explained}
 use Rattle.lv_cert_writing.specs.Closing.{can_be_listed, listed_evidence, Cut, cut_by_conflict, cut_by_listed, cut_by_target, cut_of_listed, cut_of, cut_before, AreForQuestion, AsksBy, MayHaveTargets}
 use Rattle.lv_cert_writing.proofs.CountLemmas.{weights, split_weighs_less}

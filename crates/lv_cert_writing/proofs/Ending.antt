@@ -11,7 +11,7 @@ use Rattle.lv_cert.specs.declared.order.Place.TheVariants.{Done}
 use Rattle.lv_cert.specs.Order.{place_after, place_behind}
 use Rattle.lv_cert.specs.Words.{is_word}
 use Rattle.lv_cert.specs.Form.{is_formed}
-use Rattle.lv_cert_numbers.specs.lv_cert_meaning.Judging.{Judged, judge_line, judge_lines, is_bad_at}
+use Rattle.lv_cert_meaning.specs.Judging.{Judged, judge_line, judge_lines, is_bad_at}
 use Rattle.lv_cert_writing.specs.Ending.{Ends}
 
 module _ (question : Question) (plant : Plant) (final : Judged) where

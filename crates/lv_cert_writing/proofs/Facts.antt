@@ -11,7 +11,7 @@ use Rattle.lv_model.proofs.Sizes.{few-sizes, length-sizes}
 use Rattle.lv_meaning.specs.declared.facts.Observation.{Observation}
 use Rattle.lv_meaning.specs.declared.facts.Facts.{Facts}
 use Rattle.lv_system.specs.lv_compile.Booleans.{Booleans, booleans_now, booleans_next}
-use Rattle.lv_cert_numbers.specs.lv_model_names.Names.{classes, is_observable}
+use Rattle.lv_cert_meaning.specs.lv_model_names.Names.{classes, is_observable}
 use Rattle.lv_cert.specs.declared.line.Question.{Question}
 use Rattle.lv_cert.specs.declared.line.Moment.{Moment}
 use Rattle.lv_cert.specs.declared.line.Moment.TheVariants.{Now, Next}
@@ -20,9 +20,9 @@ use Rattle.lv_cert.specs.declared.line.Line.TheVariants as line
 use Rattle.lv_cert.specs.declared.order.Place.{Place}
 use Rattle.lv_cert.specs.Order.{place_after}
 use Rattle.lv_cert.specs.Form.{is_formed, is_within_limit}
-use Rattle.lv_cert_numbers.specs.lv_cert_meaning.Counting.{is_one_of}
-use Rattle.lv_cert_numbers.specs.lv_cert_meaning.Stated.{Stated, observed_literal, observation_of, with_observation}
-use Rattle.lv_cert_numbers.specs.lv_cert_meaning.Judging.{Judged}
+use Rattle.lv_cert_meaning.specs.Counting.{is_one_of}
+use Rattle.lv_cert_meaning.specs.Stated.{Stated, observed_literal, observation_of, with_observation}
+use Rattle.lv_cert_meaning.specs.Judging.{Judged}
 use Rattle.lv_cert_writing.specs.Lines.{fact_line, fact_lines}
 use Rattle.lv_cert_writing.specs.Ending.{Ends}
 use Rattle.lv_cert_writing.proofs.Ending.{line_first}

@@ -17,7 +17,7 @@ use Rattle.lv_boxes.proofs.LeastLemmas.{written_is_least}
 use Rattle.lv_boxes.specs.lv_search_walk.Walk.{candidate_of}
 use Rattle.lv_boxes.specs.RankedMembers.{ranks_in}
 use Rattle.lv_boxes.proofs.RankedMemberLemmas.{has_least_rank}
-use Rattle.lv_cert_numbers.specs.lv_cert_meaning.Space.{least_rank}
+use Rattle.lv_cert_meaning.specs.Space.{least_rank}
 
 left_true : (a b : Bool) → (a && b) ≡ true → a ≡ true
 left_true a b h = (and_parts a b h).0

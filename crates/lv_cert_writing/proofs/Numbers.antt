@@ -8,7 +8,7 @@ use Rattle.lv_model.specs.lv_formula.declared.range.Range.{Range}
 use Rattle.lv_model.specs.lv_formula.Fits.{has_value}
 use Rattle.lv_model.specs.Lists.{IsFew}
 use Rattle.lv_cert.specs.Form.{is_within_limit}
-use Rattle.lv_cert_numbers.specs.lv_cert_meaning.Counting.{is_one_of, are_of, places_of, values_of}
+use Rattle.lv_cert_meaning.specs.Counting.{is_one_of, are_of, places_of, values_of}
 use Rattle.lv_cert_writing.specs.Lines.{numbers_of, value_numbers}
 
 pub back_again : (n : ℕ) → n + 1 - 1 ≡ n

@@ -7,7 +7,7 @@ use Rattle.lv_base.specs.declared.search.Pair.{Pair}
 use Rattle.lv_base.specs.Choices.{slots_rise}
 use Rattle.lv_model.specs.Lists.{IsFew}
 use Rattle.lv_cert.specs.Form.{is_within_limit}
-use Rattle.lv_cert_numbers.specs.lv_cert_meaning.Counting.{is_one_of, are_pairs_of, pairs_in, pairs_of_numbers}
+use Rattle.lv_cert_meaning.specs.Counting.{is_one_of, are_pairs_of, pairs_in, pairs_of_numbers}
 use Rattle.lv_cert_writing.specs.Lines.{pair_numbers}
 use Rattle.lv_cert_writing.specs.Pairs.{HasChoice}
 use Rattle.lv_cert_writing.proofs.Numbers.{back_again, one_of_place, within, few_at, is_there}

@@ -12,9 +12,9 @@ use Rattle.lv_model.specs.declared.plant.Plant.{Plant}
 use Rattle.lv_system.specs.Numbering.{has_number}
 use Rattle.lv_system.specs.System.{SystemValue, IsSystemOf}
 use Rattle.lv_system.proofs.NumberingLemmas.{all_present_hold}
-use Rattle.lv_cert_numbers.specs.lv_cert_blocks.Blocks.{clauses_of}
-use Rattle.lv_cert_numbers.specs.lv_cert_blocks.Following.{numbered}
-use Rattle.lv_cert_numbers.specs.lv_cert_blocks.Deriving.{refutes}
+use Rattle.lv_cert_meaning.specs.Blocks.{clauses_of}
+use Rattle.lv_cert_meaning.specs.Following.{numbered}
+use Rattle.lv_cert_meaning.specs.Deriving.{refutes}
 use Rattle.lv_cert_writing.specs.declared.refuter.Refuted.{Refuted}
 use Rattle.lv_cert_writing.specs.declared.refuter.Refuted.TheVariants.{Values, Lines}
 use Rattle.lv_cert_writing.specs.BlockLines.{derived_of}

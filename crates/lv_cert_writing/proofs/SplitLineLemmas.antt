@@ -13,8 +13,8 @@ use Rattle.lv_cert.specs.declared.line.Line.TheVariants as line
 use Rattle.lv_cert.specs.declared.order.Place.{Place}
 use Rattle.lv_cert.specs.declared.order.Place.TheVariants as place
 use Rattle.lv_cert.specs.Order.{splits, place_after, place_behind}
-use Rattle.lv_cert_numbers.specs.lv_cert_meaning.Space.{all_passed}
-use Rattle.lv_cert_numbers.specs.lv_cert_meaning.Judging.{Judged, full_to, judge_split, judge_lines, comes_to, is_bad_at}
+use Rattle.lv_cert_meaning.specs.Space.{all_passed}
+use Rattle.lv_cert_meaning.specs.Judging.{Judged, full_to, judge_split, judge_lines, comes_to, is_bad_at}
 use Rattle.lv_cert_writing.specs.Closing.{MayHaveTargets, Closes, judge_splits}
 use Rattle.lv_cert_writing.specs.SplitLines.{split_line, last_lines}
 use Rattle.lv_cert_writing.specs.declared.closing.Split.{Split}

@@ -20,8 +20,8 @@ use Rattle.lv_boxes.proofs.lv_search_walk.WalkLemmas.{turn, not_settled, listed_
 use Rattle.lv_boxes.proofs.lv_search_walk.TurnLemmas.{ruled_out_by_last}
 use Rattle.lv_boxes.specs.RankedMembers.{ranked_members}
 use Rattle.lv_boxes.proofs.RankedMemberLemmas.{ranked_members_rise, among_ranked_members_any, all_members_pass}
-use Rattle.lv_cert_numbers.specs.lv_cert_meaning.Space.{is_behind}
-use Rattle.lv_cert_numbers.specs.lv_cert_meaning.Judging.{last_of}
+use Rattle.lv_cert_meaning.specs.Space.{is_behind}
+use Rattle.lv_cert_meaning.specs.Judging.{last_of}
 use Rattle.lv_cert_writing.specs.Explained.{stands_for, AreExplained, last_if_full}
 use Rattle.lv_cert_writing.specs.SplitLaws.{HasReasonsInside, explains}
 

@@ -8,8 +8,8 @@ use Rattle.lv_cert.specs.declared.line.Line.TheVariants as line
 use Rattle.lv_cert.specs.declared.order.Place.{Place}
 use Rattle.lv_cert.specs.declared.order.Place.TheVariants as place
 use Rattle.lv_cert.specs.Order.{after_splits, place_after}
-use Rattle.lv_cert_numbers.specs.lv_cert_meaning.Space.{all_passed}
-use Rattle.lv_cert_numbers.specs.lv_cert_meaning.Judging.{Judged, full_to}
+use Rattle.lv_cert_meaning.specs.Space.{all_passed}
+use Rattle.lv_cert_meaning.specs.Judging.{Judged, full_to}
 use Rattle.lv_cert_writing.specs.Ending.{Ends}
 use Rattle.lv_cert_writing.specs.Splitting.{AreSplits, none, one_more}
 use Rattle.lv_cert_writing.proofs.Ending.{ended, line_first}

@@ -12,8 +12,8 @@ use Rattle.lv_reflog.specs.lv_clauses.ClauseMap.{ClauseMap, clause_at, satisfies
 use Rattle.lv_reflog.proofs.lv_clauses.LiteralLemmas.{present_holds, Contains-nil, Contains-head, Contains-tail}
 use Rattle.lv_system.specs.System.{SystemValue}
 use Rattle.lv_system.proofs.NumberingLemmas.{all_present_hold}
-use Rattle.lv_cert_numbers.specs.lv_cert_blocks.Blocks.{clauses_of}
-use Rattle.lv_cert_numbers.specs.lv_cert_blocks.Following.{numbered}
+use Rattle.lv_cert_meaning.specs.Blocks.{clauses_of}
+use Rattle.lv_cert_meaning.specs.Following.{numbered}
 use Rattle.lv_cert_writing.specs.BlockNumbers.{HaveNumbers}
 use Rattle.lv_cert_writing.specs.StatedClauses.{AddsOne, AreStated}
 use Rattle.lv_cert_writing.proofs.BlockNumberLemmas.{numbers_more}

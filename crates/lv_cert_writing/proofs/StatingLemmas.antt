@@ -23,9 +23,9 @@ use Rattle.lv_cert.specs.declared.line.Line.TheVariants as line
 use Rattle.lv_cert.specs.declared.order.Place.{Place}
 use Rattle.lv_cert.specs.Order.{place_after}
 use Rattle.lv_cert.specs.Form.{is_formed, is_within_limit}
-use Rattle.lv_cert_numbers.specs.lv_cert_meaning.Counting.{is_one_of, are_of, values_of, mode_counts}
-use Rattle.lv_cert_numbers.specs.lv_cert_meaning.Stated.{state_of, with_state}
-use Rattle.lv_cert_numbers.specs.lv_cert_meaning.Judging.{Judged}
+use Rattle.lv_cert_meaning.specs.Counting.{is_one_of, are_of, values_of, mode_counts}
+use Rattle.lv_cert_meaning.specs.Stated.{state_of, with_state}
+use Rattle.lv_cert_meaning.specs.Judging.{Judged}
 use Rattle.lv_cert_writing.specs.Lines.{value_numbers, state_line, state_lines}
 use Rattle.lv_cert_writing.specs.Ending.{Ends}
 use Rattle.lv_cert_writing.proofs.Ending.{line_first}

@@ -14,8 +14,8 @@ use Rattle.lv_reflog.specs.declared.log.Step.{Step}
 use Rattle.lv_reflog.specs.Following.{first_bad_after, follows_by_hints}
 use Rattle.lv_reflog.proofs.SoundLemmas.{first_bad-next}
 use Rattle.lv_cert.specs.declared.line.Literal.{Literal}
-use Rattle.lv_cert_numbers.specs.lv_cert_blocks.Following.{literal_of, numbered, follows}
-use Rattle.lv_cert_numbers.specs.lv_cert_blocks.Deriving.{Derived, clause_of_line, derives, ends_empty, refutes}
+use Rattle.lv_cert_meaning.specs.Following.{literal_of, numbered, follows}
+use Rattle.lv_cert_meaning.specs.Deriving.{Derived, clause_of_line, derives, ends_empty, refutes}
 use Rattle.lv_cert_writing.specs.declared.derivation.Derivation.{Derivation}
 use Rattle.lv_cert_writing.specs.Needed.{is_marked, has_named}
 use Rattle.lv_cert_writing.specs.BlockLines.{line_of, unit_number, last_line, derived_of, IsDenied, IsRefuting}

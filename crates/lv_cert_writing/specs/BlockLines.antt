@@ -8,8 +8,8 @@ use Rattle.lv_reflog.specs.declared.log.Hint.TheVariants.{Given, Earlier}
 use Rattle.lv_reflog.specs.declared.log.Step.{Step}
 use Rattle.lv_reflog.specs.Following.{first_bad_step}
 use Rattle.lv_cert.specs.declared.line.Literal.{Literal}
-use Rattle.lv_cert_numbers.specs.lv_cert_blocks.Following.{numbered}
-use Rattle.lv_cert_numbers.specs.lv_cert_blocks.Deriving.{Derived}
+use Rattle.lv_cert_meaning.specs.Following.{numbered}
+use Rattle.lv_cert_meaning.specs.Deriving.{Derived}
 use Rattle.lv_cert_writing.specs.declared.derivation.Derivation.{Derivation}
 use Rattle.lv_cert_writing.specs.BlockNumbers.{HaveNumbers}
 use Rattle.lv_cert_writing.specs.Needed.{AreNeeded}

@@ -7,8 +7,8 @@ use Rattle.lv_base.specs.declared.ids.ClauseId.{ClauseId}
 use Rattle.lv_reflog.specs.lv_clauses.ClauseMap.{Slots, clause_at}
 use Rattle.lv_system.specs.Numbering.{has_number}
 use Rattle.lv_system.specs.System.{SystemValue}
-use Rattle.lv_cert_numbers.specs.lv_cert_blocks.Following.{numbered}
-use Rattle.lv_cert_numbers.specs.lv_cert_blocks.Blocks.{clauses_of}
+use Rattle.lv_cert_meaning.specs.Following.{numbered}
+use Rattle.lv_cert_meaning.specs.Blocks.{clauses_of}
 
 -- each clause of the set has, by the number kept at its place, its like among the numbered ones
 pub record HaveNumbers (slots : Slots) (clauses : List (List Lit)) (numbers : List ℕ) : Type 0 where

@@ -17,8 +17,8 @@ use Rattle.lv_cert.specs.declared.line.Question.TheVariants.{Diagnosis, Recovery
 use Rattle.lv_cert.specs.declared.line.Evidence.{Evidence}
 use Rattle.lv_cert.specs.declared.line.Evidence.TheVariants as evidence
 use Rattle.lv_cert.specs.Order.{splits}
-use Rattle.lv_cert_numbers.specs.lv_cert_meaning.Space.{Space, open_zone, with_parts, least_rank, is_behind, all_passed}
-use Rattle.lv_cert_numbers.specs.lv_cert_meaning.Judging.{Judged, judge_split}
+use Rattle.lv_cert_meaning.specs.Space.{Space, open_zone, with_parts, least_rank, is_behind, all_passed}
+use Rattle.lv_cert_meaning.specs.Judging.{Judged, judge_split}
 use Rattle.lv_cert_writing.specs.Explained.{stands_for}
 use Rattle.lv_cert_writing.specs.declared.closing.Split.{Split}
 

@@ -9,7 +9,7 @@ use Rattle.lv_cert.specs.declared.order.Place.TheVariants.{Done}
 use Rattle.lv_cert.specs.Order.{place_behind}
 use Rattle.lv_cert.specs.Words.{is_word}
 use Rattle.lv_cert.specs.Form.{is_formed}
-use Rattle.lv_cert_numbers.specs.lv_cert_meaning.Judging.{Judged, judge_lines, comes_to, ends_empty_after}
+use Rattle.lv_cert_meaning.specs.Judging.{Judged, judge_lines, comes_to, ends_empty_after}
 
 -- none of them is bad, they are in order, and in their form where the plant's name is one word
 pub record Ends (question : Question) (plant : Plant) (place : Place) (j : Judged) (lines : List Line) (final : Judged) : Type 0 where

@@ -10,8 +10,8 @@ use Rattle.lv_boxes.specs.lv_search_walk.Ranked.{is_rank}
 use Rattle.lv_boxes.specs.lv_search_walk.Groups.{alike_by}
 use Rattle.lv_boxes.specs.lv_search_walk.Walk.{is_ruled_out}
 use Rattle.lv_boxes.specs.RankedMembers.{ranks_in}
-use Rattle.lv_cert_numbers.specs.lv_cert_meaning.Space.{is_behind}
-use Rattle.lv_cert_numbers.specs.lv_cert_meaning.Judging.{last_of}
+use Rattle.lv_cert_meaning.specs.Space.{is_behind}
+use Rattle.lv_cert_meaning.specs.Judging.{last_of}
 
 -- a listed candidate stands for the rank: it is that one, or it ranks before it and is alike
 abbrev pub stands_for : Option (List (List ℕ)) → Rank → Rank → Bool

@@ -4,7 +4,7 @@ use Rattle.lv_base.specs.declared.ids.ValId.{ValId}
 use Rattle.lv_base.specs.declared.search.Pair.{Pair}
 use Rattle.lv_model.specs.declared.state.TrackedState.{TrackedState}
 use Rattle.lv_meaning.specs.declared.facts.Observation.{Observation}
-use Rattle.lv_cert_numbers.specs.lv_cert_blocks.Deriving.{Derived}
+use Rattle.lv_cert_meaning.specs.Deriving.{Derived}
 use Rattle.lv_cert_writing.specs.declared.closing.Split.{Split}
 use Rattle.lv_cert.specs.declared.line.Moment.{Moment}
 use Rattle.lv_cert.specs.declared.line.Head.{Head}

@@ -6,8 +6,8 @@ use Rattle.lv_reflog.specs.lv_clauses.Literals.{clause_holds}
 use Rattle.lv_reflog.specs.lv_clauses.ClauseMap.{ClauseMap, satisfies}
 use Rattle.lv_sat.specs.Answers.{IsModel}
 use Rattle.lv_system.specs.System.{SystemValue}
-use Rattle.lv_cert_numbers.specs.lv_cert_blocks.Blocks.{clauses_of}
-use Rattle.lv_cert_numbers.specs.lv_cert_blocks.Deriving.{refutes}
+use Rattle.lv_cert_meaning.specs.Blocks.{clauses_of}
+use Rattle.lv_cert_meaning.specs.Deriving.{refutes}
 use Rattle.lv_cert_writing.specs.declared.refuter.Refuted.{Refuted}
 use Rattle.lv_cert_writing.specs.declared.refuter.Refuted.TheVariants.{Values, Lines}
 use Rattle.lv_cert_writing.specs.BlockLines.{derived_of}

@@ -12,7 +12,7 @@ use Rattle.lv_cert.specs.declared.line.Line.TheVariants as line
 use Rattle.lv_cert.specs.declared.order.Place.{Place}
 use Rattle.lv_cert.specs.declared.order.Place.TheVariants as place
 use Rattle.lv_cert.specs.Order.{splits, place_after, place_behind}
-use Rattle.lv_cert_numbers.specs.lv_cert_meaning.Judging.{Judged, full_to, judge_lines, comes_to}
+use Rattle.lv_cert_meaning.specs.Judging.{Judged, full_to, judge_lines, comes_to}
 use Rattle.lv_cert_writing.specs.Closing.{MayHaveTargets, Closes}
 use Rattle.lv_cert_writing.specs.declared.closing.Split.{Split}
 

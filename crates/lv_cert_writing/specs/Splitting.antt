@@ -7,7 +7,7 @@ use Rattle.lv_cert.specs.declared.line.Line.{Line}
 use Rattle.lv_cert.specs.declared.line.Line.TheVariants as line
 use Rattle.lv_cert.specs.Order.{splits}
 use Rattle.lv_cert.specs.Form.{is_formed}
-use Rattle.lv_cert_numbers.specs.lv_cert_meaning.Judging.{Judged, judge_split}
+use Rattle.lv_cert_meaning.specs.Judging.{Judged, judge_split}
 
 -- the lines are good splits, from one judgement to the other
 pub data AreSplits (question : Question) (plant : Plant) : Judged → List Line → Judged → Type 0 where

@@ -2,7 +2,7 @@
 #![tactic(auto)]
 
 ghost use Rattle.std.specs.Prelude.{◌≡◌, ◌<◌, ◌^◌, ◌++◌, IfOk, IsTrue, length, map};
-ghost use Rattle.lv_cert_numbers.specs.lv_cert_meaning.Units.{units};
+ghost use Rattle.lv_cert_meaning.specs.Units.{units};
 ghost use Rattle.lv_cert_writing.specs.BlockLines.{derived_of};
 ghost use Rattle.lv_cert_writing.specs.declared.refuter.Refuted.TheVariants.{Values, Lines};
 ghost use Rattle.lv_cert_writing.specs.Asking.{are_values, are_lines};

@@ -4,7 +4,7 @@
 ghost use Rattle.std.specs.Prelude.{◌≡◌, ◌<◌, ◌^◌, ℕ, true, List, IfOk, length, map};
 ghost use Rattle.lv_base.specs.declared.ids.Lit.{Lit};
 ghost use Rattle.lv_reflog.specs.lv_clauses.ClauseMap.{ClauseMap};
-ghost use Rattle.lv_cert_numbers.specs.lv_cert_blocks.Deriving.{refutes};
+ghost use Rattle.lv_cert_meaning.specs.Deriving.{refutes};
 ghost use Rattle.lv_cert_writing.specs.BlockLines as Lines;
 ghost use Rattle.lv_cert_writing.specs.BlockLines.{derived_of, IsRefuting};
 

@@ -7,7 +7,7 @@ ghost use Rattle.std.specs.Option.{option_copied};
 ghost use Rattle.lv_base.specs.Choices.{contains_all};
 ghost use Rattle.lv_boxes.specs.Members.{ZoneValue};
 ghost use Rattle.lv_boxes.specs.lv_search_walk.Ranked.{is_rank};
-ghost use Rattle.lv_cert_numbers.specs.lv_cert_meaning.Space as Spaces;
+ghost use Rattle.lv_cert_meaning.specs.Space as Spaces;
 ghost use Rattle.lv_cert_writing.specs.Explained.{stands_for, AreExplained};
 ghost use Rattle.lv_cert_writing.specs.Explained as Explanations;
 ghost use Rattle.lv_cert_writing.specs.Closing.{Cut, can_be_listed, AreForQuestion, cut_of_listed, cut_of, cut_at, with_cut, after_cut, Closes, EvidenceIsSmall, SplitIsSmall};
@@ -16,7 +16,7 @@ ghost use Rattle.lv_cert_writing.specs.Closing as Closings;
 use lv_base::{Conflict, Rank, contains};
 use lv_boxes::{Grid, Groups, Zone, choices_as_conflict};
 use lv_cert::{Evidence, Question};
-use lv_cert_numbers::Space;
+use lv_cert_meaning::Space;
 use std::alloc::{AllocError, Global};
 
 /// A split: the zone of this number, counted from 1, by this evidence.

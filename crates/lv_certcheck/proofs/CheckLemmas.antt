@@ -7,9 +7,9 @@ use Rattle.lv_search_zones.specs.lv_compile.Booleans.{bool_count}
 use Rattle.lv_search_zones.specs.lv_compile.ModelClauses.{model_clauses}
 use Rattle.lv_system.specs.System.{SystemValue, IsSystemOf}
 use Rattle.lv_cert.specs.declared.line.Literal.{Literal}
-use Rattle.lv_cert_blocks.specs.Following.{literal_of, follows}
-use Rattle.lv_cert_blocks.specs.Blocks.{BlockValue, clauses_of, block_clauses, with_clause, follows_in}
-use Rattle.lv_cert_blocks.proofs.NumberLemmas.{clauses_are}
+use Rattle.lv_cert_meaning.specs.Following.{literal_of, follows}
+use Rattle.lv_cert_meaning.specs.Blocks.{BlockValue, clauses_of, block_clauses, with_clause, follows_in}
+use Rattle.lv_cert_meaning.proofs.ClauseNumberLemmas.{clauses_are}
 use Rattle.lv_cert_laws.specs.lv_cert_meaning.Judging.{Judged as AllJudged, judge_clause}
 use Rattle.lv_certcheck.specs.declared.judged.Judged.{Judged}
 use Rattle.lv_certcheck.specs.Verdicts.{judged_of, came}

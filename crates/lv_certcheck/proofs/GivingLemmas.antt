@@ -8,8 +8,8 @@ use Rattle.lv_base.specs.declared.ids.ValId.{ValId}
 use Rattle.lv_base.specs.declared.ids.VarId.{VarId}
 use Rattle.lv_model.specs.declared.plant.Part.{Part}
 use Rattle.lv_search_zones.specs.lv_compile.FormulaClauses.{Clauses}
-use Rattle.lv_cert_blocks.specs.Blocks.{BlockValue, with_clause}
-use Rattle.lv_cert_numbers.specs.Fitting.{are_values}
+use Rattle.lv_cert_meaning.specs.Blocks.{BlockValue, with_clause}
+use Rattle.lv_cert_meaning.specs.Fitting.{are_values}
 use Rattle.lv_certcheck.specs.Giving.{with_clauses}
 
 own_more : (b : BlockValue) (xs ys : Clauses) → xs ≡ ys → with_clauses b xs ≡ with_clauses b ys

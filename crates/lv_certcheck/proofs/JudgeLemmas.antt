@@ -40,9 +40,9 @@ use Rattle.lv_cert_laws.specs.lv_cert_meaning.Space.{open_zone}
 use Rattle.lv_cert_laws.specs.lv_cert_meaning.Stated.{Stated, with_state}
 use Rattle.lv_cert_laws.specs.lv_cert_meaning.Units.{units, choice_literal, nominal_units, goal_clauses}
 use Rattle.lv_search_zones.specs.lv_compile.FormulaClauses.{Clauses}
-use Rattle.lv_cert_blocks.specs.Blocks.{BlockValue}
+use Rattle.lv_cert_meaning.specs.Blocks.{BlockValue}
 use Rattle.lv_meaning.specs.Commands.{control_sizes, is_command_set}
-use Rattle.lv_cert_numbers.specs.Fitting.{IsStateOf, HasFewChoices, IsPairOf}
+use Rattle.lv_cert_meaning.specs.Fitting.{IsStateOf, HasFewChoices, IsPairOf}
 use Rattle.lv_certcheck.specs.declared.judged.Judged.{Judged}
 use Rattle.lv_certcheck.specs.Giving.{Fits, IsWhole, with_clauses}
 use Rattle.lv_certcheck.specs.Stating.{observed}

@@ -8,8 +8,8 @@ use Rattle.lv_model.specs.Lists.{variable_count}
 use Rattle.lv_meaning.specs.Facts.{IsInRange}
 use Rattle.lv_meaning.specs.Ranges.{GoalFits}
 use Rattle.lv_system.specs.System.{SystemValue}
-use Rattle.lv_cert_blocks.specs.Blocks.{BlockValue}
-use Rattle.lv_cert_numbers.specs.Fitting.{IsStateOf, HasFewChoices}
+use Rattle.lv_cert_meaning.specs.Blocks.{BlockValue}
+use Rattle.lv_cert_meaning.specs.Fitting.{IsStateOf, HasFewChoices}
 use Rattle.lv_certcheck.specs.declared.judged.Judged.{Judged}
 
 -- the block with clauses more

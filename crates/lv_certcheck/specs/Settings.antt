@@ -4,7 +4,7 @@ use Rattle.lv_model.specs.declared.plant.Plant.{Plant}
 use Rattle.lv_meaning.specs.Targets.{targets_of_moves}
 use Rattle.lv_model_names.specs.Lists.{lists_of}
 use Rattle.lv_system.specs.System.{IsSystemOf}
-use Rattle.lv_cert_numbers.specs.Counts.{IsCountsOf}
+use Rattle.lv_cert_meaning.specs.Counts.{IsCountsOf}
 use Rattle.lv_certcheck.specs.declared.setting.Setting.{Setting}
 
 abbrev pub plant_of : Setting → Plant

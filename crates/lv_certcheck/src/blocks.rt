@@ -10,15 +10,15 @@ ghost use Rattle.lv_meaning.specs.Ranges.{GoalFits};
 ghost use Rattle.lv_cert_laws.specs.lv_cert_meaning.Counting.{mode_counts};
 ghost use Rattle.lv_cert_laws.specs.lv_cert_meaning.Units as Units;
 ghost use Rattle.lv_cert_laws.specs.lv_cert_meaning.Units.{units, choice_literal, mode_literals, no_fault_of, no_fault_literals, control_literal, nominal_units};
-ghost use Rattle.lv_cert_numbers.specs.Fitting.{are_values, IsPairOf};
+ghost use Rattle.lv_cert_meaning.specs.Fitting.{are_values, IsPairOf};
 ghost use Rattle.lv_certcheck.specs.Settings.{IsSetting, plant_of};
 ghost use Rattle.lv_search_zones.specs.lv_compile.Booleans.{value_literal, booleans_now, choice_bool, literal};
-ghost use Rattle.lv_cert_blocks.specs.Blocks.{with_clause};
+ghost use Rattle.lv_cert_meaning.specs.Blocks.{with_clause};
 ghost use Rattle.lv_certcheck.specs.Giving.{with_clauses};
 
 use crate::setting::Setting;
 use lv_base::{Lit, MoveId, Pair, PartId, Seq, ValId, VarId};
-use lv_cert_blocks::Block;
+use lv_cert_meaning::Block;
 use lv_formula::Condition;
 use lv_meaning::moves::moves_of;
 use lv_model::{Move, MoveKind};

@@ -16,7 +16,7 @@ ghost use Rattle.lv_search_zones.specs.lv_compile.Booleans.{booleans_now};
 ghost use Rattle.lv_meaning.specs.Facts.{commanded};
 ghost use Rattle.lv_cert_laws.specs.lv_cert_meaning.Counting.{is_one_of, are_of, values_of, at_number};
 ghost use Rattle.lv_cert_laws.specs.lv_cert_meaning.Units.{nominal_units};
-ghost use Rattle.lv_cert_numbers.specs.Fitting.{HasFewChoices, IsPairOf, are_values};
+ghost use Rattle.lv_cert_meaning.specs.Fitting.{HasFewChoices, IsPairOf, are_values};
 ghost use Rattle.lv_model.specs.declared.state.TrackedState.{TrackedState};
 ghost use Rattle.lv_meaning.specs.Commands.{control_sizes};
 ghost use Rattle.lv_boxes.specs.Members.{ZoneValue};
@@ -35,7 +35,7 @@ use lv_base::limits::TRACKED;
 use lv_base::{Cost, Lit, Pair, Rank, Seq, ValId};
 use lv_boxes::choices_as_conflict;
 use lv_cert::{Evidence, Head, Line, Literal, Moment, Question};
-use lv_cert_numbers::{
+use lv_cert_meaning::{
     candidate_of, conflict_of, goal_of, has_target, observation_of, places_of, state_of, values_of,
 };
 use lv_meaning::Observation;

@@ -8,8 +8,7 @@ ghost use Rattle.lv_certcheck.specs.Verdicts.{judged_of};
 
 use crate::stated::Stated;
 use lv_base::{Conflict, Rank, Seq, ValId};
-use lv_cert_blocks::Block;
-use lv_cert_numbers::Space;
+use lv_cert_meaning::{Block, Space};
 use std::marker::Model;
 
 /// A step of a recovery that is to be shown: from the tracked state of this place, with these values of the controls, and

@@ -4,10 +4,10 @@
 ghost use Rattle.std.specs.Prelude.{◌≡◌, IfOk};
 ghost use Rattle.lv_model_names.specs.Lists.{lists_of};
 ghost use Rattle.lv_system.specs.System.{IsSystemOf};
-ghost use Rattle.lv_cert_numbers.specs.Counts.{IsCountsOf};
+ghost use Rattle.lv_cert_meaning.specs.Counts.{IsCountsOf};
 
 use lv_boxes::Groups;
-use lv_cert_numbers::Counts;
+use lv_cert_meaning::Counts;
 use lv_model::Model;
 use lv_model_names::Lists;
 use lv_system::StepSystem;

@@ -21,7 +21,7 @@ use crate::judged::{Aimed, Judged};
 use crate::setting::Setting;
 use lv_base::{MoveId, Rank, ValId, VarId};
 use lv_cert::Question;
-use lv_cert_numbers::{has_controls, has_modes, is_nominal_pair};
+use lv_cert_meaning::{has_controls, has_modes, is_nominal_pair};
 use lv_formula::Condition;
 use lv_meaning::facts::meets_all;
 use lv_model::TrackedState;

@@ -7,7 +7,7 @@ use Rattle.lv_model.specs.Lists.{move_counts}
 use Rattle.lv_ident.specs.Literals.{HasMove}
 use Rattle.lv_search_zones.specs.lv_compile.Booleans.{bool_count}
 use Rattle.lv_search_zones.specs.lv_compile.ModelClauses.{model_clauses}
-use Rattle.lv_cert_laws.specs.lv_cert_blocks.Deriving.{refutes}
+use Rattle.lv_cert_laws.specs.lv_cert_meaning.Deriving.{refutes}
 use Rattle.lv_cert_writing.specs.BlockLines.{derived_of}
 use Rattle.lv_cert.specs.declared.line.Head.TheVariants as head
 use Rattle.lv_cert.specs.declared.line.Line.{Line}

@@ -1,5 +1,5 @@
 use Rattle.std.proofs.Common.{◌≡◌, ◌++◌, drop}
-use Rattle.lv_cert_numbers.specs.lv_cert_meaning.Units.{units}
+use Rattle.lv_cert_meaning.specs.Units.{units}
 use Rattle.lv_cert_writing.proofs.asking.push_units.Given as goal
 
 abbrev pub invariant-loop-lit : goal.invariant-loop-lit

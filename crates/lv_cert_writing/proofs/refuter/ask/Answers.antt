@@ -2,7 +2,7 @@
 use Rattle.std.proofs.Common.{◌≡◌, ◌++◌, ℕ, List, length, subst, sym, ◌∙◌, arith}
 use Rattle.std.proofs.lemmas.List.{length-append}
 use Rattle.std.proofs.lemmas.Result.{IfOk-weaker}
-use Rattle.lv_cert_numbers.specs.lv_cert_blocks.Blocks.{clauses_of}
+use Rattle.lv_cert_meaning.specs.Blocks.{clauses_of}
 use Rattle.lv_cert_writing.specs.BlockNumbers.{HaveNumbers}
 use Rattle.lv_cert_writing.specs.StatedClauses.{IsShared, AreStated}
 use Rattle.lv_cert_writing.proofs.StatedClauseLemmas.{clause_count}

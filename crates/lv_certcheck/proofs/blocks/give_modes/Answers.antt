@@ -3,7 +3,7 @@ use Rattle.std.proofs.Common.{◌≡◌, ◌∙◌, true, List, map, slice_index
 use Rattle.lv_model.specs.declared.plant.Plant.{Plant}
 use Rattle.lv_model.specs.declared.plant.Part.{Part}
 use Rattle.lv_model.specs.Lists.{sizes}
-use Rattle.lv_cert_numbers.specs.Fitting.{are_values}
+use Rattle.lv_cert_meaning.specs.Fitting.{are_values}
 use Rattle.lv_certcheck.specs.Settings.{plant_of}
 use Rattle.lv_certcheck.proofs.GivingLemmas.{mode_below}
 use Rattle.lv_certcheck.proofs.blocks.give_modes.Goals as goal

@@ -4,7 +4,7 @@ use Rattle.lv_base.specs.declared.ids.VarId.{VarId}
 use Rattle.lv_model.specs.Lists.{sizes, controls}
 use Rattle.lv_search_zones.specs.lv_compile.Booleans.{Booleans}
 use Rattle.lv_search_zones.specs.lv_compile.FormulaClauses.{size_of}
-use Rattle.lv_cert_numbers.specs.Fitting.{are_values}
+use Rattle.lv_cert_meaning.specs.Fitting.{are_values}
 use Rattle.lv_certcheck.specs.Settings.{plant_of}
 use Rattle.lv_certcheck.proofs.GivingLemmas.{control_below}
 use Rattle.lv_certcheck.proofs.judge.Judge.control_literals.Goals as goal

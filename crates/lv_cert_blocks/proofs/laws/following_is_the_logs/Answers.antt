@@ -1,5 +1,0 @@
-use Rattle.lv_cert_blocks.proofs.LogLemmas.{is_the_logs}
-use Rattle.lv_cert_blocks.proofs.laws.following_is_the_logs.Goals as goal
-
-pub returns : goal.returns
-returns c = is_the_logs
