@@ -103,6 +103,15 @@ fn push_front(
     Ok(())
 }
 
+/// The text of what the session replied.
+fn session_text(alloc: Global, model: &Model, reply: &Reply) -> Result<Vec<u8>, AllocError>
+    ensures { IfOk result (λ text. text.items ≡ reply_text model.now reply.now) }
+{
+    let mut text = Vec::new(alloc);
+    write_reply(&mut text, alloc, model, reply)?;
+    Ok(text)
+}
+
 /// Adds what the session replied.
 fn push_reply(
     alloc: Global,
@@ -112,8 +121,7 @@ fn push_reply(
 ) -> Result<(), AllocError>
     ensures { IfOk result (λ _. out.new.items ≡ out.old.items ++ reply_text model.now reply.now) }
 {
-    let mut text = Vec::new(alloc);
-    write_reply(&mut text, alloc, model, reply)?;
+    let text = session_text(alloc, model, reply)?;
     out.extend_from_slice(text.as_slice())?;
     Ok(())
 }
@@ -175,7 +183,7 @@ pub fn plant_text(alloc: Global, model: &Model, reply: &PlantReply) -> Result<Ve
         PlantReply::Silence => Ok(Vec::new(alloc)),
         PlantReply::Accepted => Vec::from_slice(alloc, b"ok\n"),
         PlantReply::Refused(fault) => refusal_text(alloc, *fault),
-        PlantReply::Told(reply) => reply_text(alloc, model, reply),
+        PlantReply::Told(reply) => session_text(alloc, model, reply),
         PlantReply::Moved(told) => step_text(alloc, model, told),
     }
 }
