@@ -1,4 +1,4 @@
-//! Tests of clauses, of logs of derivations and their checker, and of truth maintenance.
+//! Tests of clauses, of logs of derivations and their checker, of truth maintenance, and of the solver.
 //!
 //! They call each public function once with ample memory, which no clause promises; what they want follows from the
 //! definitions by hand.
@@ -14,3 +14,5 @@ mod literals;
 mod logs;
 #[cfg(test)]
 mod maintenance;
+#[cfg(test)]
+mod solving;

@@ -1,4 +1,4 @@
-//! The literals of the booleans 0, 1 and 2.
+//! The literals of the booleans 0, 1, 2 and 3.
 use lv_base::{BoolId, Lit};
 
 pub const A: Lit = Lit {
@@ -16,6 +16,11 @@ pub const C: Lit = Lit {
     sign: true,
 };
 
+pub const D: Lit = Lit {
+    var: BoolId(3),
+    sign: true,
+};
+
 pub const NOT_A: Lit = Lit {
     var: BoolId(0),
     sign: false,
@@ -23,5 +28,10 @@ pub const NOT_A: Lit = Lit {
 
 pub const NOT_B: Lit = Lit {
     var: BoolId(1),
+    sign: false,
+};
+
+pub const NOT_D: Lit = Lit {
+    var: BoolId(3),
     sign: false,
 };

@@ -1,6 +1,8 @@
-//! Each public call with ample memory. A test makes a solver, and its steps take it by reference.
+//! Small sets with both answers, and each refutation checked: each public call of the solver with ample memory. A test
+//! makes a solver, and its steps take it by reference.
 ghost use Rattle.std.specs.Prelude.{◌≡◌};
 
+use crate::literals::{A, B, C, D, NOT_A, NOT_B, NOT_D};
 use lv_base::{BoolId, ClauseId, Lit};
 use lv_clauses::{ClauseSet, is_clause, lit_holds, negation};
 use lv_refcheck::check;
@@ -86,41 +88,6 @@ fn is_answered(
     is_wanted(alloc, solver.clauses(), assumptions, &answer, wanted)
 }
 
-const ONE: Lit = Lit {
-    var: BoolId(0),
-    sign: true,
-};
-
-const NOT_ONE: Lit = Lit {
-    var: BoolId(0),
-    sign: false,
-};
-
-const TWO: Lit = Lit {
-    var: BoolId(1),
-    sign: true,
-};
-
-const NOT_TWO: Lit = Lit {
-    var: BoolId(1),
-    sign: false,
-};
-
-const THREE: Lit = Lit {
-    var: BoolId(2),
-    sign: true,
-};
-
-const FOUR: Lit = Lit {
-    var: BoolId(3),
-    sign: true,
-};
-
-const NOT_FOUR: Lit = Lit {
-    var: BoolId(3),
-    sign: false,
-};
-
 /// What is done to a solver.
 enum Step {
     /// Adds a clause, which gets this number.
@@ -146,7 +113,7 @@ const CASES: &[Case] = &[
         bools: 2,
         steps: &[
             Step::Asks(&[], Wanted::Values),
-            Step::Asks(&[NOT_TWO, ONE], Wanted::Values),
+            Step::Asks(&[NOT_B, A], Wanted::Values),
         ],
     },
     Case {
@@ -154,23 +121,23 @@ const CASES: &[Case] = &[
         bools: 1,
         steps: &[
             Step::Adds(&[], ClauseId(0)),
-            Step::Asks(&[ONE], Wanted::Core(&[])),
+            Step::Asks(&[A], Wanted::Core(&[])),
         ],
     },
     Case {
         name: "a core leaves out what is not needed",
         bools: 4,
         steps: &[
-            Step::Adds(&[NOT_ONE, TWO], ClauseId(0)),
-            Step::Adds(&[NOT_TWO, NOT_FOUR], ClauseId(1)),
-            Step::Asks(&[ONE, THREE], Wanted::Values),
-            Step::Asks(&[THREE, FOUR, ONE], Wanted::Core(&[FOUR, ONE])),
+            Step::Adds(&[NOT_A, B], ClauseId(0)),
+            Step::Adds(&[NOT_B, NOT_D], ClauseId(1)),
+            Step::Asks(&[A, C], Wanted::Values),
+            Step::Asks(&[C, D, A], Wanted::Core(&[D, A])),
         ],
     },
     Case {
         name: "three pigeons in three holes",
         bools: 12,
-        steps: &[Step::Pigeons(3), Step::Asks(&[TWO], Wanted::Values)],
+        steps: &[Step::Pigeons(3), Step::Asks(&[B], Wanted::Values)],
     },
     Case {
         name: "four pigeons in three holes",
@@ -218,19 +185,19 @@ const FIRST: ClauseId = ClauseId(0);
 
 /// Where the first of two clauses has gone.
 const FIRST_COMES_AND_GOES: &[Step] = &[
-    Step::Asks(&[NOT_ONE], Wanted::Values),
-    Step::Adds(&[ONE], FIRST),
-    Step::Asks(&[NOT_TWO], Wanted::Refutation),
+    Step::Asks(&[NOT_A], Wanted::Values),
+    Step::Adds(&[A], FIRST),
+    Step::Asks(&[NOT_B], Wanted::Refutation),
     Step::Removes(FIRST),
-    Step::Asks(&[NOT_TWO], Wanted::Values),
+    Step::Asks(&[NOT_B], Wanted::Values),
 ];
 
 /// Adds two clauses and takes away the first; answers whether it had its number.
 fn first_goes(set: &mut ClauseSet) -> Result<bool, AllocError>
     requires { set.old.bools ≡ 2 }
 {
-    let first = set.add(&[ONE])?;
-    set.add(&[NOT_ONE, TWO])?;
+    let first = set.add(&[A])?;
+    set.add(&[NOT_A, B])?;
     set.remove(first);
     Ok(first == FIRST)
 }
@@ -241,7 +208,7 @@ fn first_comes_and_goes(alloc: Global, set: &ClauseSet) -> Result<bool, AllocErr
 }
 
 #[test]
-fn clauses_come_and_go(rt: HostRuntime) -> Result<(), AllocError> {
+fn clauses_of_a_solver_come_and_go(rt: HostRuntime) -> Result<(), AllocError> {
     let mut set = ClauseSet::new(rt.alloc(), 2)?;
     assert!(rt; first_goes(&mut set)?);
     assert!(rt; first_comes_and_goes(rt.alloc(), &set)?);
@@ -460,14 +427,14 @@ fn is_told_again(
 /// Whether a refutation of two assumptions is told again for more of them, and with a clause more, which alone would refute
 /// the first.
 fn stays_told(solver: &mut Solver) -> Result<bool, AllocError> {
-    add(solver, &[NOT_ONE, TWO])?;
-    add(solver, &[NOT_TWO, NOT_FOUR])?;
-    let first = ask(solver, &[ONE, FOUR])?;
-    if !has_core(&first, &[ONE, FOUR]) || !is_told_again(solver, &[ONE, THREE, FOUR], &first)? {
+    add(solver, &[NOT_A, B])?;
+    add(solver, &[NOT_B, NOT_D])?;
+    let first = ask(solver, &[A, D])?;
+    if !has_core(&first, &[A, D]) || !is_told_again(solver, &[A, C, D], &first)? {
         return Ok(false);
     }
-    add(solver, &[NOT_ONE])?;
-    is_told_again(solver, &[THREE, ONE, FOUR], &first)
+    add(solver, &[NOT_A])?;
+    is_told_again(solver, &[C, A, D], &first)
 }
 
 /// Whether all is refuted anew once the first clause is gone.
@@ -475,8 +442,8 @@ fn is_told_anew(solver: &mut Solver) -> Result<bool, AllocError> {
     if !remove(solver, FIRST) {
         return Ok(false);
     }
-    let anew = ask(solver, &[ONE, THREE, FOUR])?;
-    Ok(has_core(&anew, &[ONE]))
+    let anew = ask(solver, &[A, C, D])?;
+    Ok(has_core(&anew, &[A]))
 }
 
 #[test]
