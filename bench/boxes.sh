@@ -1,10 +1,10 @@
 #!/usr/bin/env bash
 # What a call takes, in microseconds of the processor: the least member of a zone, the split of a zone, and the look-up
-# among kept conflicts, on 256 slots. Builds the program crates/bench_boxes, which says what its words mean, and takes
-# the time of a run of no rounds off, so that making the settings doesn't count.
+# among kept conflicts, on 256 slots. Builds the program crates/benches, whose `boxes` says what its words mean, and
+# takes the time of a run of no rounds off, so that making the settings doesn't count.
 set -eu
 . "$(dirname "$0")/common.sh"
-build bench_boxes 0 0 0
+build_bench boxes 0 0 0
 
 # report NAME CALLS ROUNDS..: a run of these rounds makes that many calls
 report() {

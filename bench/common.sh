@@ -4,15 +4,21 @@ crates="$(cd "$(dirname "${BASH_SOURCE[0]}")/../crates" && pwd)"
 
 # builds the program of a crate, by a run with the words given, and goes to the crate's folder
 build() {
-  program=$crates/$1/out/$1
+  program=("$crates/$1/out/$1")
   cd "$crates/$1"
   rt run -- "${@:2}" >/dev/null
+}
+
+# builds the program of benches, by a run of a bench with the words given; from then on it is called with the bench's word
+build_bench() {
+  build benches "$@"
+  program+=("$1")
 }
 
 # the milliseconds of the processor that a run of the program with these words takes
 taken_by() {
   local TIMEFORMAT=%3U taken
-  taken=$({ time "$program" "$@" >/dev/null; } 2>&1)
+  taken=$({ time "${program[@]}" "$@" >/dev/null; } 2>&1)
   echo $((10#${taken/./}))
 }
 

@@ -2,18 +2,18 @@
 # What compiling a model to clauses takes: clauses a second of the processor, and how many bytes a system holds for each
 # clause, told by runs that hold some systems and twice as many. The models are rows of 8 to 256 valves, and parts of a
 # type with 4,093 clauses each, up to a model that has as many clauses as there may be; of that the last line says what is
-# held at most. Builds the program crates/bench_compile, which says what its settings mean, and takes the time of a run of
-# no rounds off, so that reading the model doesn't count.
+# held at most. Builds the program crates/benches, whose `compile` says what its settings mean, and takes the time of a run
+# of no rounds off, so that reading the model doesn't count.
 set -eu
 . "$(dirname "$0")/common.sh"
 here="$(cd "$(dirname "$0")" && pwd)"
 work="$(mktemp -d)"
 trap 'rm -rf "$work"' EXIT
-build bench_compile 'list absent'
+build_bench compile 'list absent'
 
 # the most kilobytes that a run of the program with this word holds
 held_by() {
-  python3 - "$program" "$1" <<'PY'
+  python3 - "${program[@]}" "$1" <<'PY'
 import resource, subprocess, sys
 subprocess.run(sys.argv[1:], stdout=subprocess.DEVNULL, check=True)
 print(resource.getrusage(resource.RUSAGE_CHILDREN).ru_maxrss)
@@ -23,7 +23,7 @@ PY
 # report NAME MODEL: over the model in that file
 report() {
   local clauses rounds milliseconds held kilobytes
-  clauses=$("$program" "compile $2 1" | sed 's/.* booleans, \([0-9]*\) clauses.*/\1/')
+  clauses=$("${program[@]}" "compile $2 1" | sed 's/.* booleans, \([0-9]*\) clauses.*/\1/')
   rounds=$((20000000 / clauses))
   milliseconds=$(($(taken_by "compile $2 $rounds") - $(taken_by "compile $2 0")))
   held=$((1000000 / clauses > 0 ? 1000000 / clauses : 1))

@@ -6,19 +6,19 @@
 # (64d). The time of an empty session over the same plant is taken off, and stands beside; then the number of candidates
 # listed, and of trials, conflicts, and questions to the solver for each trial; and what these are beyond one a trial
 # for each choice of the conflicts, which a reason costs. The last line is of a whole session of 20 rounds over a
-# row of 32 valves. Builds the program and crates/bench_session first, which counts. Sizes may be given.
+# row of 32 valves. Builds the program first, and crates/benches, whose `session` counts. Sizes may be given.
 set -eu
 . "$(dirname "$0")/common.sh"
 prepare "$@"
-cli=$program
-build bench_session absent
-counter=$program
-program=$cli
+cli=("${program[@]}")
+build_bench session absent
+counter=("${program[@]}")
+program=("${cli[@]}")
 : >"$work/none.ses"
 
 # the counts of a session's diagnoses: trials, conflicts, choices in them, questions
 counts_of() {
-  "$counter" "$1 $2" | sed 's/.* \([0-9]*\) trials, \([0-9]*\) conflicts of \([0-9]*\) choices, \([0-9]*\) questions.*/\1 \2 \3 \4/'
+  "${counter[@]}" "$1 $2" | sed 's/.* \([0-9]*\) trials, \([0-9]*\) conflicts of \([0-9]*\) choices, \([0-9]*\) questions.*/\1 \2 \3 \4/'
 }
 
 # a quotient with two digits behind the point
@@ -31,7 +31,7 @@ report() {
   local plant whole listed trials conflicts choices questions
   plant=$(taken_by run "$4" "$6")
   whole=$(taken_by run "$4" "$5")
-  listed=$("$program" run "$4" "$5" | awk '/^(un)?settled/ { listed += $2 } END { print listed + 0 }')
+  listed=$("${program[@]}" run "$4" "$5" | awk '/^(un)?settled/ { listed += $2 } END { print listed + 0 }')
   read -r trials conflicts choices questions <<<"$(counts_of "$4" "$5")"
   printf '%-10s %6d %4s %10d %10d %7d %7d %9d %8s %8s\n' "$1" "$2" "$3" "$plant" $((whole - plant)) "$listed" \
     "$trials" "$conflicts" "$(quotient "$questions" "$trials")" "$(quotient $((questions - trials)) "$choices")"
@@ -49,6 +49,6 @@ for kind in row opened fan twofaults ladder branch branches; do
     report "$kind" "$n" 64d "$work/$kind.lv" "$work/$kind.64d.ses" "$work/none.ses"
   done
 done
-"$program" generate model 30 >"$work/drive.lv"
-"$program" generate session 30 >"$work/drive.ses"
+"${program[@]}" generate model 30 >"$work/drive.lv"
+"${program[@]}" generate session 30 >"$work/drive.ses"
 report drive 32 - "$work/drive.lv" "$work/drive.ses" "$work/none.ses"

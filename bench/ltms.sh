@@ -1,7 +1,7 @@
 #!/usr/bin/env bash
 # What a call of the truth maintenance system takes, in microseconds of the processor, and in nanoseconds for each
-# literal touched. Builds the program crates/bench_ltms, which says what its settings mean, and takes the time of a run
-# of no rounds off, so that adding the clauses doesn't count.
+# literal touched. Builds the program crates/benches, whose `ltms` says what its settings mean, and takes the time
+# of a run of no rounds off, so that adding the clauses doesn't count.
 #
 #   chain   one literal implies all others of a chain: an assumption labels each of them, a retraction unlabels each
 #   random  clauses of three random literals, with few literals held, and with so many that contradictions come and go
@@ -14,7 +14,7 @@
 # Sizes other than these are given by the environment, as in: length=1000 few_rounds=1 many_rounds=1 bench/ltms.sh
 set -eu
 . "$(dirname "$0")/common.sh"
-build bench_ltms 'chain 0 0'
+build_bench ltms 'chain 0 0'
 
 : "${length:=100000}" "${chain_rounds:=100}"
 : "${bools:=20000}" "${clauses:=60000}"
@@ -24,7 +24,7 @@ build bench_ltms 'chain 0 0'
 # report SETTING ROUNDS COUNTED: a run of these rounds, in each of which as much is done as the program says of COUNTED
 report() {
   local setting=$1 rounds=$2 said assumed retracted touched milliseconds
-  said=$("$program" "$3")
+  said=$("${program[@]}" "$3")
   read -r assumed retracted touched < <(
     sed 's/.*: \([0-9]*\) assumed, \([0-9]*\) retracted,.* \([0-9]*\) labels changed$/\1 \2 \3/' <<<"$said"
   )

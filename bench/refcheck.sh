@@ -1,15 +1,15 @@
 #!/usr/bin/env bash
 # What the check of a log takes, in nanoseconds of the processor for each literal that it reads. The log has 100,000
 # steps of one to ten hints, all of them good. The literals counted are those of the clauses and steps that hints name;
-# the two of each step's own clause, which a check reads too, are not. Builds the program crates/bench_refcheck, which
-# says what its words mean, and takes the time of a run of no rounds off, so that making the log doesn't count.
+# the two of each step's own clause, which a check reads too, are not. Builds the program crates/benches, whose
+# `refcheck` says what its words mean, and takes the time of a run of no rounds off, so that making the log doesn't count.
 set -eu
 . "$(dirname "$0")/common.sh"
-build bench_refcheck 0 0
+build_bench refcheck 0 0
 
 steps=100000
 rounds=100
-said=$("$program" $steps 1)
+said=$("${program[@]}" $steps 1)
 printf '%s\n' "$said"
 hints=$(sed -n 's/.* steps, \([0-9]*\) hints.*/\1/p' <<<"$said")
 literals=$(sed -n 's/.* \([0-9]*\) literals of .*/\1/p' <<<"$said")

@@ -1,8 +1,8 @@
 #!/usr/bin/env bash
 # What solving takes, in microseconds of the processor for each call, and in nanoseconds for each literal forced and for each
 # conflict, with what the calls came to: satisfiable or not, literals that clauses forced, conflicts, and how long the logs
-# of refutations are. Builds the program crates/bench_sat, which says what its settings mean, and takes the time of a run
-# of no calls off, so that making the clauses doesn't count.
+# of refutations are. Builds the program crates/benches, whose `sat` says what its settings mean, and takes the time of
+# a run of no calls off, so that making the clauses doesn't count.
 #
 #   random   sets of clauses of three random literals, 4.2 for each boolean, where both answers are about as frequent
 #   pigeons  one pigeon more than there are holes: small sets, and each refutation is long
@@ -13,7 +13,7 @@
 # Sizes other than these are given by the environment, as in: sets=5 largest=100 bench/sat.sh
 set -eu
 . "$(dirname "$0")/common.sh"
-build bench_sat 'chain 0 0'
+build_bench sat 'chain 0 0'
 
 : "${sets:=20}" "${largest:=180}" "${length:=100000}" "${rounds:=10}" "${calls:=500}"
 
@@ -21,7 +21,7 @@ build bench_sat 'chain 0 0'
 # logs are checked in a run of their own
 report() {
   local told milliseconds forced conflicts
-  told=$("$program" checked "$1 $2")
+  told=$("${program[@]}" checked "$1 $2")
   echo "$told"
   milliseconds=$(($(taken_by "$1 $2") - $(taken_by "$1 0")))
   read -r forced conflicts <<<"$(sed 's/.* literals chosen, \([0-9]*\) forced, \([0-9]*\) conflicts.*/\1 \2/' <<<"$told")"

@@ -181,7 +181,7 @@ class Examples:
         for name in re.findall(r"`([\w./@-]+)`", path.read_text()):
             if "NAME" in name:
                 continue
-            is_crate = re.fullmatch(r"(lv_|bench_|livingstone_)\w+", name)
+            is_crate = re.fullmatch(r"(lv_|livingstone_)\w+|benches", name)
             if is_crate:
                 name = "crates/" + name
             elif not re.match(r"(lv_\w+|docs|tests|examples|bench|shell|editors|crates)/", name) and not name.endswith(".md"):

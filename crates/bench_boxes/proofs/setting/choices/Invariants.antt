@@ -1,6 +1,0 @@
--- a choice for each round
-use Rattle.std.proofs.Common.{◌≡◌, vec_len}
-use Rattle.bench_boxes.proofs.setting.choices.Given as goal
-
-abbrev pub invariant-loop-slot : goal.invariant-loop-slot
-invariant-loop-slot l = vec_len l.choices ≡ l._slot

@@ -1,6 +1,0 @@
--- a slot for each round
-use Rattle.std.proofs.Common.{◌≡◌, length}
-use Rattle.bench_boxes.proofs.setting.grid.Given as goal
-
-abbrev pub invariant-loop-slot : goal.invariant-loop-slot
-invariant-loop-slot l = length l.grid ≡ l._slot

@@ -1,6 +1,0 @@
--- Each line makes what is left shorter.
-use Rattle.std.proofs.Common.{length}
-use Rattle.bench_session.proofs.tally.tally_over.Given as goal
-
-abbrev pub decreases-loop-line : goal.decreases-loop-line
-decreases-loop-line l = length l.rest
