@@ -9,7 +9,7 @@ ghost use Rattle.lv_boxes.specs.Members.{ZoneValue};
 ghost use Rattle.lv_boxes.specs.lv_search_walk.Ranked.{is_rank};
 ghost use Rattle.lv_cert_meaning.specs.Space as Spaces;
 ghost use Rattle.lv_cert_writing.specs.Explained.{stands_for, AreExplained};
-ghost use Rattle.lv_cert_writing.specs.Explained as Explanations;
+ghost use Rattle.lv_cert_writing.specs.Explained as explained;
 ghost use Rattle.lv_cert_writing.specs.Closing.{Cut, can_be_listed, AreForQuestion, cut_of_listed, cut_of, cut_at, with_cut, after_cut, Closes, EvidenceIsSmall, SplitIsSmall};
 ghost use Rattle.lv_cert_writing.specs.Closing as Closings;
 
@@ -71,7 +71,7 @@ pub fn close(
 
 /// The last of the listed, where as many are listed as are wanted: what ranks behind it need not be listed.
 pub fn last_if_full(listed: &[Rank], k: usize) -> Option<&Rank>
-    ensures { option_copied result ≡ Explanations.last_if_full k listed.now }
+    ensures { option_copied result ≡ explained.last_if_full k listed.now }
 {
     if listed.len() == k {
         listed.last()
