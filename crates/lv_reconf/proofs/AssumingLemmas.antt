@@ -26,7 +26,7 @@ use Rattle.lv_system.proofs.LiteralLemmas.{value_true}
 use Rattle.lv_meaning.specs.Commands.{control_sizes}
 use Rattle.lv_meaning.specs.Ranges.{modes_fit}
 use Rattle.lv_meaning.specs.Recovers.{has_modes, has_control, has_controls}
-use Rattle.lv_reconf.specs.Assuming.{AreAssumed, HasMore, AssumesSoFar, Assumes, pair_fits}
+use Rattle.lv_reconf.specs.Assuming.{AreAssumed, HasMore, AssumesSoFar, Assumes, control_literal, pair_fits}
 use Rattle.lv_reconf.proofs.NarrowingLemmas.{and_true, and_in_turn, value_has_bool}
 
 or_parts : (a b : Bool) → (a || b) ≡ false → (a ≡ false) × (b ≡ false)
@@ -213,15 +213,16 @@ module _ (plant : Plant) where
       in
       subst (λ (xs : List VarId). p.choice < slice_index_or (sizes plant) (get_or xs p.slot d).0 0) (sym same) (omega (arith, less, size))
 
-  pub control_assumed : (old new : List Lit) (p : Pair) (cs : List VarId) (d : VarId) → cs ≡ controls plant → p.slot < length cs
-      → Assumes plant old new (λ a. nat_eq (number_of a (get_or cs p.slot d).0) p.choice) → Assumes plant old new (λ a. has_control (controls plant) a p)
-  control_assumed old new p cs d same below more =
+  pub control_assumed : (old new : List Lit) (p : Pair) (l : Lit) → pair_fits plant p ≡ true → l ≡ control_literal plant p → HasMore (bool_count plant) old new l
+      → Assumes plant old new (λ a. has_control (controls plant) a p)
+  control_assumed old new p l fits is more =
+      let d : VarId = record { 0 = 0 } in
+      let one : Assumes plant old new (λ a. nat_eq (number_of a (get_or (controls plant) p.slot d).0) p.choice) =
+      value_assumed plant old new (get_or (controls plant) p.slot d).0 p.choice l (value_there p (controls plant) d refl fits) is more
+      in
       record {
-        assumed = more.assumed;
-        exact =
-            λ values a code.
-            more.exact values a code
-            ∙ ap (λ b. list_all (lit_holds values) old && b) (sym (control_at cs a p d below) ∙ ap (λ (xs : List VarId). has_control xs a p) same);
+        assumed = one.assumed;
+        exact = λ values a code. one.exact values a code ∙ ap (λ b. list_all (lit_holds values) old && b) (sym (control_at (controls plant) a p d (slot_there p (controls plant) refl fits)));
       }
 
   pub control_more : (old mid new : List Lit) (p : Pair) (left rest all : List Pair) → left ≡ p ∷ rest

@@ -1,14 +1,12 @@
 -- What a trial of command sets keeps, and what it asks.
-use Rattle.std.specs.Prelude.{◌≡◌, ℕ, Bool, true, false, not, List, slice_get, take}
+use Rattle.std.specs.Prelude.{ℕ, Bool, true, false, not, List, slice_get, take}
 use Rattle.std.specs.List.{list_any, prefix_len}
 use Rattle.std.specs.Option.{option_map_or}
-use Rattle.lv_base.specs.declared.ids.VarId.{VarId}
 use Rattle.lv_base.specs.declared.search.Pair.{Pair}
 use Rattle.lv_clauses.specs.ClauseMap.{ClauseMap}
 use Rattle.lv_formula.specs.Tree.{Tree, truth_of}
 use Rattle.lv_model.specs.declared.plant.Plant.{Plant}
 use Rattle.lv_model.specs.declared.state.TrackedState.{TrackedState}
-use Rattle.lv_model.specs.Lists.{controls}
 use Rattle.lv_meaning.specs.declared.facts.Observation.{Observation}
 use Rattle.lv_meaning.specs.declared.aim.Aim.{Aim}
 use Rattle.lv_meaning.specs.Recovers.{some_nominal_step, reaches, can_miss}
@@ -24,10 +22,9 @@ pub record ReachingValue : Type 0 where
 abbrev pub looking_at : Plant → Aim → ℕ → ReachingValue
 looking_at plant aim at = record { plant = plant; aim = aim; at = at }
 
--- the aim and the controls are the plant's, and the solver's clauses ask for a nominal step that meets what is observed
-pub record IsSetting (plant : Plant) (aim : Aim) (vars : List VarId) (set : ClauseMap) : Type 0 where
+-- the aim is the plant's, and the solver's clauses ask for a nominal step that meets what is observed
+pub record IsSetting (plant : Plant) (aim : Aim) (set : ClauseMap) : Type 0 where
   pub fits : AimFits plant aim
-  pub controls : vars ≡ controls plant
   pub asks : Asks plant aim.present (λ b. true) set
 
 -- from the tracked state that is looked at, if there is one, some nominal step with these values meets all goals

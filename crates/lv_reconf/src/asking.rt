@@ -5,7 +5,6 @@ ghost use Rattle.std.specs.Prelude.{◌≡◌, true, List, Bool, IfOk};
 ghost use Rattle.lv_base.specs.declared.ids.ValId.{ValId};
 ghost use Rattle.lv_compile.specs.Booleans.{bool_count};
 ghost use Rattle.lv_meaning.specs.declared.facts.Observation.{Observation};
-ghost use Rattle.lv_model.specs.Lists.{controls};
 ghost use Rattle.lv_model.specs.Ranges.{plant_ranges};
 ghost use Rattle.lv_meaning.specs.Ranges.{modes_fit};
 ghost use Rattle.lv_meaning.specs.Recovers.{some_nominal_step};
@@ -16,7 +15,7 @@ ghost use Rattle.lv_reconf.specs.Refuting.{RefutesSteps};
 use super::assumptions::assumptions;
 use super::compiled::Compiled;
 use lv_asking::refutation::refute_once;
-use lv_base::{Pair, VarId};
+use lv_base::Pair;
 use lv_clauses::Marks;
 use lv_model::State;
 use lv_sat::{Answer, Solver};
@@ -28,19 +27,17 @@ pub fn has_step(
     alloc: Global,
     compiled: &Compiled,
     solver: &mut Solver,
-    vars: &[VarId],
     state: &State,
     pairs: &[Pair],
 ) -> Result<bool, AllocError>
     requires bools { solver.old.set.bools ≡ bool_count compiled.now }
     requires modes { modes_fit (plant_ranges compiled.now) compiled.now.parts state.now.modes ≡ true }
-    requires controls { vars.now ≡ controls compiled.now }
     requires pairs { pairs_fit compiled.now pairs.now ≡ true }
     ensures answer { (present : List Observation) (ends : List ValId → Bool) → Asks compiled.now present ends solver.old.set →
         IfOk result (λ answer. answer ≡ some_nominal_step compiled.now present state.now pairs.now ends) }
     ensures kept { solver.new.set ≡ solver.old.set }
 {
-    let lits = assumptions(alloc, compiled, vars, state.modes.as_slice(), pairs)?;
+    let lits = assumptions(alloc, compiled, state.modes.as_slice(), pairs)?;
     match solver.solve(lits.as_slice())? {
         Answer::Sat { .. } => Ok(true),
         Answer::Unsat { .. } => Ok(false),
@@ -53,18 +50,16 @@ pub fn refuted(
     alloc: Global,
     compiled: &Compiled,
     solver: &mut Solver,
-    vars: &[VarId],
     state: &State,
     pairs: &[Pair],
 ) -> Result<Option<Marks>, AllocError>
     requires bools { solver.old.set.bools ≡ bool_count compiled.now }
     requires modes { modes_fit (plant_ranges compiled.now) compiled.now.parts state.now.modes ≡ true }
-    requires controls { vars.now ≡ controls compiled.now }
     requires pairs { pairs_fit compiled.now pairs.now ≡ true }
     ensures answer { (present : List Observation) (ends : List ValId → Bool) → Asks compiled.now present ends solver.old.set →
         IfOk result (λ core. RefutesSteps compiled.now present ends state.now pairs.now core) }
     ensures kept { solver.new.set ≡ solver.old.set }
 {
-    let lits = assumptions(alloc, compiled, vars, state.modes.as_slice(), pairs)?;
+    let lits = assumptions(alloc, compiled, state.modes.as_slice(), pairs)?;
     refute_once(alloc, solver, lits.as_slice())
 }

@@ -1,10 +1,10 @@
 //! What a question assumes: the modes of a state and the values of some controls, as literals.
 #![tactic(auto)]
 
-ghost use Rattle.std.specs.Prelude.{◌≡◌, ◌<◌, ℕ, [], true, nat_eq, ◌&&◌, length, slice_index_or, IfOk, IsTrue};
+ghost use Rattle.std.specs.Prelude.{◌≡◌, ◌<◌, ℕ, [], true, nat_eq, ◌&&◌, length, IfOk};
 ghost use Rattle.std.specs.List.{list_any};
 ghost use Rattle.lv_clauses.specs.Literals.{in_range, same_var};
-ghost use Rattle.lv_compile.specs.Booleans.{booleans_now, bool_count, value_literal};
+ghost use Rattle.lv_compile.specs.Booleans.{booleans_now, bool_count};
 ghost use Rattle.lv_compile.specs.FormulaClauses.{size_of};
 ghost use Rattle.lv_formula.specs.Tree.{number_of};
 ghost use Rattle.lv_model.specs.Lists.{controls};
@@ -46,8 +46,7 @@ fn assume_value(
 ) -> Result<(), AllocError>
     requires assumed { AreAssumed (bool_count compiled.now) lits.old.items }
     requires there { val.0 < size_of (booleans_now compiled.now) var.0 }
-    ensures adds { IfOk result (λ _. AddsOne lits.old.items lits.new.items (value_literal (booleans_now compiled.now) var.0 val.0 true)) }
-    ensures says { IfOk result (λ _. Assumes compiled.now lits.old.items lits.new.items (λ a. nat_eq (number_of a var.0) val.0)) }
+    ensures { IfOk result (λ _. Assumes compiled.now lits.old.items lits.new.items (λ a. nat_eq (number_of a var.0) val.0)) }
 {
     assume(lits, compiled.has_value(var, val))
 }
@@ -66,48 +65,29 @@ fn assume_modes(compiled: &Compiled, lits: &mut Vec<Lit>, modes: &[ValId]) -> Re
     Ok(())
 }
 
-/// The literal that the control at the pair's slot has its value.
-pub fn control_literal(compiled: &Compiled, vars: &[VarId], pair: Pair) -> Lit
-    requires controls { vars.now ≡ controls compiled.now }
-    requires fits { pair_fits compiled.now pair ≡ true }
-    requires slot { pair.slot < length vars.now }
-    ensures { result ≡ control_literal compiled.now pair }
-{
-    compiled.has_value(vars[pair.slot as usize], ValId(pair.choice))
-}
-
 /// Assumes that the control at the pair's slot has its value.
-fn assume_control(
-    compiled: &Compiled,
-    lits: &mut Vec<Lit>,
-    vars: &[VarId],
-    pair: Pair,
-) -> Result<(), AllocError>
+fn assume_control(compiled: &Compiled, lits: &mut Vec<Lit>, pair: Pair) -> Result<(), AllocError>
     requires assumed { AreAssumed (bool_count compiled.now) lits.old.items }
-    requires controls { vars.now ≡ controls compiled.now }
     requires fits { pair_fits compiled.now pair ≡ true }
-    requires slot { pair.slot < length vars.now }
     ensures adds { IfOk result (λ _. AddsOne lits.old.items lits.new.items (control_literal compiled.now pair)) }
     ensures says { IfOk result (λ _. Assumes compiled.now lits.old.items lits.new.items (λ a. has_control (controls compiled.now) a pair)) }
 {
-    assume_value(compiled, lits, vars[pair.slot as usize], ValId(pair.choice))
+    assume(lits, compiled.commands(pair))
 }
 
 /// Assumes these values of controls.
 fn assume_controls(
     compiled: &Compiled,
     lits: &mut Vec<Lit>,
-    vars: &[VarId],
     pairs: &[Pair],
 ) -> Result<(), AllocError>
     requires assumed { AreAssumed (bool_count compiled.now) lits.old.items }
-    requires controls { vars.now ≡ controls compiled.now }
     requires fit { pairs_fit compiled.now pairs.now ≡ true }
     ensures adds { IfOk result (λ _. AddsControls compiled.now lits.old.items lits.new.items pairs.now) }
     ensures says { IfOk result (λ _. Assumes compiled.now lits.old.items lits.new.items (λ a. has_controls (controls compiled.now) a pairs.now)) }
 {
     for pair in pairs {
-        assume_control(compiled, lits, vars, *pair)?;
+        assume_control(compiled, lits, *pair)?;
     }
     Ok(())
 }
@@ -116,18 +96,16 @@ fn assume_controls(
 pub fn assumptions(
     alloc: Global,
     compiled: &Compiled,
-    vars: &[VarId],
     modes: &[ValId],
     pairs: &[Pair],
 ) -> Result<Vec<Lit>, AllocError>
     requires fit { modes_fit (plant_ranges compiled.now) compiled.now.parts modes.now ≡ true }
-    requires controls { vars.now ≡ controls compiled.now }
     requires pairs { pairs_fit compiled.now pairs.now ≡ true }
     ensures marked { IfOk result (λ lits. MarkedHold compiled.now modes.now pairs.now lits.items) }
     ensures says { IfOk result (λ lits. Assumes compiled.now [] lits.items (λ a. has_modes compiled.now.parts modes.now a && has_controls (controls compiled.now) a pairs.now)) }
 {
     let mut lits = Vec::new(alloc);
     assume_modes(compiled, &mut lits, modes)?;
-    assume_controls(compiled, &mut lits, vars, pairs)?;
+    assume_controls(compiled, &mut lits, pairs)?;
     Ok(lits)
 }

@@ -8,10 +8,11 @@ ghost use Rattle.lv_model.specs.Lists.{move_counts};
 ghost use Rattle.lv_meaning.specs.Ranges.{GoalFits};
 ghost use Rattle.lv_system.specs.Choices.{choice_literal};
 ghost use Rattle.lv_system.specs.System.{IsSystemOf};
+ghost use Rattle.lv_reconf.specs.Assuming.{control_literal, pair_fits};
 ghost use Rattle.lv_reconf.specs.Compiling.{SayGoal};
 ghost use Rattle.lv_reconf.specs.Narrowing.{choices_of_plant};
 
-use lv_base::{Lit, MoveId, PartId, Seq, ValId, VarId};
+use lv_base::{Lit, MoveId, Pair, PartId, Seq, ValId, VarId};
 use lv_compile::cleaning::cleaned;
 use lv_compile::formula::formula_clauses;
 use lv_compile::value_bools::ValueBools;
@@ -21,10 +22,11 @@ use lv_system::{ChoiceBools, Moment, StepSystem};
 use std::alloc::{AllocError, Global};
 use std::marker;
 
-/// A model and the numbering of the booleans of its system. Contracts see the plant.
+/// A model, its controls, and the numbering of the booleans of its system. Contracts see the plant.
 #[derive(Drop)]
 pub struct Compiled<'a> {
     model: &'a Model,
+    vars: Vec<VarId>,
     before: ValueBools,
     after: ValueBools,
     choices: ChoiceBools,
@@ -42,7 +44,7 @@ impl<'a> marker::Model for Compiled<'a> {
 
     ghost view = { λ c. c.model.now };
 
-    ghost invariant = { λ c. IsCompiled c.model.now c.before c.after c.choices };
+    ghost invariant = { λ c. IsCompiled c.model.now c.vars.items c.before c.after c.choices };
 }
 
 impl<'a> Compiled<'a> {
@@ -57,6 +59,7 @@ impl<'a> Compiled<'a> {
     {
         Ok(Compiled {
             model,
+            vars: model.controls(alloc)?,
             before: system.bools_at(Moment::Now).copied(alloc)?,
             after: system.bools_at(Moment::Next).copied(alloc)?,
             choices: system.choices().copied(alloc)?,
@@ -75,6 +78,14 @@ impl<'a> Compiled<'a> {
         ensures { result ≡ value_literal (booleans_now self.now) var.0 val.0 true }
     {
         self.before.literal(var.0 as usize, val.0, true)
+    }
+
+    /// The literal that the control at the pair's slot has its value.
+    pub fn commands(&self, pair: Pair) -> Lit
+        requires { pair_fits self.now pair ≡ true }
+        ensures { result ≡ control_literal self.now pair }
+    {
+        self.has_value(self.vars[pair.slot as usize], ValId(pair.choice))
     }
 
     /// The literal that a variable has a value after the step.

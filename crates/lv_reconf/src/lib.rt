@@ -11,7 +11,7 @@
 //! | `test_query` | `find_test` and `TestQuery`: the same search for a command set that tells tracked states apart |
 //! | `testing`, `showing` | whether a command set does, and the reason of one that doesn't |
 //! | `setting` | what the questions of a recovery rest on |
-//! | `compiled` | a model with the numbering of its system, and the clauses of goals |
+//! | `compiled` | a model with its controls and the numbering of its system, and the clauses of goals |
 //! | `clauses`, `goals` | solvers for nominal steps, those that meet all goals, those that miss one |
 //! | `assumptions` | a state and values of controls as literals |
 #![tactic(auto)]

@@ -12,7 +12,6 @@ ghost use Rattle.lv_reconf.specs.Tests.{can_show, two_pass};
 ghost use Rattle.lv_reconf.specs.Trying.{asking, looking_at, reaches_at};
 
 use super::asking::refuted;
-use super::assumptions::control_literal;
 use super::goals::reaching_solver;
 use super::setting::Setting;
 use super::showing::shown_twice;
@@ -79,7 +78,6 @@ impl<'s, 'a> Reaching<'s, 'a> {
             self.alloc,
             self.setting.compiled(),
             &mut self.solver,
-            self.setting.controls(),
             self.setting.aim().tracked.as_slice(),
             pairs,
         )
@@ -103,7 +101,6 @@ impl<'s, 'a> Reaching<'s, 'a> {
             self.alloc,
             self.setting.compiled(),
             &mut self.solver,
-            self.setting.controls(),
             self.setting.aim().tracked.as_slice(),
             pairs,
             Observation { var, val },
@@ -142,7 +139,6 @@ impl Refuter for Reaching<'_, '_> {
                 self.alloc,
                 self.setting.compiled(),
                 &mut self.solver,
-                self.setting.controls(),
                 &s.state,
                 pairs,
             ),
@@ -151,8 +147,6 @@ impl Refuter for Reaching<'_, '_> {
     }
 
     fn is_needed(&self, core: &Marks, pair: Pair) -> bool {
-        let setting = self.setting;
-        let literal = control_literal(setting.compiled(), setting.controls(), pair);
-        is_marked(core.as_slice(), literal)
+        is_marked(core.as_slice(), self.setting.compiled().commands(pair))
     }
 }

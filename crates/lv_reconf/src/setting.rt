@@ -2,7 +2,6 @@
 #![tactic(auto)]
 
 ghost use Rattle.std.specs.Prelude.{◌≡◌, Bool, true, IfOk};
-ghost use Rattle.lv_model.specs.Lists.{controls};
 ghost use Rattle.lv_meaning.specs.Ranges.{AimFits};
 ghost use Rattle.lv_reconf.specs.Narrowing.{Asks};
 ghost use Rattle.lv_reconf.specs.Trying.{asking};
@@ -10,7 +9,6 @@ ghost use Rattle.lv_system.specs.System.{IsSystemOf};
 
 use super::compiled::Compiled;
 use super::goals::plain_solver;
-use lv_base::VarId;
 use lv_meaning::Aim;
 use lv_model::Model;
 use lv_sat::Solver;
@@ -22,7 +20,6 @@ use std::marker;
 #[derive(Drop)]
 pub struct Setting<'a> {
     compiled: Compiled<'a>,
-    vars: Vec<VarId>,
     aim: Aim,
     plain: Solver,
 }
@@ -38,7 +35,7 @@ impl<'a> marker::Model for Setting<'a> {
 
     ghost view = { λ s. record { plant = s.compiled; aim = s.aim } };
 
-    ghost invariant = { λ s. IsSetting s.compiled s.aim s.vars.items s.plain.set };
+    ghost invariant = { λ s. IsSetting s.compiled s.aim s.plain.set };
 }
 
 impl<'a> Setting<'a> {
@@ -54,11 +51,9 @@ impl<'a> Setting<'a> {
         ensures { IfOk result (λ s. s ≡ asking model.now aim) }
     {
         let compiled = Compiled::new(alloc, model, system)?;
-        let vars = model.controls(alloc)?;
         let plain = plain_solver(alloc, &compiled, system, aim.present.as_slice())?;
         Ok(Setting {
             compiled,
-            vars,
             aim,
             plain,
         })
@@ -68,13 +63,6 @@ impl<'a> Setting<'a> {
         ensures { result.now ≡ self.now.plant }
     {
         &self.compiled
-    }
-
-    /// The controls of the plant.
-    pub fn controls(&self) -> &[VarId]
-        ensures { result.now ≡ controls self.now.plant }
-    {
-        self.vars.as_slice()
     }
 
     pub fn aim(&self) -> &Aim

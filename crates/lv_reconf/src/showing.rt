@@ -7,7 +7,6 @@ ghost use Rattle.lv_compile.specs.Booleans.{bool_count, booleans_next};
 ghost use Rattle.lv_compile.specs.FormulaClauses.{size_of};
 ghost use Rattle.lv_meaning.specs.declared.facts.Observation.{Observation as ObservationOf};
 ghost use Rattle.lv_meaning.specs.Facts.{agrees};
-ghost use Rattle.lv_model.specs.Lists.{controls};
 ghost use Rattle.lv_model.specs.Ranges.{plant_ranges};
 ghost use Rattle.lv_model.specs.declared.state.TrackedState.{TrackedState};
 ghost use Rattle.lv_meaning.specs.Ranges.{modes_fit, StateFits};
@@ -18,7 +17,7 @@ ghost use Rattle.lv_reconf.specs.Tests.{two_pass};
 
 use super::assumptions::{assume, assumptions};
 use super::compiled::Compiled;
-use lv_base::{Pair, VarId};
+use lv_base::Pair;
 use lv_meaning::Observation;
 use lv_model::{State, TrackedState};
 use lv_sat::{Answer, Solver};
@@ -30,21 +29,19 @@ fn shows(
     alloc: Global,
     compiled: &Compiled,
     solver: &mut Solver,
-    vars: &[VarId],
     state: &State,
     pairs: &[Pair],
     seen: Observation,
 ) -> Result<bool, AllocError>
     requires bools { solver.old.set.bools ≡ bool_count compiled.now }
     requires modes { modes_fit (plant_ranges compiled.now) compiled.now.parts state.now.modes ≡ true }
-    requires controls { vars.now ≡ controls compiled.now }
     requires pairs { pairs_fit compiled.now pairs.now ≡ true }
     requires value { seen.val.0 < size_of (booleans_next compiled.now) seen.var.0 }
     ensures answer { (present : List ObservationOf) (ends : List ValId → Bool) → Asks compiled.now present ends solver.old.set →
         IfOk result (λ answer. answer ≡ some_nominal_step compiled.now present state.now pairs.now (λ b. ends b && agrees b seen)) }
     ensures kept { solver.new.set ≡ solver.old.set }
 {
-    let mut lits = assumptions(alloc, compiled, vars, state.modes.as_slice(), pairs)?;
+    let mut lits = assumptions(alloc, compiled, state.modes.as_slice(), pairs)?;
     assume(&mut lits, compiled.ends_with(seen.var, seen.val))?;
     match solver.solve(lits.as_slice())? {
         Answer::Sat { .. } => Ok(true),
@@ -57,14 +54,12 @@ pub fn shown_twice(
     alloc: Global,
     compiled: &Compiled,
     solver: &mut Solver,
-    vars: &[VarId],
     states: &[TrackedState],
     pairs: &[Pair],
     seen: Observation,
 ) -> Result<bool, AllocError>
     requires bools { solver.old.set.bools ≡ bool_count compiled.now }
     requires states { All (StateFits compiled.now) states.now }
-    requires controls { vars.now ≡ controls compiled.now }
     requires pairs { pairs_fit compiled.now pairs.now ≡ true }
     requires value { seen.val.0 < size_of (booleans_next compiled.now) seen.var.0 }
     ensures answer { (present : List ObservationOf) (ends : List ValId → Bool) → Asks compiled.now present ends solver.old.set →
@@ -73,7 +68,7 @@ pub fn shown_twice(
 {
     let mut once = false;
     for s in states {
-        let shown = shows(alloc, compiled, solver, vars, &s.state, pairs, seen)?;
+        let shown = shows(alloc, compiled, solver, &s.state, pairs, seen)?;
         if shown && once {
             return Ok(true);
         }

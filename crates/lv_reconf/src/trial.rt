@@ -59,7 +59,6 @@ impl<'s, 'a> ReconfTrial<'s, 'a> {
             self.alloc,
             setting.compiled(),
             setting.plain(),
-            setting.controls(),
             &aim.tracked.as_slice()[..count],
             pairs,
             aim.goals.as_slice(),

@@ -5,18 +5,13 @@ use Rattle.std.proofs.lemmas.List.Sums.{AllPass-from_list_all}
 use Rattle.lv_model.specs.Lists.{controls}
 use Rattle.lv_meaning.specs.Recovers.{has_controls}
 use Rattle.lv_reconf.specs.Assuming.{pair_fits}
-use Rattle.lv_reconf.proofs.AssumingLemmas.{slot_there, control_more, assumes_end}
+use Rattle.lv_reconf.proofs.AssumingLemmas.{control_more, assumes_end}
 use Rattle.lv_reconf.proofs.MarkLemmas.{adds_control}
 use Rattle.lv_reconf.proofs.assumptions.assume_controls.Goals as goal
 
 pub assume_control-requires-clause-fits : goal.assume_control-requires-clause-fits
 assume_control-requires-clause-fits c =
     AllPass-from_list_all (pair_fits c.args.compiled.now) c.args.pairs.now c.requires.fit c.loop-pair.pair-index (record { slot = 0; choice = 0 }) c.loop-pair-test.true
-
-pub assume_control-requires-clause-slot : goal.assume_control-requires-clause-slot
-assume_control-requires-clause-slot c =
-    slot_there c.args.compiled.now (get_or c.args.pairs.now c.loop-pair.pair-index (record { slot = 0; choice = 0 })) c.args.vars.now c.requires.controls
-    (AllPass-from_list_all (pair_fits c.args.compiled.now) c.args.pairs.now c.requires.fit c.loop-pair.pair-index (record { slot = 0; choice = 0 }) c.loop-pair-test.true)
 
 pub loop-pair-preserved : goal.loop-pair-preserved
 loop-pair-preserved c =

@@ -14,7 +14,7 @@ pub loop-k-preserved : goal.loop-k-preserved
 loop-k-preserved c =
     let same : c.plant-plant.result.now ≡ c.args.compiled.now = c.plant-plant.ensures.plant ∙ c.model.ensures in
     mode_more c.args.compiled.now c.args.modes.now c.requires.fit c.args.lits.now.items c.loop-k.lits.items c.assume_value.new.lits.items c.loop-k.k c.part-item.result (record { 0 = 0 })
-    c.as_slice-part-items.result.now (c.as_slice-part-items.ensures ∙ ap (λ (p : Plant). p.parts) same) c.loop-k-test.true c.part-item.is c.loop-k.invariant c.in_ok-assume_value.ensures.says
+    c.as_slice-part-items.result.now (c.as_slice-part-items.ensures ∙ ap (λ (p : Plant). p.parts) same) c.loop-k-test.true c.part-item.is c.loop-k.invariant c.in_ok-assume_value.ensures
 
 pub returns : goal.returns
 returns c =
