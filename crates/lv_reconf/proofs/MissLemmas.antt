@@ -11,6 +11,7 @@ use Rattle.lv_search.proofs.lv_boxes.RankedMemberLemmas.{one_test}
 use Rattle.lv_meaning.specs.declared.aim.Aim.{Aim}
 use Rattle.lv_meaning.specs.Recovers.{meets_goals, can_miss}
 use Rattle.lv_meaning.proofs.NominalSteps.{StepFound, step_found, found_step, denied}
+use Rattle.lv_reconf.specs.Assuming.{CommandedValue, commanding}
 use Rattle.lv_reconf.specs.Trying.{misses_goal, some_missed, some_can_miss}
 
 -- an item that passes
@@ -90,7 +91,7 @@ module _ (plant : Plant) (aim : Aim) (pairs : List Pair) where
       some_turned (misses_goal plant aim.present pairs) aim.goals states
       ∙ any_alike (λ (s : TrackedState). list_any (λ (g : Tree). misses_goal plant aim.present pairs g s) aim.goals) (λ (s : TrackedState). can_miss plant aim s.state pairs) states missed_by_goal
 
-pub missed_all : (plant given : Plant) → given ≡ plant → (aim : Aim) (goals : List Tree) → goals ≡ aim.goals → (tracked : List TrackedState) → tracked ≡ aim.tracked → (count : ℕ) (pairs : List Pair)
-    → some_missed given aim.present pairs goals (take count tracked) ≡ some_can_miss plant aim count pairs
-missed_all plant given same aim goals goals_are tracked tracked_are count pairs =
-    (λ i. some_missed (same i) aim.present pairs (goals_are i) (take count (tracked_are i))) ∙ missed_is plant aim pairs (take count aim.tracked)
+pub missed_all : (plant : Plant) (pairs : List Pair) (v : CommandedValue) → v ≡ commanding plant pairs → (aim : Aim) (goals : List Tree) → goals ≡ aim.goals
+    → (tracked : List TrackedState) → tracked ≡ aim.tracked → (count : ℕ) → some_missed v.plant aim.present v.pairs goals (take count tracked) ≡ some_can_miss plant aim count pairs
+missed_all plant pairs v made aim goals goals_are tracked tracked_are count =
+    (λ i. some_missed (made i).plant aim.present (made i).pairs (goals_are i) (take count (tracked_are i))) ∙ missed_is plant aim pairs (take count aim.tracked)

@@ -7,7 +7,7 @@ use Rattle.std.proofs.lemmas.List.Folds.{list_all-append}
 use Rattle.lv_base.specs.declared.ids.Lit.{Lit}
 use Rattle.lv_base.specs.declared.ids.ValId.{ValId}
 use Rattle.lv_base.specs.declared.search.Pair.{Pair}
-use Rattle.lv_clauses.specs.Literals.{lit_holds}
+use Rattle.lv_clauses.specs.Literals.{in_range, lit_holds}
 use Rattle.lv_clauses.specs.ClauseMap.{ClauseMap, slot_holds, satisfies}
 use Rattle.lv_sat.specs.declared.answer.Answer.{Answer}
 use Rattle.lv_sat.specs.declared.answer.Answer.TheVariants.{Sat, Unsat}
@@ -24,9 +24,9 @@ use Rattle.lv_meaning.specs.Facts.{agrees, meets}
 use Rattle.lv_meaning.specs.Search.{some_below}
 use Rattle.lv_meaning.specs.Recovers.{has_modes, has_controls, some_nominal_step}
 use Rattle.lv_system.specs.Encoding.{truth_in}
-use Rattle.lv_system.proofs.LiteralLemmas.{value_true}
+use Rattle.lv_system.proofs.LiteralLemmas.{next_in_range, value_true}
 use Rattle.lv_reconf.specs.Narrowing.{Asks}
-use Rattle.lv_reconf.specs.Assuming.{Assumes, HasMore}
+use Rattle.lv_reconf.specs.Assuming.{AreAssumed, Assumes, HasMore}
 use Rattle.lv_reconf.specs.Tests.{two_pass}
 use Rattle.lv_reconf.proofs.NarrowingLemmas.{and_in_turn}
 use Rattle.lv_reconf.proofs.AskingLemmas.{model_is_step, refuted}
@@ -36,8 +36,12 @@ alone true = refl
 alone false = refl
 
 module _ (plant : Plant) (present : List Observation) (ends : List ValId → Bool) (set : ClauseMap) (lits more : List Lit) (s : State) (pairs : List Pair) (asks : Asks plant present ends set)
-    (assumes : Assumes plant [] lits (λ a. has_modes plant.parts s.modes a && has_controls (controls plant) a pairs)) (l : Lit) (has : HasMore (bool_count plant) lits more l)
+    (assumes : Assumes plant [] lits (λ a. has_modes plant.parts s.modes a && has_controls (controls plant) a pairs)) (l : Lit)
+    (adds : (bools : ℕ) → AreAssumed bools lits → in_range bools l ≡ true → HasMore bools lits more l)
     (o : Observation) (below : o.val.0 < size_of (booleans_next plant) o.var.0) (is : l ≡ value_literal (booleans_next plant) o.var.0 o.val.0 true) where
+  has : HasMore (bool_count plant) lits more l
+  has = adds (bool_count plant) assumes.assumed (ap (in_range (bool_count plant)) is ∙ next_in_range plant true o.var.0 o.val.0 below)
+
   -- the clauses with one more, that the literal is true
   abbrev narrow : ClauseMap
   narrow = record { bools = set.bools; slots = set.slots ++ Some (l ∷ []) ∷ [] }

@@ -42,6 +42,14 @@ pair_fits plant p = nat_lt p.choice (slice_index_or (control_sizes plant) p.slot
 abbrev pub pairs_fit : Plant → List Pair → Bool
 pairs_fit plant pairs = list_all (pair_fits plant) pairs
 
+-- the plant, and values that controls have
+pub record CommandedValue : Type 0 where
+  pub plant : Plant
+  pub pairs : List Pair
+
+abbrev pub commanding : Plant → List Pair → CommandedValue
+commanding plant pairs = record { plant = plant; pairs = pairs }
+
 -- the literal that the control at the pair's slot has the pair's value
 abbrev pub control_literal : Plant → Pair → Lit
 control_literal plant p = value_literal (booleans_now plant) (slice_index_or (controls plant) p.slot (record { 0 = 0 })).0 p.choice true

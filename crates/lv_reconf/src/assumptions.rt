@@ -1,7 +1,7 @@
 //! What a question assumes: the modes of a state and the values of some controls, as literals.
 #![tactic(auto)]
 
-ghost use Rattle.std.specs.Prelude.{◌≡◌, ◌<◌, ℕ, [], true, nat_eq, ◌&&◌, length, IfOk};
+ghost use Rattle.std.specs.Prelude.{◌≡◌, ◌<◌, ℕ, true, nat_eq, length, IfOk};
 ghost use Rattle.std.specs.List.{list_any};
 ghost use Rattle.lv_clauses.specs.Literals.{in_range, same_var};
 ghost use Rattle.lv_compile.specs.Booleans.{booleans_now, bool_count};
@@ -11,11 +11,11 @@ ghost use Rattle.lv_model.specs.Lists.{controls};
 ghost use Rattle.lv_model.specs.Ranges.{plant_ranges};
 ghost use Rattle.lv_meaning.specs.Ranges.{modes_fit};
 ghost use Rattle.lv_meaning.specs.Recovers.{has_modes, has_control, has_controls};
-ghost use Rattle.lv_reconf.specs.Assuming.{AddsControls, AddsOne, AreAssumed, Assumes, HasMore, MarkedHold, control_literal, pair_fits, pairs_fit};
+ghost use Rattle.lv_reconf.specs.Assuming.{AddsControls, AddsOne, AreAssumed, Assumes, HasMore, control_literal, pair_fits, pairs_fit};
 
 use super::compiled::Compiled;
 use lv_base::{Lit, Pair, ValId, VarId};
-use std::alloc::{AllocError, Global};
+use std::alloc::AllocError;
 
 /// Whether a literal of the same boolean is among these.
 fn has_boolean(lits: &[Lit], lit: Lit) -> bool
@@ -52,7 +52,11 @@ fn assume_value(
 }
 
 /// Assumes that each part is in its mode.
-fn assume_modes(compiled: &Compiled, lits: &mut Vec<Lit>, modes: &[ValId]) -> Result<(), AllocError>
+pub fn assume_modes(
+    compiled: &Compiled,
+    lits: &mut Vec<Lit>,
+    modes: &[ValId],
+) -> Result<(), AllocError>
     requires assumed { AreAssumed (bool_count compiled.now) lits.old.items }
     requires fit { modes_fit (plant_ranges compiled.now) compiled.now.parts modes.now ≡ true }
     requires whole { length modes.now ≡ length compiled.now.parts }
@@ -76,7 +80,7 @@ fn assume_control(compiled: &Compiled, lits: &mut Vec<Lit>, pair: Pair) -> Resul
 }
 
 /// Assumes these values of controls.
-fn assume_controls(
+pub fn assume_controls(
     compiled: &Compiled,
     lits: &mut Vec<Lit>,
     pairs: &[Pair],
@@ -90,22 +94,4 @@ fn assume_controls(
         assume_control(compiled, lits, *pair)?;
     }
     Ok(())
-}
-
-/// The literals that say that the parts are in these modes and that controls have these values.
-pub fn assumptions(
-    alloc: Global,
-    compiled: &Compiled,
-    modes: &[ValId],
-    pairs: &[Pair],
-) -> Result<Vec<Lit>, AllocError>
-    requires fit { modes_fit (plant_ranges compiled.now) compiled.now.parts modes.now ≡ true }
-    requires pairs { pairs_fit compiled.now pairs.now ≡ true }
-    ensures marked { IfOk result (λ lits. MarkedHold compiled.now modes.now pairs.now lits.items) }
-    ensures says { IfOk result (λ lits. Assumes compiled.now [] lits.items (λ a. has_modes compiled.now.parts modes.now a && has_controls (controls compiled.now) a pairs.now)) }
-{
-    let mut lits = Vec::new(alloc);
-    assume_modes(compiled, &mut lits, modes)?;
-    assume_controls(compiled, &mut lits, pairs)?;
-    Ok(lits)
 }

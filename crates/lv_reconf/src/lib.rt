@@ -7,26 +7,24 @@
 //! | `query` | `recover` and `Query`: the search and what its trials rest on |
 //! | `trial`, `judged` | whether a command set recovers, and the reason of one that doesn't |
 //! | `reaching` | from which tracked states values reach the goals, and what of them is needed where they don't |
-//! | `asking`, `states` | whether there is such a step as a solver's clauses ask for, from one state or from several |
+//! | `commanded` | what is asked about values of controls, from one state or several: such a step as a solver's clauses ask for, a goal missed, a value seen |
 //! | `test_query` | `find_test` and `TestQuery`: the same search for a command set that tells tracked states apart |
-//! | `testing`, `showing` | whether a command set does, and the reason of one that doesn't |
+//! | `testing` | whether a command set does, and the reason of one that doesn't |
 //! | `setting` | what the questions of a recovery rest on |
 //! | `compiled` | a model with its controls and the numbering of its system, and the clauses of goals |
 //! | `clauses`, `goals` | solvers for nominal steps, those that meet all goals, those that miss one |
 //! | `assumptions` | a state and values of controls as literals |
 #![tactic(auto)]
 
-mod asking;
 mod assumptions;
 mod clauses;
+mod commanded;
 mod compiled;
 mod goals;
 mod judged;
 pub mod query;
 mod reaching;
 mod setting;
-mod showing;
-mod states;
 pub mod test_query;
 mod testing;
 mod trial;

@@ -11,11 +11,9 @@ ghost use Rattle.lv_reconf.specs.Assuming.{pairs_fit};
 ghost use Rattle.lv_reconf.specs.Tests.{can_show, two_pass};
 ghost use Rattle.lv_reconf.specs.Trying.{asking, looking_at, reaches_at};
 
-use super::asking::refuted;
+use super::commanded::Commanded;
 use super::goals::reaching_solver;
 use super::setting::Setting;
-use super::showing::shown_twice;
-use super::states::count_stepping;
 use lv_asking::{Refuter, reduced};
 use lv_base::{Pair, ValId, VarId};
 use lv_clauses::{Marks, is_marked};
@@ -74,13 +72,8 @@ impl<'s, 'a> Reaching<'s, 'a> {
         ensures count { IfOk result (λ n. n ≡ prefix_len (λ (s : TrackedState). reaches self.old.plant self.old.aim s.state pairs.now) self.old.aim.tracked) }
         ensures kept { self.new ≡ self.old }
     {
-        count_stepping(
-            self.alloc,
-            self.setting.compiled(),
-            &mut self.solver,
-            self.setting.aim().tracked.as_slice(),
-            pairs,
-        )
+        let states = self.setting.aim().tracked.as_slice();
+        Commanded::new(self.alloc, self.setting, pairs).count_stepping(&mut self.solver, states)
     }
 
     /// Whether a variable may be seen to have this value after steps from two of the tracked states, where nothing is asked of
@@ -97,12 +90,10 @@ impl<'s, 'a> Reaching<'s, 'a> {
         ensures answer { IfOk result (λ answer. answer ≡ two_pass (can_show self.old.plant self.old.aim var pairs.now val.0) self.old.aim.tracked) }
         ensures kept { self.new ≡ self.old }
     {
-        shown_twice(
-            self.alloc,
-            self.setting.compiled(),
+        let states = self.setting.aim().tracked.as_slice();
+        Commanded::new(self.alloc, self.setting, pairs).shown_twice(
             &mut self.solver,
-            self.setting.aim().tracked.as_slice(),
-            pairs,
+            states,
             Observation { var, val },
         )
     }
@@ -135,12 +126,9 @@ impl Refuter for Reaching<'_, '_> {
 
     fn refuted(&mut self, pairs: &[Pair], _kept: usize) -> Result<Option<Marks>, AllocError> {
         match self.setting.aim().tracked.as_slice().get(self.at) {
-            Some(s) => refuted(
-                self.alloc,
-                self.setting.compiled(),
+            Some(s) => Commanded::new(self.alloc, self.setting, pairs).refuted(
                 &mut self.solver,
                 &s.state,
-                pairs,
             ),
             None => Ok(Some(Marks::new(self.alloc, 0)?)),
         }

@@ -9,10 +9,10 @@ ghost use Rattle.lv_reconf.specs.Assuming.{pairs_fit};
 ghost use Rattle.lv_reconf.specs.Judging.{candidate_commands, Judges};
 ghost use Rattle.lv_reconf.specs.Trying.{some_can_miss};
 
+use super::commanded::Commanded;
 use super::judged::Judged;
 use super::reaching::Reaching;
 use super::setting::Setting;
-use super::states::some_missed;
 use lv_base::{Candidate, Conflict, Pair, pairs_of};
 use lv_search::{Trial, Tried};
 use std::alloc::{AllocError, Global};
@@ -55,12 +55,9 @@ impl<'s, 'a> ReconfTrial<'s, 'a> {
     {
         let setting = self.reaching.setting();
         let aim = setting.aim();
-        some_missed(
-            self.alloc,
-            setting.compiled(),
+        Commanded::new(self.alloc, setting, pairs).some_missed(
             setting.plain(),
             &aim.tracked.as_slice()[..count],
-            pairs,
             aim.goals.as_slice(),
         )
     }

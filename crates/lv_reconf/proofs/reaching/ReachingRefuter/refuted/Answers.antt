@@ -2,9 +2,9 @@
 use Rattle.std.proofs.Common.{◌≡◌, Bool, List, Some, None, slice_get, sym, subst, ap, ◌∙◌}
 use Rattle.std.specs.Result.{IfOk}
 use Rattle.std.proofs.lemmas.Result.{IfOk-weaker}
-use Rattle.lv_model.specs.declared.plant.Plant.{Plant}
 use Rattle.lv_meaning.specs.declared.aim.Aim.{Aim}
 use Rattle.lv_meaning.specs.Recovers.{meets_goals}
+use Rattle.lv_reconf.specs.Assuming.{CommandedValue}
 use Rattle.lv_reconf.specs.Narrowing.{Asks}
 use Rattle.lv_base.specs.declared.search.Pair.{Pair}
 use Rattle.lv_asking.specs.Reducing.{RefutesPairs}
@@ -24,9 +24,9 @@ returns-in-Some-clause-told c =
     (IfOk-weaker c.refuted.result _ _
     (λ core told.
     refuted_there (looking_at s.plant s.aim c.self.inside.at) c.in-Some.s.now there c.args.pairs.now core
-    (subst (λ (p : Plant). RefutesSteps p s.aim.present (meets_goals s.aim.goals) c.in-Some.s.now.state c.args.pairs.now core) c.compiled.ensures told))
+    (subst (λ (v : CommandedValue). RefutesSteps v.plant s.aim.present (meets_goals s.aim.goals) c.in-Some.s.now.state v.pairs core) c.new.ensures told))
     (c.refuted.ensures.answer s.aim.present (meets_goals s.aim.goals)
-    (subst (λ (p : Plant). Asks p s.aim.present (meets_goals s.aim.goals) c.self.inside.solver.set) (sym c.compiled.ensures) c.self.invariant))))
+    (subst (λ (v : CommandedValue). Asks v.plant s.aim.present (meets_goals s.aim.goals) c.self.inside.solver.set) (sym c.new.ensures) c.self.invariant))))
 
 pub returns-in_ok-new-in-None-clause-told : goal.returns-in_ok-new-in-None-clause-told
 returns-in_ok-new-in-None-clause-told c =

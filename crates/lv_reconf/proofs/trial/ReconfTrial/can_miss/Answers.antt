@@ -2,8 +2,8 @@
 use Rattle.std.proofs.Common.{◌≡◌, true, ap, sym, ◌∙◌, subst}
 use Rattle.std.specs.Result.{IfOk}
 use Rattle.std.proofs.lemmas.Result.{IfOk-weaker}
-use Rattle.lv_model.specs.declared.plant.Plant.{Plant}
 use Rattle.lv_meaning.specs.declared.aim.Aim.{Aim}
+use Rattle.lv_reconf.specs.Assuming.{CommandedValue}
 use Rattle.lv_reconf.specs.Narrowing.{Asks}
 use Rattle.lv_reconf.specs.Trying.{Question, some_can_miss}
 use Rattle.lv_reconf.proofs.MissLemmas.{missed_all}
@@ -16,6 +16,6 @@ returns c =
     (IfOk-weaker c.some_missed.result _ _
     (λ answer told.
     told
-    ∙ missed_all s.plant c.compiled.result.now c.compiled.ensures s.aim c.as_slice-2.result.now (c.as_slice-2.ensures ∙ ap (λ (a : Aim). a.goals) c.aim-aim.ensures.aim)
-    c.as_slice.result.now (c.as_slice.ensures ∙ ap (λ (a : Aim). a.tracked) c.aim-aim.ensures.aim) c.args.count c.args.pairs.now)
-    (c.some_missed.ensures s.aim.present (subst (λ (p : Plant). Asks p s.aim.present (λ b. true) c.plain.result.now.set) (sym c.compiled.ensures) c.plain.ensures)))
+    ∙ missed_all s.plant c.args.pairs.now c.new.result c.new.ensures s.aim c.as_slice-2.result.now (c.as_slice-2.ensures ∙ ap (λ (a : Aim). a.goals) c.aim-aim.ensures.aim)
+    c.as_slice.result.now (c.as_slice.ensures ∙ ap (λ (a : Aim). a.tracked) c.aim-aim.ensures.aim) c.args.count)
+    (c.some_missed.ensures s.aim.present (subst (λ (v : CommandedValue). Asks v.plant s.aim.present (λ b. true) c.plain.result.now.set) (sym c.new.ensures) c.plain.ensures)))

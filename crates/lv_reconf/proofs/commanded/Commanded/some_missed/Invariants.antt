@@ -3,8 +3,8 @@ use Rattle.std.proofs.Common.{◌≡◌, true, List, drop}
 use Rattle.lv_meaning.specs.declared.facts.Observation.{Observation}
 use Rattle.lv_reconf.specs.Narrowing.{Asks}
 use Rattle.lv_reconf.specs.Trying.{some_missed}
-use Rattle.lv_reconf.proofs.states.some_missed.Given as goal
+use Rattle.lv_reconf.proofs.commanded.Commanded.some_missed.Given as goal
 
 abbrev pub invariant-loop-goal : goal.invariant-loop-goal
 invariant-loop-goal l =
-    (present : List Observation) → Asks l.compiled present (λ b. true) l.plain.set → some_missed l.compiled present l.pairs (drop l.goal-index l.goals) l.states ≡ some_missed l.compiled present l.pairs l.goals l.states
+    (present : List Observation) → Asks l.self.plant present (λ b. true) l.plain.set → some_missed l.self.plant present l.self.pairs (drop l.goal-index l.goals) l.states ≡ some_missed l.self.plant present l.self.pairs l.goals l.states

@@ -6,12 +6,12 @@ use Rattle.lv_model.specs.declared.state.TrackedState.{TrackedState}
 use Rattle.lv_meaning.specs.declared.facts.Observation.{Observation}
 use Rattle.lv_meaning.specs.Recovers.{some_nominal_step}
 use Rattle.lv_reconf.specs.Narrowing.{Asks}
-use Rattle.lv_reconf.proofs.states.count_stepping.Given as goal
+use Rattle.lv_reconf.proofs.commanded.Commanded.count_stepping.Given as goal
 
 abbrev pub invariant-loop-n : goal.invariant-loop-n
 invariant-loop-n l = record {
   same : l.solver.set ≡ l.initial.solver.set;
-  rest : (present : List Observation) (ends : List ValId → Bool) → Asks l.compiled present ends l.initial.solver.set
-      → (l.n + prefix_len (λ (s : TrackedState). some_nominal_step l.compiled present s.state l.pairs ends) (drop l.n l.states))
-      ≡ prefix_len (λ (s : TrackedState). some_nominal_step l.compiled present s.state l.pairs ends) l.states;
+  rest : (present : List Observation) (ends : List ValId → Bool) → Asks l.self.plant present ends l.initial.solver.set
+      → (l.n + prefix_len (λ (s : TrackedState). some_nominal_step l.self.plant present s.state l.self.pairs ends) (drop l.n l.states))
+      ≡ prefix_len (λ (s : TrackedState). some_nominal_step l.self.plant present s.state l.self.pairs ends) l.states;
 }

@@ -7,14 +7,14 @@ use Rattle.lv_meaning.specs.Recovers.{some_nominal_step}
 use Rattle.lv_reconf.specs.Narrowing.{Asks}
 use Rattle.lv_reconf.specs.Tests.{two_pass}
 use Rattle.lv_reconf.proofs.ShowingLemmas.{and_false, twice_goes, twice_found, twice_ends}
-use Rattle.lv_reconf.proofs.showing.shown_twice.Goals as goal
-use Rattle.lv_reconf.proofs.showing.shown_twice.Goals.{else-shown-via-then-shown+else-once, else-shown-via-else-shown, then-once-2, else-once-2}
+use Rattle.lv_reconf.proofs.commanded.Commanded.shown_twice.Goals as goal
+use Rattle.lv_reconf.proofs.commanded.Commanded.shown_twice.Goals.{else-shown-via-then-shown+else-once, else-shown-via-else-shown, then-once-2, else-once-2}
 
 pub returns-then-once-clause-answer : goal.returns-then-once-clause-answer
 returns-then-once-clause-answer c =
     λ present ends asks.
-    let p : TrackedState → Bool = λ s. some_nominal_step c.args.compiled.now present s.state c.args.pairs.now (λ b. ends b && agrees b c.args.seen) in
-    let now : Asks c.args.compiled.now present ends c.loop-s.solver.set = subst (λ (m : ClauseMap). Asks c.args.compiled.now present ends m) (sym c.loop-s.invariant.same) asks in
+    let p : TrackedState → Bool = λ s. some_nominal_step c.args.self.now.plant present s.state c.args.self.now.pairs (λ b. ends b && agrees b c.args.seen) in
+    let now : Asks c.args.self.now.plant present ends c.loop-s.solver.set = subst (λ (m : ClauseMap). Asks c.args.self.now.plant present ends m) (sym c.loop-s.invariant.same) asks in
     let both : (c.in_ok-shown.shown && c.loop-s.once) ≡ true = ap (λ b. b && c.loop-s.once) c.if-shown.true ∙ c.if-once.true in
     twice_found p c.args.states.now c.loop-s.s-index c.s-item.result c.loop-s.once c.in_ok-shown.shown (two_pass p c.args.states.now) c.loop-s-test.true c.s-item.is
     (c.in_ok-shown.ensures.answer present ends now) both (c.loop-s.invariant.rest present ends asks)
@@ -35,8 +35,8 @@ loop-s-preserved c =
       same = c.shows.ensures.kept ∙ c.loop-s.invariant.same;
       rest =
           λ present ends asks.
-          let p : TrackedState → Bool = λ s. some_nominal_step c.args.compiled.now present s.state c.args.pairs.now (λ b. ends b && agrees b c.args.seen) in
-          let now : Asks c.args.compiled.now present ends c.loop-s.solver.set = subst (λ (m : ClauseMap). Asks c.args.compiled.now present ends m) (sym c.loop-s.invariant.same) asks in
+          let p : TrackedState → Bool = λ s. some_nominal_step c.args.self.now.plant present s.state c.args.self.now.pairs (λ b. ends b && agrees b c.args.seen) in
+          let now : Asks c.args.self.now.plant present ends c.loop-s.solver.set = subst (λ (m : ClauseMap). Asks c.args.self.now.plant present ends m) (sym c.loop-s.invariant.same) asks in
           rw once_is
           (twice_goes p c.args.states.now c.loop-s.s-index c.s-item.result c.loop-s.once c.in_ok-shown.shown (two_pass p c.args.states.now) c.loop-s-test.true c.s-item.is
           (c.in_ok-shown.ensures.answer present ends now) not_both (c.loop-s.invariant.rest present ends asks));
@@ -45,5 +45,5 @@ loop-s-preserved c =
 pub returns-clause-answer : goal.returns-clause-answer
 returns-clause-answer c =
     λ present ends asks.
-    let p : TrackedState → Bool = λ s. some_nominal_step c.args.compiled.now present s.state c.args.pairs.now (λ b. ends b && agrees b c.args.seen) in
+    let p : TrackedState → Bool = λ s. some_nominal_step c.args.self.now.plant present s.state c.args.self.now.pairs (λ b. ends b && agrees b c.args.seen) in
     twice_ends p c.args.states.now c.loop-s.s-index c.loop-s.once (two_pass p c.args.states.now) c.loop-s-test.false (c.loop-s.invariant.rest present ends asks)
