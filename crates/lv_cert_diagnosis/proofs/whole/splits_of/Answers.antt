@@ -15,5 +15,5 @@ pub close-requires-clause-explained : goal.close-requires-clause-explained
 close-requires-clause-explained c =
     let plant = c.args.model.now in
     explained_same (option_copied c.as_ref.result) (targets_for c.args.limit.distinct plant) (search rules) c.in_ok-grid.grid (move_slots plant) c.in_ok-grid.ensures c.in_ok-zones.zones.items (zones_from plant 0 c.args.tracked.now) c.in_ok-zones.ensures
-    (option_copied c.last_if_full-last.result) (last_if_full c.args.limit.most c.args.answer.now.listed.now) c.last_if_full-last.ensures c.args.answer.now.listed.now c.args.answer.now.kept.now
+    (option_copied c.last_if_full.result) (last_if_full c.args.limit.most c.args.answer.now.listed.now) c.last_if_full.ensures c.args.answer.now.listed.now c.args.answer.now.kept.now
     (all_explained plant c.args.tracked.now c.args.facts.now c.args.limit.most c.args.limit.distinct c.args.answer.now.listed.now c.args.answer.now.kept.now c.requires.settled c.requires.some)
