@@ -1,5 +1,5 @@
 -- Without the flag a window of one step replies as a diagnosis does.
-use Rattle.std.proofs.Common.{◌≡◌, ℕ, ◌+◌, Bool, true, false, cond, nat_le, List, length, refl, ◌∙◌, ap, arith}
+use Rattle.std.proofs.Common.{◌≡◌, ◌+◌, Bool, true, false, cond, length, refl, ◌∙◌, ap, arith}
 use Rattle.std.proofs.lemmas.Bool.{le-leb}
 use Rattle.lv_model.specs.declared.plant.Plant.{Plant}
 use Rattle.lv_search_walk.specs.declared.outcome.Outcome.{Outcome}
@@ -9,7 +9,7 @@ use Rattle.lv_reply.specs.declared.reply.Refusal.TheVariants.{OutOfLimits}
 use Rattle.lv_reply.specs.declared.reply.Reply.TheVariants.{Refused}
 use Rattle.lv_reply.specs.Texts.{reply_text}
 use Rattle.lv_session_state.specs.lv_session_history.History.{has_steps}
-use Rattle.lv_session_state.specs.State.{SessionState, unchanged, walked, tracing, traced, diagnosed, look_back, reply_by, diagnosis_reply, window_reply_by, window_reply}
+use Rattle.lv_session_state.specs.State.{SessionState, unchanged, tracing, traced, diagnosed, look_back, reply_by, diagnosis_reply, window_reply_by}
 use Rattle.lv_session_state.proofs.WindowReadings.{one_step_walk}
 
 -- what comes to the same has one text

@@ -21,7 +21,7 @@ use Rattle.lv_reply.specs.declared.reply.Refusal.TheVariants.{NameHeld, NameNotH
 use Rattle.lv_reply.specs.declared.reply.Reply.TheVariants.{Nothing as Silence, Refused, Committed, Certificate as Certified}
 use Rattle.lv_session_state.specs.lv_session_request.declared.request.Request.{Request}
 use Rattle.lv_session_state.specs.lv_session_history.History.{has_steps}
-use Rattle.lv_session_state.specs.Times.{is_kept, is_held_of, without_of, retract_at}
+use Rattle.lv_session_state.specs.Times.{is_kept, is_held_of, without_of}
 use Rattle.lv_session_state.specs.lv_session_request.declared.request.Request.TheVariants.{Nothing, Track, TrackDistinct, SetBudget, SetControl, Release, Observe, Retract, RetractAt, SetGoal, DropGoal, Diagnose, Recover, More, Commit, Conflicts, Certificate, Labels, LabelsFrom, States, Reset, Quit, Probe, Test as ToTest, Window as ToWindow}
 use Rattle.lv_session_state.specs.lv_session_request.Requests.{request_of}
 use Rattle.lv_session_state.specs.lv_session_request.Held.{lacks_name}

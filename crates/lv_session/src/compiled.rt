@@ -2,6 +2,7 @@
 #![tactic(auto)]
 
 ghost use Rattle.std.specs.Prelude.{◌≡◌, IfOk};
+ghost use Rattle.lv_session_state.specs.lv_model_names.Lists.{lists_of};
 ghost use Rattle.lv_session_state.specs.lv_system.System.{IsSystemOf};
 
 use lv_model::Model;
@@ -51,6 +52,13 @@ impl<'a> CompiledModel<'a> {
         ensures { result.now ≡ self.now }
     {
         self.model
+    }
+
+    /// The lists by which its names are looked up.
+    pub(crate) fn lists(&self) -> &Lists
+        ensures { result.now ≡ lists_of self.now }
+    {
+        &self.lists
     }
 
     /// Its clauses as a system.

@@ -3,7 +3,6 @@
 
 ghost use Rattle.std.specs.Prelude.{◌≡◌, ◌-◌, ◌++◌, None, IfOk, slice_get};
 ghost use Rattle.std.specs.Option.{option_copied};
-ghost use Rattle.lv_session_state.specs.lv_system.System.{IsSystemOf};
 ghost use Rattle.lv_labels.specs.Literals.{fact_literals, state_literals};
 ghost use Rattle.lv_labels.specs.Finding.{labelling};
 ghost use Rattle.lv_labels.specs.Holding.{HasOwnModes};
@@ -12,10 +11,11 @@ ghost use Rattle.lv_session.specs.Session.{labels_reply, labelled, labelled_from
 ghost use Rattle.lv_session_state.specs.States.{IsStateOf};
 ghost use Rattle.lv_session.specs.Kept.{IsLabellerOf};
 
+use crate::compiled::CompiledModel;
 use lv_labels::{Labeller, Labelling};
 use lv_model::{Model, State as Modes, TrackedState};
 use lv_reply::{Refusal, Reply};
-use lv_session_state::{State, StepSystem};
+use lv_session_state::State;
 use std::alloc::{AllocError, Global};
 
 /// What propagation finds, as a reply.
@@ -31,18 +31,16 @@ fn labels_reply(labelling: Labelling) -> Reply
 /// The labeller that is held, or where none is a new one.
 fn taken<'a>(
     alloc: Global,
-    model: &'a Model,
-    system: &StepSystem,
+    compiled: &'a CompiledModel<'a>,
     held: &mut Option<Labeller<'a>>,
 ) -> Result<Labeller<'a>, AllocError>
-    requires system { IsSystemOf model.now system.now }
-    requires held { IsLabellerOf model.now held.old }
-    ensures labeller { IfOk result (λ labeller. labeller ≡ model.now) }
-    ensures held { IsLabellerOf model.now held.new }
+    requires held { IsLabellerOf compiled.now held.old }
+    ensures labeller { IfOk result (λ labeller. labeller ≡ compiled.now) }
+    ensures held { IsLabellerOf compiled.now held.new }
 {
     match held.take() {
         Some(labeller) => Ok(labeller),
-        None => Labeller::new(alloc, model, system),
+        None => Labeller::new(alloc, compiled.model(), compiled.system()),
     }
 }
 
@@ -76,20 +74,18 @@ fn told(
 fn labelled<'a>(
     state: &State,
     alloc: Global,
-    model: &'a Model,
-    system: &StepSystem,
+    compiled: &'a CompiledModel<'a>,
     held: &mut Option<Labeller<'a>>,
     of: Option<&Modes>,
 ) -> Result<Reply, AllocError>
-    requires state { IsStateOf model.now state.now }
-    requires system { IsSystemOf model.now system.now }
-    requires held { IsLabellerOf model.now held.old }
-    requires modes { HasOwnModes model.now (option_copied of) }
-    ensures reply { IfOk result (λ reply. record { state = state.now; reply = reply } ≡ labelled model.now state.now (option_copied of.entry)) }
-    ensures held { IsLabellerOf model.now held.new }
+    requires state { IsStateOf compiled.now state.now }
+    requires held { IsLabellerOf compiled.now held.old }
+    requires modes { HasOwnModes compiled.now (option_copied of) }
+    ensures reply { IfOk result (λ reply. record { state = state.now; reply = reply } ≡ labelled compiled.now state.now (option_copied of.entry)) }
+    ensures held { IsLabellerOf compiled.now held.new }
 {
-    let mut labeller = taken(alloc, model, system, held)?;
-    let told = told(state, alloc, model, &mut labeller, of);
+    let mut labeller = taken(alloc, compiled, held)?;
+    let told = told(state, alloc, compiled.model(), &mut labeller, of);
     *held = Some(labeller);
     Ok(labels_reply(told?))
 }
@@ -98,36 +94,32 @@ fn labelled<'a>(
 pub(crate) fn labels<'a>(
     state: &State,
     alloc: Global,
-    model: &'a Model,
-    system: &StepSystem,
+    compiled: &'a CompiledModel<'a>,
     held: &mut Option<Labeller<'a>>,
 ) -> Result<Reply, AllocError>
-    requires state { IsStateOf model.now state.now }
-    requires system { IsSystemOf model.now system.now }
-    requires held { IsLabellerOf model.now held.old }
-    ensures reply { IfOk result (λ reply. record { state = state.now; reply = reply } ≡ labelled model.now state.now None) }
-    ensures held { IsLabellerOf model.now held.new }
+    requires state { IsStateOf compiled.now state.now }
+    requires held { IsLabellerOf compiled.now held.old }
+    ensures reply { IfOk result (λ reply. record { state = state.now; reply = reply } ≡ labelled compiled.now state.now None) }
+    ensures held { IsLabellerOf compiled.now held.new }
 {
-    labelled(state, alloc, model, system, held, None)
+    labelled(state, alloc, compiled, held, None)
 }
 
 /// `labels I`: with the modes of the tracked state of this number, counted from 1.
 pub(crate) fn labels_from<'a>(
     state: &State,
     alloc: Global,
-    model: &'a Model,
-    system: &StepSystem,
+    compiled: &'a CompiledModel<'a>,
     held: &mut Option<Labeller<'a>>,
     n: u32,
 ) -> Result<Reply, AllocError>
-    requires state { IsStateOf model.now state.now }
-    requires system { IsSystemOf model.now system.now }
-    requires held { IsLabellerOf model.now held.old }
-    ensures reply { IfOk result (λ reply. record { state = state.now; reply = reply } ≡ labelled_from model.now state.now n) }
-    ensures held { IsLabellerOf model.now held.new }
+    requires state { IsStateOf compiled.now state.now }
+    requires held { IsLabellerOf compiled.now held.old }
+    ensures reply { IfOk result (λ reply. record { state = state.now; reply = reply } ≡ labelled_from compiled.now state.now n) }
+    ensures held { IsLabellerOf compiled.now held.new }
 {
     match numbered(state.tracked().as_slice(), n) {
-        Some(s) => labelled(state, alloc, model, system, held, Some(&s.state)),
+        Some(s) => labelled(state, alloc, compiled, held, Some(&s.state)),
         None => Ok(Reply::Refused(Refusal::OutOfLimits)),
     }
 }

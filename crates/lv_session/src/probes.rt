@@ -3,35 +3,29 @@
 
 ghost use Rattle.std.specs.Prelude.{◌≡◌, IfOk, All, map};
 ghost use Rattle.lv_search_walk.specs.Walk.{candidate_of};
-ghost use Rattle.lv_session_state.specs.lv_system.System.{IsSystemOf};
-ghost use Rattle.lv_session_state.specs.lv_model_names.Lists.{lists_of};
 ghost use Rattle.lv_probe.specs.Probing.{IsFull};
 ghost use Rattle.lv_session.specs.Session.{probed, probe};
 ghost use Rattle.lv_session_state.specs.States.{IsStateOf};
 ghost use Rattle.lv_session_state.specs.Current.{IsCurrent};
 
+use crate::compiled::CompiledModel;
 use lv_base::{Rank, Seq};
-use lv_model::Model;
 use lv_probe::{best, probe as numbers};
 use lv_reply::{Refusal, Reply};
 use lv_search_walk::Outcome;
-use lv_session_state::{Lists, Query, Running, State, StepSystem};
+use lv_session_state::{Query, Running, State};
 use std::alloc::{AllocError, Global};
 
 /// What it would leave of these candidates.
 fn probed(
     state: &State,
     alloc: Global,
-    model: &Model,
-    system: &StepSystem,
-    lists: &Lists,
+    compiled: &CompiledModel<'_>,
     listed: &[Rank],
 ) -> Result<Reply, AllocError>
-    requires state { IsStateOf model.now state.now }
-    requires system { IsSystemOf model.now system.now }
-    requires lists { lists.now ≡ lists_of model.now }
-    requires full { All (IsFull model.now) (map candidate_of listed.now) }
-    ensures { IfOk result (λ reply. record { state = state.now; reply = reply } ≡ probed model.now state.now listed.now) }
+    requires state { IsStateOf compiled.now state.now }
+    requires full { All (IsFull compiled.now) (map candidate_of listed.now) }
+    ensures { IfOk result (λ reply. record { state = state.now; reply = reply } ≡ probed compiled.now state.now listed.now) }
 {
     if listed.is_empty() {
         return Ok(Reply::Refused(Refusal::NothingListed));
@@ -39,9 +33,9 @@ fn probed(
     let facts = state.facts(alloc)?;
     let observables = numbers(
         alloc,
-        model,
-        system,
-        lists.classes.as_slice(),
+        compiled.model(),
+        compiled.system(),
+        compiled.lists().classes.as_slice(),
         facts,
         listed,
     )?;
@@ -54,21 +48,17 @@ fn probed(
 pub(crate) fn probe(
     state: &State,
     alloc: Global,
-    model: &Model,
-    system: &StepSystem,
-    lists: &Lists,
+    compiled: &CompiledModel<'_>,
     running: &Running<'_>,
 ) -> Result<Reply, AllocError>
-    requires state { IsStateOf model.now state.now }
-    requires system { IsSystemOf model.now system.now }
-    requires lists { lists.now ≡ lists_of model.now }
-    requires running { IsCurrent model.now state.now running.now }
-    ensures { IfOk result (λ reply. record { state = state.now; reply = reply } ≡ probe state.now.query model.now state.now) }
+    requires state { IsStateOf compiled.now state.now }
+    requires running { IsCurrent compiled.now state.now running.now }
+    ensures { IfOk result (λ reply. record { state = state.now; reply = reply } ≡ probe state.now.query compiled.now state.now) }
 {
     match state.query() {
         Query::Absent => Ok(Reply::Refused(Refusal::NoQuery)),
         Query::Diagnosis(_) => match running.outcome() {
-            Outcome::Settled => probed(state, alloc, model, system, lists, running.listed()),
+            Outcome::Settled => probed(state, alloc, compiled, running.listed()),
             Outcome::Unsettled => Ok(Reply::Refused(Refusal::NoQuery)),
         },
         Query::Recovery(_) => Ok(Reply::Refused(Refusal::NoQuery)),

@@ -2,45 +2,44 @@
 #![tactic(auto)]
 
 ghost use Rattle.std.specs.Prelude.{◌≡◌, IfOk, OnOk, OnErr};
-ghost use Rattle.lv_session_state.specs.lv_model_names.Lists.{lists_of};
 ghost use Rattle.lv_session_state.specs.lv_session_request.Requests.{IsRequestOf};
 ghost use Rattle.lv_session.specs.Session.{carried_out};
 ghost use Rattle.lv_session.specs.Kept.{IsCaredFor, IsLabellerOf};
 ghost use Rattle.lv_session_state.specs.Current.{IsCurrent};
 ghost use Rattle.lv_session_state.specs.States.{IsStateOf};
-ghost use Rattle.lv_session_state.specs.lv_system.System.{IsSystemOf};
 
 use crate::certificates::certificate;
+use crate::compiled::CompiledModel;
 use crate::labels::{labels, labels_from};
 use crate::probes::probe;
-use lv_labels::Labeller;
-use lv_model::Model;
+use crate::workings::Workings;
 use lv_reply::Reply;
-use lv_session_state::{Lists, Request, Running, State, StepSystem};
+use lv_session_state::{Request, State};
 use std::alloc::{AllocError, Global};
 
 /// Does what is asked for, where this is kept of the current query. After want of memory the state is as it was.
 pub(crate) fn carry_out<'a>(
     alloc: Global,
-    model: &'a Model,
-    system: &StepSystem,
-    lists: &Lists,
+    compiled: &'a CompiledModel<'a>,
+    workings: &mut Workings<'a>,
     state: &mut State,
-    running: &mut Running<'a>,
-    labeller: &mut Option<Labeller<'a>>,
     request: Request,
 ) -> Result<Reply, AllocError>
-    requires state { IsStateOf model.now state.old }
-    requires request { IsRequestOf model.now request }
-    requires system { IsSystemOf model.now system.now }
-    requires lists { lists.now ≡ lists_of model.now }
-    requires running { IsCurrent model.now state.old running.old }
-    requires labeller { IsLabellerOf model.now labeller.old }
-    ensures ok { IfOk result (λ reply. record { state = state.new; reply = reply } ≡ carried_out model.now state.old request) }
+    requires state { IsStateOf compiled.now state.old }
+    requires request { IsRequestOf compiled.now request }
+    requires running { IsCurrent compiled.now state.old workings.old.running }
+    requires labeller { IsLabellerOf compiled.now workings.old.labeller }
+    ensures ok { IfOk result (λ reply. record { state = state.new; reply = reply } ≡ carried_out compiled.now state.old request) }
     ensures err { OnErr result (state.new ≡ state.old) }
-    ensures running { OnOk result (IsCaredFor request model.now state.new running.old running.new) }
-    ensures labeller { IsLabellerOf model.now labeller.new }
+    ensures running { OnOk result (IsCaredFor request compiled.now state.new workings.old.running workings.new.running) }
+    ensures labeller { IsLabellerOf compiled.now workings.new.labeller }
 {
+    let (model, system) = (compiled.model(), compiled.system());
+    let Workings {
+        running,
+        labeller,
+        ..
+    } = workings;
     match request {
         Request::Nothing => Ok(Reply::Nothing),
         Request::Track(n) => Ok(state.track(n, false)),
@@ -62,12 +61,12 @@ pub(crate) fn carry_out<'a>(
         Request::Commit => state.commit(alloc, model, running),
         Request::Conflicts => state.conflicts(alloc, model, running),
         Request::Certificate => Ok(certificate(state, model, running)),
-        Request::Labels => labels(state, alloc, model, system, labeller),
-        Request::LabelsFrom(n) => labels_from(state, alloc, model, system, labeller, n),
+        Request::Labels => labels(state, alloc, compiled, labeller),
+        Request::LabelsFrom(n) => labels_from(state, alloc, compiled, labeller, n),
         Request::States => state.states(alloc),
         Request::Reset => state.reset(alloc, model),
         Request::Quit => Ok(state.quit()),
-        Request::Probe => probe(state, alloc, model, system, lists, running),
+        Request::Probe => probe(state, alloc, compiled, running),
         Request::Test(var) => {
             let budget = state.budget();
             state.test(alloc, model, system, running, var, budget)

@@ -97,16 +97,6 @@ pub(crate) fn perform<'a>(
     if state.is_ended() {
         return Ok(Reply::Nothing);
     }
-    let model = compiled.model;
-    let _plant = model.plant();
-    carry_out(
-        alloc,
-        model,
-        &compiled.system,
-        &compiled.lists,
-        state,
-        &mut workings.running,
-        &mut workings.labeller,
-        request,
-    )
+    let _plant = compiled.model().plant();
+    carry_out(alloc, compiled, workings, state, request)
 }

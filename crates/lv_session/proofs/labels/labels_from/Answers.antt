@@ -11,17 +11,17 @@ labelled-requires-clause-modes c =
     let tracked : c.as_slice.result.now ≡ c.args.state.now.tracked = c.as_slice.ensures.states ∙ c.tracked.ensures in
     let here : slice_get c.args.state.now.tracked (c.args.n - 1) ≡ Some c.in-Some.s.now =
     ap (λ (ss : List TrackedState). slice_get ss (c.args.n - 1)) (sym tracked) ∙ sym c.numbered.ensures ∙ ap option_copied c.in-Some.is in
-    numbered_modes c.args.model.now c.args.state.now c.args.n c.in-Some.s.now c.requires.state here
+    numbered_modes c.args.compiled.now c.args.state.now c.args.n c.in-Some.s.now c.requires.state here
 
 pub returns-in-Some-clause-reply : goal.returns-in-Some-clause-reply
 returns-in-Some-clause-reply c =
     let tracked : c.as_slice.result.now ≡ c.args.state.now.tracked = c.as_slice.ensures.states ∙ c.tracked.ensures in
     let here : slice_get c.args.state.now.tracked (c.args.n - 1) ≡ Some c.in-Some.s.now =
     ap (λ (ss : List TrackedState). slice_get ss (c.args.n - 1)) (sym tracked) ∙ sym c.numbered.ensures ∙ ap option_copied c.in-Some.is in
-    IfOk-weaker c.labelled.result _ _ (λ reply h. h ∙ numbered c.args.model.now c.args.state.now c.args.n c.in-Some.s.now here) c.labelled.ensures.reply
+    IfOk-weaker c.labelled.result _ _ (λ reply h. h ∙ numbered c.args.compiled.now c.args.state.now c.args.n c.in-Some.s.now here) c.labelled.ensures.reply
 
 pub returns-in-None-clause-reply : goal.returns-in-None-clause-reply
 returns-in-None-clause-reply c =
     let tracked : c.as_slice.result.now ≡ c.args.state.now.tracked = c.as_slice.ensures.states ∙ c.tracked.ensures in
-    no_such_number c.args.model.now c.args.state.now c.args.n
+    no_such_number c.args.compiled.now c.args.state.now c.args.n
     (ap (λ (ss : List TrackedState). slice_get ss (c.args.n - 1)) (sym tracked) ∙ sym c.numbered.ensures ∙ ap option_copied c.in-None.is)

@@ -8,5 +8,5 @@ use Rattle.lv_session.proofs.probes.probe.Goals as goal
 
 pub probed-requires-clause-full : goal.probed-requires-clause-full
 probed-requires-clause-full c =
-    subst (λ (rs : List Rank). All (IsFull c.args.model.now) (map candidate_of rs)) (sym c.listed.ensures)
-    (listed_full c.args.state.now.query c.args.model.now c.args.state.now c.args.running.now c.in-Diagnosis.field-0 (sym c.query.ensures ∙ c.in-Diagnosis.is) c.requires.running)
+    subst (λ (rs : List Rank). All (IsFull c.args.compiled.now) (map candidate_of rs)) (sym c.listed.ensures)
+    (listed_full c.args.state.now.query c.args.compiled.now c.args.state.now c.args.running.now c.in-Diagnosis.field-0 (sym c.query.ensures ∙ c.in-Diagnosis.is) c.requires.running)
