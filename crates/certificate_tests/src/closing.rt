@@ -63,14 +63,16 @@ fn three_listed(alloc: Global) -> Result<Vec<Rank>, AllocError>
 fn three_shown(alloc: Global) -> Result<Vec<Split>, AllocError> {
     let excluded = one_excluded(alloc)?;
     let listed = three_listed(alloc)?;
+    let last = last_if_full(listed.as_slice(), 3);
+    let (grid, zones) = (small_grid(alloc)?, small_zones(alloc)?);
     let why = Explanations {
         question: Question::Diagnosis,
         targets: None,
         excluded: excluded.as_slice(),
         listed: listed.as_slice(),
-        last: last_if_full(listed.as_slice(), 3),
+        last,
     };
-    close(alloc, &why, small_grid(alloc)?, small_zones(alloc)?)
+    close(alloc, &why, grid, zones)
 }
 
 #[test]
