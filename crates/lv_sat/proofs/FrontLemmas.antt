@@ -14,17 +14,17 @@ use Rattle.lv_reflog.specs.declared.log.Hint.{Hint}
 use Rattle.lv_reflog.specs.declared.log.Step.{Step}
 use Rattle.lv_reflog.specs.declared.log.Hint.TheVariants.{Given, Earlier}
 use Rattle.lv_reflog.specs.Following.{clause_of, first_bad_step}
-use Rattle.lv_sat.specs.declared.trail.Entry.{Entry}
+use Rattle.lv_trail.specs.declared.trail.Entry.{Entry}
 use Rattle.lv_sat.specs.declared.front.Level.{Level}
 use Rattle.lv_sat.specs.Answers.{IsSublist}
-use Rattle.lv_sat.specs.Trail.{same_lit, among, lits_of, unforced, is_open, IsForced, IsFalse, IsChain, IsTrail, IsPropagated}
-use Rattle.lv_sat.specs.Analysis.{IsDerived}
+use Rattle.lv_trail.specs.Trail.{same_lit, among, lits_of, unforced, is_open, IsForced, IsFalse, IsChain, IsTrail, IsPropagated}
+use Rattle.lv_trail.specs.Analysis.{IsDerived}
 use Rattle.lv_sat.specs.Front.{assumed, AreLevels, Assumes, IsFront, IsLevel, IsStanding, IsKept, IsRefuted, Stands}
-use Rattle.lv_sat.proofs.ListLemmas.{same_lit-self, among_contained, among_push, all_from, clause_range, clause_take, clause_last, lt_is}
-use Rattle.lv_sat.proofs.SeenLemmas.{in_filter}
-use Rattle.lv_sat.proofs.TrailLemmas.{lits_push, chain_push, chain_take, front_of, front_then, none_at, not_so}
-use Rattle.lv_sat.proofs.PartLemmas.{part_front, part_member, part_more, part_nothing, part_push, part_then, unforced_front, unforced_member, unforced_push}
-use Rattle.lv_sat.proofs.AnalysisLemmas.{among_both, or_left}
+use Rattle.lv_trail.proofs.ListLemmas.{same_lit-self, among_contained, among_push, all_from, clause_range, clause_take, clause_last, lt_is}
+use Rattle.lv_trail.proofs.SeenLemmas.{in_filter}
+use Rattle.lv_trail.proofs.TrailLemmas.{lits_push, chain_push, chain_take, front_of, front_then, none_at, not_so}
+use Rattle.lv_trail.proofs.PartLemmas.{part_front, part_member, part_more, part_nothing, part_push, part_then, unforced_front, unforced_member, unforced_push}
+use Rattle.lv_trail.proofs.AnalysisLemmas.{among_both, or_left}
 
 -- what begins with a list has it as a front
 pub begins_with : {X : Type 0} (old now : List X) → now ≡ old ++ drop (length old) now → take (length old) now ≡ old

@@ -20,8 +20,8 @@ use Rattle.lv_sat.specs.declared.answer.Refutation.{Refutation}
 use Rattle.lv_sat.specs.Answers.{Answers, IsModel, IsRefutation, IsSublist, last_clause}
 use Rattle.lv_sat.specs.Solver.{Refutes}
 use Rattle.lv_sat.proofs.FrontLemmas.{named_still}
-use Rattle.lv_sat.proofs.PartLemmas.{part_passes, part_self}
-use Rattle.lv_sat.proofs.SeenLemmas.{from_map}
+use Rattle.lv_trail.proofs.PartLemmas.{part_passes, part_self}
+use Rattle.lv_trail.proofs.SeenLemmas.{from_map}
 
 -- what a valid log ends in is true, so no values make the whole core true
 core_refuted : (cs : ClauseMap) (core : List Lit) (log : List Step) → first_bad_step cs log ≡ None → last_clause log ≡ Some (map neg core) → (values : List Bool) → IsModel cs core values → ⊥

@@ -13,20 +13,22 @@ use Rattle.lv_reflog.specs.declared.log.Hint.TheVariants.{Given, Earlier}
 use Rattle.lv_reflog.specs.declared.log.Step.{Step}
 use Rattle.lv_reflog.specs.Following.{clause_of, follows_by_hints, first_bad_after, first_bad_step, IsImplied}
 use Rattle.lv_reflog.proofs.SoundLemmas.{checked}
-use Rattle.lv_sat.specs.declared.trail.Entry.{Entry}
+use Rattle.lv_trail.specs.declared.trail.Entry.{Entry}
 use Rattle.lv_sat.specs.Answers.{IsModel, IsSatisfied, IsSublist, IsRefutation, last_clause, nothing as no_literals, left_out, taken}
 use Rattle.lv_sat.specs.Front.{AreFound, AreValues, IsFront, IsRefuted}
-use Rattle.lv_sat.specs.Trail.{among, lits_of, unforced, left_of, is_open, IsForced, IsChain, IsTrail, IsTurned, IsSearch, IsGrown, IsExtended, IsPropagated, IsReached, Reaches, turned, KeepMarks}
+use Rattle.lv_trail.specs.Trail.{among, lits_of, unforced, left_of, is_open, IsForced, IsChain, IsTrail, IsTurned, IsExtended, IsPropagated, turned}
+use Rattle.lv_sat.specs.Search.{IsSearch, IsGrown, IsReached, Reaches}
+use Rattle.lv_last_values.specs.Values.{KeepMarks}
 use Rattle.lv_sat.specs.declared.search.Reached.{Reached}
 use Rattle.lv_sat.specs.declared.search.Reached.TheVariants.{Values, False}
-use Rattle.lv_sat.specs.Analysis.{sees, denial, IsDerived, IsTurning, Derives}
+use Rattle.lv_trail.specs.Analysis.{sees, denial, IsDerived, IsTurning, Derives}
 use Rattle.lv_sat.specs.Measure.{above}
-use Rattle.lv_sat.proofs.ListLemmas.{among_member, among_contained, all_from, clause_take, clause_last}
-use Rattle.lv_sat.proofs.SeenLemmas.{from_filter, filter_none, from_map}
-use Rattle.lv_sat.specs.declared.analysis.Flip.{Flip}
-use Rattle.lv_sat.proofs.TrailLemmas.{lits_push, cut_contained, trail_push, front_of, front_then, none_at, not_so}
-use Rattle.lv_sat.proofs.PartLemmas.{part_then, part_self, part_member}
-use Rattle.lv_sat.proofs.AnalysisLemmas.{front_among}
+use Rattle.lv_trail.proofs.ListLemmas.{among_member, among_contained, all_from, clause_take, clause_last}
+use Rattle.lv_trail.proofs.SeenLemmas.{from_filter, filter_none, from_map}
+use Rattle.lv_trail.specs.declared.analysis.Flip.{Flip}
+use Rattle.lv_trail.proofs.TrailLemmas.{lits_push, cut_contained, trail_push, front_of, front_then, none_at, not_so}
+use Rattle.lv_trail.proofs.PartLemmas.{part_then, part_self, part_member}
+use Rattle.lv_trail.proofs.AnalysisLemmas.{front_among}
 use Rattle.lv_sat.proofs.MeasureLemmas.{above_longer, above_turned}
 
 -- a log that grows keeps its steps

@@ -1,25 +1,14 @@
 -- What an answer tells: values that satisfy clauses and assumptions, or a refutation of the two.
-use Rattle.std.specs.Prelude.{◌≡◌, ◌-◌, Bool, true, List, [], ◌∷◌, length, map, Option, Some, None, option_map, slice_get}
-use Rattle.std.specs.List.{list_all}
+use Rattle.std.specs.Prelude.{◌≡◌, ◌-◌, Bool, List, length, map, Option, Some, None, option_map, slice_get}
 use Rattle.lv_base.specs.declared.ids.Lit.{Lit}
-use Rattle.lv_clauses.specs.Literals.{neg, lit_holds}
-use Rattle.lv_clauses.specs.ClauseMap.{ClauseMap, satisfies}
+use Rattle.lv_clauses.specs.Literals.{neg}
+use Rattle.lv_clauses.specs.ClauseMap.{ClauseMap}
 use Rattle.lv_reflog.specs.declared.log.Step.{Step}
 use Rattle.lv_reflog.specs.Following.{first_bad_step}
+pub use Rattle.lv_last_values.specs.Values.{IsModel}
+pub use Rattle.lv_trail.specs.Part.{IsSublist, nothing, left_out, taken}
 use Rattle.lv_sat.specs.declared.answer.Answer.{Answer}
 use Rattle.lv_sat.specs.declared.answer.Answer.TheVariants.{Sat, Unsat}
-
--- a value for each boolean; they satisfy the clauses and make the assumptions true
-pub record IsModel (set : ClauseMap) (assumptions : List Lit) (values : List Bool) : Type 0 where
-  pub len : length values ≡ set.bools
-  pub all_clauses : satisfies values set.slots ≡ true
-  pub all_assumptions : list_all (lit_holds values) assumptions ≡ true
-
--- some of the literals, in their order
-pub data IsSublist : List Lit → List Lit → Type 0 where
-  nothing : IsSublist [] []
-  left_out : {core whole : List Lit} (l : Lit) → IsSublist core whole → IsSublist core (l ∷ whole)
-  taken : {core whole : List Lit} (l : Lit) → IsSublist core whole → IsSublist (l ∷ core) (l ∷ whole)
 
 -- the clause of the last step
 abbrev pub last_clause : List Step → Option (List Lit)

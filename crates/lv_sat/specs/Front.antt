@@ -7,11 +7,11 @@ use Rattle.lv_clauses.specs.ClauseMap.{ClauseMap, satisfies}
 use Rattle.lv_clauses.specs.Marks.{Marks}
 use Rattle.lv_reflog.specs.declared.log.Step.{Step}
 use Rattle.lv_reflog.specs.Following.{first_bad_step}
-use Rattle.lv_sat.specs.declared.trail.Entry.{Entry}
+use Rattle.lv_trail.specs.declared.trail.Entry.{Entry}
 use Rattle.lv_sat.specs.declared.front.Level.{Level}
 use Rattle.lv_sat.specs.Answers.{IsSublist}
-use Rattle.lv_sat.specs.Trail.{IsTrail, among, lits_of, unforced}
-use Rattle.lv_sat.specs.Analysis.{IsDerived}
+use Rattle.lv_trail.specs.Trail.{IsTrail, among, lits_of, unforced}
+use Rattle.lv_trail.specs.Analysis.{IsDerived}
 
 -- the assumptions of the levels
 abbrev pub assumed : List Level → List Lit

@@ -3,7 +3,7 @@
 -- times at most.
 use Rattle.std.specs.Prelude.{ℕ, suc, zero, ◌+◌, ◌*◌, List, [], ◌∷◌, Option, Some, None}
 use Rattle.lv_reflog.specs.declared.log.Hint.{Hint}
-use Rattle.lv_sat.specs.declared.trail.Entry.{Entry}
+use Rattle.lv_trail.specs.declared.trail.Entry.{Entry}
 
 -- the numbers above that of the empty trail
 abbrev pub all_above : ℕ → ℕ

@@ -1,7 +1,7 @@
 //! What a solver did, in counts that no clause speaks of: for measuring.
 #![tactic(auto)]
 
-use super::trail::Entry;
+use lv_trail::Entry;
 
 /// Questions asked, literals taken as true because they were assumed or chosen, those that were forced, and clauses found
 /// false.

@@ -4,78 +4,67 @@
 ghost use Rattle.std.specs.Prelude.{◌≡◌, ◌<◌, [], List, length, IfOk, IfNone};
 ghost use Rattle.lv_sat.specs.declared.front.Level.{Level};
 ghost use Rattle.lv_sat.specs.Front.{IsKept};
-ghost use Rattle.lv_sat.specs.Trail.{IsTrail};
+ghost use Rattle.lv_trail.specs.Trail.{IsTrail};
 
-use super::front::{Front, forget};
-use super::guide::Guide;
+use super::front::Front;
 use super::propagation::{propagate, visit_all};
-use super::trail::Trail;
+use super::search::Search;
 use lv_base::{ClauseId, Lit};
 use lv_clauses::{ClauseSet, Finding, is_marked, look, negation};
 use lv_reflog::{Hint, Log};
+use lv_trail::{Reasons, Trail};
 use std::alloc::{AllocError, Global};
 
-/// Takes in a clause of the set that is new. Where it is false, or memory is wanting, the front is taken back.
-pub fn take_in(
-    alloc: Global,
-    set: &ClauseSet,
-    guide: &mut Guide,
-    front: &mut Front,
-    lits: &[Lit],
-    id: ClauseId,
-)
-    requires { IsKept set.now front.old.levels.items front.old.trail.marks.items front.old.trail.entries.items }
-    ensures { IsKept set.now front.new.levels.items front.new.trail.marks.items front.new.trail.entries.items }
-{
-    match enter(alloc, set, guide, &mut front.trail, lits, id) {
-        Ok(None) => {}
-        Ok(Some(_)) | Err(_) => forget(guide, front),
-    }
-}
-
-/// Has a clause watch two of its literals, and adds what it forces to the trail; or finds a false clause.
-fn enter(
-    alloc: Global,
-    set: &ClauseSet,
-    guide: &mut Guide,
-    trail: &mut Trail,
-    lits: &[Lit],
-    id: ClauseId,
-) -> Result<Option<Hint>, AllocError>
-    requires { 0 < length trail.old.entries.items → IsTrail set.now [] trail.old.marks.items trail.old.entries.items }
-    ensures { (levels : List Level) → IsKept set.now levels trail.old.marks.items trail.old.entries.items
-        → IfOk result (λ found. IfNone found (IsKept set.now levels trail.new.marks.items trail.new.entries.items)) }
-{
-    let order = in_watch_order(alloc, trail, lits)?;
-    guide.watches.add_given(order.as_slice(), id)?;
-    if trail.entries().is_empty() {
-        return Ok(None);
-    }
-    match look(trail.marks(), lits) {
-        Finding::Open => Ok(None),
-        Finding::Unit(_) | Finding::AllFalse => {
-            let log = Log::new(alloc)?;
-            force_by(set, &log, guide, trail, id)
+impl Front {
+    /// Takes in a clause of the set that is new. Where it is false, or memory is wanting, the front is taken back.
+    pub fn take_in(&mut self, set: &ClauseSet, lits: &[Lit], id: ClauseId)
+        requires { IsKept set.now self.old.levels.items self.old.search.trail.marks.items self.old.search.trail.entries.items }
+        ensures { IsKept set.now self.new.levels.items self.new.search.trail.marks.items self.new.search.trail.entries.items }
+    {
+        match self.search.enter(set, lits, id) {
+            Ok(None) => {}
+            Ok(Some(_)) | Err(_) => self.forget(),
         }
     }
 }
 
-/// Adds what a clause forces to the trail; or finds a false clause.
-fn force_by(
-    set: &ClauseSet,
-    log: &Log,
-    guide: &mut Guide,
-    trail: &mut Trail,
-    id: ClauseId,
-) -> Result<Option<Hint>, AllocError>
-    requires { IsTrail set.now log.now trail.old.marks.items trail.old.entries.items }
-    ensures { (levels : List Level) → log.now ≡ [] → IsKept set.now levels trail.old.marks.items trail.old.entries.items
-        → IfOk result (λ found. IfNone found (IsKept set.now levels trail.new.marks.items trail.new.entries.items)) }
-{
-    let place = trail.entries().len();
-    match visit_all(set, log, &[Hint::Given(id)], trail)? {
-        Some(hint) => Ok(Some(hint)),
-        None => propagate(set, log, &mut guide.watches, place, trail),
+impl Search {
+    /// Has a clause watch two of its literals, and adds what it forces to the trail; or finds a false clause.
+    fn enter(
+        &mut self,
+        set: &ClauseSet,
+        lits: &[Lit],
+        id: ClauseId,
+    ) -> Result<Option<Hint>, AllocError>
+        requires { 0 < length self.old.trail.entries.items → IsTrail set.now [] self.old.trail.marks.items self.old.trail.entries.items }
+        ensures { (levels : List Level) → IsKept set.now levels self.old.trail.marks.items self.old.trail.entries.items
+            → IfOk result (λ found. IfNone found (IsKept set.now levels self.new.trail.marks.items self.new.trail.entries.items)) }
+    {
+        let order = in_watch_order(self.alloc, &self.trail, lits)?;
+        self.guide.watches.add_given(order.as_slice(), id)?;
+        if self.trail.entries().is_empty() {
+            return Ok(None);
+        }
+        match look(self.trail.marks(), lits) {
+            Finding::Open => Ok(None),
+            Finding::Unit(_) | Finding::AllFalse => {
+                let log = Log::new(self.alloc)?;
+                self.force_by(Reasons { set, log: &log }, id)
+            }
+        }
+    }
+
+    /// Adds what a clause forces to the trail; or finds a false clause.
+    fn force_by(&mut self, reasons: Reasons, id: ClauseId) -> Result<Option<Hint>, AllocError>
+        requires { IsTrail reasons.set.now reasons.log.now self.old.trail.marks.items self.old.trail.entries.items }
+        ensures { (levels : List Level) → reasons.entry.log.now ≡ [] → IsKept reasons.entry.set.now levels self.old.trail.marks.items self.old.trail.entries.items
+            → IfOk result (λ found. IfNone found (IsKept reasons.entry.set.now levels self.new.trail.marks.items self.new.trail.entries.items)) }
+    {
+        let place = self.trail.entries().len();
+        match visit_all(reasons, &[Hint::Given(id)], &mut self.trail)? {
+            Some(hint) => Ok(Some(hint)),
+            None => propagate(reasons, &mut self.guide.watches, place, &mut self.trail),
+        }
     }
 }
 

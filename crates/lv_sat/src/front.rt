@@ -2,19 +2,23 @@
 //! doesn't begin with, and puts on only what is new.
 #![tactic(auto)]
 
-ghost use Rattle.std.specs.Prelude.{◌≡◌, ◌<◌, ◌≤◌, ◌++◌, ◌∷◌, [], List, length, take, true, IsTrue, IfOk, OnOk, None, slice_index_or};
+ghost use Rattle.std.specs.Prelude.{◌≡◌, ◌<◌, ◌≤◌, ◌++◌, ◌∷◌, [], List, length, take, map, true, IsTrue, IfOk, IfSome, OnOk, None, slice_index_or};
 ghost use Rattle.lv_clauses.specs.Literals.{neg, is_clause};
 ghost use Rattle.lv_clauses.specs.ClauseMap.{ClauseMap};
-ghost use Rattle.lv_sat.specs.Trail.{is_open, IsTrail, IsPropagated, IsChain, among, lits_of};
+ghost use Rattle.lv_last_values.specs.Occurrences.{IsUpToDate};
+ghost use Rattle.lv_trail.specs.Trail.{is_open, IsTrail, IsPropagated, IsChain, IsFalse, among, lits_of, unforced};
+ghost use Rattle.lv_trail.specs.Analysis.{IsDerived};
+ghost use Rattle.lv_sat.specs.Answers.{Answers, last_clause};
 ghost use Rattle.lv_sat.specs.Front.{assumed, AreLevels, Assumes, IsFront, IsKept, IsRefuted, IsStanding, Stands};
 
-use super::analysis::refute;
-use super::guide::{Guide, take_back};
+use super::answer::Answer;
 use super::propagation::{propagate, visit_all};
-use super::trail::{Entry, Trail};
-use lv_base::Lit;
+use super::search::Search;
+use lv_base::{Lit, Seq};
 use lv_clauses::{ClauseSet, is_marked, negation};
+use lv_last_values::LastValues;
 use lv_reflog::{Hint, Log};
+use lv_trail::{Conflict, Entry, Reasons};
 use std::alloc::{AllocError, Global};
 
 /// An assumption that is true on the trail, and how many entries came before it and what it forces.
@@ -24,67 +28,225 @@ pub struct Level {
     pub place: usize,
 }
 
-/// A trail and the assumptions that stand on it.
+/// A search, and the assumptions that stand on its trail.
 #[derive(Drop)]
 pub struct Front {
-    pub trail: Trail,
+    pub search: Search,
     pub levels: Vec<Level>,
 }
 
-/// Takes the assumptions as true, with what they force. Answers whether they stand; where clauses refute them already, the
-/// log says so.
-pub fn stand(
-    alloc: Global,
-    set: &ClauseSet,
-    log: &mut Log,
-    guide: &mut Guide,
-    front: &mut Front,
-    assumptions: &[Lit],
-) -> Result<bool, AllocError>
-    requires clause { IsTrue (is_clause set.now.bools assumptions.now) }
-    requires log { log.old ≡ [] }
-    requires kept { IsKept set.now front.old.levels.items front.old.trail.marks.items front.old.trail.entries.items }
-    ensures kept { OnOk result (IsKept set.now front.new.levels.items front.new.trail.marks.items front.new.trail.entries.items) }
-    ensures standing { IfOk result (λ stands. stands ≡ true → IsStanding set.now front.new.levels.items front.new.trail.marks.items front.new.trail.entries.items) }
-    ensures told { IfOk result (λ stands. Stands set.now assumptions.now front.new.levels.items log.new stands) }
-{
-    keep(guide, front, assumptions);
-    if let Some(hint) = begin(set, log, guide, &mut front.trail)? {
-        refute(
-            alloc,
-            set,
-            log,
-            &mut guide.notes,
-            &mut guide.seen,
-            front.trail.entries(),
-            hint,
-        )?;
-        forget(guide, front);
-        return Ok(false);
+impl Front {
+    /// Whether some values satisfy the clauses and make the assumptions true. The front is left for the next call.
+    pub fn answer(
+        &mut self,
+        set: &ClauseSet,
+        last: &LastValues,
+        assumptions: &[Lit],
+    ) -> Result<Answer, AllocError>
+        requires clause { IsTrue (is_clause set.now.bools assumptions.now) }
+        requires kept { IsKept set.now self.old.levels.items self.old.search.trail.marks.items self.old.search.trail.entries.items }
+        requires last { IsUpToDate set.now last.now.values last.now.occurrences }
+        ensures answer { IfOk result (λ answer. Answers set.now assumptions.now answer) }
+        ensures kept { IsKept set.now self.new.levels.items self.new.search.trail.marks.items self.new.search.trail.entries.items }
+    {
+        self.search.guide.note_call();
+        match self.find_answer(set, last, assumptions) {
+            Ok(answer) => Ok(answer),
+            Err(error) => {
+                self.search.guide.analysis.clear();
+                self.forget();
+                Err(error)
+            }
+        }
     }
-    assume_all(alloc, set, log, guide, front, assumptions)
+
+    /// The answer, where memory suffices.
+    fn find_answer(
+        &mut self,
+        set: &ClauseSet,
+        last: &LastValues,
+        assumptions: &[Lit],
+    ) -> Result<Answer, AllocError>
+        requires clause { IsTrue (is_clause set.now.bools assumptions.now) }
+        requires kept { IsKept set.now self.old.levels.items self.old.search.trail.marks.items self.old.search.trail.entries.items }
+        requires last { IsUpToDate set.now last.now.values last.now.occurrences }
+        ensures answer { IfOk result (λ answer. Answers set.now assumptions.now answer) }
+        ensures kept { OnOk result (IsKept set.now self.new.levels.items self.new.search.trail.marks.items self.new.search.trail.entries.items) }
+    {
+        let alloc = self.search.alloc;
+        let mut log = Log::new(alloc)?;
+        if !self.stand(set, &mut log, assumptions)? {
+            return refutation(alloc, log);
+        }
+        match self.search.complete(set, &mut log, last)? {
+            Some(values) => Ok(Answer::Sat { values, log }),
+            None => refutation(alloc, log),
+        }
+    }
+
+    /// Takes the assumptions as true, with what they force. Answers whether they stand; where clauses refute them already,
+    /// the log says so.
+    fn stand(
+        &mut self,
+        set: &ClauseSet,
+        log: &mut Log,
+        assumptions: &[Lit],
+    ) -> Result<bool, AllocError>
+        requires clause { IsTrue (is_clause set.now.bools assumptions.now) }
+        requires log { log.old ≡ [] }
+        requires kept { IsKept set.now self.old.levels.items self.old.search.trail.marks.items self.old.search.trail.entries.items }
+        ensures kept { OnOk result (IsKept set.now self.new.levels.items self.new.search.trail.marks.items self.new.search.trail.entries.items) }
+        ensures standing { IfOk result (λ stands. stands ≡ true → IsStanding set.now self.new.levels.items self.new.search.trail.marks.items self.new.search.trail.entries.items) }
+        ensures told { IfOk result (λ stands. Stands set.now assumptions.now self.new.levels.items log.new stands) }
+    {
+        self.keep(assumptions);
+        if let Some(hint) = self.search.begin(Reasons { set, log: &*log })? {
+            self.search.refute(set, log, hint)?;
+            self.forget();
+            return Ok(false);
+        }
+        self.assume_all(set, log, assumptions)
+    }
+
+    /// Takes the whole front back.
+    pub fn forget(&mut self)
+        ensures { (set : ClauseMap) → IsKept set self.new.levels.items self.new.search.trail.marks.items self.new.search.trail.entries.items }
+    {
+        self.search.take_back(0);
+        self.levels.clear();
+    }
+
+    /// Takes back what the front doesn't share with these assumptions.
+    fn keep(&mut self, assumptions: &[Lit])
+        requires { AreLevels self.old.levels.items self.old.search.trail.entries.items }
+        ensures kept { (set : ClauseMap) → IsKept set self.old.levels.items self.old.search.trail.marks.items self.old.search.trail.entries.items
+            → IsKept set self.new.levels.items self.new.search.trail.marks.items self.new.search.trail.entries.items }
+        ensures shared { assumed self.new.levels.items ≡ take (length self.new.levels.items) assumptions.now }
+    {
+        let count = count_shared(self.levels.as_slice(), assumptions);
+        if count < self.levels.len() {
+            let place = self.levels[count].place;
+            self.search.take_back(place);
+            self.levels.truncate(count);
+        }
+    }
+
+    /// Takes the assumptions behind those that stand.
+    fn assume_all(
+        &mut self,
+        set: &ClauseSet,
+        log: &mut Log,
+        assumptions: &[Lit],
+    ) -> Result<bool, AllocError>
+        requires clause { IsTrue (is_clause set.now.bools assumptions.now) }
+        requires log { log.old ≡ [] }
+        requires standing { IsStanding set.now self.old.levels.items self.old.search.trail.marks.items self.old.search.trail.entries.items }
+        requires shared { assumed self.old.levels.items ≡ take (length self.old.levels.items) assumptions.now }
+        ensures standing { OnOk result (IsStanding set.now self.new.levels.items self.new.search.trail.marks.items self.new.search.trail.entries.items) }
+        ensures told { IfOk result (λ stands. Stands set.now assumptions.now self.new.levels.items log.new stands) }
+    {
+        for at in self.levels.len()..assumptions.len() {
+            if !self.assume(set, log, assumptions[at])? {
+                return Ok(false);
+            }
+        }
+        Ok(true)
+    }
+
+    /// Takes one more assumption. Where it is refuted, the front is as it was.
+    fn assume(&mut self, set: &ClauseSet, log: &mut Log, lit: Lit) -> Result<bool, AllocError>
+        requires log { log.old ≡ [] }
+        requires standing { IsStanding set.now self.old.levels.items self.old.search.trail.marks.items self.old.search.trail.entries.items }
+        requires clause { is_clause set.now.bools (assumed self.old.levels.items ++ lit ∷ []) ≡ true }
+        ensures standing { OnOk result (IsStanding set.now self.new.levels.items self.new.search.trail.marks.items self.new.search.trail.entries.items) }
+        ensures told { IfOk result (λ stands. Assumes set.now self.old.levels.items lit self.new.levels.items log.new stands) }
+    {
+        let place = self.search.trail.entries().len();
+        if is_marked(self.search.trail.marks(), lit) {
+            self.levels.push(Level { lit, place })?;
+            return Ok(true);
+        }
+        if !self.search.trail.is_open(lit) {
+            self.search.contradict(set, log, lit)?;
+            return Ok(false);
+        }
+        match self.search.take_on(Reasons { set, log: &*log }, lit)? {
+            Some(hint) => {
+                self.search.refute(set, log, hint)?;
+                self.search.take_back(place);
+                Ok(false)
+            }
+            None => {
+                self.levels.push(Level { lit, place })?;
+                Ok(true)
+            }
+        }
+    }
 }
 
-/// Takes the whole front back.
-pub fn forget(guide: &mut Guide, front: &mut Front)
-    ensures { (set : ClauseMap) → IsKept set front.new.levels.items front.new.trail.marks.items front.new.trail.entries.items }
-{
-    take_back(guide, &mut front.trail, 0);
-    front.levels.clear();
-}
+impl Search {
+    /// Has a trail of no entries begin with what clauses force without any assumption; or finds a false clause.
+    fn begin(&mut self, reasons: Reasons) -> Result<Option<Hint>, AllocError>
+        requires { 0 < length self.old.trail.entries.items → IsTrail reasons.set.now reasons.log.now self.old.trail.marks.items self.old.trail.entries.items }
+        ensures { IfOk result (λ found. IsPropagated reasons.entry.set.now reasons.entry.log.now self.old.trail.entries.items self.new.trail.marks.items self.new.trail.entries.items found) }
+    {
+        if !self.trail.entries().is_empty() {
+            return Ok(None);
+        }
+        self.trail.restart(reasons.set.bools())?;
+        if let Some(hint) = visit_all(reasons, self.guide.watches.short(), &mut self.trail)? {
+            return Ok(Some(hint));
+        }
+        propagate(reasons, &mut self.guide.watches, 0, &mut self.trail)
+    }
 
-/// Takes back what the front doesn't share with these assumptions.
-fn keep(guide: &mut Guide, front: &mut Front, assumptions: &[Lit])
-    requires { AreLevels front.old.levels.items front.old.trail.entries.items }
-    ensures kept { (set : ClauseMap) → IsKept set front.old.levels.items front.old.trail.marks.items front.old.trail.entries.items
-        → IsKept set front.new.levels.items front.new.trail.marks.items front.new.trail.entries.items }
-    ensures shared { assumed front.new.levels.items ≡ take (length front.new.levels.items) assumptions.now }
-{
-    let count = count_shared(front.levels.as_slice(), assumptions);
-    if count < front.levels.len() {
-        let place = front.levels[count].place;
-        take_back(guide, &mut front.trail, place);
-        front.levels.truncate(count);
+    /// Adds an assumption to the trail with what it forces; or finds a false clause.
+    fn take_on(&mut self, reasons: Reasons, lit: Lit) -> Result<Option<Hint>, AllocError>
+        requires trail { IsTrail reasons.set.now reasons.log.now self.old.trail.marks.items self.old.trail.entries.items }
+        requires free { IsTrue (is_open self.old.trail.marks.items lit) }
+        ensures { IfOk result (λ found. IsPropagated reasons.entry.set.now reasons.entry.log.now (self.old.trail.entries.items ++ record { lit = lit; reason = None } ∷ []) self.new.trail.marks.items self.new.trail.entries.items found) }
+    {
+        let place = self.trail.entries().len();
+        self.trail.push(Entry { lit, reason: None })?;
+        propagate(reasons, &mut self.guide.watches, place, &mut self.trail)
+    }
+
+    /// Adds the step that refutes the entries that have no reason, by a clause that is false.
+    fn refute(&mut self, set: &ClauseSet, log: &mut Log, hint: Hint) -> Result<(), AllocError>
+        requires chain { IsChain set.now log.old self.old.trail.entries.items }
+        requires refuted { IsFalse set.now.slots log.old (lits_of self.old.trail.entries.items) hint }
+        ensures derived { OnOk result (IsDerived set.now log.old log.new (unforced self.old.trail.entries.items)) }
+        ensures kept { self.new.trail ≡ self.old.trail }
+    {
+        let entries = self.trail.entries();
+        self.guide
+            .analysis
+            .refute(set, log, Conflict { entries, hint })
+    }
+
+    /// Adds the step that refutes an assumption whose negation is on the trail, which stays as it is. No other assumption is
+    /// its negation, so a clause forces that; it is false once the assumption stands in its place, where it is put for the
+    /// look back.
+    fn contradict(&mut self, set: &ClauseSet, log: &mut Log, lit: Lit) -> Result<(), AllocError>
+        requires log { log.old ≡ [] }
+        requires chain { IsChain set.now log.old self.old.trail.entries.items }
+        requires there { among (lits_of self.old.trail.entries.items) (neg lit) ≡ true }
+        ensures refuted { OnOk result ((assumptions : List Lit) → IsFront assumptions self.old.trail.entries.items → is_clause set.now.bools (assumptions ++ lit ∷ []) ≡ true → IsRefuted set.now (assumptions ++ lit ∷ []) log.new) }
+        ensures entries { OnOk result (self.new.trail.entries.items ≡ self.old.trail.entries.items) }
+        ensures marks { OnOk result (self.new.trail.marks.items ≡ self.old.trail.marks.items) }
+    {
+        let place = place_of(self.trail.entries(), negation(lit));
+        let negated = self.trail.entries()[place];
+        let Some(hint) = negated.reason else {
+            return Ok(());
+        };
+        self.trail.put(place, Entry { lit, reason: None });
+        let entries = &self.trail.entries()[..place + 1];
+        self.guide
+            .analysis
+            .refute(set, log, Conflict { entries, hint })?;
+        self.trail.put(place, negated);
+        Ok(())
     }
 }
 
@@ -104,148 +266,6 @@ fn count_shared(levels: &[Level], assumptions: &[Lit]) -> usize
     count
 }
 
-/// Has a trail of no entries begin with what clauses force without any assumption; or finds a false clause.
-fn begin(
-    set: &ClauseSet,
-    log: &Log,
-    guide: &mut Guide,
-    trail: &mut Trail,
-) -> Result<Option<Hint>, AllocError>
-    requires { 0 < length trail.old.entries.items → IsTrail set.now log.now trail.old.marks.items trail.old.entries.items }
-    ensures { IfOk result (λ found. IsPropagated set.now log.now trail.old.entries.items trail.new.marks.items trail.new.entries.items found) }
-{
-    if !trail.entries().is_empty() {
-        return Ok(None);
-    }
-    trail.restart(set.bools())?;
-    if let Some(hint) = visit_all(set, log, guide.watches.short(), trail)? {
-        return Ok(Some(hint));
-    }
-    propagate(set, log, &mut guide.watches, 0, trail)
-}
-
-/// Takes the assumptions behind those that stand.
-fn assume_all(
-    alloc: Global,
-    set: &ClauseSet,
-    log: &mut Log,
-    guide: &mut Guide,
-    front: &mut Front,
-    assumptions: &[Lit],
-) -> Result<bool, AllocError>
-    requires clause { IsTrue (is_clause set.now.bools assumptions.now) }
-    requires log { log.old ≡ [] }
-    requires standing { IsStanding set.now front.old.levels.items front.old.trail.marks.items front.old.trail.entries.items }
-    requires shared { assumed front.old.levels.items ≡ take (length front.old.levels.items) assumptions.now }
-    ensures standing { OnOk result (IsStanding set.now front.new.levels.items front.new.trail.marks.items front.new.trail.entries.items) }
-    ensures told { IfOk result (λ stands. Stands set.now assumptions.now front.new.levels.items log.new stands) }
-{
-    for at in front.levels.len()..assumptions.len() {
-        if !assume(alloc, set, log, guide, front, assumptions[at])? {
-            return Ok(false);
-        }
-    }
-    Ok(true)
-}
-
-/// Takes one more assumption. Where it is refuted, the front is as it was.
-fn assume(
-    alloc: Global,
-    set: &ClauseSet,
-    log: &mut Log,
-    guide: &mut Guide,
-    front: &mut Front,
-    lit: Lit,
-) -> Result<bool, AllocError>
-    requires log { log.old ≡ [] }
-    requires standing { IsStanding set.now front.old.levels.items front.old.trail.marks.items front.old.trail.entries.items }
-    requires clause { is_clause set.now.bools (assumed front.old.levels.items ++ lit ∷ []) ≡ true }
-    ensures standing { OnOk result (IsStanding set.now front.new.levels.items front.new.trail.marks.items front.new.trail.entries.items) }
-    ensures told { IfOk result (λ stands. Assumes set.now front.old.levels.items lit front.new.levels.items log.new stands) }
-{
-    let place = front.trail.entries().len();
-    if is_marked(front.trail.marks(), lit) {
-        front.levels.push(Level { lit, place })?;
-        return Ok(true);
-    }
-    if !front.trail.is_open(lit) {
-        contradict(alloc, set, log, guide, &mut front.trail, lit)?;
-        return Ok(false);
-    }
-    match take_on(set, log, guide, &mut front.trail, lit)? {
-        Some(hint) => {
-            refute(
-                alloc,
-                set,
-                log,
-                &mut guide.notes,
-                &mut guide.seen,
-                front.trail.entries(),
-                hint,
-            )?;
-            take_back(guide, &mut front.trail, place);
-            Ok(false)
-        }
-        None => {
-            front.levels.push(Level { lit, place })?;
-            Ok(true)
-        }
-    }
-}
-
-/// Adds an assumption to the trail with what it forces; or finds a false clause.
-fn take_on(
-    set: &ClauseSet,
-    log: &Log,
-    guide: &mut Guide,
-    trail: &mut Trail,
-    lit: Lit,
-) -> Result<Option<Hint>, AllocError>
-    requires trail { IsTrail set.now log.now trail.old.marks.items trail.old.entries.items }
-    requires free { IsTrue (is_open trail.old.marks.items lit) }
-    ensures { IfOk result (λ found. IsPropagated set.now log.now (trail.old.entries.items ++ record { lit = lit; reason = None } ∷ []) trail.new.marks.items trail.new.entries.items found) }
-{
-    let place = trail.entries().len();
-    trail.push(Entry { lit, reason: None })?;
-    propagate(set, log, &mut guide.watches, place, trail)
-}
-
-/// Adds the step that refutes an assumption whose negation is on the trail, which stays as it is. No other assumption is its
-/// negation, so a clause forces that; it is false once the assumption stands in its place, where it is put for the look back.
-fn contradict(
-    alloc: Global,
-    set: &ClauseSet,
-    log: &mut Log,
-    guide: &mut Guide,
-    trail: &mut Trail,
-    lit: Lit,
-) -> Result<(), AllocError>
-    requires log { log.old ≡ [] }
-    requires chain { IsChain set.now log.old trail.old.entries.items }
-    requires there { among (lits_of trail.old.entries.items) (neg lit) ≡ true }
-    ensures refuted { OnOk result ((assumptions : List Lit) → IsFront assumptions trail.old.entries.items → is_clause set.now.bools (assumptions ++ lit ∷ []) ≡ true → IsRefuted set.now (assumptions ++ lit ∷ []) log.new) }
-    ensures entries { OnOk result (trail.new.entries.items ≡ trail.old.entries.items) }
-    ensures marks { OnOk result (trail.new.marks.items ≡ trail.old.marks.items) }
-{
-    let place = place_of(trail.entries(), negation(lit));
-    let negated = trail.entries()[place];
-    let Some(hint) = negated.reason else {
-        return Ok(());
-    };
-    trail.put(place, Entry { lit, reason: None });
-    refute(
-        alloc,
-        set,
-        log,
-        &mut guide.notes,
-        &mut guide.seen,
-        &trail.entries()[..place + 1],
-        hint,
-    )?;
-    trail.put(place, negated);
-    Ok(())
-}
-
 /// The place of the literal among the entries.
 fn place_of(entries: &[Entry], lit: Lit) -> usize
     requires { among (lits_of entries.now) lit ≡ true }
@@ -257,4 +277,31 @@ fn place_of(entries: &[Entry], lit: Lit) -> usize
         place += 1;
     }
     place
+}
+
+/// The refutation that a log ends in.
+fn refutation(alloc: Global, log: Log) -> Result<Answer, AllocError>
+    requires { 0 < length log }
+    ensures { (set : ClauseMap) (assumptions : List Lit) → IsRefuted set assumptions log → IfOk result (λ answer. Answers set assumptions answer) }
+{
+    let core = negate_last(alloc, &log)?;
+    Ok(Answer::Unsat { core, log })
+}
+
+/// The negations of the last step's literals.
+fn negate_last(alloc: Global, log: &Log) -> Result<Seq<Lit>, AllocError>
+    requires { 0 < length log.now }
+    ensures { IfOk result (λ core. IfSome (last_clause log.now) (λ clause. core ≡ map neg clause)) }
+{
+    negate_all(alloc, log.step(log.len() - 1).clause.as_slice())
+}
+
+fn negate_all(alloc: Global, lits: &[Lit]) -> Result<Seq<Lit>, AllocError>
+    ensures { IfOk result (λ all. all ≡ map neg lits.now) }
+{
+    let mut all = Seq::new(alloc);
+    for lit in lits {
+        all.push(negation(*lit))?;
+    }
+    Ok(all)
 }

@@ -1,100 +1,146 @@
-//! What leads the search and is no part of what it shows.
+//! What guides the searches of a solver and is no part of what they show.
 #![tactic(auto)]
 
-ghost use Rattle.std.specs.Prelude.{◌≡◌, ◌≤◌, List, length, take};
-ghost use Rattle.lv_clauses.specs.ClauseMap.{ClauseMap};
-ghost use Rattle.lv_reflog.specs.declared.log.Step.{Step};
-ghost use Rattle.lv_sat.specs.Trail.{IsTrail};
+ghost use Rattle.std.specs.Prelude.{◌≡◌, ◌≤◌, ◌+◌, true, length, count_by, IsTrue, IfSome, IfNone, is_some, is_none};
+ghost use Rattle.std.specs.List.{list_all};
+ghost use Rattle.lv_trail.specs.Trail.{is_open};
 
 use super::effort::Effort;
-use super::lead::Trust;
-use super::notes::{Notes, count_base};
-use super::order::Order;
-use super::trail::{Entry, Trail};
+use super::lead::{Lead, Trust, next_lead, no_lead};
 use lv_base::Lit;
-use lv_watches::Watches;
-use std::alloc::AllocError;
+use lv_clauses::ClauseSet;
+use lv_last_values::LastValues;
+use lv_sat_guide::{Order, Watches};
+use lv_trail::{Analysis, Entry, Reasons, Trail};
+use std::alloc::{AllocError, Global};
 
 /// For how many learned clauses there is room at first.
-pub const FIRST_ROOM: usize = 2000;
+const FIRST_ROOM: usize = 2000;
 
 /// For how many more, each time that half of them were let go of.
 const MORE_ROOM: usize = 300;
+
+/// After so many clauses learned a question is hard, and the last values don't lead it any more.
+const HARD: usize = 8;
 
 /// Which clauses to look at, how many of those learned, what to choose, what an analysis sees, and what was done.
 #[derive(Drop)]
 pub struct Guide {
     pub watches: Watches,
     pub room: usize,
-    pub notes: Notes,
-    /// The booleans that an analysis saw: none between two of them.
-    pub seen: Vec<bool>,
+    pub order: Order,
+    pub analysis: Analysis,
     pub effort: Effort,
     pub trust: Trust,
     /// So many of the first entries are true by the last values.
     pub agreed: usize,
 }
 
-/// Notes that a question is asked.
-pub fn note_call(guide: &mut Guide) {
-    guide.effort = guide.effort.with_call();
-    guide.trust = guide.trust.renewed();
-    guide.watches.clear_learned();
-    guide.room = FIRST_ROOM;
-    guide.notes.order.begin();
-    guide.notes.clear();
-}
-
-/// Notes that the last values are those of the trail.
-pub fn note_values(guide: &mut Guide, trail: &Trail) {
-    guide.agreed = trail.entries().len();
-}
-
-/// Notes up to which entry nothing rests on what was assumed or chosen.
-pub fn note_base(guide: &mut Guide, trail: &Trail) {
-    guide.notes.base = count_base(trail.entries());
-}
-
-/// Notes a clause learned, and that the entries from a place on are taken back.
-pub fn learn(
-    guide: &mut Guide,
-    entries: &[Entry],
-    clause: &[Lit],
-    step: usize,
-    cut: usize,
-) -> Result<(), AllocError>
-    requires { cut ≤ length entries.now }
-{
-    guide.effort = guide.effort.with(&entries[cut..]).with_conflict();
-    guide.notes.order.touch_all(clause);
-    put_back_all(&mut guide.notes.order, &entries[cut..]);
-    if guide.watches.learned() > guide.room {
-        guide.room = guide.room.saturating_add(MORE_ROOM);
-        guide.watches.reduce()?;
+impl Guide {
+    /// For the clauses of a set.
+    pub fn new(alloc: Global, set: &ClauseSet) -> Result<Guide, AllocError> {
+        Ok(Guide {
+            watches: Watches::new(alloc, set)?,
+            room: FIRST_ROOM,
+            order: Order::new(alloc, set.bools())?,
+            analysis: Analysis::new(alloc),
+            effort: Effort::new(),
+            trust: Trust::new(),
+            agreed: 0,
+        })
     }
-    guide.watches.add_learned(clause, step)
-}
 
-/// Takes the entries from a place on back, and notes it.
-pub fn take_back(guide: &mut Guide, trail: &mut Trail, len: usize)
-    requires { len ≤ length trail.old.entries.items }
-    ensures entries { trail.new.entries.items ≡ take len trail.old.entries.items }
-    ensures trail { (set : ClauseMap) (log : List Step) → IsTrail set log trail.old.marks.items trail.old.entries.items
-        → IsTrail set log trail.new.marks.items trail.new.entries.items }
-{
-    note_back(guide, &trail.entries()[len..]);
-    guide.agreed = guide.agreed.min(len);
-    trail.cut(len);
-}
+    /// Notes that a question is asked.
+    pub fn note_call(&mut self) {
+        self.effort = self.effort.with_call();
+        self.trust = self.trust.renewed();
+        self.watches.clear_learned();
+        self.room = FIRST_ROOM;
+        self.order.begin();
+    }
 
-/// Notes that entries are taken back.
-fn note_back(guide: &mut Guide, entries: &[Entry]) {
-    guide.effort = guide.effort.with(entries);
-    put_back_all(&mut guide.notes.order, entries);
-}
+    /// Notes that a question is answered as one before it.
+    pub fn note_again(&mut self) {
+        self.effort = self.effort.with_call();
+    }
 
-fn put_back_all(order: &mut Order, entries: &[Entry]) {
-    for entry in entries {
-        order.put_back(entry.lit);
+    /// Notes a clause learned, and that the entries from a place on are taken back.
+    pub fn learn(
+        &mut self,
+        entries: &[Entry],
+        clause: &[Lit],
+        step: usize,
+        cut: usize,
+    ) -> Result<(), AllocError>
+        requires { cut ≤ length entries.now }
+    {
+        self.effort = self.effort.with(&entries[cut..]).with_conflict();
+        self.order.score_all(self.analysis.noted());
+        self.order.touch_all(clause);
+        self.put_back_all(&entries[cut..]);
+        if self.watches.learned() > self.room {
+            self.room = self.room.saturating_add(MORE_ROOM);
+            self.watches.reduce()?;
+        }
+        self.watches.add_learned(clause, step)
+    }
+
+    /// Notes that the entries from a place on are taken back.
+    pub fn note_back(&mut self, entries: &[Entry], len: usize)
+        requires { len ≤ length entries.now }
+    {
+        self.effort = self.effort.with(&entries[len..]);
+        self.put_back_all(&entries[len..]);
+        self.agreed = self.agreed.min(len);
+    }
+
+    /// What the last values say of the next choice, while the question isn't hard, and where that is trusted.
+    pub fn easy_lead(
+        &mut self,
+        reasons: Reasons,
+        trail: &Trail,
+        last: &LastValues,
+        place: usize,
+    ) -> Lead {
+        if reasons.log.len() >= HARD || !self.trust.is_given() {
+            return no_lead(place);
+        }
+        self.trust = self.trust.led();
+        next_lead(reasons.set, trail, last, place)
+    }
+
+    /// A literal of a boolean that is in range and unmarked, this one if it is; None where there is none.
+    pub fn choose(
+        &mut self,
+        trail: &Trail,
+        lead: Option<Lit>,
+        last: &LastValues,
+        bools: u32,
+    ) -> Option<Lit>
+        requires len { length trail.now.marks.items ≡ bools }
+        requires room { length trail.now.entries.items + count_by is_none trail.now.marks.items ≡ length trail.now.marks.items }
+        ensures free { IfSome result (λ lit. IsTrue (is_open trail.now.marks.items lit)) }
+        ensures full { IfNone result (list_all is_some trail.now.marks.items ≡ true) }
+    {
+        if trail.is_full() {
+            return None;
+        }
+        if let Some(lit) = lead
+            && trail.is_open(lit)
+        {
+            return Some(lit);
+        }
+        if let Some(lit) = self.order.next(trail.marks(), last)
+            && trail.is_open(lit)
+        {
+            return Some(lit);
+        }
+        trail.free_lit(bools)
+    }
+
+    fn put_back_all(&mut self, entries: &[Entry]) {
+        for entry in entries {
+            self.order.put_back(entry.lit);
+        }
     }
 }

@@ -4,11 +4,10 @@
 //! more: any literal that isn't marked may be chosen, and a guess is judged.
 #![tactic(auto)]
 
-use super::last_values::LastValues;
-use super::occurrences::Occurrences;
-use super::trail::Trail;
 use lv_base::{ClauseId, Lit};
 use lv_clauses::{ClauseSet, lit_holds, negation};
+use lv_last_values::{LastValues, Occurrences};
+use lv_trail::Trail;
 
 /// What to choose next, and how far that was looked at.
 #[derive(Clone, Copy, Debug)]

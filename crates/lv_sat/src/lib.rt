@@ -8,40 +8,25 @@
 //! | copies of logs | `copying` |
 //! | whether assumptions hold a core | `part` |
 //! | what it did | `Effort` |
-//! | literals taken as true | `trail` |
-//! | what a false clause teaches | `analysis` |
-//! | what to choose next | `order`, `queue`, `scores` |
-//! | when to begin anew | `pace` |
-//! | what an analysis saw | `notes` |
-//! | with which clauses to look at | `guide` |
+//! | what guides it | `guide` |
 //! | what clauses force | `propagation` |
+//! | the search | `search` |
+//! | what the last values say of the next choice | `lead` |
 //! | the assumptions on the trail | `front` |
 //! | a clause that is added behind them | `entering` |
-//! | the search | `search` |
-//! | the last values that satisfied all clauses | `last_values`, `occurrences` |
-//! | what they say of the next choice | `lead` |
 #![tactic(auto)]
 
-mod analysis;
 pub mod answer;
 mod copying;
 pub mod effort;
 mod entering;
 mod front;
 mod guide;
-mod last_values;
 mod lead;
-mod notes;
-mod occurrences;
-mod order;
-mod pace;
 mod part;
 mod propagation;
-mod queue;
-mod scores;
 mod search;
 pub mod solver;
-mod trail;
 
 pub use answer::{Answer, Refutation};
 pub use effort::Effort;

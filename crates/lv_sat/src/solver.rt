@@ -8,18 +8,14 @@ ghost use Rattle.lv_clauses.specs.ClauseMap.{clause_at, Puts};
 
 use super::answer::{Answer, Refutation};
 use super::effort::Effort;
-use super::entering::take_in;
-use super::front::{Front, forget};
-use super::guide::{FIRST_ROOM, Guide, note_values};
-use super::last_values::LastValues;
-use super::lead::Trust;
-use super::notes::Notes;
+use super::front::Front;
+use super::guide::Guide;
 use super::part::is_part;
-use super::search::search;
-use super::trail::Trail;
+use super::search::Search;
 use lv_base::{ClauseId, Lit};
 use lv_clauses::ClauseSet;
-use lv_watches::Watches;
+use lv_last_values::LastValues;
+use lv_trail::Trail;
 use std::alloc::{AllocError, Global};
 use std::marker::Model;
 
@@ -30,7 +26,6 @@ use std::marker::Model;
 pub struct Solver {
     alloc: Global,
     set: ClauseSet,
-    guide: Guide,
     front: Front,
     last: LastValues,
     refuted: Option<Refutation>,
@@ -39,7 +34,7 @@ pub struct Solver {
 impl Model for Solver {
     ghost use Rattle.std.specs.Prelude.{IfSome};
     ghost use Rattle.lv_sat.specs.Front.{IsKept};
-    ghost use Rattle.lv_sat.specs.Occurrences.{IsUpToDate};
+    ghost use Rattle.lv_last_values.specs.Occurrences.{IsUpToDate};
     ghost use Rattle.lv_sat.specs.Solver.{SolverValue, Refutes};
 
     ghost Value = { SolverValue };
@@ -47,7 +42,7 @@ impl Model for Solver {
     ghost view = { λ s. record { set = s.set; refuted = s.refuted } };
 
     ghost invariant = { λ s. record {
-      front : IsKept s.set s.front.levels.items s.front.trail.marks.items s.front.trail.entries.items;
+      front : IsKept s.set s.front.levels.items s.front.search.trail.marks.items s.front.search.trail.entries.items;
       last : IsUpToDate s.set s.last.values s.last.occurrences;
       refuted : IfSome s.refuted (Refutes s.set);
     } };
@@ -66,17 +61,12 @@ impl Solver {
         Ok(Solver {
             alloc,
             set: set.copy()?,
-            guide: Guide {
-                watches: Watches::new(alloc, set)?,
-                room: FIRST_ROOM,
-                notes: Notes::new(alloc, set.bools())?,
-                seen: Vec::new(alloc),
-                effort: Effort::new(),
-                trust: Trust::new(),
-                agreed: 0,
-            },
             front: Front {
-                trail: Trail::new(alloc, set.bools())?,
+                search: Search {
+                    alloc,
+                    guide: Guide::new(alloc, set)?,
+                    trail: Trail::new(alloc, set.bools())?,
+                },
                 levels: Vec::new(alloc),
             },
             last: LastValues::new(),
@@ -96,14 +86,7 @@ impl Solver {
     {
         let id = self.set.add(lits)?;
         self.last.add(lits, id);
-        take_in(
-            self.alloc,
-            &self.set,
-            &mut self.guide,
-            &mut self.front,
-            lits,
-            id,
-        );
+        self.front.take_in(&self.set, lits, id);
         Ok(id)
     }
 
@@ -113,11 +96,11 @@ impl Solver {
         ensures removed { Puts self.old.set self.new.set id.0 None }
         ensures refuted { self.new.refuted ≡ None }
     {
-        forget(&mut self.guide, &mut self.front);
+        self.front.forget();
         self.set.remove(id);
         self.last.remove();
         self.refuted = None;
-        self.guide.watches.remove_given(id);
+        self.front.search.guide.watches.remove_given(id);
     }
 
     /// The clauses present, by which the log of a refutation can be checked.
@@ -141,7 +124,7 @@ impl Solver {
         if let Some(refuted) = &self.refuted
             && is_part(refuted.core.as_slice(), assumptions)
         {
-            self.guide.effort = self.guide.effort.with_call();
+            self.front.search.guide.note_again();
             return refuted.answer(self.alloc);
         }
         self.seek(assumptions)
@@ -155,18 +138,11 @@ impl Solver {
         ensures remembers { IfOk result (λ answer. self.new.refuted ≡ last_refuted self.old.refuted answer) }
         ensures failed { OnErr result (self.new.refuted ≡ self.old.refuted) }
     {
-        let answer = search(
-            self.alloc,
-            &self.set,
-            &mut self.guide,
-            &mut self.front,
-            &self.last,
-            assumptions,
-        )?;
+        let answer = self.front.answer(&self.set, &self.last, assumptions)?;
         match &answer {
             Answer::Sat { values, log: _ } => {
                 self.last.keep(self.alloc, &self.set, values.as_slice());
-                note_values(&mut self.guide, &self.front.trail);
+                self.front.search.note_values();
             }
             Answer::Unsat { core, log } => {
                 self.refuted = Some(Refutation::copy_of(self.alloc, core.as_slice(), log)?);
@@ -177,6 +153,6 @@ impl Solver {
 
     /// What its searches did, all together.
     pub fn effort(&self) -> Effort {
-        self.guide.effort.with(self.front.trail.entries())
+        self.front.search.effort()
     }
 }

@@ -1,6 +1,6 @@
 -- the literal is among what is left
 use Rattle.std.proofs.Common.{◌≡◌, ◌-◌, length, drop, true}
-use Rattle.lv_sat.specs.Trail.{among, lits_of}
+use Rattle.lv_trail.specs.Trail.{among, lits_of}
 use Rattle.lv_sat.proofs.front.place_of.Given as goal
 
 abbrev pub invariant-loop-lit : goal.invariant-loop-lit

@@ -2,7 +2,7 @@
 use Rattle.std.proofs.Common.{◌≡◌, ◌≢◌, ◌↔◌, ◌+◌, drop, get_or, false, rules, arith, sym, subst}
 use Rattle.lv_base.specs.declared.ids.Lit.{Lit}
 use Rattle.lv_sat.specs.Answers.{IsSublist}
-use Rattle.lv_sat.proofs.PartLemmas.{walk_met, walk_passed, walk_over, walk_end}
+use Rattle.lv_trail.proofs.PartLemmas.{walk_met, walk_passed, walk_over, walk_end}
 use Rattle.lv_sat.proofs.part.is_part.Goals.{then-met-part+then-eq, else-met-part, else-met-part-via-then-met-part+else-eq, else-met-part-via-else-met-part}
 use Rattle.lv_sat.proofs.part.is_part.Goals as goal
 

@@ -12,7 +12,7 @@ invariant_of-self-in_ok-copy_of-in-Unsat c =
     let same : c.in_ok-copy_of-in-Unsat.field-0 ≡ record { core = c.in-Unsat.core; log = c.in-Unsat.log } =
     c.in_ok-copy_of-in-Unsat.ensures ∙ ap (λ (core : List Lit). record { core = core; log = c.in-Unsat.log }) c.as_slice-in-Unsat.ensures in
     record {
-      front = c.search.ensures.kept;
+      front = c.answer.ensures.kept;
       last = c.self.invariant.last;
       refuted = subst (Refutes c.self.inside.set) (sym same) (refuted_now c.self.inside.set c.args.assumptions.now c.in-Unsat.core c.in-Unsat.log told);
     }
@@ -23,7 +23,7 @@ invariant_of-self-in_ok-copy_of-in-Unsat-2 c =
     let same : c.in_ok-copy_of-in-Unsat.field-0 ≡ record { core = c.in-Unsat.core; log = c.in-Unsat.log } =
     c.in_ok-copy_of-in-Unsat.ensures ∙ ap (λ (core : List Lit). record { core = core; log = c.in-Unsat.log }) c.as_slice-in-Unsat.ensures in
     record {
-      front = c.search.ensures.kept;
+      front = c.answer.ensures.kept;
       last = c.self.invariant.last;
       refuted = subst (Refutes c.self.inside.set) (sym same) (refuted_now c.self.inside.set c.args.assumptions.now c.in-Unsat.core c.in-Unsat.log told);
     }

@@ -1,6 +1,0 @@
--- the values of the booleans gone through keep their marks
-use Rattle.lv_sat.proofs.LastValuesLemmas.{KeepBefore}
-use Rattle.lv_sat.proofs.last_values.write_marks.Given as goal
-
-abbrev pub invariant-loop-var : goal.invariant-loop-var
-invariant-loop-var l = KeepBefore l.marks l.values l.var

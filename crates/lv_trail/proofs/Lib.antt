@@ -1,0 +1,7 @@
+pub mod ListLemmas
+pub mod TrailLemmas
+pub mod SeenLemmas
+pub mod PartLemmas
+pub mod AnalysisLemmas
+pub mod ShorterLemmas
+pub mod CutLemmas
