@@ -52,10 +52,7 @@ pub(crate) fn carry_out<'a>(
         Request::RetractAt(retraction) => Ok(state.retract_at(&retraction)),
         Request::SetGoal(goal) => state.set_goal(goal),
         Request::DropGoal(name) => Ok(state.drop_goal(name.as_slice())),
-        Request::Diagnose => {
-            let budget = state.budget();
-            state.diagnose(alloc, model, system, running, budget)
-        }
+        Request::Diagnose => state.diagnose(alloc, model, system, running),
         Request::Recover => state.recover(alloc, model, system, running),
         Request::More(n) => state.more(alloc, model, running, n),
         Request::Commit => state.commit(alloc, model, running),
@@ -67,10 +64,7 @@ pub(crate) fn carry_out<'a>(
         Request::Reset => state.reset(alloc, model),
         Request::Quit => Ok(state.quit()),
         Request::Probe => probe(state, alloc, compiled, running),
-        Request::Test(var) => {
-            let budget = state.budget();
-            state.test(alloc, model, system, running, var, budget)
-        }
+        Request::Test(var) => state.test(alloc, model, system, running, var),
         Request::Window(steps) => state.look_back(alloc, model, running, steps),
     }
 }

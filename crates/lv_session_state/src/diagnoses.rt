@@ -52,18 +52,17 @@ impl State {
         identify(alloc, model, system, spare, tracked, facts, listing)
     }
 
-    /// A diagnosis with so many trials, which becomes the current query.
+    /// A diagnosis with as many trials as a new query has, which becomes the current query.
     pub fn diagnose<'a>(
         &mut self,
         alloc: Global,
         model: &'a Model,
         system: &StepSystem,
         running: &mut Running<'a>,
-        n: u64,
     ) -> Result<Reply, AllocError>
         requires state { IsStateOf model.now self.old }
         requires system { IsSystemOf model.now system.now }
-        ensures ok { IfOk result (λ reply. record { state = self.new; reply = reply } ≡ diagnosed model.now self.old n) }
+        ensures ok { IfOk result (λ reply. record { state = self.new; reply = reply } ≡ diagnosed model.now self.old self.old.budget) }
         ensures err { OnErr result (self.new ≡ self.old) }
         ensures running { OnOk result (IsCurrent model.now self.new running.new) }
     {
@@ -71,7 +70,8 @@ impl State {
         let query = self.untried(alloc, model, system, spare)?;
         let run = unrun(alloc, query, None)?;
         *running = Running::Diagnosis(run);
-        self.ask(alloc, model, running, Query::Diagnosis(n), n)
+        let budget = self.budget();
+        self.ask(alloc, model, running, Query::Diagnosis(budget), budget)
     }
 
     /// Takes what is listed over: it is tracked, the next observations become present, the controls rest.

@@ -32,7 +32,7 @@ impl State {
         })
     }
 
-    /// A test with so many trials, which becomes the current query.
+    /// A test with as many trials as a new query has, which becomes the current query.
     pub fn test<'a>(
         &mut self,
         alloc: Global,
@@ -40,12 +40,11 @@ impl State {
         system: &StepSystem,
         running: &mut Running<'a>,
         var: VarId,
-        n: u64,
     ) -> Result<Reply, AllocError>
         requires state { IsStateOf model.now self.old }
         requires system { IsSystemOf model.now system.now }
         requires there { IsObservableOf model.now var }
-        ensures ok { IfOk result (λ reply. record { state = self.new; reply = reply } ≡ tested model.now self.old var n) }
+        ensures ok { IfOk result (λ reply. record { state = self.new; reply = reply } ≡ tested model.now self.old var self.old.budget) }
         ensures err { OnErr result (self.new ≡ self.old) }
         ensures running { OnOk result (IsCurrent model.now self.new running.new) }
     {
@@ -53,6 +52,7 @@ impl State {
         let query = find_test(alloc, model, system, aim, var)?;
         let run = unrun(alloc, query, running.take_solver())?;
         *running = Running::Test(run);
-        self.ask(alloc, model, running, Query::Test(var, n), n)
+        let budget = self.budget();
+        self.ask(alloc, model, running, Query::Test(var, budget), budget)
     }
 }
