@@ -2,12 +2,13 @@
 //! of one or all of the other do.
 #![tactic(auto)]
 
-ghost use Rattle.std.specs.Prelude.{◌≡◌, ◌++◌, ◌∷◌, [], IfOk, map};
+ghost use Rattle.std.specs.Prelude.{◌≡◌, ◌++◌, ◌∷◌, [], IfOk, OnOk, map};
 ghost use Rattle.lv_compile.specs.FormulaClauses.{each_after, product, gather, when_true};
 ghost use Rattle.lv_compile.specs.ModelClauses.{unless};
 
 use lv_base::{Lit, Seq};
 use std::alloc::{AllocError, Global};
+use std::mem;
 
 /// The literals of both.
 fn longer(alloc: Global, front: &Seq<Lit>, back: &Seq<Lit>) -> Result<Seq<Lit>, AllocError>
@@ -105,6 +106,29 @@ pub fn gather(
         [only] => each_before(alloc, front, only),
         backs => product(alloc, front.as_slice(), backs),
     }
+}
+
+/// Makes clauses that say what the list does and that the literal is true, or one of the two. A clause that stands alone,
+/// as in a law of equations joined by `|`, grows where it lies.
+pub fn gather_literal(
+    alloc: Global,
+    of_all: bool,
+    out: &mut Vec<Seq<Lit>>,
+    literal: Lit,
+) -> Result<(), AllocError>
+    ensures { OnOk result (out.new.items ≡ gather of_all out.old.items ((literal ∷ []) ∷ [])) }
+{
+    if !of_all && out.len() == 1 {
+        return out[0].push(literal);
+    }
+    let single = Seq::from_slice(alloc, &[literal])?;
+    if of_all {
+        out.push(single)?;
+        return Ok(());
+    }
+    let fronts = mem::replace(out, Vec::new(alloc));
+    *out = each_before(alloc, fronts, &single)?;
+    Ok(())
 }
 
 /// Adds what holds where the literal is false: each clause of the list behind the literal.

@@ -3,14 +3,16 @@
 //! the formula, so what makes lists is kept out of its frames, and the lists are handed back in a box.
 #![tactic(auto)]
 
-ghost use Rattle.std.specs.Prelude.{◌≡◌, true, false, not, ◌++◌, IfOk, IsTrue, [], ◌∷◌, ◌<◌, ◌≤◌, ◌+◌, map, length};
+ghost use Rattle.std.specs.Prelude.{◌≡◌, true, false, not, ◌++◌, IfOk, OnOk, IsTrue, [], ◌∷◌, ◌<◌, ◌≤◌, ◌+◌, map, length};
 ghost use Rattle.lv_formula.specs.Tree.{tree_of, trees_of};
+ghost use Rattle.lv_clauses.specs.Literals.{neg};
 ghost use Rattle.lv_compile.specs.Booleans.{value_literal};
 ghost use Rattle.lv_compile.specs.FormulaClauses.{asked, when_true, product, gather, formula_clauses, gathered_clauses, equality_clause, equality_clauses, speaks_of, each_speaks_of, size_of};
 
-use crate::clause_lists::{both_lists, gather, product, when_true};
+use crate::clause_lists::{both_lists, gather, gather_literal, product, when_true};
 use crate::value_bools::ValueBools;
 use lv_base::{Lit, Seq};
+use lv_clauses::negation;
 use lv_formula::Formula;
 use std::alloc::{AllocError, Global};
 
@@ -271,6 +273,54 @@ fn gathered_lists(
     boxed(alloc, when_true, when_false)
 }
 
+/// That what was gathered and the literal are true, or one of the two, where it is asked for.
+fn gather_if(
+    alloc: Global,
+    is_asked: bool,
+    of_all: bool,
+    out: &mut Vec<Seq<Lit>>,
+    literal: Lit,
+) -> Result<(), AllocError>
+    requires { out.old.items ≡ asked is_asked out.old.items }
+    ensures { OnOk result (out.new.items ≡ gather of_all out.old.items (asked is_asked ((literal ∷ []) ∷ []))) }
+{
+    if is_asked {
+        gather_literal(alloc, of_all, out, literal)
+    } else {
+        Ok(())
+    }
+}
+
+/// That what was gathered and the literal are true, or one of the two; and that they aren't.
+#[inline(never)]
+fn gather_literals(
+    alloc: Global,
+    lists: &mut Lists,
+    literal: Lit,
+    signs: Signs,
+    of_all: bool,
+) -> Result<(), AllocError>
+    requires when_true { lists.old.when_true.items ≡ asked signs.when_true lists.old.when_true.items }
+    requires when_false { lists.old.when_false.items ≡ asked signs.when_false lists.old.when_false.items }
+    ensures when_true { OnOk result (lists.new.when_true.items ≡ gather of_all lists.old.when_true.items (asked signs.when_true ((literal ∷ []) ∷ []))) }
+    ensures when_false { OnOk result (lists.new.when_false.items ≡ gather (not of_all) lists.old.when_false.items (asked signs.when_false ((neg literal ∷ []) ∷ []))) }
+{
+    gather_if(
+        alloc,
+        signs.when_true,
+        of_all,
+        &mut lists.when_true,
+        literal,
+    )?;
+    gather_if(
+        alloc,
+        signs.when_false,
+        !of_all,
+        &mut lists.when_false,
+        negation(literal),
+    )
+}
+
 /// That the one implies the other, and that it doesn't.
 #[inline(never)]
 fn implication_lists(alloc: Global, f: Box<Lists>, g: Box<Lists>) -> Result<Box<Lists>, AllocError>
@@ -421,8 +471,34 @@ fn gathered_clauses(
 {
     let mut whole = truth_lists(target.alloc, signs, of_all)?;
     'operands: for operand in operands {
-        let more = signed_clauses(target, operand, signs)?;
-        whole = gathered_lists(target.alloc, of_all, whole, more)?;
+        whole = with_operand(target, whole, operand, signs, of_all)?;
     }
+    Ok(whole)
+}
+
+/// What was gathered and one operand more. That a variable has a value is put into the lists where they lie.
+#[inline(always)]
+#[cycle(signed_clauses)]
+fn with_operand(
+    target: &Target<'_>,
+    whole: Box<Lists>,
+    operand: &Formula,
+    signs: Signs,
+    of_all: bool,
+) -> Result<Box<Lists>, AllocError>
+    requires speaks { IsTrue (speaks_of target.now.bools.now target.now.base (tree_of operand.now)) }
+    requires when_true { whole.value.when_true.items ≡ asked signs.when_true whole.value.when_true.items }
+    requires when_false { whole.value.when_false.items ≡ asked signs.when_false whole.value.when_false.items }
+    ensures when_true { IfOk result (λ out. out.value.when_true.items ≡ gather of_all whole.value.when_true.items (asked signs.when_true (formula_clauses target.now.bools.now target.now.base true (tree_of operand.now)))) }
+    ensures when_false { IfOk result (λ out. out.value.when_false.items ≡ gather (not of_all) whole.value.when_false.items (asked signs.when_false (formula_clauses target.now.bools.now target.now.base false (tree_of operand.now)))) }
+{
+    let Formula::Is(var, val) = operand else {
+        let more = signed_clauses(target, operand, signs)?;
+        return gathered_lists(target.alloc, of_all, whole, more);
+    };
+    let var = target.base as usize + var.0 as usize;
+    let literal = target.bools.literal(var, val.0, true);
+    let mut whole = whole;
+    gather_literals(target.alloc, &mut whole, literal, signs, of_all)?;
     Ok(whole)
 }

@@ -1,11 +1,11 @@
 -- operand by operand, in either sign
-use Rattle.std.proofs.Common.{ℕ, ◌+◌, ◌<◌, ◌≤◌, Bool, true, false, not, List, ◌∷◌, map, drop, length, sym, ap, ◌∙◌, arith}
+use Rattle.std.proofs.Common.{ℕ, ◌+◌, ◌<◌, ◌≤◌, Bool, true, false, not, List, ◌∷◌, map, drop, length, refl, sym, ap, ◌∙◌, arith}
 use Rattle.std.proofs.lemmas.Bool.{and_parts}
 use Rattle.std.proofs.lemmas.List.{drop_more, drop_all}
 use Rattle.lv_formula.specs.declared.Formula.{Formula}
 use Rattle.lv_formula.specs.Tree.{tree_of, trees_of}
 use Rattle.lv_compile.specs.Booleans.{Booleans}
-use Rattle.lv_compile.specs.FormulaClauses.{Clauses, formula_clauses, gathered_clauses, speaks_of, each_speaks_of}
+use Rattle.lv_compile.specs.FormulaClauses.{Clauses, asked, formula_clauses, gathered_clauses, speaks_of, each_speaks_of}
 use Rattle.lv_compile.proofs.GatherLemmas.{gathered_start, gathered_more, gathered_all}
 use Rattle.lv_compile.proofs.formula.+signed_clauses.Goals as goal
 
@@ -36,13 +36,13 @@ gathered_clauses-operands-preserved t c =
     (sym (ap (λ xs. each_speaks_of b base (trees_of (map tree_of xs))) left) ∙ c.operands.invariant.within) in
     record {
       positive =
-          gathered_more c.args.signs.when_true c.args.of_all c.operands.whole.value.when_true.items c.in_ok-whole-2.whole.value.when_true.items c.in_ok-more.more.value.when_true.items (formula_clauses b base true f)
+          gathered_more c.args.signs.when_true c.args.of_all c.operands.whole.value.when_true.items c.in_ok-whole-2.whole.value.when_true.items (asked c.args.signs.when_true (formula_clauses b base true f)) (formula_clauses b base true f)
           (left_from b base c.args.of_all true fs (index + 1)) (left_from b base c.args.of_all true fs index) (left_from b base c.args.of_all true fs 0) c.operands.invariant.positive
-          (ap (λ xs. gathered_clauses b base c.args.of_all true (trees_of (map tree_of xs))) left) c.in_ok-more.ensures.when_true c.in_ok-whole-2.ensures.when_true;
+          (ap (λ xs. gathered_clauses b base c.args.of_all true (trees_of (map tree_of xs))) left) refl c.in_ok-whole-2.ensures.when_true;
       negative =
-          gathered_more c.args.signs.when_false (not c.args.of_all) c.operands.whole.value.when_false.items c.in_ok-whole-2.whole.value.when_false.items c.in_ok-more.more.value.when_false.items (formula_clauses b base false f)
+          gathered_more c.args.signs.when_false (not c.args.of_all) c.operands.whole.value.when_false.items c.in_ok-whole-2.whole.value.when_false.items (asked c.args.signs.when_false (formula_clauses b base false f)) (formula_clauses b base false f)
           (left_from b base (not c.args.of_all) false fs (index + 1)) (left_from b base (not c.args.of_all) false fs index) (left_from b base (not c.args.of_all) false fs 0)
-          c.operands.invariant.negative (ap (λ xs. gathered_clauses b base (not c.args.of_all) false (trees_of (map tree_of xs))) left) c.in_ok-more.ensures.when_false
+          c.operands.invariant.negative (ap (λ xs. gathered_clauses b base (not c.args.of_all) false (trees_of (map tree_of xs))) left) refl
           c.in_ok-whole-2.ensures.when_false;
       within = two.1;
     }

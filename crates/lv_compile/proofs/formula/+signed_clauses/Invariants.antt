@@ -7,16 +7,19 @@ use Rattle.lv_compile.proofs.GatherLemmas.{IsGathered}
 use Rattle.lv_compile.proofs.formula.+signed_clauses.Given as goal
 
 abbrev pub decreases-signed_clauses : goal.decreases-signed_clauses
-decreases-signed_clauses l = 2 * goal.size-signed_clauses l
+decreases-signed_clauses l = 3 * goal.size-signed_clauses l
 
 abbrev pub decreases-implication_clauses : goal.decreases-implication_clauses
-decreases-implication_clauses l = 2 * goal.size-implication_clauses l + 1
+decreases-implication_clauses l = 3 * goal.size-implication_clauses l + 1
 
 abbrev pub decreases-equivalence_clauses : goal.decreases-equivalence_clauses
-decreases-equivalence_clauses l = 2 * goal.size-equivalence_clauses l + 1
+decreases-equivalence_clauses l = 3 * goal.size-equivalence_clauses l + 1
 
 abbrev pub decreases-gathered_clauses : goal.decreases-gathered_clauses
-decreases-gathered_clauses l = 2 * goal.size-gathered_clauses l + 1
+decreases-gathered_clauses l = 3 * goal.size-gathered_clauses l + 2
+
+abbrev pub decreases-with_operand : goal.decreases-with_operand
+decreases-with_operand l = 3 * goal.size-with_operand l + 1
 
 abbrev pub invariant-gathered_clauses-operands : goal.invariant-gathered_clauses-operands
 invariant-gathered_clauses-operands l =
