@@ -121,31 +121,33 @@ fn number_piece(rest: &[u8]) -> Piece
     }
 }
 
+// By the first byte; `<`, `=` and `-` may begin a longer symbol.
 fn symbol_piece(rest: &[u8]) -> Piece
     ensures { result ≡ symbol_piece rest.now }
 {
-    if rest.starts_with(b"<=>") {
-        Piece::Lexeme(TokenKind::Iff, 3)
-    } else if rest.starts_with(b"=>") {
-        Piece::Lexeme(TokenKind::Implies, 2)
-    } else if rest.starts_with(b"->") {
-        Piece::Lexeme(TokenKind::Arrow, 2)
-    } else if rest.starts_with(b"=") {
-        Piece::Lexeme(TokenKind::Equals, 1)
-    } else if rest.starts_with(b"!") {
-        Piece::Lexeme(TokenKind::Not, 1)
-    } else if rest.starts_with(b"&") {
-        Piece::Lexeme(TokenKind::And, 1)
-    } else if rest.starts_with(b"|") {
-        Piece::Lexeme(TokenKind::Or, 1)
-    } else if rest.starts_with(b"(") {
-        Piece::Lexeme(TokenKind::Open, 1)
-    } else if rest.starts_with(b")") {
-        Piece::Lexeme(TokenKind::Close, 1)
-    } else if rest.starts_with(b".") {
-        Piece::Lexeme(TokenKind::Dot, 1)
-    } else {
-        Piece::Fault(0)
+    match rest.first() {
+        Some(b'!') => Piece::Lexeme(TokenKind::Not, 1),
+        Some(b'&') => Piece::Lexeme(TokenKind::And, 1),
+        Some(b'|') => Piece::Lexeme(TokenKind::Or, 1),
+        Some(b'(') => Piece::Lexeme(TokenKind::Open, 1),
+        Some(b')') => Piece::Lexeme(TokenKind::Close, 1),
+        Some(b'.') => Piece::Lexeme(TokenKind::Dot, 1),
+        Some(b'=') => {
+            if rest.starts_with(b"=>") {
+                Piece::Lexeme(TokenKind::Implies, 2)
+            } else {
+                Piece::Lexeme(TokenKind::Equals, 1)
+            }
+        }
+        _ => {
+            if rest.starts_with(b"<=>") {
+                Piece::Lexeme(TokenKind::Iff, 3)
+            } else if rest.starts_with(b"->") {
+                Piece::Lexeme(TokenKind::Arrow, 2)
+            } else {
+                Piece::Fault(0)
+            }
+        }
     }
 }
 
