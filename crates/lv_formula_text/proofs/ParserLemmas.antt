@@ -1,5 +1,5 @@
 -- The steps of reading, over plain lists of tokens.
-use Rattle.std.proofs.Common.{◌≡◌, ◌≢◌, ℕ, zero, suc, ◌+◌, ◌-◌, ◌<◌, ◌≤◌, length, true, false, List, [], ◌∷◌, ◌++◌, Option, Some, None, sym, ap, subst, ◌∙◌, arith, append_assoc}
+use Rattle.std.proofs.Common.{◌≡◌, ◌≢◌, ℕ, zero, suc, ◌+◌, ◌-◌, ◌<◌, ◌≤◌, length, true, false, List, [], ◌∷◌, ◌++◌, Option, Some, None, refl, sym, ap, subst, ◌∙◌, arith, append_assoc}
 use Rattle.lv_text.specs.declared.lexer.TokenKind.{TokenKind}
 use Rattle.lv_text.specs.declared.lexer.TokenKind.TheVariants.{Not, Open, Close}
 use Rattle.lv_text.specs.Lexemes.{Lexeme}
@@ -181,3 +181,61 @@ negating_more ts rest less so_far t = record {
 pub negations_more : (n : ℕ) (f : PhraseTree) → 0 < n → negations n f ≡ negations (n - 1) (negation f)
 negations_more zero f some = absurd (omega arith)
 negations_more (suc n) f some = let same : n ≡ suc n - 1 = omega arith in ap (λ m. negations m (negation f)) same
+
+-- one operand alone makes itself
+joined_single : (c : Connective) (f : PhraseTree) → joined c (f ∷ []) ≡ f
+joined_single Equivalence f = refl
+joined_single Implication f = refl
+joined_single Disjunction f = refl
+joined_single Conjunction f = refl
+
+joined_operand : (c : Connective) (ts rest : List Lexeme) (f : PhraseTree) → IsOperand c ts f rest → IsJoined c ts f rest
+joined_operand c ts rest f p = subst (λ g. IsJoined c ts g rest) (joined_single c f) (joining (f ∷ []) (alone p))
+
+-- what binds tightest is what any connective joins
+module _ (ts rest : List Lexeme) (f : PhraseTree) (p : IsUnary ts f rest) where
+  in_conjunction : IsJoined Conjunction ts f rest
+  in_conjunction = joined_operand Conjunction ts rest f (unary p)
+
+  in_disjunction : IsJoined Disjunction ts f rest
+  in_disjunction = joined_operand Disjunction ts rest f (conjunction in_conjunction)
+
+  in_implication : IsJoined Implication ts f rest
+  in_implication = joined_operand Implication ts rest f (disjunction in_disjunction)
+
+  in_joined : (c : Connective) → IsJoined c ts f rest
+  in_joined Equivalence = joined_operand Equivalence ts rest f (implication in_implication)
+  in_joined Implication = in_implication
+  in_joined Disjunction = in_disjunction
+  in_joined Conjunction = in_conjunction
+
+-- nothing goes on with what binds tightest
+pub joined_alone : (c : Connective) (ts rest : List Lexeme) (f : PhraseTree) → Reads IsUnary 5 ts f rest → binding rest < level c → Reads (IsJoined c) (level c) ts f rest
+joined_alone c ts rest f r less = record { text = in_joined ts rest f r.text c; ends = less }
+
+-- where nothing binds tightest there is nothing to join
+module _ (ts : List Lexeme) (none : HasNone IsUnary 5 ts) where
+  no_conjunction : HasNone (IsJoined Conjunction) 4 ts
+  no_conjunction = joined_none Conjunction ts ts [] (joining_none Conjunction ts) (operand_of_conjunction ts None ts none)
+
+  no_disjunction : HasNone (IsJoined Disjunction) 3 ts
+  no_disjunction = joined_none Disjunction ts ts [] (joining_none Disjunction ts) (operand_of_disjunction ts None ts no_conjunction)
+
+  no_implication : HasNone (IsJoined Implication) 2 ts
+  no_implication = joined_none Implication ts ts [] (joining_none Implication ts) (operand_of_implication ts None ts no_disjunction)
+
+  pub unary_none : (c : Connective) → HasNone (IsJoined c) (level c) ts
+  unary_none Equivalence = joined_none Equivalence ts ts [] (joining_none Equivalence ts) (operand_of_equivalence ts None ts no_implication)
+  unary_none Implication = no_implication
+  unary_none Disjunction = no_disjunction
+  unary_none Conjunction = no_conjunction
+
+-- behind the first operand there is no sign
+pub joined_first : (c : Connective) (ts rest end : List Lexeme) (sign : TokenKind) (f : PhraseTree) → Reads (IsOperand c) (level c + 1) ts f rest → Takes sign rest false end
+    → sign ≡ sign_of c → Reads (IsJoined c) (level c) ts f end
+joined_first c ts rest end sign f operand t is = joined_step c ts ts rest end sign [] (f ∷ []) f f (joining_none c ts) operand t is refl (sym (joined_single c f))
+
+-- behind the first operand there is one
+pub joining_first : (c : Connective) (ts rest end : List Lexeme) (sign : TokenKind) (gs : List PhraseTree) (f : PhraseTree) → Reads (IsOperand c) (level c + 1) ts f rest
+    → Takes sign rest true end → sign ≡ sign_of c → gs ≡ f ∷ [] → Joining c ts end gs
+joining_first c ts rest end sign gs f operand t is all = joining_step c ts ts rest end sign [] gs f (joining_none c ts) operand t is all

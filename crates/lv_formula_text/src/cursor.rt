@@ -29,7 +29,7 @@ impl<'a> Model for Cursor<'a> {
 
 impl<'a> Cursor<'a> {
     ghost use Rattle.std.specs.Prelude.{length, drop, nat_eq};
-    ghost use Rattle.lv_formula_text.specs.Connectives.{first_kind};
+    ghost use Rattle.lv_formula_text.specs.Connectives.{first_kind, binding};
 
     pub fn new(line: &'a TokenLine<'a>, place: usize) -> Cursor<'a>
         ensures { result ≡ drop place line.now }
@@ -60,6 +60,19 @@ impl<'a> Cursor<'a> {
         ensures { result ≡ first_kind self.now }
     {
         self.line.kind(self.place)
+    }
+
+    /// How tightly the next token binds what stands before it: by the level of a connective, or not at all.
+    pub fn binding(&self) -> u32
+        ensures { result ≡ binding self.now }
+    {
+        match self.kind() {
+            Some(TokenKind::Iff) => 1,
+            Some(TokenKind::Implies) => 2,
+            Some(TokenKind::Or) => 3,
+            Some(TokenKind::And) => 4,
+            _ => 0,
+        }
     }
 
     /// Goes past the next token, if it is of this kind.

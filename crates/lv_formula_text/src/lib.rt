@@ -4,7 +4,7 @@
 //! |---|---|
 //! | names | `Path`, `Scope` |
 //! | a formula with names as written | `Phrase`, `PhraseNode` |
-//! | reading it, exactly by the grammar | `read_phrase`, `PhraseFault` |
+//! | reading it, exactly by the grammar | `read_phrase`, `read_shallow_phrase`, `PhraseFault` |
 //! | its canonical text | `print_phrase`, `write_phrase`, `LineWriter` |
 //! | what its names stand for | `resolve`, `ResolveFault` |
 //! | what holds of every text | `laws` |
@@ -32,7 +32,7 @@ pub use fault::PhraseFault;
 pub use lv_formula::Path;
 pub use phrase::{Phrase, PhraseNode};
 pub use printer::{print_phrase, write_phrase};
-pub use reader::{is_too_deep, read_phrase};
+pub use reader::{is_too_deep, read_phrase, read_shallow_phrase};
 pub use resolver::{ResolveFault, resolve};
 pub use scope::Scope;
 pub use writer::LineWriter;

@@ -6,12 +6,13 @@
 //! functions of their own, so that a level takes little of the stack.
 #![tactic(auto)]
 
-ghost use Rattle.std.specs.Prelude.{◌≡◌, ◌≢◌, ℕ, ◌+◌, IfOk, Some, option_map, ◌≤◌, length};
+ghost use Rattle.std.specs.Prelude.{◌≡◌, ◌≢◌, ℕ, ◌+◌, List, IfOk, Some, option_map, ◌≤◌, length};
 ghost use Rattle.lv_text.specs.declared.lexer.TokenKind.TheVariants.{Not};
+ghost use Rattle.lv_text.specs.Lexemes.{Lexeme};
 ghost use Rattle.lv_formula_text.specs.PhraseTree.{tree_in};
 ghost use Rattle.lv_formula_text.specs.Connectives.{level, first_kind, negations};
 ghost use Rattle.lv_formula_text.specs.Grammar.{IsUnary, IsOperand, IsJoined};
-ghost use Rattle.lv_formula_text.specs.Reading.{Finds};
+ghost use Rattle.lv_formula_text.specs.Reading.{Reads, Finds};
 
 use crate::atom::atom;
 use crate::connective::Connective;
@@ -23,7 +24,7 @@ use std::alloc::{AllocError, Global};
 
 /// Reads operands with the connective's sign between them, and joins them.
 #[cycle(read)]
-#[inline(never)]
+#[inline(always)]
 pub(crate) fn joined(
     alloc: Global,
     cursor: &mut Cursor<'_>,
@@ -32,7 +33,35 @@ pub(crate) fn joined(
     ensures found { IfOk result (λ found. Finds (IsJoined connective) (level connective) cursor.old (option_map tree_in found) cursor.new) }
     ensures left { length cursor.new ≤ length cursor.old }
 {
+    match unary(alloc, cursor)? {
+        Some(first) => joined_behind(alloc, cursor, connective, first),
+        None => Ok(None),
+    }
+}
+
+/// The same where the first formula that binds tightest is read. Where nothing goes on with it, it is all.
+#[cycle(read)]
+#[inline(never)]
+fn joined_behind(
+    alloc: Global,
+    cursor: &mut Cursor<'_>,
+    connective: Connective,
+    first: Box<PhraseNode>,
+) -> Result<Option<Box<PhraseNode>>, AllocError>
+    ensures found { (ts : List Lexeme) → Reads IsUnary 5 ts (tree_in first) cursor.old → IfOk result (λ found. Finds (IsJoined connective) (level connective) ts (option_map tree_in found) cursor.new) }
+    ensures left { length cursor.new ≤ length cursor.old }
+{
+    if cursor.binding() < connective.level() {
+        return Ok(Some(first));
+    }
+    let Some(next) = operand_behind(alloc, cursor, connective, first)? else {
+        return Ok(None);
+    };
+    if !cursor.takes(connective.sign()) {
+        return Ok(Some(next));
+    }
     let mut operands = Vec::new(alloc);
+    push_unboxed(&mut operands, next)?;
     'operands: loop {
         let Some(next) = operand(alloc, cursor, connective)? else {
             return Ok(None);
@@ -44,9 +73,29 @@ pub(crate) fn joined(
     }
 }
 
-/// Reads what stands between two signs of a connective.
+/// Reads the first operand of a connective where the first formula of it that binds tightest is read.
 #[cycle(read)]
 #[inline(always)]
+fn operand_behind(
+    alloc: Global,
+    cursor: &mut Cursor<'_>,
+    connective: Connective,
+    first: Box<PhraseNode>,
+) -> Result<Option<Box<PhraseNode>>, AllocError>
+    ensures found { (ts : List Lexeme) → Reads IsUnary 5 ts (tree_in first) cursor.old → IfOk result (λ found. Finds (IsOperand connective) (level connective + 1) ts (option_map tree_in found) cursor.new) }
+    ensures left { length cursor.new ≤ length cursor.old }
+{
+    match connective {
+        Connective::Equivalence => joined_behind(alloc, cursor, Connective::Implication, first),
+        Connective::Implication => joined_behind(alloc, cursor, Connective::Disjunction, first),
+        Connective::Disjunction => joined_behind(alloc, cursor, Connective::Conjunction, first),
+        Connective::Conjunction => Ok(Some(first)),
+    }
+}
+
+/// Reads what stands between two signs of a connective.
+#[cycle(read)]
+#[inline(never)]
 fn operand(
     alloc: Global,
     cursor: &mut Cursor<'_>,

@@ -25,6 +25,20 @@ pub fn read_phrase(alloc: Global, line: &TokenLine<'_>, from: usize) -> Result<P
     if is_too_deep(line) {
         return Err(PhraseFault::TooDeep);
     }
+    read_shallow_phrase(alloc, line, from)
+}
+
+/// Reads the formula that the tokens of a line are, from this place to the end, where it is known that the line doesn't
+/// nest too deep.
+pub fn read_shallow_phrase(
+    alloc: Global,
+    line: &TokenLine<'_>,
+    from: usize,
+) -> Result<Phrase, PhraseFault>
+    requires { is_too_deep line.now ≡ false }
+    ensures ok { IfOk result (λ phrase. IsReadAs line.now from phrase) }
+    ensures fault { IfErr result (λ fault. Explains line.now from fault) }
+{
     let mut cursor = Cursor::new(line, from);
     let Some(root) = joined(alloc, &mut cursor, Connective::Equivalence)? else {
         return Err(PhraseFault::Form);

@@ -157,7 +157,7 @@ fn resolve_equivalence<S: Scope>(
     }
 }
 
-/// The formulas in written order, or the first fault.
+/// The formulas in written order, or the first fault. An equation, as most operands are, is put where it belongs at once.
 #[cycle(resolve)]
 #[inline(always)]
 fn resolve_all<S: Scope>(
@@ -169,6 +169,13 @@ fn resolve_all<S: Scope>(
 {
     let mut found = Vec::new(alloc);
     'operands: for operand in operands {
+        if let PhraseNode::Equals(sides) = operand {
+            match equation(scope, &sides.left, &sides.right) {
+                Ok(formula) => found.push(formula)?,
+                Err(fault) => return Ok(Err(fault)),
+            }
+            continue;
+        }
         match resolve_node(alloc, operand, scope)? {
             Ok(formula) => push_unboxed(&mut found, formula)?,
             Err(fault) => return Ok(Err(fault)),

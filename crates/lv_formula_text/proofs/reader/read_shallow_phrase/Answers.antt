@@ -6,7 +6,7 @@ use Rattle.lv_formula_text.specs.Grammar.{IsJoined}
 use Rattle.lv_formula_text.specs.Reading.{Reads}
 use Rattle.lv_formula_text.specs.Nesting.{is_too_deep}
 use Rattle.lv_formula_text.proofs.ReadLemmas.{ends_late}
-use Rattle.lv_formula_text.proofs.reader.read_phrase.Goals as goal
+use Rattle.lv_formula_text.proofs.reader.read_shallow_phrase.Goals as goal
 
 pub returns-then-not-is_at_end-clause-fault : goal.returns-then-not-is_at_end-clause-fault
 returns-then-not-is_at_end-clause-fault c =
