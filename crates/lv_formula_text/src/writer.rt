@@ -60,7 +60,14 @@ impl LineWriter {
     pub fn symbol(&mut self, kind: TokenKind) -> Result<(), AllocError>
         ensures { OnOk result (self.new ≡ written (symbol kind ∷ []) self.old) }
     {
-        self.token(kind, symbol_text(kind))
+        match symbol_text(kind) {
+            [byte] => {
+                self.text.push(*byte)?;
+                self.after_word = false;
+                Ok(())
+            }
+            text => self.token(kind, text),
+        }
     }
 
     /// The text.
