@@ -11,7 +11,7 @@ ghost use Rattle.lv_reader.specs.Words.{is_arrow, is_equals, is_dot, is_or, has_
 use crate::fault::FormFault;
 use crate::statement::Repair;
 use lv_base::{Name, Seq};
-use lv_formula_text::{Phrase, PhraseFault, read_phrase};
+use lv_formula_text::{Phrase, PhraseFault, read_shallow_phrase};
 use lv_text::{TokenKind, TokenLine};
 use std::alloc::Global;
 
@@ -281,7 +281,7 @@ pub fn formula_from(alloc: Global, line: &TokenLine<'_>, place: usize) -> Result
     ensures ok { IfOk result (λ f. EndsInFormula line.now place f) }
     ensures refused { result ≡ Err Form → EndsInNone line.now place }
 {
-    match read_phrase(alloc, line, place) {
+    match read_shallow_phrase(alloc, line, place) {
         Ok(phrase) => Ok(phrase),
         Err(PhraseFault::Form) => Err(FormFault::Form),
         Err(PhraseFault::TooDeep) => Err(FormFault::Form),
