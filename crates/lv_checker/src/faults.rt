@@ -2,15 +2,15 @@
 //! limit is passed.
 #![tactic(auto)]
 
-ghost use Rattle.lv_base.specs.declared.limits.TheConstants.{VARIABLES as MOST_VARIABLES};
-ghost use Rattle.std.specs.Prelude.{◌≡◌, ◌+◌, nat_lt, IfOk, IfErr, Ok, Err};
+ghost use Rattle.lv_base.specs.declared.limits.TheConstants.{VALUES as MOST_VALUES, VARIABLES as MOST_VARIABLES};
+ghost use Rattle.std.specs.Prelude.{◌≡◌, ◌+◌, ◌||◌, nat_lt, length, None, IfOk, IfErr, Ok, Err};
 ghost use Rattle.std.specs.List.{list_all, list_any};
 ghost use Rattle.std.specs.Option.{option_map_or};
 ghost use Rattle.lv_reader.specs.declared.code.ModelCode.{ModelCode};
 ghost use Rattle.lv_formula.specs.Tree.{Tree};
 ghost use Rattle.lv_model.specs.Counts.{has_count, mode_formula_has_count, guard_has_counts};
 ghost use Rattle.lv_model.specs.Lists.{part_width};
-ghost use Rattle.lv_checker.specs.Faults.{are_distinct, is_law_in, are_of_distinct_modes, in_use_inside, in_use_outside, is_too_long_inside, is_too_long_outside, is_long_name, passes_inside, share_of, passes_outside, first_of, fault_where, fault_of_entry, unless_faulty, judged};
+ghost use Rattle.lv_checker.specs.Faults.{are_distinct, is_law_in, are_of_distinct_modes, in_use_inside, is_too_long_inside, is_long_name, passes_inside, share_of, passes_outside, first_of, fault_where, fault_of_entry, unless_faulty, judged};
 ghost use Rattle.lv_checker.specs.Entries.{TellsEntry};
 ghost use Rattle.lv_checker.specs.declared.draft.Entry.TheVariants.{NewPart, SystemLaw};
 
@@ -18,9 +18,8 @@ use crate::draft::{CheckFault, Draft, Entry, TypeDraft};
 use crate::entries::entry_of;
 use lv_base::{Name, ValId, find_name, limits};
 use lv_formula::Condition;
-use lv_model::counts::law_count;
 use lv_model::lookup::type_of;
-use lv_model::{ComponentType, ModeFormula, Move, MoveKind, Part};
+use lv_model::{ComponentType, Domain, ModeFormula, Move, MoveKind, Part};
 use lv_reader::{ModelCode, Statement};
 use std::alloc::Global;
 
@@ -85,22 +84,6 @@ fn is_in_use_inside(current: &TypeDraft, entry: &Entry) -> bool
     }
 }
 
-/// Whether a name of the model is in use, a value stands twice in its domain, or a value is priced twice.
-fn is_in_use_outside(draft: &Draft, entry: &Entry) -> bool
-    ensures { result ≡ in_use_outside draft.now entry.now }
-{
-    let plant = &draft.plant;
-    match entry {
-        Entry::NewDomain(x) => {
-            plant.find_domain(x.name.as_slice()).is_some() || !are_distinct(x.values.as_slice())
-        }
-        Entry::TypeBegins(name) => plant.find_type(name.as_slice()).is_some(),
-        Entry::NewPart(p) => plant.find_part(p.name.as_slice()).is_some(),
-        Entry::NewPrice(p) => plant.is_priced(p.control, p.value),
-        _ => false,
-    }
-}
-
 /// Whether the condition gives few enough clauses in the sign.
 fn has_count(condition: &Condition, sign: bool, sizes: &[u32]) -> bool
     ensures { result ≡ has_count sizes.now sign condition.now }
@@ -142,15 +125,6 @@ fn is_too_long_inside(current: &TypeDraft, entry: &Entry) -> bool
         Entry::TypeLaw(f) => !has_count(f, true, sizes),
         Entry::ModeLaws(laws) => !have_counts(laws.as_slice(), sizes),
         Entry::NewMoves(_, moves) => !guards_have_counts(moves.as_slice(), sizes),
-        _ => false,
-    }
-}
-
-fn is_too_long_outside(draft: &Draft, entry: &Entry) -> bool
-    ensures { result ≡ is_too_long_outside draft.now entry.now }
-{
-    match entry {
-        Entry::SystemLaw(f) => !has_count(f, true, draft.sizes.as_slice()),
         _ => false,
     }
 }
@@ -205,29 +179,26 @@ fn part_passes(draft: &Draft, part: &Part) -> bool
         || is_long_name(&part.name)
 }
 
-fn law_passes(draft: &Draft, law: &Condition) -> bool
-    ensures { result ≡ passes_outside draft.now (SystemLaw law.now) }
+/// Whether a domain has too many values, or a name that is too long.
+fn domain_passes(x: &Domain) -> bool
+    ensures { result ≡ (nat_lt MOST_VALUES (length x.now.values) || (is_long_name x.now.name || list_any is_long_name x.now.values)) }
 {
-    u64::from(draft.clauses) + u64::from(law_count(law, draft.sizes.as_slice()))
-        > u64::from(limits::MODEL_CLAUSES)
+    x.values.len() > limits::VALUES as usize
+        || is_long_name(&x.name)
+        || has_long_name(x.values.as_slice())
 }
 
-/// Whether a limit on values, parts, variables, names or the clauses of the model is passed.
-fn passes_outside(draft: &Draft, entry: &Entry) -> bool
-    ensures { result ≡ passes_outside draft.now entry.now }
+/// Why a law is refused, if it is. Its clauses are counted once.
+fn fault_of_law(draft: &Draft, law: &Condition) -> Option<ModelCode>
+    ensures { result ≡ fault_where draft.now None (SystemLaw law.now) }
 {
-    match entry {
-        Entry::Named(name) => is_long_name(name),
-        Entry::NewDomain(x) => {
-            x.values.len() > limits::VALUES as usize
-                || is_long_name(&x.name)
-                || has_long_name(x.values.as_slice())
-        }
-        Entry::TypeBegins(name) => is_long_name(name),
-        Entry::NewPart(part) => part_passes(draft, part),
-        Entry::SystemLaw(law) => law_passes(draft, law),
-        _ => false,
+    let Some(count) = law.clause_count(true, draft.sizes.as_slice()) else {
+        return Some(ModelCode::TooManyClauses);
+    };
+    if u64::from(draft.clauses) + 2 * u64::from(count) > u64::from(limits::MODEL_CLAUSES) {
+        return Some(ModelCode::LimitPassed);
     }
+    None
 }
 
 /// The first of the three, if one is true.
@@ -245,6 +216,35 @@ fn first_of(in_use: bool, too_long: bool, passes: bool) -> Option<ModelCode>
     }
 }
 
+/// Why an entry outside types is refused, if it is: a name of the model is in use, a value stands twice in its domain or
+/// is priced twice, a law gives too many clauses, or a limit is passed.
+fn fault_outside(draft: &Draft, entry: &Entry) -> Option<ModelCode>
+    ensures { result ≡ fault_where draft.now None entry.now }
+{
+    let plant = &draft.plant;
+    match entry {
+        Entry::Named(name) => first_of(false, false, is_long_name(name)),
+        Entry::NewDomain(x) => first_of(
+            plant.find_domain(x.name.as_slice()).is_some() || !are_distinct(x.values.as_slice()),
+            false,
+            domain_passes(x),
+        ),
+        Entry::TypeBegins(name) => first_of(
+            plant.find_type(name.as_slice()).is_some(),
+            false,
+            is_long_name(name),
+        ),
+        Entry::NewPart(p) => first_of(
+            plant.find_part(p.name.as_slice()).is_some(),
+            false,
+            part_passes(draft, p),
+        ),
+        Entry::SystemLaw(law) => fault_of_law(draft, law),
+        Entry::NewPrice(p) => first_of(plant.is_priced(p.control, p.value), false, false),
+        _ => None,
+    }
+}
+
 /// Why the entry is refused, if it is.
 #[tactic(auto, unfolding(crate::specs::Faults::fault_of_entry))]
 fn fault_of_entry(draft: &Draft, entry: &Entry) -> Option<ModelCode>
@@ -256,11 +256,7 @@ fn fault_of_entry(draft: &Draft, entry: &Entry) -> Option<ModelCode>
             is_too_long_inside(current, entry),
             passes_inside(current, entry),
         ),
-        None => first_of(
-            is_in_use_outside(draft, entry),
-            is_too_long_outside(draft, entry),
-            passes_outside(draft, entry),
-        ),
+        None => fault_outside(draft, entry),
     }
 }
 
