@@ -12,22 +12,22 @@ ghost use Rattle.lv_search_guide.specs.First.{KeepsFirst, DropsTells, AreLoose, 
 
 use super::loose::loose_in;
 use super::masks::Masks;
-use lv_base::{Conflict, Cost, Seq};
-use lv_boxes::{Grid, mask};
+use super::problem::Problem;
+use lv_base::{Cost, Seq};
+use lv_boxes::mask;
 use std::alloc::{AllocError, Global};
 
 /// Takes out of a box choices that rank after a loose one of their slot, until nothing more is found.
 pub(crate) fn drop_behind(
     alloc: Global,
-    grid: &Grid,
-    conflicts: &[Conflict],
+    problem: &Problem<'_>,
     masks: &mut Masks,
 ) -> Result<(), AllocError>
-    ensures { IfOk result (λ _. KeepsFirst grid.now conflicts.now masks.old masks.new) }
+    ensures { IfOk result (λ _. KeepsFirst problem.now.grid.now problem.now.conflicts.now masks.old masks.new) }
 {
     'again: loop {
-        let loose = loose_in(alloc, conflicts, masks)?;
-        if !drop_once(grid.slots(), &loose, masks) {
+        let loose = loose_in(alloc, problem.conflicts, masks)?;
+        if !drop_once(problem.grid.slots(), &loose, masks) {
             return Ok(());
         }
     }

@@ -8,13 +8,12 @@ ghost use Rattle.lv_search_guide.specs.Cheapest.{FallsApart, CheapestTells, Bran
 ghost use Rattle.lv_search_guide.specs.Narrow.{NarrowedTells};
 
 use super::conflicts::Conflicts;
-use super::dear::drop_dear;
 use super::look::{Looked, Member, look};
 use super::masks::Masks;
 use super::narrow::{narrow, narrow_from};
 use super::prices::Room;
+use super::problem::{Problem, Search};
 use lv_base::Pair;
-use lv_boxes::Grid;
 use std::alloc::AllocError;
 
 /// The cheapest member found so far, and what a member has to cost less than to be of interest still.
@@ -31,82 +30,149 @@ pub(crate) struct Branch {
     low: u64,
 }
 
-/// A cheapest member of a box that contains no conflict, if one costs less than `under`. None is known to cost less than
-/// `least`, so the first that costs no more ends the search.
-pub(crate) fn cheapest(
-    room: &mut Room,
-    grid: &Grid,
-    conflicts: &Conflicts,
-    masks: &Masks,
-    least: u64,
-    under: u64,
-) -> Result<Option<Member>, AllocError>
-    requires { CostsAtLeast grid.now conflicts.now masks.now least }
-    ensures { IfOk result (λ member. CheapestTells grid.now conflicts.now masks.now under member) }
-{
-    let whole = Masks::from_slice(room.alloc, masks.as_slice())?;
-    match branch_of(room, grid, conflicts, whole, None, under)? {
-        Some(first) => cheapest_of(room, grid, conflicts, first, least, under),
-        None => Ok(None),
-    }
+/// A box, and the pair by which it falls apart.
+#[derive(Clone, Copy)]
+struct Split<'a> {
+    masks: &'a Masks,
+    pair: Pair,
 }
 
-/// As `cheapest`, by what of the box is to be looked at.
-fn cheapest_of(
-    room: &mut Room,
-    grid: &Grid,
-    conflicts: &Conflicts,
-    first: Branch,
-    least: u64,
-    under: u64,
-) -> Result<Option<Member>, AllocError>
-    requires least { CostsAtLeast grid.now conflicts.now first.masks least }
-    requires low { CostsAtLeast grid.now conflicts.now first.masks first.low }
-    ensures { IfOk result (λ member. CheapestTells grid.now conflicts.now first.masks under member) }
-{
-    let floor = least.max(first.low);
-    let mut boxes = Vec::new(room.alloc);
-    boxes.push(first)?;
-    let mut best = Best {
-        under,
-        member: None,
-    };
-    while let Some(next) = boxes.pop() {
-        if best.under <= floor {
-            return Ok(best.member);
+impl<'a> Search<'a> {
+    /// A cheapest member of a box that contains no conflict, if one costs less than `under`. None is known to cost less than
+    /// `least`, so the first that costs no more ends the search.
+    pub(crate) fn cheapest(
+        &self,
+        room: &mut Room,
+        masks: &Masks,
+        least: u64,
+        under: u64,
+    ) -> Result<Option<Member>, AllocError>
+        requires { CostsAtLeast self.now.grid.now self.now.conflicts.now masks.now least }
+        ensures { IfOk result (λ member. CheapestTells self.now.grid.now self.now.conflicts.now masks.now under member) }
+    {
+        let whole = Masks::from_slice(room.alloc, masks.as_slice())?;
+        match self.branch_of(room, whole, None, under)? {
+            Some(first) => self.cheapest_of(room, first, least, under),
+            None => Ok(None),
         }
-        take_box(room, grid, conflicts, &next, &mut best, &mut boxes)?;
     }
-    Ok(best.member)
-}
 
-/// What of a box is still to be looked at for a member that contains no conflict and costs less than `under`: the choices
-/// that conflicts leave and that aren't too dear. `None` where there is no such member. Where the box is part of one of which
-/// this is known, and lost choices at one slot alone, that slot is told.
-fn branch_of(
-    room: &mut Room,
-    grid: &Grid,
-    conflicts: &Conflicts,
-    masks: Masks,
-    changed: Option<u32>,
-    under: u64,
-) -> Result<Option<Branch>, AllocError>
-    ensures { IfOk result (λ branch. BranchTells grid.now conflicts.now masks under branch) }
-{
-    let mut masks = masks;
-    let may_be_left = narrow_where(room, conflicts, changed, &mut masks)?;
-    if !may_be_left {
-        return Ok(None);
+    /// As `cheapest`, by what of the box is to be looked at.
+    fn cheapest_of(
+        &self,
+        room: &mut Room,
+        first: Branch,
+        least: u64,
+        under: u64,
+    ) -> Result<Option<Member>, AllocError>
+        requires least { CostsAtLeast self.now.grid.now self.now.conflicts.now first.masks least }
+        requires low { CostsAtLeast self.now.grid.now self.now.conflicts.now first.masks first.low }
+        ensures { IfOk result (λ member. CheapestTells self.now.grid.now self.now.conflicts.now first.masks under member) }
+    {
+        let floor = least.max(first.low);
+        let mut boxes = Vec::new(room.alloc);
+        boxes.push(first)?;
+        let mut best = Best {
+            under,
+            member: None,
+        };
+        while let Some(next) = boxes.pop() {
+            if best.under <= floor {
+                return Ok(best.member);
+            }
+            self.take_box(room, &next, &mut best, &mut boxes)?;
+        }
+        Ok(best.member)
     }
-    let low = drop_dear(room, grid, conflicts, &mut masks, under)?;
-    if low >= under {
-        return Ok(None);
+
+    /// What of a box is still to be looked at for a member that contains no conflict and costs less than `under`: the choices
+    /// that conflicts leave and that aren't too dear. `None` where there is no such member. Where the box is part of one of which
+    /// this is known, and lost choices at one slot alone, that slot is told.
+    fn branch_of(
+        &self,
+        room: &mut Room,
+        masks: Masks,
+        changed: Option<u32>,
+        under: u64,
+    ) -> Result<Option<Branch>, AllocError>
+        ensures { IfOk result (λ branch. BranchTells self.now.grid.now self.now.conflicts.now masks under branch) }
+    {
+        let mut masks = masks;
+        let may_be_left = narrow_where(room, self.conflicts, changed, &mut masks)?;
+        if !may_be_left {
+            return Ok(None);
+        }
+        let low = self.drop_dear(room, &mut masks, under)?;
+        if low >= under {
+            return Ok(None);
+        }
+        let are_left = narrow_from(self.conflicts, &mut room.changed, &mut masks)?;
+        if !are_left {
+            return Ok(None);
+        }
+        Ok(Some(Branch { masks, low }))
     }
-    let are_left = narrow_from(conflicts, &mut room.changed, &mut masks)?;
-    if !are_left {
-        return Ok(None);
+
+    /// Looks at a box that was taken off the stack: gives it up, or finds a cheaper member, or puts its two parts on the stack.
+    fn take_box(
+        &self,
+        room: &mut Room,
+        next: &Branch,
+        best: &mut Best,
+        boxes: &mut Vec<Branch>,
+    ) -> Result<(), AllocError>
+        ensures { OnOk result (TakesBox self.now.grid.now self.now.conflicts.now next.now best.old boxes.old.items best.new boxes.new.items) }
+    {
+        if best.under <= next.low {
+            return Ok(());
+        }
+        let problem = Problem {
+            grid: self.grid,
+            conflicts: self.conflicts.as_slice(),
+        };
+        match look(
+            room.alloc,
+            &problem,
+            self.conflicts.bans(),
+            &next.masks,
+            best.under,
+        )? {
+            Looked::Nothing => Ok(()),
+            Looked::Found(member) => {
+                best.under = member.cost;
+                best.member = Some(member);
+                Ok(())
+            }
+            Looked::Splits(pair) => {
+                let split = Split {
+                    masks: &next.masks,
+                    pair,
+                };
+                self.push_parts(room, &split, best.under, boxes)?;
+                Ok(())
+            }
+        }
     }
-    Ok(Some(Branch { masks, low }))
+
+    /// Puts what is to be looked at of the two parts of a box on the stack: the members that have the pair's choice, and those
+    /// that haven't.
+    fn push_parts(
+        &self,
+        room: &mut Room,
+        split: &Split<'_>,
+        under: u64,
+        boxes: &mut Vec<Branch>,
+    ) -> Result<(), AllocError>
+        requires { FallsApart split.now.masks.now split.now.pair }
+        ensures { OnOk result (PushesParts self.now.grid.now self.now.conflicts.now split.now.masks.now under boxes.old.items boxes.new.items) }
+    {
+        let alloc = room.alloc;
+        let slot = Some(split.pair.slot);
+        let with = self.branch_of(room, split.masks.with(alloc, split.pair)?, slot, under)?;
+        let without = self.branch_of(room, split.masks.without(alloc, split.pair)?, slot, under)?;
+        push_both(with, without, boxes)?;
+        Ok(())
+    }
 }
 
 /// Takes out of a box what only members have that contain a conflict, beginning at this slot, where one is told. Answers
@@ -127,71 +193,6 @@ fn narrow_where(
         }
         None => Ok(narrow(conflicts, masks)),
     }
-}
-
-/// Looks at a box that was taken off the stack: gives it up, or finds a cheaper member, or puts its two parts on the stack.
-fn take_box(
-    room: &mut Room,
-    grid: &Grid,
-    conflicts: &Conflicts,
-    next: &Branch,
-    best: &mut Best,
-    boxes: &mut Vec<Branch>,
-) -> Result<(), AllocError>
-    ensures { OnOk result (TakesBox grid.now conflicts.now next.now best.old boxes.old.items best.new boxes.new.items) }
-{
-    if best.under <= next.low {
-        return Ok(());
-    }
-    let all = conflicts.as_slice();
-    match look(
-        room.alloc,
-        grid,
-        all,
-        conflicts.bans(),
-        &next.masks,
-        best.under,
-    )? {
-        Looked::Nothing => Ok(()),
-        Looked::Found(member) => {
-            best.under = member.cost;
-            best.member = Some(member);
-            Ok(())
-        }
-        Looked::Splits(pair) => {
-            push_parts(room, grid, conflicts, &next.masks, pair, best.under, boxes)?;
-            Ok(())
-        }
-    }
-}
-
-/// Puts what is to be looked at of the two parts of a box on the stack: the members that have the pair's choice, and those
-/// that haven't.
-fn push_parts(
-    room: &mut Room,
-    grid: &Grid,
-    conflicts: &Conflicts,
-    masks: &Masks,
-    pair: Pair,
-    under: u64,
-    boxes: &mut Vec<Branch>,
-) -> Result<(), AllocError>
-    requires { FallsApart masks.now pair }
-    ensures { OnOk result (PushesParts grid.now conflicts.now masks.now under boxes.old.items boxes.new.items) }
-{
-    let alloc = room.alloc;
-    let slot = Some(pair.slot);
-    let with = branch_of(room, grid, conflicts, masks.with(alloc, pair)?, slot, under)?;
-    let without = branch_of(
-        room,
-        grid,
-        conflicts,
-        masks.without(alloc, pair)?,
-        slot,
-        under,
-    )?;
-    push_both(with, without, boxes)?;
-    Ok(())
 }
 
 /// Puts both on the stack, as far as there are some, the one on top that may cost less.

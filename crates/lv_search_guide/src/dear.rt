@@ -10,36 +10,36 @@ ghost use Rattle.lv_search_guide.specs.Boxes.{CostsAtLeast};
 ghost use Rattle.lv_search_guide.specs.Dear.{KeepsUnder};
 ghost use Rattle.lv_search_guide.specs.Prices.{IsBound};
 
-use super::conflicts::Conflicts;
 use super::masks::{Masks, has_several};
-use super::prices::{Room, Row, priced_in};
+use super::prices::{Room, Row};
+use super::problem::Search;
 use lv_base::{Cost, Pair};
-use lv_boxes::Grid;
 use std::alloc::AllocError;
 
 /// A choice costs no more than this.
 const DEAREST: u64 = 1_000_000;
 
-/// Takes out of a box choices that no member has that contains no conflict and costs less than `under`. Where no member
-/// costs less at all it is left as it is. Answers what its members cost at least that contain no conflict. The room tells
-/// at which slots choices were taken out.
-pub(crate) fn drop_dear(
-    room: &mut Room,
-    grid: &Grid,
-    conflicts: &Conflicts,
-    masks: &mut Masks,
-    under: u64,
-) -> Result<u64, AllocError>
-    ensures keeps { OnOk result (KeepsUnder grid.now conflicts.now under masks.old masks.new) }
-    ensures low { IfOk result (λ low. CostsAtLeast grid.now conflicts.now masks.old low) }
-{
-    room.changed.clear();
-    let low = priced_in(room, grid, conflicts, masks.as_slice(), under)?;
-    if low >= under || under - low > DEAREST {
-        return Ok(low);
+impl<'a> Search<'a> {
+    /// Takes out of a box choices that no member has that contains no conflict and costs less than `under`. Where no member
+    /// costs less at all it is left as it is. Answers what its members cost at least that contain no conflict. The room tells
+    /// at which slots choices were taken out.
+    pub(crate) fn drop_dear(
+        &self,
+        room: &mut Room,
+        masks: &mut Masks,
+        under: u64,
+    ) -> Result<u64, AllocError>
+        ensures keeps { OnOk result (KeepsUnder self.now.grid.now self.now.conflicts.now under masks.old masks.new) }
+        ensures low { IfOk result (λ low. CostsAtLeast self.now.grid.now self.now.conflicts.now masks.old low) }
+    {
+        room.changed.clear();
+        let low = self.priced_in(room, masks.as_slice(), under)?;
+        if low >= under || under - low > DEAREST {
+            return Ok(low);
+        }
+        drop_priced(room.rows.as_slice(), low, under, masks, &mut room.changed)?;
+        Ok(low)
     }
-    drop_priced(room.rows.as_slice(), low, under, masks, &mut room.changed)?;
-    Ok(low)
 }
 
 /// Takes out of a box the choices of all slots whose price and the bound come to this. The slots are listed that lose some.

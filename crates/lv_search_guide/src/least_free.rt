@@ -10,7 +10,7 @@ use super::conflicts::Conflicts;
 use super::look::Member;
 use super::masks::Masks;
 use super::narrow::narrow;
-use super::parts::first_by_parts;
+use super::problem::Problem;
 use lv_base::{Conflict, Cost, Rank};
 use lv_boxes::{Grid, Zone};
 use lv_search_parts::live::live_in;
@@ -48,22 +48,29 @@ pub fn first_in(
     if !narrow(&conflicts, &mut masks) {
         return Ok(None);
     }
-    drop_behind(alloc, grid, conflicts.as_slice(), &mut masks)?;
-    first_left(alloc, grid, conflicts.as_slice(), masks)
+    let problem = Problem {
+        grid,
+        conflicts: conflicts.as_slice(),
+    };
+    drop_behind(alloc, &problem, &mut masks)?;
+    first_left(alloc, &problem, masks)
 }
 
 /// As `first_in`, of a box from which nothing more can be taken out.
 fn first_left(
     alloc: Global,
-    grid: &Grid,
-    conflicts: &[Conflict],
+    problem: &Problem<'_>,
     masks: Masks,
 ) -> Result<Option<Member>, AllocError>
-    ensures first { IfOk result (λ first. LowestTells grid.now conflicts.now masks first) }
+    ensures first { IfOk result (λ first. LowestTells problem.now.grid.now problem.now.conflicts.now masks first) }
     ensures bound { IfOk result (λ first. IfSome first (λ member. member.cost ≤ 4096 * 1000000)) }
 {
-    let live = live_in(alloc, conflicts, masks.as_slice())?;
-    first_by_parts(alloc, grid, live.as_slice(), masks)
+    let live = live_in(alloc, problem.conflicts, masks.as_slice())?;
+    let left = Problem {
+        grid: problem.grid,
+        conflicts: live.as_slice(),
+    };
+    left.first_by_parts(alloc, masks)
 }
 
 /// What a member of a zone ranks as.

@@ -15,6 +15,7 @@
 //! | file | what it holds |
 //! |---|---|
 //! | `least_free` | the member that ranks first |
+//! | `problem` | what is asked of a box, and what a search goes by |
 //! | `conflicts` | conflicts with the bans that they come to |
 //! | `bans` | conflicts drawn together |
 //! | `alike` | where bans of the same slots stand |
@@ -50,5 +51,6 @@ pub mod narrow;
 mod order;
 mod parts;
 mod prices;
+mod problem;
 
 pub use laws::least_free_is_one;

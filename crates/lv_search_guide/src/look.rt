@@ -13,6 +13,7 @@ ghost use Rattle.lv_search_guide.specs.Cheapest.{CheapestLeftTells, IsCheapestLe
 use super::bans::Ban;
 use super::counts::counts_of;
 use super::masks::Masks;
+use super::problem::Problem;
 use lv_base::{Conflict, Pair, Seq, contains};
 use lv_boxes::least::write_least;
 use lv_boxes::{Grid, mask};
@@ -43,16 +44,17 @@ pub(crate) enum Looked {
 /// falls apart best.
 pub(crate) fn look(
     alloc: Global,
-    grid: &Grid,
-    conflicts: &[Conflict],
+    problem: &Problem<'_>,
     bans: &[Ban],
     masks: &Masks,
     under: u64,
 ) -> Result<Looked, AllocError>
-    ensures { IfOk result (λ looked. LookTells grid.now conflicts.now masks.now under looked) }
+    ensures { IfOk result (λ looked. LookTells problem.now.grid.now problem.now.conflicts.now masks.now under looked) }
 {
-    match cheapest_left(alloc, grid, masks)? {
-        Some(member) if member.cost < under => look_at(alloc, conflicts, bans, masks, member),
+    match cheapest_left(alloc, problem.grid, masks)? {
+        Some(member) if member.cost < under => {
+            look_at(alloc, problem.conflicts, bans, masks, member)
+        }
         _ => Ok(Looked::Nothing),
     }
 }

@@ -14,8 +14,9 @@ ghost use Rattle.lv_search_guide.specs.Prices.{lowered_from, lowered_at, lowered
 use super::bans::{Choices, without_these};
 use super::conflicts::Conflicts;
 use super::masks::has_several;
+use super::problem::Search;
 use lv_base::{Cost, Seq};
-use lv_boxes::{Grid, mask};
+use lv_boxes::mask;
 use std::alloc::{AllocError, Global};
 use std::marker::Model;
 
@@ -410,21 +411,22 @@ fn fill_rows(
     Ok(())
 }
 
-/// What a member of a box that contains no conflict costs at least; the rows tell what its choices cost beside that. No
-/// more is found out once that is enough.
-pub(crate) fn priced_in(
-    room: &mut Room,
-    grid: &Grid,
-    conflicts: &Conflicts,
-    masks: &[u64],
-    enough: u64,
-) -> Result<u64, AllocError>
-    ensures { IfOk result (λ low. IsBound grid.now conflicts.now masks.now low room.new.rows.items) }
-{
-    fill_rows(room.alloc, grid.slots(), masks, &mut room.rows)?;
-    if masks.len() != room.rows.len() {
-        return Ok(0);
+impl<'a> Search<'a> {
+    /// What a member of a box that contains no conflict costs at least; the rows tell what its choices cost beside that. No
+    /// more is found out once that is enough.
+    pub(crate) fn priced_in(
+        &self,
+        room: &mut Room,
+        masks: &[u64],
+        enough: u64,
+    ) -> Result<u64, AllocError>
+        ensures { IfOk result (λ low. IsBound self.now.grid.now self.now.conflicts.now masks.now low room.new.rows.items) }
+    {
+        fill_rows(room.alloc, self.grid.slots(), masks, &mut room.rows)?;
+        if masks.len() != room.rows.len() {
+            return Ok(0);
+        }
+        let by_slots = raise_by_slots(masks, &mut room.rows);
+        Ok(raise_by_bans(masks, self.conflicts, by_slots, enough, &mut room.rows))
     }
-    let by_slots = raise_by_slots(masks, &mut room.rows);
-    Ok(raise_by_bans(masks, conflicts, by_slots, enough, &mut room.rows))
 }

@@ -16,5 +16,5 @@ returns-clause-first c =
     (λ first told. subst (λ (ks : List (List Pair)). LowestTells c.args.grid.now ks c.args.masks first) c.in_ok-conflicts.ensures
     (lowest_by_narrowed c.args.grid.now c.in_ok-conflicts.conflicts c.args.masks c.narrow.new.masks first (rw c.if-not-narrow.false at c.narrow.ensures)
     ((subst (λ (ks : List (List Pair)). KeepsFirst c.args.grid.now ks c.narrow.new.masks c.drop_behind.new.masks) c.as_slice.ensures c.in_ok-drop_behind.ensures).first first
-    (subst (λ (ks : List (List Pair)). LowestTells c.args.grid.now ks c.drop_behind.new.masks first) c.as_slice-2.ensures told))))
+    (subst (λ (ks : List (List Pair)). LowestTells c.args.grid.now ks c.drop_behind.new.masks first) c.as_slice.ensures told))))
     c.first_left.ensures.first
