@@ -19,12 +19,12 @@ use Rattle.lv_search_walk.specs.Walk.{is_ruled_out}
 use Rattle.lv_search_parts.specs.Slots.{only, put_in, is_marked, pair_in, is_inside}
 use Rattle.lv_search_parts.specs.Parts.{is_whole, inner_of, IsPart, IsPartWith}
 use Rattle.lv_search_guide.specs.declared.look.Member.{Member}
-use Rattle.lv_search_guide.specs.Boxes.{is_free}
+use Rattle.lv_search_bans.specs.Boxes.{is_free}
 use Rattle.lv_search_guide.specs.Lowest.{IsLowest}
 use Rattle.lv_search_guide.specs.Free.{HasNoFree, LeastFreeTells}
 use Rattle.lv_guide.specs.Near.{IsFirstNear, contained_pairs, lost_pairs, unsettled}
 use Rattle.lv_guide.specs.Beside.{IsFirstBySome, FirstBySomeTells, mixed, IsLeastInside, LeastInsideTells}
-use Rattle.lv_search_guide.proofs.BoxLemmas.{free_is_left, free_from, length-left}
+use Rattle.lv_search_bans.proofs.BoxLemmas.{free_is_left, free_from, length-left}
 use Rattle.lv_search_guide.proofs.FreeLemmas.{none_free}
 use Rattle.lv_search_guide.proofs.PartLemmas.{clear_outside}
 use Rattle.lv_search_guide.proofs.SlotLemmas.{kept_if_left, left_only, left_put, cost_put, before_put}

@@ -20,17 +20,18 @@ use Rattle.lv_search_walk.specs.Walk.{candidate_of, is_ruled_out}
 use Rattle.lv_search_parts.specs.Slots.{only, put_in, is_marked, is_inside}
 use Rattle.lv_search_parts.specs.Parts.{is_there, is_whole, inner_of, IsPartWith}
 use Rattle.lv_search_guide.specs.declared.look.Member.{Member}
-use Rattle.lv_search_guide.specs.Boxes.{is_free, HasNone}
+use Rattle.lv_search_bans.specs.Boxes.{is_free, HasNone}
 use Rattle.lv_search_guide.specs.Lowest.{IsLowest}
 use Rattle.lv_search_guide.specs.Free.{is_free_member, IsLeastFree, HasNoFree, LeastFreeTells}
-use Rattle.lv_search_guide.specs.Narrow.{HasNoneBy}
+use Rattle.lv_search_bans.specs.Narrow.{HasNoneBy}
 use Rattle.lv_guide.specs.Narrowed.{IsNarrowed}
 use Rattle.lv_base.specs.declared.search.Candidate.{Candidate}
 use Rattle.lv_guide.specs.Near.{IsFirstNear, contained_pairs, lost_pairs, unsettled}
-use Rattle.lv_search_guide.proofs.BoxLemmas.{free_is_left, free_from, length-left, none_of_zero}
+use Rattle.lv_search_bans.proofs.BoxLemmas.{free_is_left, free_from, length-left, none_of_zero}
 use Rattle.lv_search_guide.proofs.FreeLemmas.{free_in_box, free_in_zone, lowest_is_least, none_free}
 use Rattle.lv_search_guide.proofs.PartLemmas.{clear_outside, clear_if_unruled, unruled_put, unruled_only, only_free, part_none}
-use Rattle.lv_search_guide.proofs.SlotLemmas.{kept_outside, kept_if_left, left_only, left_put, cost_put, only_put, order_both, lt_suc}
+use Rattle.lv_search_bans.proofs.NarrowLemmas.{lt_suc}
+use Rattle.lv_search_guide.proofs.SlotLemmas.{kept_outside, kept_if_left, left_only, left_put, cost_put, only_put, order_both}
 
 clash : (b : Bool) → b ≡ true → b ≡ false → ⊥
 clash b p q = cc

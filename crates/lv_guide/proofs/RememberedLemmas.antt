@@ -16,10 +16,10 @@ use Rattle.lv_search_parts.specs.Parts.{inner_of}
 use Rattle.lv_search_guide.specs.declared.look.Member.{Member}
 use Rattle.lv_guide.specs.declared.remembered.Part.{Part}
 use Rattle.lv_guide.specs.declared.remembered.Found.{Found}
-use Rattle.lv_search_guide.specs.Boxes.{is_free}
+use Rattle.lv_search_bans.specs.Boxes.{is_free}
 use Rattle.lv_search_guide.specs.Lowest.{LowestTells}
 use Rattle.lv_guide.specs.Remembered.{IsTrueBy, AreTrueBy, IsFoundOf, HoldsBy}
-use Rattle.lv_search_guide.proofs.BoxLemmas.{free_is_left, free_from}
+use Rattle.lv_search_bans.proofs.BoxLemmas.{free_is_left, free_from}
 
 clash : (b : Bool) → b ≡ true → b ≡ false → ⊥
 clash b p q = cc

@@ -22,7 +22,7 @@ use Rattle.lv_boxes.proofs.RankedMemberLemmas.{rank_of_member}
 use Rattle.lv_search_walk.specs.Walk.{candidate_of, is_ruled_out}
 use Rattle.lv_search_guide.specs.Free.{IsLeastFree}
 use Rattle.lv_guide.specs.Near.{IsFirstNear}
-use Rattle.lv_search_guide.proofs.BoxLemmas.{some_pass, found_itself, none_pass}
+use Rattle.lv_search_bans.proofs.BoxLemmas.{some_pass, found_itself, none_pass}
 use Rattle.lv_search.proofs.LeftLemmas.{parts_times, sources_apart}
 use Rattle.lv_search.specs.Free.{is_free_rank}
 use Rattle.lv_guide.specs.Guide.{zones_in, AreKeptBy, AreNear, front_is_free, IsReady, HasRoomBy, HasMoreBy, HasMore, HasSameFree, IsWhole, WholeTells, IsGuide}

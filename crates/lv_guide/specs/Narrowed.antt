@@ -2,7 +2,7 @@
 use Rattle.std.specs.Prelude.{◌≡◌, List, Option, Some, None}
 use Rattle.lv_base.specs.declared.search.Pair.{Pair}
 use Rattle.lv_boxes.specs.Members.{ZoneValue}
-use Rattle.lv_search_guide.specs.Narrow.{HasSameFree, HasNoneBy}
+use Rattle.lv_search_bans.specs.Narrow.{HasSameFree, HasNoneBy}
 
 -- the members that contain no conflict are the same ones, and no member is new
 pub record IsNarrowed (zone : ZoneValue) (conflicts : List (List Pair)) (less : ZoneValue) : Type 0 where

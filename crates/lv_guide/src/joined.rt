@@ -7,8 +7,8 @@ ghost use Rattle.lv_search_parts.specs.Parts.{IsPartWith};
 ghost use Rattle.lv_guide.specs.Beside.{AreJoined};
 
 use lv_base::Pair;
-use lv_search_guide::bans::Ban;
-use lv_search_guide::conflicts::Conflicts;
+use lv_search_bans::bans::Ban;
+use lv_search_bans::conflicts::Conflicts;
 use lv_search_parts::labels::{are_labels, join, labels_of, part_with};
 use std::alloc::{AllocError, Global};
 use std::marker::Model;

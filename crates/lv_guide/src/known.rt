@@ -9,7 +9,7 @@ ghost use Rattle.lv_search_guide.specs.Lowest.{LowestTells};
 use super::joined::Joined;
 use super::remembered::{Part, Remembered, first_of};
 use lv_base::{Conflict, Pair};
-use lv_search_guide::conflicts::Conflicts;
+use lv_search_bans::conflicts::Conflicts;
 use lv_search_guide::look::Member;
 use std::alloc::{AllocError, Global};
 use std::marker::Model;

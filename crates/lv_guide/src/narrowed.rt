@@ -3,12 +3,12 @@
 
 ghost use Rattle.std.specs.Prelude.{IfOk};
 ghost use Rattle.lv_guide.specs.Narrowed.{NarrowedTells};
-ghost use Rattle.lv_search_guide.specs.Narrow.{NarrowedTells as LeavesTells};
+ghost use Rattle.lv_search_bans.specs.Narrow.{NarrowedTells as LeavesTells};
 
 use lv_boxes::Zone;
-use lv_search_guide::conflicts::Conflicts;
-use lv_search_guide::masks::Masks;
-use lv_search_guide::narrow::{Narrowing, narrow, narrow_by};
+use lv_search_bans::conflicts::Conflicts;
+use lv_search_bans::masks::Masks;
+use lv_search_bans::narrow::{Narrowing, narrow, narrow_by};
 use std::alloc::{AllocError, Global};
 
 /// The zone without the choices that only members have which contain a conflict, as far as these bans, by their places,

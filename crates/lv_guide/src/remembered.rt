@@ -14,9 +14,9 @@ ghost use Rattle.lv_guide.specs.Remembered.{IsTrueBy, AreTrueBy, IsFoundOf, Hold
 
 use lv_base::{Conflict, Cost, Seq, contains};
 use lv_boxes::Grid;
+use lv_search_bans::masks::Masks;
 use lv_search_guide::least_free::first_in;
 use lv_search_guide::look::Member;
-use lv_search_guide::masks::Masks;
 use lv_search_parts::part::part_conflicts;
 use std::alloc::{AllocError, Global};
 use std::marker::Model;

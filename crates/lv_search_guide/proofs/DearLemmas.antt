@@ -10,12 +10,12 @@ use Rattle.lv_boxes.specs.Members.{is_left, are_left, choice_cost, choices_cost}
 use Rattle.lv_boxes.specs.Parts.{masks_without}
 use Rattle.lv_boxes.proofs.MemberLemmas.{length-are_left}
 use Rattle.lv_boxes.specs.Masks.{has_choice, without_choice}
-use Rattle.lv_search_guide.specs.Boxes.{is_free, has_left}
+use Rattle.lv_search_bans.specs.Boxes.{is_free, has_left}
 use Rattle.lv_search_guide.specs.Lowest.{NoneHas}
 use Rattle.lv_search_guide.specs.Dear.{KeepsUnder}
-use Rattle.lv_search_guide.specs.Prices.{IsBound}
-use Rattle.lv_search_guide.proofs.BoxLemmas.{smaller, without_all, without_and_only, free_without, free_is_left, length-left, slot_within, choice_is}
-use Rattle.lv_search_guide.proofs.PriceLemmas.{left_at, left_long}
+use Rattle.lv_search_bans.specs.Prices.{IsBound}
+use Rattle.lv_search_bans.proofs.BoxLemmas.{smaller, without_all, without_and_only, free_without, free_is_left, length-left, slot_within, choice_is}
+use Rattle.lv_search_bans.proofs.PriceLemmas.{left_at, left_long}
 
 set_past : (xs : List ℕ) (i x : ℕ) → length xs ≤ i → slice_set xs i x ≡ xs
 set_past [] i x past = refl

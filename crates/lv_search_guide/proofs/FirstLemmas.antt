@@ -12,11 +12,11 @@ use Rattle.lv_boxes.specs.Members.{is_left, are_left, choice_cost, choices_cost}
 use Rattle.lv_boxes.proofs.MaskLemmas.{has_choice-without}
 use Rattle.lv_search_walk.specs.Walk.{is_ruled_out}
 use Rattle.lv_search_guide.specs.declared.look.Member.{Member}
-use Rattle.lv_search_guide.specs.Boxes.{is_free, has_left}
+use Rattle.lv_search_bans.specs.Boxes.{is_free, has_left}
 use Rattle.lv_search_guide.specs.Lowest.{LowestTells}
 use Rattle.lv_search_guide.specs.First.{KeepsFirst, KeepsFirstOfLess, DropsTells, AreLoose, ranks_first, IsKeptBefore, IsKeptLoose}
-use Rattle.lv_search_guide.proofs.BoxLemmas.{free_from, length-left, none_of_zero, smaller, without_and_only}
-use Rattle.lv_search_guide.proofs.PriceLemmas.{left_at}
+use Rattle.lv_search_bans.proofs.BoxLemmas.{free_from, length-left, none_of_zero, smaller, without_and_only}
+use Rattle.lv_search_bans.proofs.PriceLemmas.{left_at}
 
 clash : (b : Bool) → b ≡ true → b ≡ false → ⊥
 clash b p q = cc

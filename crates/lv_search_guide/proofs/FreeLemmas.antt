@@ -15,9 +15,9 @@ use Rattle.lv_search_walk.specs.Walk.{candidate_of, is_ruled_out}
 use Rattle.lv_search_walk.proofs.RankedLemmas.{neither_is_same}
 use Rattle.lv_search_guide.specs.declared.look.Member.{Member}
 use Rattle.lv_search_guide.specs.Free.{is_free_member, IsLeastFree, HasNoFree, LeastFreeTells}
-use Rattle.lv_search_guide.specs.Boxes.{is_free, CostsAtLeast, HasNone}
+use Rattle.lv_search_bans.specs.Boxes.{is_free, CostsAtLeast, HasNone}
 use Rattle.lv_search_guide.specs.Lowest.{IsLowest, LowestTells}
-use Rattle.lv_search_guide.specs.Narrow.{IsNoMoreBy}
+use Rattle.lv_search_bans.specs.Narrow.{IsNoMoreBy}
 
 clash : (b : Bool) → b ≡ true → b ≡ false → ⊥
 clash b p q = cc

@@ -5,11 +5,11 @@ use Rattle.lv_base.specs.declared.ids.Cost.{Cost}
 use Rattle.lv_base.specs.declared.search.Pair.{Pair}
 use Rattle.lv_boxes.specs.Members.{choices_cost}
 use Rattle.lv_search_guide.specs.declared.look.Member.{Member}
-use Rattle.lv_search_guide.specs.Boxes.{is_free}
+use Rattle.lv_search_bans.specs.Boxes.{is_free}
 use Rattle.lv_search_guide.specs.Cheapest.{IsCheapest}
 use Rattle.lv_search_guide.specs.Dear.{KeepsUnder}
 use Rattle.lv_search_guide.specs.Lowest.{IsLowest}
-use Rattle.lv_search_guide.specs.Narrow.{IsNoMoreBy, HasNoneBy}
+use Rattle.lv_search_bans.specs.Narrow.{IsNoMoreBy, HasNoneBy}
 use Rattle.lv_search_guide.proofs.FreeLemmas.{lowest_by_narrowed}
 
 -- of one result both

@@ -1,10 +1,6 @@
-pub mod BoxLemmas
 pub mod SearchLemmas
 pub mod LowestLemmas
 pub mod FreeLemmas
-pub mod BanLemmas
-pub mod NarrowLemmas
-pub mod PriceLemmas
 pub mod DearLemmas
 pub mod SlotLemmas
 pub mod FirstLemmas

@@ -13,11 +13,11 @@ use Rattle.lv_boxes.specs.Members.{are_left, choices_cost}
 use Rattle.lv_boxes.specs.Parts.{masks_with}
 use Rattle.lv_boxes.proofs.MemberLemmas.{length-are_left}
 use Rattle.lv_search_guide.specs.declared.look.Member.{Member}
-use Rattle.lv_search_guide.specs.Boxes.{is_free, CostsAtLeast}
+use Rattle.lv_search_bans.specs.Boxes.{is_free, CostsAtLeast}
 use Rattle.lv_search_guide.specs.Dear.{KeepsUnder}
 use Rattle.lv_search_guide.specs.Cheapest.{IsCheapest, IsCheapestUnder}
 use Rattle.lv_search_guide.specs.Lowest.{IsLowest, NoneHas, OneHas, NoneBelow, IsFirstAt, IsNarrowed}
-use Rattle.lv_search_guide.proofs.BoxLemmas.{left_with, free_with, free_is_left, length-left, choice_is}
+use Rattle.lv_search_bans.proofs.BoxLemmas.{left_with, free_with, free_is_left, length-left, choice_is}
 
 clash : (b : Bool) → b ≡ true → b ≡ false → ⊥
 clash b p q = cc

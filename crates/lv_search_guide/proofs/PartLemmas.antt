@@ -14,12 +14,12 @@ use Rattle.lv_search_walk.specs.Walk.{is_ruled_out}
 use Rattle.lv_search_parts.specs.Slots.{only, put_in, pair_in, is_inside, is_outside}
 use Rattle.lv_search_parts.specs.Parts.{is_whole, inner_of, fixed, IsPart, IsLiveOf}
 use Rattle.lv_search_guide.specs.declared.look.Member.{Member}
-use Rattle.lv_search_guide.specs.Boxes.{is_free, CostsAtLeast, HasNone}
+use Rattle.lv_search_bans.specs.Boxes.{is_free, CostsAtLeast, HasNone}
 use Rattle.lv_search_guide.specs.Cheapest.{IsFirstUnder}
 use Rattle.lv_search_guide.proofs.FreeLemmas.{none_above_all}
 use Rattle.lv_search_guide.specs.Lowest.{IsLowest, LowestTells}
 use Rattle.lv_search_guide.specs.First.{KeepsFirst}
-use Rattle.lv_search_guide.proofs.BoxLemmas.{free_is_left, free_from, length-left}
+use Rattle.lv_search_bans.proofs.BoxLemmas.{free_is_left, free_from, length-left}
 use Rattle.lv_search_guide.proofs.SlotLemmas.{left_only, cost_put, contains_inside, contains_outside, order_put, put_own}
 use Rattle.lv_search_guide.proofs.FirstLemmas.{StandsIn, keeps_by, keeps_itself}
 

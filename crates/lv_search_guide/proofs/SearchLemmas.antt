@@ -23,11 +23,11 @@ use Rattle.lv_search_guide.specs.declared.look.Looked.{Looked}
 use Rattle.lv_search_guide.specs.declared.look.Looked.TheVariants.{Nothing, Found, Splits}
 use Rattle.lv_search_guide.specs.declared.cheapest.Best.{Best}
 use Rattle.lv_search_guide.specs.declared.cheapest.Branch.{Branch}
-use Rattle.lv_search_guide.specs.Boxes.{is_free, CostsAtLeast, is_open}
+use Rattle.lv_search_bans.specs.Boxes.{is_free, CostsAtLeast, is_open}
 use Rattle.lv_search_guide.specs.Cheapest.{IsCheapestLeft, HasNoneLeft, IsCheapestUnder, IsFirstUnder, CheapestTells, FallsApart, LookTells, IsOpenIn, OpenTells, SplitTells, IsBranchOf, BranchTells, is_free_in_some, is_sought_in_some, BestTells, IsUnderWay, weight_of, PushesBoth, PushesParts, TakesBox}
 use Rattle.lv_search_guide.specs.Dear.{KeepsUnder}
-use Rattle.lv_search_guide.specs.Narrow.{IsNoMoreBy, HasNoneBy}
-use Rattle.lv_search_guide.proofs.BoxLemmas.{zone_at, candidate_at, free_with, free_without, free_is_left, free_from, some_pass, found_itself, none_pass, both_smaller, all_contain}
+use Rattle.lv_search_bans.specs.Narrow.{IsNoMoreBy, HasNoneBy}
+use Rattle.lv_search_bans.proofs.BoxLemmas.{zone_at, candidate_at, free_with, free_without, free_is_left, free_from, some_pass, found_itself, none_pass, both_smaller, all_contain}
 
 clash : (b : Bool) → b ≡ true → b ≡ false → ⊥
 clash b p q = cc

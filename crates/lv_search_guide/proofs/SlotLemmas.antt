@@ -10,6 +10,7 @@ use Rattle.lv_base.specs.Order.{comes_before}
 use Rattle.lv_base.proofs.OrderLemmas.{irreflexive}
 use Rattle.lv_boxes.specs.Masks.{has_choice}
 use Rattle.lv_boxes.specs.Members.{is_left, are_left, choices_cost}
+use Rattle.lv_search_bans.proofs.NarrowLemmas.{lt_suc}
 use Rattle.lv_search_parts.specs.Slots.{only, put_in, is_marked, place_of, pair_in, is_inside, is_outside}
 
 clash : (b : Bool) → b ≡ true → b ≡ false → ⊥
@@ -93,13 +94,6 @@ abbrev picks_at : List ℕ → ℕ → ℕ → Bool
 picks_at [] s c = false
 picks_at (x ∷ xs) zero c = nat_eq x c
 picks_at (x ∷ xs) (suc s) c = picks_at xs s c
-
-pub lt_suc : (s n : ℕ) → nat_lt (suc s) (suc n) ≡ nat_lt s n
-lt_suc s n = by (nat_lt s n) refl
-  where
-    by : (b : Bool) → nat_lt s n ≡ b → nat_lt (suc s) (suc n) ≡ b
-    by true less = let below : s < n = ltb-true s n less in lt-ltb (suc s) (suc n) (omega (arith, below))
-    by false less = false_from_ne_true (nat_lt (suc s) (suc n)) (λ h. let below : suc s < suc n = ltb-true (suc s) (suc n) h in clash (nat_lt s n) (lt-ltb s n (omega (arith, below))) less)
 
 picks_is : (xs : List ℕ) (s c : ℕ) → (nat_lt s (length xs) && nat_eq (slice_index xs s) c) ≡ picks_at xs s c
 picks_is [] s c = ap (λ b. b && nat_eq (slice_index [] s) c) (false_from_ne_true (nat_lt s 0) (λ h. let below : s < 0 = ltb-true s 0 h in absurd (omega (arith, below))))

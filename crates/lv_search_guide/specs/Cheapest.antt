@@ -7,7 +7,7 @@ use Rattle.lv_base.specs.Choices.{picks, contains_all}
 use Rattle.lv_base.specs.Order.{comes_before}
 use Rattle.lv_boxes.specs.Members.{are_left, choices_cost}
 use Rattle.lv_boxes.specs.Parts.{masks_with, masks_without}
-use Rattle.lv_search_guide.specs.Boxes.{is_free, is_open, CostsAtLeast}
+use Rattle.lv_search_bans.specs.Boxes.{is_free, is_open, CostsAtLeast}
 use Rattle.lv_search_guide.specs.Dear.{KeepsUnder}
 use Rattle.lv_search_guide.specs.declared.look.Member.{Member}
 use Rattle.lv_search_guide.specs.declared.look.Looked.{Looked}

@@ -3,7 +3,7 @@ use Rattle.std.specs.Prelude.{◌≡◌, ℕ, ◌<◌, ◌≤◌, true, List, su
 use Rattle.lv_base.specs.declared.ids.Cost.{Cost}
 use Rattle.lv_base.specs.declared.search.Pair.{Pair}
 use Rattle.lv_boxes.specs.Members.{choices_cost}
-use Rattle.lv_search_guide.specs.Boxes.{is_free}
+use Rattle.lv_search_bans.specs.Boxes.{is_free}
 
 -- no other free members, all old ones that cost less than this, and no choice more
 pub record KeepsUnder (slots : List (List Cost)) (conflicts : List (List Pair)) (under : ℕ) (old new : List ℕ) : Type 0 where

@@ -5,7 +5,7 @@ use Rattle.lv_base.specs.declared.search.Pair.{Pair}
 use Rattle.lv_base.specs.Choices.{picks}
 use Rattle.lv_base.specs.Order.{comes_before}
 use Rattle.lv_boxes.specs.Members.{are_left, choices_cost}
-use Rattle.lv_search_guide.specs.Boxes.{is_free, HasNone}
+use Rattle.lv_search_bans.specs.Boxes.{is_free, HasNone}
 use Rattle.lv_search_guide.specs.Cheapest.{IsCheapest}
 use Rattle.lv_search_guide.specs.declared.look.Member.{Member}
 

@@ -11,10 +11,10 @@ ghost use Rattle.lv_boxes.specs.Members.{choice_cost};
 ghost use Rattle.lv_search_guide.specs.First.{KeepsFirst, DropsTells, AreLoose, ranks_first, IsKeptBefore, IsLooseLeft, KeptTells};
 
 use super::loose::loose_in;
-use super::masks::Masks;
 use super::problem::Problem;
 use lv_base::{Cost, Seq};
 use lv_boxes::mask;
+use lv_search_bans::masks::Masks;
 use std::alloc::{AllocError, Global};
 
 /// Takes out of a box choices that rank after a loose one of their slot, until nothing more is found.

@@ -3,17 +3,16 @@
 #![tactic(auto)]
 
 ghost use Rattle.std.specs.Prelude.{◌≡◌, ◌≤◌, ◌++◌, IfOk, OnOk, IfSome, option_to_list};
-ghost use Rattle.lv_search_guide.specs.Boxes.{CostsAtLeast};
+ghost use Rattle.lv_search_bans.specs.Boxes.{CostsAtLeast};
 ghost use Rattle.lv_search_guide.specs.Cheapest.{FallsApart, CheapestTells, BranchTells, PushesBoth, PushesParts, TakesBox};
-ghost use Rattle.lv_search_guide.specs.Narrow.{NarrowedTells};
+ghost use Rattle.lv_search_bans.specs.Narrow.{NarrowedTells};
 
-use super::conflicts::Conflicts;
 use super::look::{Looked, Member, look};
-use super::masks::Masks;
-use super::narrow::{narrow, narrow_from};
-use super::prices::Room;
-use super::problem::{Problem, Search};
+use super::problem::{Problem, Room, Search};
 use lv_base::Pair;
+use lv_search_bans::conflicts::Conflicts;
+use lv_search_bans::masks::Masks;
+use lv_search_bans::narrow::{narrow, narrow_from};
 use std::alloc::AllocError;
 
 /// The cheapest member found so far, and what a member has to cost less than to be of interest still.

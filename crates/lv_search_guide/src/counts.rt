@@ -1,10 +1,10 @@
 //! How many choices a pair of a conflict stands against: the more, the better a box falls apart by it.
 #![tactic(auto)]
 
-use super::bans::{Ban, Choices};
-use super::masks::has_several;
 use lv_base::Pair;
 use lv_boxes::mask;
+use lv_search_bans::bans::{Ban, Choices};
+use lv_search_bans::masks::has_several;
 use std::alloc::{AllocError, Global};
 
 /// The bans beyond so many tell nothing more of what is best: they come last where short ones come first.

@@ -6,14 +6,14 @@ ghost use Rattle.std.specs.Prelude.{◌≡◌, ◌<◌, ◌≤◌, ◌+◌, ℕ,
 ghost use Rattle.lv_base.specs.declared.ids.Cost.{Cost};
 ghost use Rattle.lv_base.specs.declared.search.Pair.{Pair};
 ghost use Rattle.lv_boxes.specs.Parts.{masks_without};
-ghost use Rattle.lv_search_guide.specs.Boxes.{CostsAtLeast};
+ghost use Rattle.lv_search_bans.specs.Boxes.{CostsAtLeast};
 ghost use Rattle.lv_search_guide.specs.Dear.{KeepsUnder};
-ghost use Rattle.lv_search_guide.specs.Prices.{IsBound};
+ghost use Rattle.lv_search_bans.specs.Prices.{IsBound};
 
-use super::masks::{Masks, has_several};
-use super::prices::{Room, Row};
-use super::problem::Search;
+use super::problem::{Room, Search};
 use lv_base::{Cost, Pair};
+use lv_search_bans::masks::{Masks, has_several};
+use lv_search_bans::prices::{Row, fill_rows, raise_by_bans, raise_by_slots};
 use std::alloc::AllocError;
 
 /// A choice costs no more than this.
@@ -39,6 +39,19 @@ impl<'a> Search<'a> {
         }
         drop_priced(room.rows.as_slice(), low, under, masks, &mut room.changed)?;
         Ok(low)
+    }
+
+    /// What a member of a box that contains no conflict costs at least; the rows tell what its choices cost beside that. No
+    /// more is found out once that is enough.
+    fn priced_in(&self, room: &mut Room, masks: &[u64], enough: u64) -> Result<u64, AllocError>
+        ensures { IfOk result (λ low. IsBound self.now.grid.now self.now.conflicts.now masks.now low room.new.rows.items) }
+    {
+        fill_rows(room.alloc, self.grid.slots(), masks, &mut room.rows)?;
+        if masks.len() != room.rows.len() {
+            return Ok(0);
+        }
+        let by_slots = raise_by_slots(masks, &mut room.rows);
+        Ok(raise_by_bans(masks, self.conflicts, by_slots, enough, &mut room.rows))
     }
 }
 

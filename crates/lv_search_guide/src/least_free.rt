@@ -6,13 +6,13 @@ ghost use Rattle.lv_search_guide.specs.Free.{LeastFreeTells};
 ghost use Rattle.lv_search_guide.specs.Lowest.{LowestTells};
 
 use super::behind::drop_behind;
-use super::conflicts::Conflicts;
 use super::look::Member;
-use super::masks::Masks;
-use super::narrow::narrow;
 use super::problem::Problem;
 use lv_base::{Conflict, Cost, Rank};
 use lv_boxes::{Grid, Zone};
+use lv_search_bans::conflicts::Conflicts;
+use lv_search_bans::masks::Masks;
+use lv_search_bans::narrow::narrow;
 use lv_search_parts::live::live_in;
 use std::alloc::{AllocError, Global};
 

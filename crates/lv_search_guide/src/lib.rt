@@ -16,10 +16,6 @@
 //! |---|---|
 //! | `least_free` | the member that ranks first |
 //! | `problem` | what is asked of a box, and what a search goes by |
-//! | `conflicts` | conflicts with the bans that they come to |
-//! | `bans` | conflicts drawn together |
-//! | `alike` | where bans of the same slots stand |
-//! | `order` | in which order a search goes through them |
 //! | `parts` | the same part by part of a box |
 //! | `cheapest` | a cheapest member, by a stack of boxes |
 //! | `look` | what is to be done with one box |
@@ -27,18 +23,12 @@
 //! | `loose` | choices that stand in no conflict |
 //! | `behind` | choices that rank after a loose one |
 //! | `lowest` | of the cheapest members the first in the order of slots |
-//! | `masks` | a box: of each slot the choices left |
-//! | `narrow` | what bans leave of a box |
-//! | `prices` | what a member of a box costs at least |
 //! | `dear` | choices that are too dear |
 //! | `laws` | that there is one answer |
 #![tactic(auto)]
 
-mod alike;
-pub mod bans;
 mod behind;
 mod cheapest;
-pub mod conflicts;
 mod counts;
 mod dear;
 pub mod laws;
@@ -46,11 +36,7 @@ pub mod least_free;
 pub mod look;
 mod loose;
 mod lowest;
-pub mod masks;
-pub mod narrow;
-mod order;
 mod parts;
-mod prices;
 mod problem;
 
 pub use laws::least_free_is_one;

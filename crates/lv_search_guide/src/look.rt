@@ -7,16 +7,16 @@ ghost use Rattle.std.specs.List.{find};
 ghost use Rattle.std.specs.Option.{option_copied};
 ghost use Rattle.lv_base.specs.declared.ids.Cost.{Cost};
 ghost use Rattle.lv_base.specs.Choices.{contains_all};
-ghost use Rattle.lv_search_guide.specs.Boxes.{is_open};
+ghost use Rattle.lv_search_bans.specs.Boxes.{is_open};
 ghost use Rattle.lv_search_guide.specs.Cheapest.{CheapestLeftTells, IsCheapestLeft, HasNoneLeft, LookTells, OpenTells, SplitTells};
 
-use super::bans::Ban;
 use super::counts::counts_of;
-use super::masks::Masks;
 use super::problem::Problem;
 use lv_base::{Conflict, Pair, Seq, contains};
 use lv_boxes::least::write_least;
 use lv_boxes::{Grid, mask};
+use lv_search_bans::bans::Ban;
+use lv_search_bans::masks::Masks;
 use std::alloc::{AllocError, Global};
 
 /// More than any member costs: a choice costs at most 1,000,000, and there are at most 4,096 slots.

@@ -4,11 +4,11 @@
 ghost use Rattle.std.specs.Prelude.{◌≡◌, ◌++◌, ◌∷◌, [], List, IfOk};
 ghost use Rattle.std.specs.List.{list_all};
 ghost use Rattle.lv_base.specs.declared.search.Pair.{Pair};
-ghost use Rattle.lv_search_guide.specs.Boxes.{has_left};
+ghost use Rattle.lv_search_bans.specs.Boxes.{has_left};
 ghost use Rattle.lv_search_guide.specs.First.{AreLoose, TakesOut};
 
-use super::masks::Masks;
 use lv_base::{Conflict, Pair};
+use lv_search_bans::masks::Masks;
 use std::alloc::{AllocError, Global};
 
 /// Of each slot of a box the loose choices.

@@ -5,16 +5,15 @@
 
 ghost use Rattle.std.specs.Prelude.{◌≡◌, ◌<◌, ◌≤◌, ◌*◌, true, length, slice_index, IfOk};
 ghost use Rattle.lv_boxes.specs.Members.{choices_cost};
-ghost use Rattle.lv_search_guide.specs.Boxes.{is_free, CostsAtLeast};
+ghost use Rattle.lv_search_bans.specs.Boxes.{is_free, CostsAtLeast};
 ghost use Rattle.lv_search_guide.specs.Cheapest.{IsCheapest};
 ghost use Rattle.lv_search_guide.specs.Lowest.{IsLowest, IsFirstAt, LowerTells, HasTells};
 
 use super::look::Member;
-use super::masks::Masks;
-use super::narrow::narrow;
-use super::prices::Room;
-use super::problem::Search;
+use super::problem::{Room, Search};
 use lv_base::{Pair, Seq};
+use lv_search_bans::masks::Masks;
+use lv_search_bans::narrow::narrow;
 use std::alloc::AllocError;
 
 impl<'a> Search<'a> {

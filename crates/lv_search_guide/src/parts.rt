@@ -8,12 +8,11 @@ ghost use Rattle.lv_search_parts.specs.Parts.{inner_of, IsPart};
 ghost use Rattle.lv_search_guide.specs.First.{SettlesTells};
 ghost use Rattle.lv_search_guide.specs.Lowest.{LowestTells};
 
-use super::conflicts::Conflicts;
 use super::look::{ABOVE_ALL, Looked, Member, look};
-use super::masks::Masks;
-use super::prices::Room;
-use super::problem::{Problem, Search};
+use super::problem::{Problem, Room, Search};
 use lv_base::Pair;
+use lv_search_bans::conflicts::Conflicts;
+use lv_search_bans::masks::Masks;
 use lv_search_parts::labels::joined_with;
 use lv_search_parts::live::live_in;
 use lv_search_parts::part::{fixed, part_conflicts, part_grid, part_masks};

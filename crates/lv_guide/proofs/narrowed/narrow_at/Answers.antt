@@ -1,5 +1,5 @@
 -- one conflict after another
-use Rattle.lv_search_guide.proofs.NarrowLemmas.{no_more_itself, no_more_on, none_after_all}
+use Rattle.lv_search_bans.proofs.NarrowLemmas.{no_more_itself, no_more_on, none_after_all}
 use Rattle.lv_guide.proofs.narrowed.narrow_at.Goals as goal
 
 pub loop-place-init : goal.loop-place-init

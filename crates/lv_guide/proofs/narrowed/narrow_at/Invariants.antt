@@ -1,5 +1,5 @@
 -- the members without conflict are those of the box at the start
-use Rattle.lv_search_guide.specs.Narrow.{IsNoMoreBy}
+use Rattle.lv_search_bans.specs.Narrow.{IsNoMoreBy}
 use Rattle.lv_guide.proofs.narrowed.narrow_at.Given as goal
 
 abbrev pub invariant-loop-place : goal.invariant-loop-place

@@ -1,7 +1,7 @@
 -- what one of the bans takes out
 use Rattle.std.proofs.Common.{subst, sym}
-use Rattle.lv_search_guide.specs.Narrow.{IsNoMoreBy}
-use Rattle.lv_search_guide.proofs.NarrowLemmas.{no_more_itself, no_more_after}
+use Rattle.lv_search_bans.specs.Narrow.{IsNoMoreBy}
+use Rattle.lv_search_bans.proofs.NarrowLemmas.{no_more_itself, no_more_after}
 use Rattle.lv_guide.proofs.narrowed.narrow_one.Goals as goal
 
 pub returns-in-Same : goal.returns-in-Same

@@ -1,6 +1,6 @@
 -- what is left of the box is the zone's box
 use Rattle.std.proofs.Common.{List, ℕ, ◌∙◌, sym, subst}
-use Rattle.lv_search_guide.specs.Narrow.{HasNoneBy, HasSameFree}
+use Rattle.lv_search_bans.specs.Narrow.{HasNoneBy, HasSameFree}
 use Rattle.lv_guide.proofs.narrowed.narrowed_by_all.Goals as goal
 
 pub returns-then-not-narrow : goal.returns-then-not-narrow

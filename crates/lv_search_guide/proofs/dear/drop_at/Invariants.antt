@@ -4,7 +4,7 @@ use Rattle.std.specs.Prelude.{slice_index_or}
 use Rattle.lv_base.specs.declared.ids.Cost.{Cost}
 use Rattle.lv_base.specs.declared.search.Pair.{Pair}
 use Rattle.lv_search_guide.specs.Dear.{KeepsUnder}
-use Rattle.lv_search_guide.specs.Prices.{IsBound}
+use Rattle.lv_search_bans.specs.Prices.{IsBound}
 use Rattle.lv_search_guide.proofs.dear.drop_at.Given as goal
 
 abbrev pub invariant-loop-choice : goal.invariant-loop-choice

@@ -3,7 +3,7 @@ use Rattle.std.proofs.Common.{List}
 use Rattle.lv_base.specs.declared.ids.Cost.{Cost}
 use Rattle.lv_base.specs.declared.search.Pair.{Pair}
 use Rattle.lv_search_guide.specs.Dear.{KeepsUnder}
-use Rattle.lv_search_guide.specs.Prices.{IsBound}
+use Rattle.lv_search_bans.specs.Prices.{IsBound}
 use Rattle.lv_search_guide.proofs.dear.drop_priced.Given as goal
 
 abbrev pub invariant-loop-slot : goal.invariant-loop-slot

@@ -1,6 +1,6 @@
 -- bound and prices hold from slot to slot and from ban to ban
 use Rattle.std.proofs.Common.{◌∙◌}
-use Rattle.lv_search_guide.proofs.PriceLemmas.{bound_begins}
+use Rattle.lv_search_bans.proofs.PriceLemmas.{bound_begins}
 use Rattle.lv_search_guide.proofs.problem.Search.priced_in.Goals as goal
 
 pub returns : goal.returns

@@ -1,0 +1,4 @@
+pub mod BoxLemmas
+pub mod BanLemmas
+pub mod NarrowLemmas
+pub mod PriceLemmas

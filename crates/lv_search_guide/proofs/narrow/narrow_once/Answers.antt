@@ -1,6 +1,0 @@
--- one ban that leaves nothing is enough
-use Rattle.lv_search_guide.proofs.NarrowLemmas.{none_after}
-use Rattle.lv_search_guide.proofs.narrow.narrow_once.Goals as goal
-
-pub returns-in-Empty : goal.returns-in-Empty
-returns-in-Empty c = none_after c.args.conflicts.now c.args.masks.now c.loop-place.masks c.loop-place.changed c.loop-place.invariant (rw c.in-Empty.is at c.narrow_by.ensures)
