@@ -3,7 +3,7 @@
 //! join to those at which it lacks one have their least choices, and the others keep theirs.
 #![tactic(auto)]
 
-ghost use Rattle.std.specs.Prelude.{◌≡◌, ◌≤◌, ◌∷◌, [], false, length, IfOk, if◌then◌else◌};
+ghost use Rattle.std.specs.Prelude.{◌≡◌, ◌≤◌, false, length, IfOk, if◌then◌else◌};
 ghost use Rattle.lv_search_walk.specs.Walk.{is_ruled_out};
 ghost use Rattle.lv_guide.specs.Narrowed.{NarrowedTells};
 ghost use Rattle.lv_guide.specs.Near.{IsFirstNear};

@@ -1,7 +1,7 @@
 //! The slots that conflicts join, and their bans by the slots that they end at.
 #![tactic(auto)]
 
-ghost use Rattle.std.specs.Prelude.{◌≡◌, ℕ, List, IfOk, IfSome};
+ghost use Rattle.std.specs.Prelude.{ℕ, List, IfOk, IfSome};
 ghost use Rattle.lv_base.specs.declared.search.Pair.{Pair};
 ghost use Rattle.lv_search_parts.specs.Parts.{IsPartWith};
 ghost use Rattle.lv_guide.specs.Beside.{AreJoined};

@@ -3,7 +3,7 @@
 //! the zone lacks, or is in a conflict, and those that conflicts join to them. The others keep their choices.
 #![tactic(auto)]
 
-ghost use Rattle.std.specs.Prelude.{◌≡◌, ◌≤◌, ◌*◌, ◌++◌, not, length, filter, All, nat_eq, IfOk, OnOk, if◌then◌else◌};
+ghost use Rattle.std.specs.Prelude.{◌≡◌, ◌≤◌, ◌*◌, ◌++◌, length, All, nat_eq, IfOk, OnOk, if◌then◌else◌};
 ghost use Rattle.std.specs.List.{list_any};
 ghost use Rattle.lv_base.specs.Choices.{contains_all};
 ghost use Rattle.lv_boxes.specs.Members.{IsSlot, choice_cost, choices_cost};

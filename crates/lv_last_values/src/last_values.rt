@@ -2,7 +2,7 @@
 //! judged: each clause that holds a literal that was true and is false.
 #![tactic(auto)]
 
-ghost use Rattle.std.specs.Prelude.{◌≡◌, ℕ, ◌++◌, ◌∷◌, [], true, false, length, None, Some, IfOk, OnOk, IfSome, IfNone, if◌then◌else◌};
+ghost use Rattle.std.specs.Prelude.{◌≡◌, ℕ, [], true, false, length, None, Some, IfOk, OnOk, IfSome, IfNone};
 ghost use Rattle.lv_clauses.specs.ClauseMap.{ClauseMap, Puts, satisfies};
 ghost use Rattle.lv_last_values.specs.Values.{IsModel};
 ghost use Rattle.lv_last_values.specs.Occurrences as Occurring;

@@ -2,7 +2,7 @@
 //! became false; such a clause finds another literal to watch, or else forces its last one, or is false.
 #![tactic(auto)]
 
-ghost use Rattle.std.specs.Prelude.{◌≡◌, ◌-◌, ◌<◌, IfOk};
+ghost use Rattle.std.specs.Prelude.{◌-◌, ◌<◌, IfOk};
 ghost use Rattle.lv_trail.specs.Trail.{IsTrail, IsPropagated};
 
 use lv_base::Lit;

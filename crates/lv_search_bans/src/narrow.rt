@@ -2,9 +2,7 @@
 //! one out of the box; a ban without such a set leaves no member.
 #![tactic(auto)]
 
-ghost use Rattle.std.specs.Prelude.{◌≡◌, ◌≤◌, ◌+◌, ◌*◌, true, ℕ, List, length, sum, IfOk, OnOk};
-ghost use Rattle.lv_base.specs.declared.search.Pair.{Pair};
-ghost use Rattle.lv_search_bans.specs.Bans.{AreBans};
+ghost use Rattle.std.specs.Prelude.{◌≡◌, ◌≤◌, ◌+◌, ◌*◌, true, length, sum, IfOk, OnOk};
 ghost use Rattle.lv_search_bans.specs.Narrow.{StandsTells, LeftTells, TakesOutTells, NarrowsTells, NarrowedTells};
 
 use super::bans::{Ban, Choices, without_these};

@@ -3,7 +3,7 @@
 //! member has none of them, and they are taken out.
 #![tactic(auto)]
 
-ghost use Rattle.std.specs.Prelude.{◌≡◌, ◌<◌, true, [], ℕ, List, length, nat_lt, slice_index_or, IfOk, IfSome, if◌then◌else◌};
+ghost use Rattle.std.specs.Prelude.{◌≡◌, ◌<◌, true, [], List, length, slice_index_or, IfOk, IfSome, if◌then◌else◌};
 ghost use Rattle.lv_base.specs.declared.ids.Cost.{Cost};
 ghost use Rattle.lv_base.specs.declared.search.Pair.{Pair};
 ghost use Rattle.lv_boxes.specs.Masks.{has_choice, without_choice};

@@ -2,7 +2,7 @@
 //! without what can't lead to a cheaper member than was found so far, and with what its members cost at least.
 #![tactic(auto)]
 
-ghost use Rattle.std.specs.Prelude.{◌≡◌, ◌≤◌, ◌++◌, IfOk, OnOk, IfSome, option_to_list};
+ghost use Rattle.std.specs.Prelude.{◌≡◌, ◌++◌, IfOk, OnOk, option_to_list};
 ghost use Rattle.lv_search_bans.specs.Boxes.{CostsAtLeast};
 ghost use Rattle.lv_search_guide.specs.Cheapest.{FallsApart, CheapestTells, BranchTells, PushesBoth, PushesParts, TakesBox};
 ghost use Rattle.lv_search_bans.specs.Narrow.{NarrowedTells};
