@@ -59,92 +59,10 @@ fn meets_commands(controls: &[VarId], values: &[ValId], a: &[ValId]) -> bool
     true
 }
 
-/// Whether values before and after meet the facts.
-fn meets_facts(setting: &Setting<'_>, judged: &Judged<'_>, a: &[ValId], b: &[ValId]) -> bool
-    requires setting { IsSetting setting.now }
-    requires fits { Fits (plant_of setting.now) setting.now.system.now judged.now }
-    requires now { IsWhole (plant_of setting.now) a.now }
-    requires next { IsWhole (plant_of setting.now) b.now }
-    ensures { result ≡ Facts.meets_facts (plant_of setting.now) judged.now.stated.facts a.now b.now }
-{
-    let facts = &judged.stated.facts;
-    meets_commands(
-        setting.counts.controls.as_slice(),
-        facts.controls.as_slice(),
-        a,
-    ) && meets_all(a, facts.present.as_slice())
-        && meets_all(b, facts.next.as_slice())
-}
-
 fn moves_of(alloc: Global, choices: &[u32]) -> Result<Vec<MoveId>, AllocError>
     ensures { IfOk result (λ out. out.items ≡ map move_number choices.now) }
 {
     choices.iter().map(|n| MoveId(*n)).collect(alloc)
-}
-
-/// Whether the values are a step by the moves of the candidate that meets the facts.
-fn is_step_of(
-    alloc: Global,
-    setting: &Setting<'_>,
-    judged: &Judged<'_>,
-    a: &[ValId],
-    b: &[ValId],
-    rank: &Rank,
-) -> Result<bool, AllocError>
-    requires setting { IsSetting setting.now }
-    requires fits { Fits (plant_of setting.now) setting.now.system.now judged.now }
-    requires now { IsWhole (plant_of setting.now) a.now }
-    requires next { IsWhole (plant_of setting.now) b.now }
-    ensures { IfOk result (λ is. is ≡ Judging.is_step_of (plant_of setting.now) judged.now.stated.facts a.now b.now rank.now) }
-{
-    if rank.choices.len() != setting.model.plant().parts.len() {
-        return Ok(false);
-    }
-    let moves = moves_of(alloc, rank.choices.as_slice())?;
-    Ok(setting.model.is_step(a, b, moves.as_slice()) && meets_facts(setting, judged, a, b))
-}
-
-/// Whether the values are a step by the moves of the last candidate listed that meets the facts.
-fn shows_listed(
-    alloc: Global,
-    setting: &Setting<'_>,
-    judged: &Judged<'_>,
-    a: &[ValId],
-    b: &[ValId],
-) -> Result<bool, AllocError>
-    requires setting { IsSetting setting.now }
-    requires fits { Fits (plant_of setting.now) setting.now.system.now judged.now }
-    requires now { IsWhole (plant_of setting.now) a.now }
-    requires next { IsWhole (plant_of setting.now) b.now }
-    ensures { IfOk result (λ is. is ≡ Judging.shows_listed (plant_of setting.now) (judged_of judged.now) a.now b.now) }
-{
-    match judged.last() {
-        Some(rank) => is_step_of(alloc, setting, judged, a, b, rank),
-        None => Ok(false),
-    }
-}
-
-/// Whether the values are a step without faults from the state, with these values of the controls, that meets what was
-/// seen.
-fn is_aimed_step(
-    setting: &Setting<'_>,
-    judged: &Judged<'_>,
-    values: &[u32],
-    a: &[ValId],
-    b: &[ValId],
-    state: &TrackedState,
-) -> bool
-    requires setting { IsSetting setting.now }
-    requires fits { Fits (plant_of setting.now) setting.now.system.now judged.now }
-    requires now { IsWhole (plant_of setting.now) a.now }
-    requires next { IsWhole (plant_of setting.now) b.now }
-    ensures { result ≡ Judging.is_aimed_step (plant_of setting.now) (judged_of judged.now) values.now a.now b.now state.now }
-{
-    let parts = setting.model.plant().parts.as_slice();
-    has_modes(parts, state.state.modes.as_slice(), a)
-        && has_controls(setting.counts.controls.as_slice(), a, values)
-        && meets_all(a, judged.stated.facts.present.as_slice())
-        && is_nominal_pair(setting.model, a, b)
 }
 
 /// Whether all goals are true.
@@ -155,71 +73,137 @@ fn meets_goals(goals: &[Condition], b: &[ValId]) -> bool
     goals.iter().all(|goal| goal.holds(b, 0))
 }
 
-/// Whether the values are such a step from the tracked state of this place.
-fn is_step_from(
-    setting: &Setting<'_>,
-    judged: &Judged<'_>,
-    place: usize,
-    values: &[u32],
-    a: &[ValId],
-    b: &[ValId],
-) -> bool
-    requires setting { IsSetting setting.now }
-    requires fits { Fits (plant_of setting.now) setting.now.system.now judged.now }
-    requires now { IsWhole (plant_of setting.now) a.now }
-    requires next { IsWhole (plant_of setting.now) b.now }
-    ensures { result ≡ option_map_or (Judging.is_aimed_step (plant_of setting.now) (judged_of judged.now) values.now a.now b.now) (slice_get judged.now.stated.tracked place) false }
-{
-    match judged.stated.tracked.get(place) {
-        Some(state) => is_aimed_step(setting, judged, values, a, b, state),
-        None => false,
-    }
-}
-
-/// Whether all goals that are stated are true.
-fn meets_stated(setting: &Setting<'_>, judged: &Judged<'_>, b: &[ValId]) -> bool
-    requires fits { Fits (plant_of setting.now) setting.now.system.now judged.now }
-    requires next { IsWhole (plant_of setting.now) b.now }
-    ensures { result ≡ Recovers.meets_goals judged.now.stated.goals b.now }
-{
-    let _plant = setting.model.plant();
-    meets_goals(judged.stated.goals.as_slice(), b)
-}
-
 fn same_truth(one: bool, other: bool) -> bool
     ensures { result ≡ same_truth one other }
 {
     if one { other } else { !other }
 }
 
-/// Whether the values are such a step as is aimed at, with the goals all true behind it, or not.
-fn is_as_aimed(
-    setting: &Setting<'_>,
-    judged: &Judged<'_>,
-    a: &[ValId],
-    b: &[ValId],
-    aimed: &Aimed,
-) -> bool
-    requires setting { IsSetting setting.now }
-    requires fits { Fits (plant_of setting.now) setting.now.system.now judged.now }
-    requires now { IsWhole (plant_of setting.now) a.now }
-    requires next { IsWhole (plant_of setting.now) b.now }
-    ensures { result ≡ Judging.is_as_aimed (plant_of setting.now) (judged_of judged.now) a.now b.now aimed.now }
-{
-    is_step_from(setting, judged, aimed.place, aimed.values.as_slice(), a, b)
-        && same_truth(meets_stated(setting, judged, b), aimed.reaches)
+/// A step that is shown: what it is judged by, what was judged so far, and the values of all variables before it and after.
+#[derive(Clone, Copy)]
+struct Shown<'a> {
+    setting: &'a Setting<'a>,
+    judged: &'a Judged<'a>,
+    before: &'a [ValId],
+    after: &'a [ValId],
 }
 
-fn shows_aimed(setting: &Setting<'_>, judged: &Judged<'_>, a: &[ValId], b: &[ValId]) -> bool
-    requires setting { IsSetting setting.now }
-    requires fits { Fits (plant_of setting.now) setting.now.system.now judged.now }
-    requires now { IsWhole (plant_of setting.now) a.now }
-    requires next { IsWhole (plant_of setting.now) b.now }
-    ensures { result ≡ Judging.shows_aimed (plant_of setting.now) (judged_of judged.now) a.now b.now }
-{
-    match &judged.aimed {
-        Some(aimed) => is_as_aimed(setting, judged, a, b, aimed),
-        None => false,
+impl<'a> Shown<'a> {
+    /// Whether values before and after meet the facts.
+    fn meets_facts(&self) -> bool
+        requires setting { IsSetting self.now.setting.now }
+        requires fits { Fits (plant_of self.now.setting.now) self.now.setting.now.system.now self.now.judged.now }
+        requires now { IsWhole (plant_of self.now.setting.now) self.now.before.now }
+        requires next { IsWhole (plant_of self.now.setting.now) self.now.after.now }
+        ensures { result ≡ Facts.meets_facts (plant_of self.now.setting.now) self.now.judged.now.stated.facts self.now.before.now self.now.after.now }
+    {
+        let judged = self.judged;
+        let facts = &judged.stated.facts;
+        meets_commands(
+            self.setting.counts.controls.as_slice(),
+            facts.controls.as_slice(),
+            self.before,
+        ) && meets_all(self.before, facts.present.as_slice())
+            && meets_all(self.after, facts.next.as_slice())
+    }
+
+    /// Whether the values are a step by the moves of the candidate that meets the facts.
+    fn is_step_of(&self, alloc: Global, rank: &Rank) -> Result<bool, AllocError>
+        requires setting { IsSetting self.now.setting.now }
+        requires fits { Fits (plant_of self.now.setting.now) self.now.setting.now.system.now self.now.judged.now }
+        requires now { IsWhole (plant_of self.now.setting.now) self.now.before.now }
+        requires next { IsWhole (plant_of self.now.setting.now) self.now.after.now }
+        ensures { IfOk result (λ is. is ≡ Judging.is_step_of (plant_of self.now.setting.now) self.now.judged.now.stated.facts self.now.before.now self.now.after.now rank.now) }
+    {
+        let model = self.setting.model;
+        if rank.choices.len() != model.plant().parts.len() {
+            return Ok(false);
+        }
+        let moves = moves_of(alloc, rank.choices.as_slice())?;
+        Ok(model.is_step(self.before, self.after, moves.as_slice()) && self.meets_facts())
+    }
+
+    /// Whether the values are a step by the moves of the last candidate listed that meets the facts.
+    fn shows_listed(&self, alloc: Global) -> Result<bool, AllocError>
+        requires setting { IsSetting self.now.setting.now }
+        requires fits { Fits (plant_of self.now.setting.now) self.now.setting.now.system.now self.now.judged.now }
+        requires now { IsWhole (plant_of self.now.setting.now) self.now.before.now }
+        requires next { IsWhole (plant_of self.now.setting.now) self.now.after.now }
+        ensures { IfOk result (λ is. is ≡ Judging.shows_listed (plant_of self.now.setting.now) (judged_of self.now.judged.now) self.now.before.now self.now.after.now) }
+    {
+        match self.judged.last() {
+            Some(rank) => self.is_step_of(alloc, rank),
+            None => Ok(false),
+        }
+    }
+
+    /// Whether the values are a step without faults from the state, with these values of the controls, that meets what was
+    /// seen.
+    fn is_aimed_step(&self, values: &[u32], state: &TrackedState) -> bool
+        requires setting { IsSetting self.now.setting.now }
+        requires fits { Fits (plant_of self.now.setting.now) self.now.setting.now.system.now self.now.judged.now }
+        requires now { IsWhole (plant_of self.now.setting.now) self.now.before.now }
+        requires next { IsWhole (plant_of self.now.setting.now) self.now.after.now }
+        ensures { result ≡ Judging.is_aimed_step (plant_of self.now.setting.now) (judged_of self.now.judged.now) values.now self.now.before.now self.now.after.now state.now }
+    {
+        let judged = self.judged;
+        let parts = self.setting.model.plant().parts.as_slice();
+        has_modes(parts, state.state.modes.as_slice(), self.before)
+            && has_controls(self.setting.counts.controls.as_slice(), self.before, values)
+            && meets_all(self.before, judged.stated.facts.present.as_slice())
+            && is_nominal_pair(self.setting.model, self.before, self.after)
+    }
+
+    /// Whether the values are such a step from the tracked state of this place.
+    fn is_step_from(&self, place: usize, values: &[u32]) -> bool
+        requires setting { IsSetting self.now.setting.now }
+        requires fits { Fits (plant_of self.now.setting.now) self.now.setting.now.system.now self.now.judged.now }
+        requires now { IsWhole (plant_of self.now.setting.now) self.now.before.now }
+        requires next { IsWhole (plant_of self.now.setting.now) self.now.after.now }
+        ensures { result ≡ option_map_or (Judging.is_aimed_step (plant_of self.now.setting.now) (judged_of self.now.judged.now) values.now self.now.before.now self.now.after.now) (slice_get self.now.judged.now.stated.tracked place) false }
+    {
+        let judged = self.judged;
+        match judged.stated.tracked.get(place) {
+            Some(state) => self.is_aimed_step(values, state),
+            None => false,
+        }
+    }
+
+    /// Whether all goals that are stated are true.
+    fn meets_stated(&self) -> bool
+        requires fits { Fits (plant_of self.now.setting.now) self.now.setting.now.system.now self.now.judged.now }
+        requires next { IsWhole (plant_of self.now.setting.now) self.now.after.now }
+        ensures { result ≡ Recovers.meets_goals self.now.judged.now.stated.goals self.now.after.now }
+    {
+        let judged = self.judged;
+        let _plant = self.setting.model.plant();
+        meets_goals(judged.stated.goals.as_slice(), self.after)
+    }
+
+    /// Whether the values are such a step as is aimed at, with the goals all true behind it, or not.
+    fn is_as_aimed(&self, aimed: &Aimed) -> bool
+        requires setting { IsSetting self.now.setting.now }
+        requires fits { Fits (plant_of self.now.setting.now) self.now.setting.now.system.now self.now.judged.now }
+        requires now { IsWhole (plant_of self.now.setting.now) self.now.before.now }
+        requires next { IsWhole (plant_of self.now.setting.now) self.now.after.now }
+        ensures { result ≡ Judging.is_as_aimed (plant_of self.now.setting.now) (judged_of self.now.judged.now) self.now.before.now self.now.after.now aimed.now }
+    {
+        self.is_step_from(aimed.place, aimed.values.as_slice())
+            && same_truth(self.meets_stated(), aimed.reaches)
+    }
+
+    fn shows_aimed(&self) -> bool
+        requires setting { IsSetting self.now.setting.now }
+        requires fits { Fits (plant_of self.now.setting.now) self.now.setting.now.system.now self.now.judged.now }
+        requires now { IsWhole (plant_of self.now.setting.now) self.now.before.now }
+        requires next { IsWhole (plant_of self.now.setting.now) self.now.after.now }
+        ensures { result ≡ Judging.shows_aimed (plant_of self.now.setting.now) (judged_of self.now.judged.now) self.now.before.now self.now.after.now }
+    {
+        let judged = self.judged;
+        match &judged.aimed {
+            Some(aimed) => self.is_as_aimed(aimed),
+            None => false,
+        }
     }
 }
 
@@ -236,11 +220,17 @@ pub fn shows(
     requires next { IsWhole (plant_of setting.now) b.now }
     ensures { IfOk result (λ is. is ≡ option_map_or (Judging.shows question (plant_of setting.now) (judged_of judged.now) b.now) judged.now.before false) }
 {
-    let Some(a) = &judged.before else {
+    let Some(before) = &judged.before else {
         return Ok(false);
     };
+    let shown = Shown {
+        setting,
+        judged,
+        before: before.as_slice(),
+        after: b,
+    };
     match question {
-        Question::Diagnosis => shows_listed(alloc, setting, judged, a.as_slice(), b),
-        Question::Recovery => Ok(shows_aimed(setting, judged, a.as_slice(), b)),
+        Question::Diagnosis => shown.shows_listed(alloc),
+        Question::Recovery => Ok(shown.shows_aimed()),
     }
 }
