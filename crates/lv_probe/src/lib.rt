@@ -3,7 +3,7 @@
 //!
 //! | file | what it holds |
 //! |---|---|
-//! | `probing` | `probe`: the numbers of all observables |
+//! | `probing` | `Probing::probe`: the numbers of all observables |
 //! | `choosing` | the observable that is best looked at |
 //! | `laws` | what the numbers are |
 #![tactic(auto)]
@@ -13,4 +13,4 @@ pub mod laws;
 pub mod probing;
 
 pub use choosing::best;
-pub use probing::probe;
+pub use probing::Probing;

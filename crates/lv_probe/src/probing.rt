@@ -105,71 +105,52 @@ fn all_with_next_candidate(
     Ok(out)
 }
 
-/// What each of these observations leaves of no candidate: none, whatever is seen.
-fn nothing_left(
-    alloc: Global,
-    values: &[usize],
-    variables: &[VarId],
-) -> Result<Vec<Probed>, AllocError>
-    requires few { All IsFew values.now }
-    requires there { All (IsVariable (length values.now)) variables.now }
-    ensures { IfOk result (λ out. out.items ≡ map (none_left values.now) variables.now) }
-{
-    let mut out = Vec::new(alloc);
-    for var in variables {
-        let mut numbers = Vec::new(alloc);
-        numbers.resize(values[var.0 as usize], 0)?;
-        out.push(Probed {
-            var: *var,
-            numbers: Seq::from_vec(numbers),
-        })?;
-    }
-    Ok(out)
+/// Variables that might be observed, and how many values each variable of the model has.
+#[derive(Clone, Copy)]
+struct Observed<'a> {
+    values: &'a [usize],
+    variables: &'a [VarId],
 }
 
-/// What an observation of each of these variables would leave of the candidates.
-fn all_probed(
-    alloc: Global,
-    trial: &mut IdentTrial<'_>,
-    candidates: &[Candidate],
-    values: &[usize],
-    variables: &[VarId],
-) -> Result<Vec<Probed>, AllocError>
-    requires full { All (IsFull trial.old.plant) candidates.now }
-    requires values { values.now ≡ sizes trial.old.plant }
-    requires few { All IsFew values.now }
-    requires there { All (IsVariable (length values.now)) variables.now }
-    ensures probed { IfOk result (λ out. out.items ≡ map (probed trial.old.plant trial.old.facts candidates.now) variables.now) }
-    ensures same { trial.new ≡ trial.old }
-{
-    let mut out = nothing_left(alloc, values, variables)?;
-    for at in 0..candidates.len() {
-        out = all_with_next_candidate(alloc, trial, candidates, at, out.as_slice())?;
+impl<'a> Observed<'a> {
+    /// What each of these observations leaves of no candidate: none, whatever is seen.
+    fn nothing_left(&self, alloc: Global) -> Result<Vec<Probed>, AllocError>
+        requires few { All IsFew self.now.values.now }
+        requires there { All (IsVariable (length self.now.values.now)) self.now.variables.now }
+        ensures { IfOk result (λ out. out.items ≡ map (none_left self.now.values.now) self.now.variables.now) }
+    {
+        let mut out = Vec::new(alloc);
+        for var in self.variables {
+            let mut numbers = Vec::new(alloc);
+            numbers.resize(self.values[var.0 as usize], 0)?;
+            out.push(Probed {
+                var: *var,
+                numbers: Seq::from_vec(numbers),
+            })?;
+        }
+        Ok(out)
     }
-    Ok(out)
-}
 
-/// The same by a trial of its own.
-fn probed_in(
-    alloc: Global,
-    model: &Model,
-    system: &StepSystem,
-    facts: Facts,
-    candidates: &[Candidate],
-    values: &[usize],
-    variables: &[VarId],
-) -> Result<Vec<Probed>, AllocError>
-    requires system { IsSystemOf model.now system.now }
-    requires fit { FactsFit model.now facts }
-    requires in_range { FactsInRange model.now facts }
-    requires full { All (IsFull model.now) candidates.now }
-    requires values { values.now ≡ sizes model.now }
-    requires few { All IsFew values.now }
-    requires there { All (IsVariable (length values.now)) variables.now }
-    ensures { IfOk result (λ out. out.items ≡ map (probed model.now facts candidates.now) variables.now) }
-{
-    let mut trial = IdentTrial::new(alloc, model, system, None, facts)?;
-    all_probed(alloc, &mut trial, candidates, values, variables)
+    /// What an observation of each of these variables would leave of the candidates.
+    fn all_probed(
+        &self,
+        alloc: Global,
+        trial: &mut IdentTrial<'_>,
+        candidates: &[Candidate],
+    ) -> Result<Vec<Probed>, AllocError>
+        requires full { All (IsFull trial.old.plant) candidates.now }
+        requires values { self.now.values.now ≡ sizes trial.old.plant }
+        requires few { All IsFew self.now.values.now }
+        requires there { All (IsVariable (length self.now.values.now)) self.now.variables.now }
+        ensures probed { IfOk result (λ out. out.items ≡ map (probed trial.old.plant trial.old.facts candidates.now) self.now.variables.now) }
+        ensures same { trial.new ≡ trial.old }
+    {
+        let mut out = self.nothing_left(alloc)?;
+        for at in 0..candidates.len() {
+            out = all_with_next_candidate(alloc, trial, candidates, at, out.as_slice())?;
+        }
+        Ok(out)
+    }
 }
 
 /// Adds the variable where it is an observable.
@@ -202,34 +183,59 @@ fn observables_among(
     Ok(out)
 }
 
-/// Of each observable of the model how many of the listed candidates are possible where it is seen to have each of its
-/// values too. The kinds are the classes of the model's variables.
-pub fn probe(
-    alloc: Global,
-    model: &Model,
-    system: &StepSystem,
-    kinds: &[Option<Class>],
-    facts: Facts,
-    listed: &[Rank],
-) -> Result<Vec<Probed>, AllocError>
-    requires system { IsSystemOf model.now system.now }
-    requires kinds { kinds.now ≡ classes model.now }
-    requires fit { FactsFit model.now facts }
-    requires in_range { FactsInRange model.now facts }
-    requires full { All (IsFull model.now) (map candidate_of listed.now) }
-    ensures { IfOk result (λ out. out.items ≡ all_probed model.now facts listed.now) }
-{
-    let _plant = model.plant();
-    let values = model.sizes(alloc)?;
-    let observables = observables_among(alloc, kinds, values.as_slice().len() as u32)?;
-    let candidates = candidates_of(alloc, listed)?;
-    probed_in(
-        alloc,
-        model,
-        system,
-        facts,
-        candidates.as_slice(),
-        values.as_slice(),
-        observables.as_slice(),
-    )
+/// What is probed: a model with its clauses, and the classes of its variables.
+#[derive(Clone, Copy)]
+pub struct Probing<'a> {
+    pub model: &'a Model,
+    pub system: &'a StepSystem,
+    pub kinds: &'a [Option<Class>],
+}
+
+impl<'a> Probing<'a> {
+    /// What an observation of each of these variables would leave of the candidates, by a trial of its own.
+    fn probed_in(
+        &self,
+        alloc: Global,
+        facts: Facts,
+        candidates: &[Candidate],
+        observed: &Observed<'_>,
+    ) -> Result<Vec<Probed>, AllocError>
+        requires system { IsSystemOf self.now.model.now self.now.system.now }
+        requires fit { FactsFit self.now.model.now facts }
+        requires in_range { FactsInRange self.now.model.now facts }
+        requires full { All (IsFull self.now.model.now) candidates.now }
+        requires values { observed.now.values.now ≡ sizes self.now.model.now }
+        requires few { All IsFew observed.now.values.now }
+        requires there { All (IsVariable (length observed.now.values.now)) observed.now.variables.now }
+        ensures { IfOk result (λ out. out.items ≡ map (probed self.now.model.now facts candidates.now) observed.now.variables.now) }
+    {
+        let mut trial = IdentTrial::new(alloc, self.model, self.system, None, facts)?;
+        observed.all_probed(alloc, &mut trial, candidates)
+    }
+
+    /// Of each observable of the model how many of the listed candidates are possible where it is seen to have each of its
+    /// values too.
+    pub fn probe(
+        &self,
+        alloc: Global,
+        facts: Facts,
+        listed: &[Rank],
+    ) -> Result<Vec<Probed>, AllocError>
+        requires system { IsSystemOf self.now.model.now self.now.system.now }
+        requires kinds { self.now.kinds.now ≡ classes self.now.model.now }
+        requires fit { FactsFit self.now.model.now facts }
+        requires in_range { FactsInRange self.now.model.now facts }
+        requires full { All (IsFull self.now.model.now) (map candidate_of listed.now) }
+        ensures { IfOk result (λ out. out.items ≡ all_probed self.now.model.now facts listed.now) }
+    {
+        let _plant = self.model.plant();
+        let values = self.model.sizes(alloc)?;
+        let variables = observables_among(alloc, self.kinds, values.as_slice().len() as u32)?;
+        let candidates = candidates_of(alloc, listed)?;
+        let observed = Observed {
+            values: values.as_slice(),
+            variables: variables.as_slice(),
+        };
+        self.probed_in(alloc, facts, candidates.as_slice(), &observed)
+    }
 }

@@ -10,7 +10,7 @@ ghost use Rattle.lv_session_state.specs.Current.{IsCurrent};
 
 use crate::compiled::CompiledModel;
 use lv_base::{Rank, Seq};
-use lv_probe::{best, probe as numbers};
+use lv_probe::{Probing, best};
 use lv_reply::{Refusal, Reply};
 use lv_search_walk::Outcome;
 use lv_session_state::{Query, Running, State};
@@ -31,14 +31,12 @@ fn probed(
         return Ok(Reply::Refused(Refusal::NothingListed));
     }
     let facts = state.facts(alloc)?;
-    let observables = numbers(
-        alloc,
-        compiled.model(),
-        compiled.system(),
-        compiled.lists().classes.as_slice(),
-        facts,
-        listed,
-    )?;
+    let probing = Probing {
+        model: compiled.model(),
+        system: compiled.system(),
+        kinds: compiled.lists().classes.as_slice(),
+    };
+    let observables = probing.probe(alloc, facts, listed)?;
     let count = listed.len() as u64;
     let chosen = best(count, observables.as_slice());
     Ok(Reply::Probed(count, Seq::from_vec(observables), chosen))
