@@ -1,5 +1,5 @@
 -- What single calls of the checker come to, as the definition has it.
-use Rattle.std.proofs.Common.{◌≡◌, ◌≢◌, ℕ, zero, suc, ◌+◌, ◌*◌, ◌<◌, ◌≤◌, Bool, true, false, ◌&&◌, not, nat_eq, nat_lt, List, [], ◌∷◌, ◌++◌, length, drop, map, cond, slice_index_or, Option, Some, None, refl, sym, ap, ap₂, ◌∙◌, subst, arith, All}
+use Rattle.std.proofs.Common.{◌≡◌, ◌≢◌, ℕ, suc, Bool, true, false, ◌&&◌, nat_lt, List, [], ◌∷◌, ◌++◌, length, map, cond, Some, None, refl, ap, ap₂, ◌∙◌}
 use Rattle.std.specs.Cmp.Lexicographic.{pointwise}
 use Rattle.lv_base.specs.declared.ids.Lit.{Lit}
 use Rattle.lv_model.specs.declared.plant.Plant.{Plant}
@@ -8,9 +8,9 @@ use Rattle.lv_search_zones.specs.lv_compile.ModelClauses.{model_clauses}
 use Rattle.lv_system.specs.System.{SystemValue, IsSystemOf}
 use Rattle.lv_cert.specs.declared.line.Literal.{Literal}
 use Rattle.lv_cert_meaning.specs.Following.{literal_of, follows}
-use Rattle.lv_cert_meaning.specs.Blocks.{BlockValue, clauses_of, block_clauses, with_clause, follows_in}
+use Rattle.lv_cert_meaning.specs.Blocks.{BlockValue, clauses_of, with_clause, follows_in}
 use Rattle.lv_cert_meaning.proofs.ClauseNumberLemmas.{clauses_are}
-use Rattle.lv_cert_laws.specs.lv_cert_meaning.Judging.{Judged as AllJudged, judge_clause}
+use Rattle.lv_cert_laws.specs.lv_cert_meaning.Judging.{judge_clause}
 use Rattle.lv_certcheck.specs.declared.judged.Judged.{Judged}
 use Rattle.lv_certcheck.specs.Verdicts.{judged_of, came}
 

@@ -5,7 +5,6 @@ use Rattle.lv_model.specs.WellFormed.{is_well_formed}
 use Rattle.lv_cert.specs.declared.line.Line.{Line}
 use Rattle.lv_cert.specs.declared.order.Place.TheVariants.{Start, Done}
 use Rattle.lv_cert.specs.Order.{place_behind}
-use Rattle.lv_cert.specs.Form.{IsCertificate}
 use Rattle.lv_cert.specs.Laws.{IsRead, as_lines, with_fault}
 use Rattle.lv_cert.proofs.AgreeLemmas.{one_certificate, one_fault, fault_or_certificate}
 use Rattle.lv_cert.proofs.WholeLemmas.{every_text}

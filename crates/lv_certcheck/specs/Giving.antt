@@ -1,5 +1,5 @@
 -- Clauses that are given to a block, and what has to be known of what they say.
-use Rattle.std.specs.Prelude.{◌≡◌, ◌<◌, ◌≤◌, ℕ, true, List, ◌++◌, All, length, slice_index_or, IfSome}
+use Rattle.std.specs.Prelude.{◌≡◌, ◌≤◌, List, ◌++◌, All, length, IfSome}
 use Rattle.lv_search_zones.specs.lv_compile.FormulaClauses.{Clauses}
 use Rattle.lv_base.specs.declared.ids.ValId.{ValId}
 use Rattle.lv_base.specs.declared.limits.TheConstants.{TRACKED}

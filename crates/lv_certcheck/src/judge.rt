@@ -14,7 +14,7 @@ ghost use Rattle.lv_cert_laws.specs.lv_cert_meaning.Stated as Stated;
 ghost use Rattle.lv_cert_laws.specs.lv_cert_meaning.Stated.{with_observation, observation_of, observed_literal, with_goal};
 ghost use Rattle.lv_search_zones.specs.lv_compile.Booleans.{booleans_now};
 ghost use Rattle.lv_meaning.specs.Facts.{commanded};
-ghost use Rattle.lv_cert_laws.specs.lv_cert_meaning.Counting.{is_one_of, are_of, values_of, at_number};
+ghost use Rattle.lv_cert_laws.specs.lv_cert_meaning.Counting.{is_one_of, are_of, values_of};
 ghost use Rattle.lv_cert_laws.specs.lv_cert_meaning.Units.{nominal_units};
 ghost use Rattle.lv_cert_meaning.specs.Fitting.{HasFewChoices, IsPairOf, are_values};
 ghost use Rattle.lv_model.specs.declared.state.TrackedState.{TrackedState};

@@ -1,11 +1,6 @@
 //! What a certificate is judged by: the model, its clauses, and how many things of a kind it has.
 #![tactic(auto)]
 
-ghost use Rattle.std.specs.Prelude.{◌≡◌, IfOk};
-ghost use Rattle.lv_model_names.specs.Lists.{lists_of};
-ghost use Rattle.lv_system.specs.System.{IsSystemOf};
-ghost use Rattle.lv_cert_meaning.specs.Counts.{IsCountsOf};
-
 use lv_boxes::Groups;
 use lv_cert_meaning::Counts;
 use lv_model::Model;

@@ -11,7 +11,6 @@ ghost use Rattle.lv_meaning.specs.Facts as Facts;
 ghost use Rattle.lv_meaning.specs.Facts.{meets, commanded};
 ghost use Rattle.lv_meaning.specs.Possible.{move_number};
 ghost use Rattle.lv_meaning.specs.Recovers as Recovers;
-ghost use Rattle.lv_meaning.specs.Ranges.{GoalFits};
 ghost use Rattle.lv_cert_laws.specs.lv_cert_meaning.Judging as Judging;
 ghost use Rattle.lv_certcheck.specs.Settings.{IsSetting, plant_of};
 ghost use Rattle.lv_certcheck.specs.Giving.{Fits, IsWhole};

@@ -1,7 +1,7 @@
 //! What a certificate states so far.
 #![tactic(auto)]
 
-ghost use Rattle.std.specs.Prelude.{◌≡◌, ◌++◌, ◌∷◌, [], IfOk, OnOk};
+ghost use Rattle.std.specs.Prelude.{◌≡◌, ◌++◌, OnOk};
 ghost use Rattle.lv_certcheck.specs.Stating.{observed};
 ghost use Rattle.lv_cert_laws.specs.lv_cert_meaning.Stated as Stating;
 

@@ -4,7 +4,7 @@
 ghost use Rattle.std.specs.Prelude.{◌≡◌, ◌<◌, All, IfSome, length};
 ghost use Rattle.std.specs.List.{position};
 ghost use Rattle.lv_model.specs.WellFormed.{TypeIsSmall};
-ghost use Rattle.lv_plant.specs.Naming.{is_part, is_fault_at, fault_at, mode_at, named_fault_at, named_fault, NamesMove};
+ghost use Rattle.lv_plant.specs.Naming.{is_part, is_fault_at, fault_at, mode_at, named_fault_at, named_fault};
 
 use lv_base::{MoveId, ValId, has_name};
 use lv_meaning::moves::moves_of;

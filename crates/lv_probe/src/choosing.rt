@@ -1,12 +1,12 @@
 //! The observable that is best looked at: what is seen of it leaves fewer candidates at most than what is seen of another.
 #![tactic(auto)]
 
-ghost use Rattle.std.specs.Prelude.{◌≡◌, drop};
+ghost use Rattle.std.specs.Prelude.{◌≡◌};
 ghost use Rattle.std.specs.List.{list_all, find};
 ghost use Rattle.std.specs.Option.{option_copied};
 ghost use Rattle.lv_reply.specs.declared.probes.Probed.{Probed as ProbedOf};
 ghost use Rattle.std.specs.Prelude.{nat_le};
-ghost use Rattle.lv_probe.specs.Probing.{largest, largest_of, is_best, best};
+ghost use Rattle.lv_probe.specs.Probing.{largest, is_best, best};
 
 use lv_base::VarId;
 use lv_reply::Probed;

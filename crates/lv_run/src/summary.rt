@@ -1,7 +1,7 @@
 //! The summary's lines: the number, and what the replies come to.
 #![tactic(auto)]
 
-ghost use Rattle.std.specs.Prelude.{◌≡◌, ◌++◌, decimal, IfOk};
+ghost use Rattle.std.specs.Prelude.{◌≡◌, ◌++◌, IfOk};
 ghost use Rattle.lv_run.specs.Drives.{summary_line, summary_text, drive_text};
 
 use crate::tally::{Tally, tally_session};

@@ -1,7 +1,7 @@
 //! What the replies of a session come to.
 #![tactic(auto)]
 
-ghost use Rattle.std.specs.Prelude.{◌≡◌, ◌<◌, ◌≤◌, ◌^◌, ◌-◌, ◌+◌, false, IfOk};
+ghost use Rattle.std.specs.Prelude.{◌≡◌, ◌<◌, ◌≤◌, ◌^◌, ◌-◌, ◌+◌, IfOk};
 ghost use Rattle.lv_run.specs.Tallies.{none_counted, replied, counted, IsSmall};
 ghost use Rattle.lv_plant.specs.lv_session.Answering.{begun};
 ghost use Rattle.lv_run.specs.Drives.{tally_of};

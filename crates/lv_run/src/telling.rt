@@ -8,8 +8,8 @@ ghost use Rattle.std.specs.Prelude.{◌≡◌, ◌≢◌, ◌⊎◌, Ok, Err, On
 ghost use Rattle.std.specs.Io.KnownBytes.{append_known};
 ghost use Rattle.lv_io.specs.Outside.{HasCause, Rose};
 ghost use Rattle.lv_io.specs.Whole.{AddsFront};
-ghost use Rattle.lv_run.specs.Faults.{status_of, ended_status, line_of};
-ghost use Rattle.lv_run.specs.Telling.{TellsFault, Tells};
+ghost use Rattle.lv_run.specs.Faults.{line_of};
+ghost use Rattle.lv_run.specs.Telling.{TellsFault};
 
 use crate::fault::{OUT_OF_MEMORY, RunFault};
 use crate::status::Status;

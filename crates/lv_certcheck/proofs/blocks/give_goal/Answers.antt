@@ -1,6 +1,5 @@
 -- a goal that fits speaks of values that have booleans
-use Rattle.std.proofs.Common.{◌≡◌, ◌∙◌, true, ap, subst, sym}
-use Rattle.lv_formula.specs.Tree.{Tree}
+use Rattle.std.proofs.Common.{◌∙◌, ap}
 use Rattle.lv_search_zones.specs.lv_compile.FormulaClauses.{speaks_of}
 use Rattle.lv_system.proofs.GoalLemmas.{goals_exact}
 use Rattle.lv_certcheck.specs.Settings.{plant_of}

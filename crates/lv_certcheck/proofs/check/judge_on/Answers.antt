@@ -1,5 +1,5 @@
 -- the first of the lines that are left, and the others
-use Rattle.std.proofs.Common.{◌≡◌, ◌∙◌, ◌+◌, Bool, Some, true, sym, ap, arith}
+use Rattle.std.proofs.Common.{◌∙◌, ◌+◌, Bool, sym, ap, arith}
 use Rattle.lv_cert_laws.specs.lv_cert_meaning.Judging.{judgement}
 use Rattle.lv_certcheck.specs.Settings.{plant_of}
 use Rattle.lv_certcheck.specs.Verdicts.{judged_of, came}

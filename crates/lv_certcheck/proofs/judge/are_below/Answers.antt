@@ -1,5 +1,5 @@
 -- a list of another length is not below
-use Rattle.std.proofs.Common.{◌≡◌, sym}
+use Rattle.std.proofs.Common.{sym}
 use Rattle.lv_certcheck.proofs.CheckLemmas.{unequal_below}
 use Rattle.lv_certcheck.proofs.judge.are_below.Goals as goal
 

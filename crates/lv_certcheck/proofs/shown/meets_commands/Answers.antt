@@ -1,5 +1,5 @@
 -- the first of those that are left, and the others
-use Rattle.std.proofs.Common.{◌≡◌, ◌∙◌, ◌+◌, ◌&&◌, Bool, drop, sym, ap, arith}
+use Rattle.std.proofs.Common.{◌∙◌, ◌+◌, ◌&&◌, Bool, drop, sym, ap, arith}
 use Rattle.lv_meaning.specs.Facts.{meets, commanded}
 use Rattle.lv_certcheck.proofs.ShownLemmas.{command_met}
 use Rattle.lv_certcheck.proofs.shown.meets_commands.Goals as goal

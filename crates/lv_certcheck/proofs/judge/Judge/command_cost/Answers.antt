@@ -1,10 +1,8 @@
 -- each price is within its bound, and there are few controls
-use Rattle.std.proofs.Common.{◌≡◌, ◌∙◌, ◌≤◌, ◌<◌, ◌+◌, ◌*◌, drop, length, slice_index_or, arith, ap, sym, subst, true}
+use Rattle.std.proofs.Common.{◌≡◌, ◌∙◌, ◌≤◌, ◌+◌, length, arith, ap, sym, subst, true}
 use Rattle.lv_model.specs.declared.plant.Plant.{Plant}
 use Rattle.lv_model.specs.Lists.{controls}
-use Rattle.lv_model.specs.Prices.{price_of}
 use Rattle.lv_model.specs.WellFormed.{is_well_formed}
-use Rattle.lv_meaning.specs.Commands.{commands_cost}
 use Rattle.lv_search_zones.proofs.ControlLemmas.{cheap_price, few_controls}
 use Rattle.lv_certcheck.specs.Settings.{plant_of}
 use Rattle.lv_certcheck.proofs.ShownLemmas.{cost_of_first}

@@ -1,5 +1,5 @@
 -- each value is one that its control has
-use Rattle.std.proofs.Common.{◌≡◌, ◌∙◌, ◌<◌, true, List, map, slice_index_or, sym, ap, subst}
+use Rattle.std.proofs.Common.{◌≡◌, ◌∙◌, ◌<◌, true, List, map, slice_index_or, sym, subst}
 use Rattle.lv_base.specs.declared.ids.VarId.{VarId}
 use Rattle.lv_model.specs.Lists.{sizes, controls}
 use Rattle.lv_search_zones.specs.lv_compile.Booleans.{Booleans}

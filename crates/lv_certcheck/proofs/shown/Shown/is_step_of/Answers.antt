@@ -1,5 +1,5 @@
 -- no step is by more moves or fewer than there are parts
-use Rattle.std.proofs.Common.{◌≡◌, ◌∙◌, length, sym, ap}
+use Rattle.std.proofs.Common.{◌∙◌, length, sym, ap}
 use Rattle.lv_model.specs.declared.plant.Plant.{Plant}
 use Rattle.lv_certcheck.specs.Settings.{plant_of}
 use Rattle.lv_certcheck.proofs.ShownLemmas.{no_step_of}
