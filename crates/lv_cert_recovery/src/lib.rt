@@ -21,4 +21,4 @@ mod units;
 mod whole;
 
 pub use lv_cert_writing::Settled;
-pub use whole::certify_recovery;
+pub use whole::{RecoveryQuestion, certify_recovery};

@@ -63,84 +63,85 @@ fn recovery_line(alloc: Global, pairs: &[Pair]) -> Result<Line, AllocError>
     Ok(Line::Numbers(Head::Recovery, numbers))
 }
 
-/// Shows that from the state of this place there is a step under the recovery.
-fn push_good(
-    asking: &Asking,
-    refuter: &mut Refuter<'_>,
-    pairs: &[Pair],
-    lines: &mut Vec<Line>,
+/// A recovery that is given, by its values, and a state, by its place, from which it leads to the goals.
+#[derive(Clone, Copy)]
+struct Case<'a> {
+    asking: &'a Asking<'a>,
+    pairs: &'a [Pair],
     place: usize,
-    state: &TrackedState,
-) -> Result<(), AllocError>
-    requires refuter { refuter.old ≡ asking.now.system }
-    requires given { IsGiven asking.now.plant asking.now.aim pairs.now }
-    requires at { slice_get asking.now.aim.tracked place ≡ Some state.now }
-    ensures told { IfOk result (λ _. LeadsOn asking.now.plant asking.now.aim (standing (good place) (answer_of asking.now.plant pairs.now) []) (standing (proved place 0) (answer_of asking.now.plant pairs.now) []) lines.old.items lines.new.items) }
-    ensures kept { refuter.new ≡ refuter.old }
-{
-    let _aim = asking.aim();
-    let step = step_told(asking.reach(refuter, &state.state, pairs)?);
-    lines.push(good_line(asking.alloc(), place)?)?;
-    push_step(
-        asking.alloc(),
-        lines,
-        step.now.as_slice(),
-        step.next.as_slice(),
-    )
+    state: &'a TrackedState,
 }
 
-/// Shows that from the state of this place no step under the recovery misses the goal of that place.
-fn push_proof(
-    asking: &Asking,
-    refuter: &mut Refuter<'_>,
-    pairs: &[Pair],
-    lines: &mut Vec<Line>,
-    place: usize,
-    state: &TrackedState,
-    at: usize,
-    goal: &Condition,
-) -> Result<(), AllocError>
-    requires refuter { refuter.old ≡ asking.now.system }
-    requires given { IsGiven asking.now.plant asking.now.aim pairs.now }
-    requires state { slice_get asking.now.aim.tracked place ≡ Some state.now }
-    requires goal { slice_get asking.now.aim.goals at ≡ Some goal.now }
-    ensures told { IfOk result (λ _. LeadsOn asking.now.plant asking.now.aim (standing (proved place at) (answer_of asking.now.plant pairs.now) []) (standing (proved place (at + 1)) (answer_of asking.now.plant pairs.now) []) lines.old.items lines.new.items) }
-    ensures kept { refuter.new ≡ refuter.old }
-{
-    let _aim = asking.aim();
-    let told = lines_told(asking.miss(refuter, &state.state, pairs, goal)?);
-    lines.push(proof_line(asking.alloc(), place, at)?)?;
-    push_clauses(lines, told)?;
-    Ok(())
-}
-
-/// Shows that from the state of this place no step under the recovery misses a goal.
-fn push_proofs(
-    asking: &Asking,
-    refuter: &mut Refuter<'_>,
-    pairs: &[Pair],
-    lines: &mut Vec<Line>,
-    place: usize,
-    state: &TrackedState,
-) -> Result<(), AllocError>
-    requires refuter { refuter.old ≡ asking.now.system }
-    requires given { IsGiven asking.now.plant asking.now.aim pairs.now }
-    requires state { slice_get asking.now.aim.tracked place ≡ Some state.now }
-    ensures told { IfOk result (λ _. LeadsOn asking.now.plant asking.now.aim (standing (proved place 0) (answer_of asking.now.plant pairs.now) []) (standing (proved place (length asking.now.aim.goals)) (answer_of asking.now.plant pairs.now) []) lines.old.items lines.new.items) }
-    ensures kept { refuter.new ≡ refuter.old }
-{
-    let aim = asking.aim();
-    for (at, goal) in aim.goals.as_slice().iter().enumerate() {
-        push_proof(asking, refuter, pairs, lines, place, state, at, goal)?;
+impl<'a> Case<'a> {
+    /// Shows that from the state there is a step under the recovery.
+    fn push_good(&self, refuter: &mut Refuter<'_>, lines: &mut Vec<Line>) -> Result<(), AllocError>
+        requires refuter { refuter.old ≡ self.now.asking.now.system }
+        requires given { IsGiven self.now.asking.now.plant self.now.asking.now.aim self.now.pairs.now }
+        requires state { slice_get self.now.asking.now.aim.tracked self.now.place ≡ Some self.now.state.now }
+        ensures told { IfOk result (λ _. LeadsOn self.now.asking.now.plant self.now.asking.now.aim (standing (good self.now.place) (answer_of self.now.asking.now.plant self.now.pairs.now) []) (standing (proved self.now.place 0) (answer_of self.now.asking.now.plant self.now.pairs.now) []) lines.old.items lines.new.items) }
+        ensures kept { refuter.new ≡ refuter.old }
+    {
+        let _aim = self.asking.aim();
+        let step = step_told(self.asking.reach(refuter, &self.state.state, self.pairs)?);
+        lines.push(good_line(self.asking.alloc(), self.place)?)?;
+        push_step(
+            self.asking.alloc(),
+            lines,
+            step.now.as_slice(),
+            step.next.as_slice(),
+        )
     }
-    Ok(())
+
+    /// Shows that from the state no step under the recovery misses the goal of this place.
+    fn push_proof(
+        &self,
+        refuter: &mut Refuter<'_>,
+        lines: &mut Vec<Line>,
+        at: usize,
+        goal: &Condition,
+    ) -> Result<(), AllocError>
+        requires refuter { refuter.old ≡ self.now.asking.now.system }
+        requires given { IsGiven self.now.asking.now.plant self.now.asking.now.aim self.now.pairs.now }
+        requires state { slice_get self.now.asking.now.aim.tracked self.now.place ≡ Some self.now.state.now }
+        requires goal { slice_get self.now.asking.now.aim.goals at ≡ Some goal.now }
+        ensures told { IfOk result (λ _. LeadsOn self.now.asking.now.plant self.now.asking.now.aim (standing (proved self.now.place at) (answer_of self.now.asking.now.plant self.now.pairs.now) []) (standing (proved self.now.place (at + 1)) (answer_of self.now.asking.now.plant self.now.pairs.now) []) lines.old.items lines.new.items) }
+        ensures kept { refuter.new ≡ refuter.old }
+    {
+        let _aim = self.asking.aim();
+        let told = lines_told(
+            self.asking
+                .miss(refuter, &self.state.state, self.pairs, goal)?,
+        );
+        lines.push(proof_line(self.asking.alloc(), self.place, at)?)?;
+        push_clauses(lines, told)?;
+        Ok(())
+    }
+
+    /// Shows that from the state no step under the recovery misses a goal.
+    fn push_proofs(
+        &self,
+        refuter: &mut Refuter<'_>,
+        lines: &mut Vec<Line>,
+    ) -> Result<(), AllocError>
+        requires refuter { refuter.old ≡ self.now.asking.now.system }
+        requires given { IsGiven self.now.asking.now.plant self.now.asking.now.aim self.now.pairs.now }
+        requires state { slice_get self.now.asking.now.aim.tracked self.now.place ≡ Some self.now.state.now }
+        ensures told { IfOk result (λ _. LeadsOn self.now.asking.now.plant self.now.asking.now.aim (standing (proved self.now.place 0) (answer_of self.now.asking.now.plant self.now.pairs.now) []) (standing (proved self.now.place (length self.now.asking.now.aim.goals)) (answer_of self.now.asking.now.plant self.now.pairs.now) []) lines.old.items lines.new.items) }
+        ensures kept { refuter.new ≡ refuter.old }
+    {
+        let aim = self.asking.aim();
+        for (at, goal) in aim.goals.as_slice().iter().enumerate() {
+            self.push_proof(refuter, lines, at, goal)?;
+        }
+        Ok(())
+    }
 }
 
 /// Shows that from each state the recovery leads to the goals.
-fn push_states(
-    asking: &Asking,
+fn push_states<'a>(
+    asking: &'a Asking<'a>,
     refuter: &mut Refuter<'_>,
-    pairs: &[Pair],
+    pairs: &'a [Pair],
     lines: &mut Vec<Line>,
 ) -> Result<(), AllocError>
     requires refuter { refuter.old ≡ asking.now.system }
@@ -150,8 +151,14 @@ fn push_states(
 {
     let aim = asking.aim();
     for (place, state) in aim.tracked.as_slice().iter().enumerate() {
-        push_good(asking, refuter, pairs, lines, place, state)?;
-        push_proofs(asking, refuter, pairs, lines, place, state)?;
+        let case = Case {
+            asking,
+            pairs,
+            place,
+            state,
+        };
+        case.push_good(refuter, lines)?;
+        case.push_proofs(refuter, lines)?;
     }
     Ok(())
 }

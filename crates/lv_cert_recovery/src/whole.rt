@@ -22,6 +22,15 @@ use lv_search_zones::{command_grid, command_zone};
 use lv_system::StepSystem;
 use std::alloc::{AllocError, Global};
 
+/// What a recovery is asked: a model with its system, and an aim of the model, whose goals have these texts.
+#[derive(Clone, Copy)]
+pub struct RecoveryQuestion<'a> {
+    pub model: &'a Model,
+    pub system: &'a StepSystem,
+    pub aim: &'a Aim,
+    pub texts: &'a [Seq<u8>],
+}
+
 /// Adds the lines of the recovery, if one is listed.
 fn push_listed(
     asking: &Asking,
@@ -82,26 +91,25 @@ fn splits_of(
     close(alloc, &why, grid, zones)
 }
 
-/// A certificate of a settled recovery: it states the tracked states, what is seen and the goals, which have these texts,
-/// and shows, line by line, that what is given is the first command set that recovers, or that none does.
+/// A certificate of a settled recovery: it states the tracked states, what is seen and the goals, and shows, line by line,
+/// that what is given is the first command set that recovers, or that none does.
 pub fn certify_recovery(
     alloc: Global,
-    model: &Model,
-    system: &StepSystem,
-    aim: &Aim,
-    texts: &[Seq<u8>],
+    question: &RecoveryQuestion<'_>,
     answer: &Settled<'_>,
 ) -> Result<Cert, AllocError>
-    requires system { IsSystemOf model.now system.now }
-    requires asked { IsAsked model.now aim.now }
-    requires texts { AreTexts model.now texts.now aim.now.goals }
-    requires settled { IsSettledRecovery model.now aim.now answer.now.listed.now answer.now.kept.now }
-    ensures certifies { IfOk result (λ cert. CertifiesRecovery model.now aim.now answer.now.listed.now cert.lines) }
-    ensures formed { IfOk result (λ cert. AreFormed model.now cert.lines) }
+    requires system { IsSystemOf question.now.model.now question.now.system.now }
+    requires asked { IsAsked question.now.model.now question.now.aim.now }
+    requires texts { AreTexts question.now.model.now question.now.texts.now question.now.aim.now.goals }
+    requires settled { IsSettledRecovery question.now.model.now question.now.aim.now answer.now.listed.now answer.now.kept.now }
+    ensures certifies { IfOk result (λ cert. CertifiesRecovery question.now.model.now question.now.aim.now answer.now.listed.now cert.lines) }
+    ensures formed { IfOk result (λ cert. AreFormed question.now.model.now cert.lines) }
 {
+    let model = question.model;
+    let aim = question.aim;
     let _plant = model.plant();
-    let mut lines = head_of(alloc, model, aim, texts)?;
-    let asking = Asking::new(alloc, model, system, aim)?;
+    let mut lines = head_of(alloc, model, aim, question.texts)?;
+    let asking = Asking::new(alloc, model, question.system, aim)?;
     push_answer(&asking, &mut lines, answer)?;
     let made = splits_of(alloc, model, aim, answer)?;
     push_splits(&mut lines, made.as_slice())?;

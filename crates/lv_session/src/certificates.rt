@@ -14,7 +14,7 @@ ghost use Rattle.lv_session.specs.Certificates.{CertifiesWalked, CertifiesRecove
 
 use lv_cert::{Cert, write_cert};
 use lv_cert_diagnosis::{Limit, Settled as SettledDiagnosis, certify_diagnosis};
-use lv_cert_recovery::{Settled as SettledRecovery, certify_recovery};
+use lv_cert_recovery::{RecoveryQuestion, Settled as SettledRecovery, certify_recovery};
 use lv_model::Model;
 use lv_reply::{Refusal, Reply};
 use lv_session_state::{Query, Running, State, StepSystem, texts_of};
@@ -99,11 +99,11 @@ fn diagnosis_text(
 }
 
 /// A certificate of a settled recovery from the state.
-fn recovery_certificate(
+fn recovery_certificate<'a>(
     state: &State,
     alloc: Global,
-    model: &Model,
-    system: &StepSystem,
+    model: &'a Model,
+    system: &'a StepSystem,
     running: &Running<'_>,
 ) -> Result<Cert, AllocError>
     requires state { IsStateOf model.now state.now }
@@ -120,7 +120,13 @@ fn recovery_certificate(
         listed: running.listed(),
         kept: running.conflicts(),
     };
-    let cert = certify_recovery(alloc, model, system, &aim, texts.as_slice(), &answer);
+    let question = RecoveryQuestion {
+        model,
+        system,
+        aim: &aim,
+        texts: texts.as_slice(),
+    };
+    let cert = certify_recovery(alloc, &question, &answer);
     let SettledRecovery { listed: _, kept: _ } = answer;
     cert
 }

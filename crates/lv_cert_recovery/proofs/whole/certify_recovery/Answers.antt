@@ -13,8 +13,8 @@ use Rattle.lv_cert_recovery.proofs.whole.certify_recovery.Goals as goal
 pub new-requires-2 : goal.new-requires-2
 new-requires-2 c =
     (done
-    c.args.model.now c.args.aim.now c.args.answer.now.listed.now c.args.answer.now.kept.now c.requires.settled (rw c.plant-plant.ensures.plant at c.plant-plant.ensures.well_formed) c.requires.asked
-    c.args.texts.now c.requires.texts c.in_ok-lines.lines.items c.push_answer.new.lines.items c.in_ok-lines.ensures
+    c.args.question.now.model.now c.args.question.now.aim.now c.args.answer.now.listed.now c.args.answer.now.kept.now c.requires.settled (rw c.plant-plant.ensures.plant at c.plant-plant.ensures.well_formed) c.requires.asked
+    c.args.question.now.texts.now c.requires.texts c.in_ok-lines.lines.items c.push_answer.new.lines.items c.in_ok-lines.ensures
     (subst (λ (a : Asked). LeadsOn a.plant a.aim (standing asked [] []) (standing excluding c.args.answer.now.listed.now c.args.answer.now.kept.now) c.in_ok-lines.lines.items c.push_answer.new.lines.items)
     c.in_ok-asking.ensures c.in_ok-push_answer.ensures)
     (split_lines c.in_ok-made.made.items) c.in_ok-made.ensures c.from_vec.result
@@ -22,10 +22,10 @@ new-requires-2 c =
 
 pub returns-clause-certifies : goal.returns-clause-certifies
 returns-clause-certifies c =
-    subst (λ (ls : List Line). CertifiesRecovery c.args.model.now c.args.aim.now c.args.answer.now.listed.now ls) (sym c.new-2.ensures)
+    subst (λ (ls : List Line). CertifiesRecovery c.args.question.now.model.now c.args.question.now.aim.now c.args.answer.now.listed.now ls) (sym c.new-2.ensures)
     (done
-    c.args.model.now c.args.aim.now c.args.answer.now.listed.now c.args.answer.now.kept.now c.requires.settled (rw c.plant-plant.ensures.plant at c.plant-plant.ensures.well_formed) c.requires.asked
-    c.args.texts.now c.requires.texts c.in_ok-lines.lines.items c.push_answer.new.lines.items c.in_ok-lines.ensures
+    c.args.question.now.model.now c.args.question.now.aim.now c.args.answer.now.listed.now c.args.answer.now.kept.now c.requires.settled (rw c.plant-plant.ensures.plant at c.plant-plant.ensures.well_formed) c.requires.asked
+    c.args.question.now.texts.now c.requires.texts c.in_ok-lines.lines.items c.push_answer.new.lines.items c.in_ok-lines.ensures
     (subst (λ (a : Asked). LeadsOn a.plant a.aim (standing asked [] []) (standing excluding c.args.answer.now.listed.now c.args.answer.now.kept.now) c.in_ok-lines.lines.items c.push_answer.new.lines.items)
     c.in_ok-asking.ensures c.in_ok-push_answer.ensures)
     (split_lines c.in_ok-made.made.items) c.in_ok-made.ensures c.from_vec.result
@@ -33,10 +33,10 @@ returns-clause-certifies c =
 
 pub returns-clause-formed : goal.returns-clause-formed
 returns-clause-formed c =
-    subst (λ (ls : List Line). AreFormed c.args.model.now ls) (sym c.new-2.ensures)
+    subst (λ (ls : List Line). AreFormed c.args.question.now.model.now ls) (sym c.new-2.ensures)
     (formed
-    c.args.model.now c.args.aim.now c.args.answer.now.listed.now c.args.answer.now.kept.now c.requires.settled (rw c.plant-plant.ensures.plant at c.plant-plant.ensures.well_formed) c.requires.asked
-    c.args.texts.now c.requires.texts c.in_ok-lines.lines.items c.push_answer.new.lines.items c.in_ok-lines.ensures
+    c.args.question.now.model.now c.args.question.now.aim.now c.args.answer.now.listed.now c.args.answer.now.kept.now c.requires.settled (rw c.plant-plant.ensures.plant at c.plant-plant.ensures.well_formed) c.requires.asked
+    c.args.question.now.texts.now c.requires.texts c.in_ok-lines.lines.items c.push_answer.new.lines.items c.in_ok-lines.ensures
     (subst (λ (a : Asked). LeadsOn a.plant a.aim (standing asked [] []) (standing excluding c.args.answer.now.listed.now c.args.answer.now.kept.now) c.in_ok-lines.lines.items c.push_answer.new.lines.items)
     c.in_ok-asking.ensures c.in_ok-push_answer.ensures)
     (split_lines c.in_ok-made.made.items) c.in_ok-made.ensures c.from_vec.result
