@@ -21,4 +21,4 @@ pub mod whole;
 
 pub use limit::Limit;
 pub use lv_cert_writing::Settled;
-pub use whole::certify_diagnosis;
+pub use whole::{DiagnosisQuestion, certify_diagnosis};

@@ -26,24 +26,31 @@ use lv_search_zones::{move_grid, move_targets, zones_of};
 use lv_system::StepSystem;
 use std::alloc::{AllocError, Global};
 
+/// What a diagnosis is asked: a model with its system, tracked states and facts of the model, and how many candidates are
+/// sought.
+#[derive(Clone, Copy)]
+pub struct DiagnosisQuestion<'a> {
+    pub model: &'a Model,
+    pub system: &'a StepSystem,
+    pub tracked: &'a [TrackedState],
+    pub facts: &'a Facts,
+    pub limit: Limit,
+}
+
 /// Adds what shows the answer: the lines of the listed candidates, and the blocks of the kept conflicts.
 fn push_answer(
     alloc: Global,
     lines: &mut Vec<Line>,
-    model: &Model,
-    system: &StepSystem,
-    tracked: &[TrackedState],
-    facts: &Facts,
-    limit: Limit,
+    question: &DiagnosisQuestion<'_>,
     answer: &Settled<'_>,
 ) -> Result<(), AllocError>
-    requires system { IsSystemOf model.now system.now }
-    requires facts { AreFacts model.now facts.now }
-    requires settled { IsSettledDiagnosis model.now tracked.now facts.now limit.most limit.distinct answer.now.listed.now answer.now.kept.now }
-    ensures { IfOk result (λ _. HoldsAnswer model.now facts.now answer.now.listed.now answer.now.kept.now lines.old.items lines.new.items) }
+    requires system { IsSystemOf question.now.model.now question.now.system.now }
+    requires facts { AreFacts question.now.model.now question.now.facts.now }
+    requires settled { IsSettledDiagnosis question.now.model.now question.now.tracked.now question.now.facts.now question.now.limit.most question.now.limit.distinct answer.now.listed.now answer.now.kept.now }
+    ensures { IfOk result (λ _. HoldsAnswer question.now.model.now question.now.facts.now answer.now.listed.now answer.now.kept.now lines.old.items lines.new.items) }
 {
-    let asking = Asking::new(alloc, model, system, facts)?;
-    let mut refuter = Refuter::new(alloc, system)?;
+    let asking = Asking::new(alloc, question.model, question.system, question.facts)?;
+    let mut refuter = Refuter::new(alloc, question.system)?;
     push_listed(alloc, lines, &asking, &mut refuter, answer.listed)?;
     push_blocks(alloc, lines, &asking, &mut refuter, answer.kept)?;
     Ok(())
@@ -63,19 +70,18 @@ fn targets_of(alloc: Global, model: &Model, limit: Limit) -> Result<Option<Group
 /// The splits after which each zone left is empty or ranks behind what is listed.
 fn splits_of(
     alloc: Global,
-    model: &Model,
-    tracked: &[TrackedState],
-    facts: &Facts,
-    limit: Limit,
+    question: &DiagnosisQuestion<'_>,
     answer: &Settled<'_>,
 ) -> Result<Vec<Split>, AllocError>
-    requires states { AreStates model.now tracked.now }
-    requires some { 1 ≤ limit.most }
-    requires settled { IsSettledDiagnosis model.now tracked.now facts.now limit.most limit.distinct answer.now.listed.now answer.now.kept.now }
-    ensures { IfOk result (λ made. HoldsSplits (targets_for limit.distinct model.now) Diagnosis (move_slots model.now) (zones_from model.now 0 tracked.now) (last_of_all limit.most answer.now.listed.now) answer.now.listed.now answer.now.kept.now made.items) }
+    requires states { AreStates question.now.model.now question.now.tracked.now }
+    requires some { 1 ≤ question.now.limit.most }
+    requires settled { IsSettledDiagnosis question.now.model.now question.now.tracked.now question.now.facts.now question.now.limit.most question.now.limit.distinct answer.now.listed.now answer.now.kept.now }
+    ensures { IfOk result (λ made. HoldsSplits (targets_for question.now.limit.distinct question.now.model.now) Diagnosis (move_slots question.now.model.now) (zones_from question.now.model.now 0 question.now.tracked.now) (last_of_all question.now.limit.most answer.now.listed.now) answer.now.listed.now answer.now.kept.now made.items) }
 {
+    let model = question.model;
+    let limit = question.limit;
     let grid = move_grid(alloc, model)?;
-    let zones = zones_of(alloc, model, tracked)?;
+    let zones = zones_of(alloc, model, question.tracked)?;
     let targets = targets_of(alloc, model, limit)?;
     let why = Explanations {
         question: Question::Diagnosis,
@@ -91,28 +97,29 @@ fn splits_of(
 /// that what is listed are the first candidates that are possible, with distinct targets where these are sought.
 pub fn certify_diagnosis(
     alloc: Global,
-    model: &Model,
-    system: &StepSystem,
-    tracked: &[TrackedState],
-    facts: &Facts,
-    limit: Limit,
+    question: &DiagnosisQuestion<'_>,
     answer: &Settled<'_>,
 ) -> Result<Cert, AllocError>
-    requires system { IsSystemOf model.now system.now }
-    requires states { AreStates model.now tracked.now }
-    requires facts { AreFacts model.now facts.now }
-    requires some { 1 ≤ limit.most }
-    requires few { limit.most ≤ TRACKED }
-    requires settled { IsSettledDiagnosis model.now tracked.now facts.now limit.most limit.distinct answer.now.listed.now answer.now.kept.now }
-    ensures certifies { IfOk result (λ cert. CertifiesDiagnosis model.now tracked.now facts.now limit.most limit.distinct answer.now.listed.now cert.lines) }
-    ensures formed { IfOk result (λ cert. AreFormed model.now cert.lines) }
+    requires system { IsSystemOf question.now.model.now question.now.system.now }
+    requires states { AreStates question.now.model.now question.now.tracked.now }
+    requires facts { AreFacts question.now.model.now question.now.facts.now }
+    requires some { 1 ≤ question.now.limit.most }
+    requires few { question.now.limit.most ≤ TRACKED }
+    requires settled { IsSettledDiagnosis question.now.model.now question.now.tracked.now question.now.facts.now question.now.limit.most question.now.limit.distinct answer.now.listed.now answer.now.kept.now }
+    ensures certifies { IfOk result (λ cert. CertifiesDiagnosis question.now.model.now question.now.tracked.now question.now.facts.now question.now.limit.most question.now.limit.distinct answer.now.listed.now cert.lines) }
+    ensures formed { IfOk result (λ cert. AreFormed question.now.model.now cert.lines) }
 {
+    let model = question.model;
     let _plant = model.plant();
-    let mut lines = head_of(alloc, model, tracked, facts, limit)?;
-    push_answer(
-        alloc, &mut lines, model, system, tracked, facts, limit, answer,
+    let mut lines = head_of(
+        alloc,
+        model,
+        question.tracked,
+        question.facts,
+        question.limit,
     )?;
-    let made = splits_of(alloc, model, tracked, facts, limit, answer)?;
+    push_answer(alloc, &mut lines, question, answer)?;
+    let made = splits_of(alloc, question, answer)?;
     push_splits(&mut lines, made.as_slice())?;
     lines.push(Line::End)?;
     Ok(Cert::new(Seq::from_vec(lines)))

@@ -13,7 +13,7 @@ ghost use Rattle.lv_session_state.specs.Current.{kept_walk, IsCurrent};
 ghost use Rattle.lv_session.specs.Certificates.{CertifiesWalked, CertifiesRecovered, Certifies};
 
 use lv_cert::{Cert, write_cert};
-use lv_cert_diagnosis::{Limit, Settled as SettledDiagnosis, certify_diagnosis};
+use lv_cert_diagnosis::{DiagnosisQuestion, Limit, Settled as SettledDiagnosis, certify_diagnosis};
 use lv_cert_recovery::{RecoveryQuestion, Settled as SettledRecovery, certify_recovery};
 use lv_model::Model;
 use lv_reply::{Refusal, Reply};
@@ -47,11 +47,11 @@ pub(crate) fn certificate(state: &State, model: &Model, running: &Running<'_>) -
 }
 
 /// A certificate of a settled diagnosis of the state.
-fn diagnosis_certificate(
-    state: &State,
+fn diagnosis_certificate<'a>(
+    state: &'a State,
     alloc: Global,
-    model: &Model,
-    system: &StepSystem,
+    model: &'a Model,
+    system: &'a StepSystem,
     running: &Running<'_>,
 ) -> Result<Cert, AllocError>
     requires state { IsStateOf model.now state.now }
@@ -65,18 +65,17 @@ fn diagnosis_certificate(
         listed: running.listed(),
         kept: running.conflicts(),
     };
-    let cert = certify_diagnosis(
-        alloc,
+    let question = DiagnosisQuestion {
         model,
         system,
-        state.tracked().as_slice(),
-        &facts,
-        Limit {
+        tracked: state.tracked().as_slice(),
+        facts: &facts,
+        limit: Limit {
             most: state.k(),
             distinct: state.is_distinct(),
         },
-        &answer,
-    );
+    };
+    let cert = certify_diagnosis(alloc, &question, &answer);
     let SettledDiagnosis { listed: _, kept: _ } = answer;
     cert
 }

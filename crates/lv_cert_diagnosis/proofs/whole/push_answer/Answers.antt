@@ -7,9 +7,9 @@ use Rattle.lv_cert_diagnosis.proofs.whole.push_answer.Goals as goal
 pub push_listed-requires-clause-can : goal.push_listed-requires-clause-can
 push_listed-requires-clause-can c =
     subst (λ (v : Asked). All (CanBeShown v.plant v.facts) c.args.answer.now.listed.now) (sym c.in_ok-asking.ensures)
-    (listed_can_be_shown c.args.model.now c.args.tracked.now c.args.facts.now c.args.limit.most c.args.limit.distinct c.args.answer.now.listed.now c.args.answer.now.kept.now c.requires.settled)
+    (listed_can_be_shown c.args.question.now.model.now c.args.question.now.tracked.now c.args.question.now.facts.now c.args.question.now.limit.most c.args.question.now.limit.distinct c.args.answer.now.listed.now c.args.answer.now.kept.now c.requires.settled)
 
 pub push_blocks-requires-clause-can : goal.push_blocks-requires-clause-can
 push_blocks-requires-clause-can c =
     subst (λ (v : Asked). All (CanBeRefuted v.plant v.facts) c.args.answer.now.kept.now) (sym c.in_ok-asking.ensures)
-    (kept_can_be_refuted c.args.model.now c.args.tracked.now c.args.facts.now c.args.limit.most c.args.limit.distinct c.args.answer.now.listed.now c.args.answer.now.kept.now c.requires.settled)
+    (kept_can_be_refuted c.args.question.now.model.now c.args.question.now.tracked.now c.args.question.now.facts.now c.args.question.now.limit.most c.args.question.now.limit.distinct c.args.answer.now.listed.now c.args.answer.now.kept.now c.requires.settled)
