@@ -69,7 +69,10 @@ pub(crate) fn answer<'a>(
     }
     let model = compiled.model;
     match request_of(alloc, model, &compiled.lists, &mut workings.room, line) {
-        Ok(request) => perform(alloc, compiled, workings, state, request),
+        Ok(request) => {
+            let _plant = compiled.model().plant();
+            carry_out(alloc, compiled, workings, state, request)
+        }
         Err(Unread::Refused(refusal)) => Ok(Reply::Refused(refusal)),
         Err(Unread::Memory) => Err(AllocError),
     }

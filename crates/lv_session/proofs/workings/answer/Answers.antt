@@ -1,0 +1,19 @@
+-- the state stays one of the plant, and what is kept that of its current query
+use Rattle.std.proofs.Common.{◌≡◌, true, subst, ◌∙◌}
+use Rattle.lv_model.specs.declared.plant.Plant.{Plant}
+use Rattle.lv_model.specs.WellFormed.{is_well_formed}
+use Rattle.lv_session_state.specs.lv_session_request.Requests.{IsRequestOf}
+use Rattle.lv_session.proofs.Keeping.{state_kept}
+use Rattle.lv_session.proofs.CurrentLemmas.{current_kept}
+use Rattle.lv_session.proofs.workings.answer.Goals as goal
+
+pub returns-in-Ok-clause-kept : goal.returns-in-Ok-clause-kept
+returns-in-Ok-clause-kept c =
+    let well : is_well_formed c.args.compiled.now ≡ true =
+    subst (λ (p : Plant). is_well_formed p ≡ true) (c.plant-plant.ensures.plant ∙ c.model.ensures) c.plant-plant.ensures.well_formed in
+    state_kept c.args.compiled.now c.args.state.now c.carry_out.new.state c.in-Ok.request c.carry_out.result well c.requires.state (subst (λ (p : Plant). IsRequestOf p c.in-Ok.request) c.compiled.view_is c.in-Ok.ensures.within) c.carry_out.ensures.ok c.carry_out.ensures.err
+
+pub returns-in-Ok-clause-running : goal.returns-in-Ok-clause-running
+returns-in-Ok-clause-running c =
+    current_kept c.args.compiled.now c.args.state.now c.carry_out.new.state c.args.workings.now.running c.carry_out.new.workings.running c.in-Ok.request c.carry_out.result c.requires.running
+    c.carry_out.ensures.ok c.carry_out.ensures.running
