@@ -2,11 +2,17 @@
 
 crates="$(cd "$(dirname "${BASH_SOURCE[0]}")/../crates" && pwd)"
 
-# builds the program of a crate, by a run with the words given, and goes to the crate's folder
+# whether the program of a crate is there, and no file of a crate is newer, as behind the gate
+is_built() {
+  local built="$crates/$1/out/$1"
+  [ -x "$built" ] && [ -z "$(find "$crates" -name out -prune -o -type f -newer "$built" -print -quit)" ]
+}
+
+# builds the program of a crate if it isn't built, by a run with the words given, and goes to the crate's folder
 build() {
   program=("$crates/$1/out/$1")
   cd "$crates/$1"
-  rt run -- "${@:2}" >/dev/null
+  is_built "$1" || rt run -- "${@:2}" >/dev/null
 }
 
 # builds the program of benches, by a run of a bench with the words given; from then on it is called with the bench's word
