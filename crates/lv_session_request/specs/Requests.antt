@@ -39,6 +39,23 @@ word line place = ok_or (word_at line place) Form
 abbrev pub alone : Request → List Lexeme → Result Request Refusal
 alone request line = if nat_eq (length line) 1 then Ok request else Err Form
 
+-- what a word asks for that stands alone; each other word wants more behind it, or may have it
+abbrev pub of_lone_word : Word → Result Request Refusal
+of_lone_word Diagnose = Ok ToDiagnose
+of_lone_word Recover = Ok ToRecover
+of_lone_word Commit = Ok ToCommit
+of_lone_word Conflicts = Ok ToShowConflicts
+of_lone_word Certificate = Ok ToCertify
+of_lone_word States = Ok ToShowStates
+of_lone_word Reset = Ok ToReset
+of_lone_word Quit = Ok ToQuit
+of_lone_word Probe = Ok ToProbe
+of_lone_word word = Err Form
+
+-- what a line of that word asks for, which has to be the word alone
+abbrev pub alone_by : Word → List Lexeme → Result Request Refusal
+alone_by word line = if nat_eq (length line) 1 then of_lone_word word else Err Form
+
 -- `track K`, or `track K distinct`
 abbrev pub track_of : List Lexeme → Result Request Refusal
 track_of line = if has_distinct_form line then and_then (limited TRACKED line) (λ n. Ok (ToTrackDistinct n)) else and_then (number_to TRACKED line) (λ n. Ok (ToTrack n))

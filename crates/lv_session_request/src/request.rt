@@ -12,7 +12,7 @@ ghost use Rattle.lv_model_names.specs.Lists.{lists_of};
 ghost use Rattle.lv_formula_text.specs.Nesting.{is_too_deep};
 ghost use Rattle.lv_session_request.specs.Goals.{AreRead};
 ghost use Rattle.lv_session_request.specs.declared.words.Word.TheVariants.{Command as CommandWord, Release as ReleaseWord, Observe as ObserveWord, Goal as GoalWord, Test as TestWord};
-ghost use Rattle.lv_session_request.specs.Requests.{alone, track_of, budget_of, more_of, command_to, command_of, release_of, seen_as, tested_of, sighting_of, retracted_of, retraction_of, retract_of, labels_of, drop_of, window_of, request_by, asked, asked_by, request_of, Explains, IsSightingIn, IsCommandIn, IsObservableOf, IsRequestOf};
+ghost use Rattle.lv_session_request.specs.Requests.{alone_by, track_of, budget_of, more_of, command_to, command_of, release_of, seen_as, tested_of, sighting_of, retracted_of, retraction_of, retract_of, labels_of, drop_of, window_of, request_by, asked, asked_by, request_of, Explains, IsSightingIn, IsCommandIn, IsObservableOf, IsRequestOf};
 
 use crate::forms::{
     has_at_form, has_command_signs, has_distinct_form, has_observe_signs, has_release_signs,
@@ -102,16 +102,26 @@ pub enum Request {
     Window(u32),
 }
 
-/// The request of a word that stands alone.
-fn alone(request: Request, line: &TokenLine<'_>) -> Result<Request, Unread>
-    ensures ok { IfOk result (λ found. alone request line.now ≡ Ok found) }
-    ensures fault { IfErr result (λ fault. Explains fault (alone request line.now)) }
-    ensures same { IfOk result (λ found. found ≡ request) }
+/// The request of a line that is its word alone.
+fn alone(word: Word, line: &TokenLine<'_>) -> Result<Request, Unread>
+    ensures ok { IfOk result (λ request. alone_by word line.now ≡ Ok request) }
+    ensures fault { IfErr result (λ fault. Explains fault (alone_by word line.now)) }
+    ensures within { (plant : Plant) → IfOk result (IsRequestOf plant) }
 {
-    if line.len() == 1 {
-        Ok(request)
-    } else {
-        Err(Unread::Refused(Refusal::Form))
+    if line.len() != 1 {
+        return Err(Unread::Refused(Refusal::Form));
+    }
+    match word {
+        Word::Diagnose => Ok(Request::Diagnose),
+        Word::Recover => Ok(Request::Recover),
+        Word::Commit => Ok(Request::Commit),
+        Word::Conflicts => Ok(Request::Conflicts),
+        Word::Certificate => Ok(Request::Certificate),
+        Word::States => Ok(Request::States),
+        Word::Reset => Ok(Request::Reset),
+        Word::Quit => Ok(Request::Quit),
+        Word::Probe => Ok(Request::Probe),
+        _ => Err(Unread::Refused(Refusal::Form)),
     }
 }
 
@@ -416,17 +426,17 @@ fn request_by(
         Word::Retract => retract_of(alloc, line),
         Word::Goal => wanting(alloc, plant, lists, line),
         Word::Drop => dropping(alloc, line),
-        Word::Diagnose => alone(Request::Diagnose, line),
-        Word::Recover => alone(Request::Recover, line),
+        Word::Diagnose => alone(word, line),
+        Word::Recover => alone(word, line),
         Word::More => more_of(line),
-        Word::Commit => alone(Request::Commit, line),
-        Word::Conflicts => alone(Request::Conflicts, line),
-        Word::Certificate => alone(Request::Certificate, line),
+        Word::Commit => alone(word, line),
+        Word::Conflicts => alone(word, line),
+        Word::Certificate => alone(word, line),
         Word::Labels => labels_of(line),
-        Word::States => alone(Request::States, line),
-        Word::Reset => alone(Request::Reset, line),
-        Word::Quit => alone(Request::Quit, line),
-        Word::Probe => alone(Request::Probe, line),
+        Word::States => alone(word, line),
+        Word::Reset => alone(word, line),
+        Word::Quit => alone(word, line),
+        Word::Probe => alone(word, line),
         Word::Test => testing(plant, lists, line),
         Word::Window => window_of(line),
     }
