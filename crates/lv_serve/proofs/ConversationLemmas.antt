@@ -1,7 +1,7 @@
 -- Conversations of lines that come one behind the other, and of lines that are too long.
 use Rattle.std.proofs.Common.{◌≡◌, ℕ, ◌+◌, ◌-◌, ◌<◌, ◌≤◌, nat_lt, nat_eq, Bool, true, false, cond, get_or, List, [], ◌∷◌, ◌++◌, length, take, Option, refl, sym, ◌∙◌, ap, subst, arith, append_assoc, length-take}
 use Rattle.std.proofs.lemmas.Bool.Decides.{nat_tests}
-use Rattle.std.proofs.lemmas.List.{take_all, append-nil}
+use Rattle.std.proofs.lemmas.List.{length-take-le, take_all, append-nil}
 use Rattle.std.proofs.Math.Seq.{take-append_seam}
 use Rattle.std.specs.Str.Lines.{strip_carriage_return}
 use Rattle.lv_base.specs.declared.limits.TheConstants.{LINE_BYTES}
@@ -30,6 +30,14 @@ strip_length line = by (nat_eq (get_or line (length line - 1) 0) 13)
     by : (c : Bool) → length line ≤ length (cond c (take (length line - 1) line) line) + 1
     by true = omega (arith, length-take (length line - 1) line)
     by false = omega arith
+
+-- a line without it is a front of the line
+pub strip_front : (line : List ℕ) → take (length (strip_carriage_return line)) line ≡ strip_carriage_return line
+strip_front line = by (nat_eq (get_or line (length line - 1) 0) 13)
+  where
+    by : (c : Bool) → take (length (cond c (take (length line - 1) line) line)) line ≡ cond c (take (length line - 1) line) line
+    by true = ap (λ (k : ℕ). take k line) (length-take-le (length line - 1) line (omega arith))
+    by false = take_all (length line) line (omega arith)
 
 -- what holds of two lines that are too long, and of one and itself, holds of the line that is kept and of the line that came
 shown_alike : (P : List ℕ → List ℕ → Type 0)
@@ -80,6 +88,11 @@ module _ {S : Type 0} (next : S → List ℕ → S) (says : S → List ℕ → L
   pub shown_says : ((s : S) (a b text : List ℕ) → LINE_BYTES < length a → LINE_BYTES < length b → says s a text → says s b text)
       → (s : S) (line text : List ℕ) → says s (shown (kept_of line)) text → says s (strip_carriage_return line) text
   shown_says long s line text = shown_alike (λ a b. says s a text → says s b text) (λ a b. long s a b text) (λ a it. it) line
+
+  -- and back
+  pub says_shown : ((s : S) (a b text : List ℕ) → LINE_BYTES < length a → LINE_BYTES < length b → says s a text → says s b text)
+      → (s : S) (line text : List ℕ) → says s (strip_carriage_return line) text → says s (shown (kept_of line)) text
+  says_shown long s line text = shown_alike (λ a b. says s b text → says s a text) (λ a b x y. long s b a text y x) (λ a it. it) line
 
   -- a front of a conversation of the first lines
   pub front_of_first : (s : S) (first more lines : List (List ℕ)) (whole : List ℕ) (before after : Option (List ℕ))

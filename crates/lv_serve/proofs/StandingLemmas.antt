@@ -15,11 +15,11 @@ use Rattle.lv_serve.specs.Ends.{ended, unended}
 use Rattle.lv_serve.specs.Kept.{Kept, most_kept}
 use Rattle.lv_serve.specs.Unfinished.{kept_of, shown}
 use Rattle.lv_serve.specs.Served.{at_text, AddsFrontOfReplies}
-use Rattle.lv_serve.specs.Serving.{Waits, StandsAt, line_next, IsLineReply, IsReplied, IsAnswered, IsCutOff, before_reply, in_reply, IsHandedOn}
+use Rattle.lv_serve.specs.Serving.{Waits, StandsAt, line_next, IsLineReply, IsReplied, IsAnswered, IsCutOff, before_reply, in_reply, IsHandedOn, with_line}
 use Rattle.lv_serve.specs.declared.serving.Serving.{Serving}
 use Rattle.lv_serve.proofs.Writing.{append-none, front_more, whole_front, longer_front}
 use Rattle.lv_serve.proofs.EndLemmas.{ended_stays, unended_grows, lines_one_more, unended_whole, lines_last, lines_all_ended}
-use Rattle.lv_serve.proofs.ConversationLemmas.{after_lines-append, conversation-append, one_line, shown_next, shown_says, front_of_first, front_of_lines}
+use Rattle.lv_serve.proofs.ConversationLemmas.{after_lines-append, conversation-append, one_line, shown_next, shown_says, says_shown, front_of_first, front_of_lines}
 
 -- a front written behind what was written before
 more_front : (written more : List ℕ) (before text after : Option (List ℕ)) → text ≡ append_known before written → AddsFront more text after → AddsFront (written ++ more) before after
@@ -66,6 +66,17 @@ module _ {S : Type 0} (next : S → List ℕ → S) (says : S → List ℕ → L
         (subst (λ (r : List ℕ). Waits next says start (lines_of (ended read)) before r text) (sym replies) at.waits);
   }
 
+  -- a line came whole where none was begun
+  pub stands_whole : (start : S) (read line : List ℕ) (before text : Option (List ℕ)) (old : Serving S)
+      → list_any is_line_feed line ≡ false
+      → nat_eq (length old.line.bytes) 0 ≡ true
+      → StandsAt next says start read before old text
+      → StandsAt next says start (read ++ line) before (with_line line old) text
+  stands_whole start read line before text old none empty at =
+      stands_longer start read line before text old (with_line line old) none refl refl
+      (λ begun is. ap (λ (l : List ℕ). kept_of (l ++ line)) (sym (kept_none begun (sym (ap (λ (k : Kept). nat_eq (length k.bytes) 0) is) ∙ empty))))
+      at
+
   -- the replies that wait are written, or a front of them
   pub waits_written : (start : S) (lines : List (List ℕ)) (replies : List ℕ) (before text after : Option (List ℕ))
       → Waits next says start lines before replies text
@@ -108,6 +119,15 @@ module _ {S : Type 0} (next : S → List ℕ → S) (says : S → List ℕ → L
       (sym (lines_all_ended read (kept_none (unended read) (sym (ap (λ (k : Kept). nat_eq (length k.bytes) 0) at.line_is) ∙ none))))
       at.waits
 
+  -- the line that has come was carried out, and its reply put behind those that wait
+  pub replied_shown : (reply : List ℕ) (old new : Serving S)
+      → new.at ≡ line_next next says old
+      → new.line ≡ kept_of []
+      → IsLineReply next says old reply
+      → new.replies ≡ old.replies ++ reply
+      → IsReplied next says old new
+  replied_shown reply old new goes none says_it joined = record { at_is = goes; line_is = none; reply = reply; says_it = says_it; joined = joined }
+
   -- an answered line, from its reply put behind those that wait and what was written of these
   handed_answer : (old middle new : Serving S) (before after : Option (List ℕ))
       → IsReplied next says old middle
@@ -123,12 +143,13 @@ module _ {S : Type 0} (next : S → List ℕ → S) (says : S → List ℕ → L
     joined = handed.joined ∙ replied.joined;
   }
 
-  pub answered_on : {T E F : Type 0} (result : Result T E) (put : Result F E) (old middle new : Serving S) (before after : Option (List ℕ))
+  pub answered_so : {T E : Type 0} (put : Result T E) (x : T) (old middle new : Serving S) (before after : Option (List ℕ))
+      → put ≡ Ok x
       → OnOk put (IsReplied next says old middle)
       → IsHandedOn middle new before after
-      → OnOk put (IsAnswered next says old new before after)
-  answered_on result (Ok x) old middle new before after replied handed = handed_answer old middle new before after replied handed
-  answered_on result (Err e) old middle new before after replied handed = tt
+      → IsAnswered next says old new before after
+  answered_so (Ok y) x old middle new before after is replied handed = handed_answer old middle new before after replied handed
+  answered_so (Err e) x old middle new before after is replied handed = absurd (cc)
 
   handed_front : (old new : Serving S) (before after : Option (List ℕ)) → IsHandedOn old new before after → AddsFront old.replies before after
   handed_front old new before after handed =
@@ -156,6 +177,16 @@ module _ {S : Type 0} (next : S → List ℕ → S) (says : S → List ℕ → L
   -- lines that are too long are answered alike
   module _ (long_goes : (s : S) (a b : List ℕ) → LINE_BYTES < length a → LINE_BYTES < length b → next s a ≡ next s b)
       (long_says : (s : S) (a b text : List ℕ) → LINE_BYTES < length a → LINE_BYTES < length b → says s a text → says s b text) where
+    -- a line that came whole was carried out, and its reply put behind those that wait
+    pub replied_whole : (line reply : List ℕ) (old new : Serving S)
+        → new.at ≡ next old.at (strip_carriage_return line)
+        → new.line ≡ kept_of []
+        → says old.at (strip_carriage_return line) reply
+        → new.replies ≡ old.replies ++ reply
+        → IsReplied next says (with_line line old) new
+    replied_whole line reply old new goes none says_it joined =
+        replied_shown reply (with_line line old) new (goes ∙ sym (shown_next next says long_goes old.at line)) none (says_shown next says long_says old.at line reply says_it) joined
+
     -- where the line that has come leads from where a serving stands, and what is said of it
     own_line : (start : S) (read : List ℕ) (before text : Option (List ℕ)) (now : Serving S) → StandsAt next says start read before now text
         → line_next next says now ≡ next (at_text next start read) (strip_carriage_return (unended read))

@@ -55,6 +55,10 @@ module _ {S : Type 0} (next : S → List ℕ → S) (says : S → List ℕ → L
     before_reply : AddsFront old.replies before after → IsCutOff old before after
     in_reply : (reply : List ℕ) → IsLineReply old reply → AddsFront (old.replies ++ reply) before after → IsCutOff old before after
 
+-- the same, had this line come and been kept
+abbrev pub with_line : {S : Type 0} → List ℕ → Serving S → Serving S
+with_line line s = record s { line = kept_of line }
+
 -- a front of the replies that waited was written, or all
 pub record IsHandedOn {S : Type 0} (old new : Serving S) (before after : Option (List ℕ)) : Type 0 where
   pub at_is : new.at ≡ old.at

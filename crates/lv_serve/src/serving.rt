@@ -12,14 +12,15 @@ ghost use Rattle.lv_io.specs.Whole.{AddsFront};
 ghost use Rattle.lv_text.specs.Lines.{is_line_feed, lines_of};
 ghost use Rattle.lv_serve.specs.Ends.{ended};
 ghost use Rattle.lv_serve.specs.Served.{AddsReplies, AddsFrontOfReplies};
-ghost use Rattle.lv_serve.specs.Serving.{StandsAt, Waits, IsReplied, IsAnswered, IsCutOff, IsHandedOn};
+ghost use Rattle.lv_serve.specs.Serving.{StandsAt, Waits, IsReplied, IsAnswered, IsCutOff, IsHandedOn, with_line};
+ghost use Rattle.lv_serve.specs.declared.serving.Serving.{Serving as ServingOf};
 ghost use Rattle.lv_serve.specs.Unfinished.{kept_of};
 
 use crate::responder::Responder;
 use crate::unfinished::Unfinished;
 use crate::waiting::Waiting;
 use lv_io::{IoFault, Sink, write_all};
-use lv_text::lines::first_line;
+use lv_text::lines::{first_line, last_line};
 use std::alloc::{AllocError, Global};
 
 /// How many bytes of replies are written at once, though the piece goes on.
@@ -117,7 +118,8 @@ impl<L: Responder> Serving<L> {
         Ok(())
     }
 
-    /// The last bytes of a line have come, and its line feed: answers it.
+    /// The last bytes of a line have come, and its line feed: answers it. A line that came whole is answered where it stands in
+    /// its piece.
     fn end_line<O: Sink>(&mut self, last: &[u8], out: &mut O) -> Result<(), IoFault>
         requires { list_any is_line_feed last.now ≡ false }
         ensures ok { (start : L) (read : List ℕ) (before : Option (List ℕ)) → StandsAt L.next L.says start read before self.old (O.text out.old)
@@ -127,12 +129,14 @@ impl<L: Responder> Serving<L> {
         ensures flushed { O.is_flushed out.old ≡ true → OnOk result (O.is_flushed out.new ≡ true) }
         ensures cause { HasCause (O.faults out.old) (O.faults out.new) result }
     {
+        if self.line.is_empty() {
+            return self.answer_whole(last, out);
+        }
         self.line.push(last)?;
         self.answer(out)
     }
 
-    /// Answers the line that has come. The replies are written where enough of them wait, or where memory was wanting, so
-    /// that none of those before is lost.
+    /// Answers the line that has come.
     fn answer<O: Sink>(&mut self, out: &mut O) -> Result<(), IoFault>
         ensures ok { OnOk result (IsAnswered L.next L.says self.old self.new (O.text out.old) (O.text out.new)) }
         ensures err { OnErr result (IsCutOff L.next L.says self.old (O.text out.old) (O.text out.new)) }
@@ -140,10 +144,18 @@ impl<L: Responder> Serving<L> {
         ensures cause { HasCause (O.faults out.old) (O.faults out.new) result }
     {
         let answered = self.put_reply();
-        let waiting = self.replies.len();
-        self.hand_on_if(answered.is_err() || waiting >= ENOUGH, out)?;
-        answered?;
-        Ok(())
+        self.hand_on_behind(answered, out)
+    }
+
+    /// Answers a line that came whole, given without its line feed, as if it had come and been kept.
+    fn answer_whole<O: Sink>(&mut self, line: &[u8], out: &mut O) -> Result<(), IoFault>
+        ensures ok { OnOk result (IsAnswered L.next L.says (with_line line.now self.old) self.new (O.text out.old) (O.text out.new)) }
+        ensures err { OnErr result (IsCutOff L.next L.says (with_line line.now self.old) (O.text out.old) (O.text out.new)) }
+        ensures flushed { O.is_flushed out.old ≡ true → OnOk result (O.is_flushed out.new ≡ true) }
+        ensures cause { HasCause (O.faults out.old) (O.faults out.new) result }
+    {
+        let answered = self.put_reply_to(line);
+        self.hand_on_behind(answered, out)
     }
 
     /// Carries the line out and puts a text of its reply behind those that wait.
@@ -152,8 +164,45 @@ impl<L: Responder> Serving<L> {
         ensures err { OnErr result (self.new.replies ≡ self.old.replies) }
     {
         self.at.answer(self.line.line(), &mut self.text)?;
+        self.put_text()
+    }
+
+    /// The same of a line that came whole.
+    fn put_reply_to(&mut self, line: &[u8]) -> Result<(), AllocError>
+        ensures ok { OnOk result (IsReplied L.next L.says (with_line line.now self.old) self.new) }
+        ensures err { OnErr result (self.new.replies ≡ self.old.replies) }
+    {
+        self.at.answer(&line[..last_line(line)], &mut self.text)?;
+        self.put_text()
+    }
+
+    /// Puts the text of the last reply behind those that wait. The next line begins.
+    fn put_text(&mut self) -> Result<(), AllocError>
+        ensures ok { OnOk result (self.new ≡ record self.old { line = kept_of []; replies = self.old.replies ++ self.old.text.items }) }
+        ensures err { OnErr result (self.new.replies ≡ self.old.replies) }
+    {
         self.replies.push(self.text.as_slice())?;
         self.line.clear();
+        Ok(())
+    }
+
+    /// Writes the replies where enough of them wait, or where memory was wanting for the last line's, so that none of those before
+    /// is lost.
+    fn hand_on_behind<O: Sink>(
+        &mut self,
+        answered: Result<(), AllocError>,
+        out: &mut O,
+    ) -> Result<(), IoFault>
+        ensures ok { (before : ServingOf L) → OnOk answered (IsReplied L.next L.says before self.old)
+            → OnOk result (IsAnswered L.next L.says before self.new (O.text out.old) (O.text out.new)) }
+        ensures err { (before : ServingOf L) → OnOk answered (IsReplied L.next L.says before self.old) → OnErr answered (self.old.replies ≡ before.replies)
+            → OnErr result (IsCutOff L.next L.says before (O.text out.old) (O.text out.new)) }
+        ensures flushed { O.is_flushed out.old ≡ true → OnOk result (O.is_flushed out.new ≡ true) }
+        ensures cause { HasCause (O.faults out.old) (O.faults out.new) result }
+    {
+        let waiting = self.replies.len();
+        self.hand_on_if(answered.is_err() || waiting >= ENOUGH, out)?;
+        answered?;
         Ok(())
     }
 
