@@ -8,6 +8,7 @@
 //! | `forms` | how many tokens and which signs it has, its numbers and names |
 //! | `names` | which controls, observables and values names stand for |
 //! | `goals` | the goal that a line names |
+//! | `apart` | `Apart`: what is large of a request, in a box of its own |
 //! | `unread` | why a line asks for nothing: a refusal, or want of memory |
 //! | `held` | `Held`: observations found by their names; `facts`: control values and what was observed, as facts |
 //!
@@ -15,6 +16,7 @@
 //! word's, and then what the line names, from left to right. That a line nests too deep comes before its form.
 #![tactic(auto)]
 
+pub mod apart;
 pub mod forms;
 pub mod goals;
 pub mod held;
@@ -23,6 +25,7 @@ pub mod request;
 pub mod unread;
 pub mod words;
 
+pub use apart::Apart;
 pub use goals::Goal;
 pub use held::{Held, facts};
 pub use request::{Command, Request, Retraction, Sighting, WINDOW, request_of};

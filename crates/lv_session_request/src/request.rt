@@ -14,6 +14,7 @@ ghost use Rattle.lv_session_request.specs.Goals.{AreRead};
 ghost use Rattle.lv_session_request.specs.declared.words.Word.TheVariants.{Command as CommandWord, Release as ReleaseWord, Observe as ObserveWord, Goal as GoalWord, Test as TestWord};
 ghost use Rattle.lv_session_request.specs.Requests.{alone_by, track_of, budget_of, more_of, command_to, command_of, release_of, seen_as, tested_of, sighting_of, retracted_of, retraction_of, retract_of, labels_of, drop_of, window_of, request_by, asked, asked_by, request_of, Explains, IsSightingIn, IsCommandIn, IsObservableOf, IsRequestOf};
 
+use crate::apart::Apart;
 use crate::forms::{
     has_at_form, has_command_signs, has_distinct_form, has_observe_signs, has_release_signs,
     limited, name_at, number_to,
@@ -57,7 +58,7 @@ pub struct Retraction {
     pub time: u128,
 }
 
-/// What a line asks for.
+/// What a line asks for. What is large of it lies apart, since a request is handed on by value, and most are small.
 #[derive(Debug, Drop)]
 pub enum Request {
     /// It has no tokens.
@@ -75,8 +76,8 @@ pub enum Request {
     /// That the observation of this name is taken out.
     Retract(Name),
     /// The same of the observation that is held of this time.
-    RetractAt(Retraction),
-    SetGoal(Goal),
+    RetractAt(Apart<Retraction>),
+    SetGoal(Apart<Goal>),
     /// That the goal of this name is taken out.
     DropGoal(Name),
     Diagnose,
@@ -302,7 +303,8 @@ fn retract_of(alloc: Global, line: &TokenLine<'_>) -> Result<Request, Unread>
     ensures within { (plant : Plant) → IfOk result (IsRequestOf plant) }
 {
     if has_at_form(line) {
-        return Ok(Request::RetractAt(retraction_of(alloc, line)?));
+        let retraction = retraction_of(alloc, line)?;
+        return Ok(Request::RetractAt(Apart::new(alloc, retraction)?));
     }
     Ok(Request::Retract(retracted_of(alloc, line)?))
 }
@@ -378,7 +380,8 @@ fn wanting(
     ensures fault { IfErr result (λ fault. Explains fault (request_by plant.now lists.now GoalWord line.now)) }
     ensures within { IfOk result (IsRequestOf plant.now) }
 {
-    Ok(Request::SetGoal(goal_of(alloc, plant, lists, line)?))
+    let goal = goal_of(alloc, plant, lists, line)?;
+    Ok(Request::SetGoal(Apart::new(alloc, goal)?))
 }
 
 /// The request of a `drop` line.
