@@ -1,15 +1,17 @@
 -- Which part a variable is of: where the parts' variables lie one behind the other, the last that begins at or before it, or none.
-use Rattle.std.proofs.Common.{◌≡◌, ◌≢◌, ℕ, zero, suc, ◌+◌, ◌<◌, ◌≤◌, List, [], ◌∷◌, Bool, true, false, ◌&&◌, if◌then◌else◌, nat_eq, nat_le, nat_lt, slice_get, slice_index_or, length, Option, Some, None, refl, sym, ◌∙◌, ap, subst, arith, ◌-◌}
-use Rattle.std.proofs.lemmas.Bool.{and_parts}
+use Rattle.std.proofs.Common.{◌≡◌, ◌≢◌, ℕ, zero, suc, ◌+◌, ◌<◌, ◌≤◌, List, [], ◌∷◌, Bool, true, false, not, ◌&&◌, ◌||◌, if◌then◌else◌, nat_eq, nat_le, nat_lt, slice_get, slice_index_or, length, Option, Some, None, refl, sym, ◌∙◌, ap, subst, arith, ◌-◌}
+use Rattle.std.proofs.lemmas.Bool.{and_parts, leb-true, leb-false}
 use Rattle.std.proofs.lemmas.Bool.Decides.{nat_tests}
 use Rattle.std.specs.List.{find, AllAdjacentBelow}
+use Rattle.std.specs.List.Sorted.{IsNonDecreasingBy}
+use Rattle.std.proofs.lemmas.List.Sorted.{IsNonDecreasingBy-from_all_adjacent}
 use borrow.Author.Tests.{eqb-true}
 use native.Mathlib.Numerals.{unary_clauses}
 use Rattle.lv_model.specs.declared.plant.ComponentType.{ComponentType}
 use Rattle.lv_model.specs.declared.plant.Part.{Part}
 use Rattle.lv_model.specs.Lists.{part_width}
 use Rattle.lv_model.specs.WellFormed.{firsts_follow}
-use Rattle.lv_reply.specs.Variables.{has_variable}
+use Rattle.lv_reply.specs.Variables.{has_variable, begins_at, ends_there, AreBegun}
 
 pub positive : (n : ℕ) → n ≢ 0 → 0 < n
 positive zero other = absurd (other refl)
@@ -111,3 +113,57 @@ module _ (types : List ComponentType) where
       has_no_owner narrow =
           let narrower : nat_lt x (p.first.0 + part_width types p) ≡ false = let le = begins in grind (arith, nat_tests, narrow, le) in
           sym (last_of_them ∙ ap (λ (b : Bool). if b then Some p else None) narrower)
+
+-- the part at a place that begins at or before the variable, and one that doesn't
+begins_within : (x : ℕ) (ps : List Part) (k : ℕ) → begins_at ps x k ≡ true → k < length ps
+begins_within x [] k e = absurd (cc)
+begins_within x (p ∷ ps) zero e = omega arith
+begins_within x (p ∷ ps) (suc k) e = let rest = begins_within x ps k e in omega (arith, rest)
+
+begins_is : (x : ℕ) (ps : List Part) (k : ℕ) (d : Part) → begins_at ps x k ≡ true → (slice_index_or ps k d).first.0 ≤ x
+begins_is x [] k d e = absurd (cc)
+begins_is x (p ∷ ps) zero d e = leb-true _ _ e
+begins_is x (p ∷ ps) (suc k) d e = begins_is x ps k d e
+
+begins_not : (x : ℕ) (ps : List Part) (k : ℕ) (d : Part) → begins_at ps x k ≡ false → k < length ps → x < (slice_index_or ps k d).first.0
+begins_not x [] k d e below = absurd (omega arith)
+begins_not x (p ∷ ps) zero d e below = leb-false _ _ e
+begins_not x (p ∷ ps) (suc k) d e below = begins_not x ps k d e (omega arith)
+
+-- where the last of so many parts begins at or before the variable, and the one behind them doesn't, just those do
+module _ (x : ℕ) (ps : List Part) (n : ℕ) (rise : IsNonDecreasingBy (λ (p : Part). p.first.0) ps) where
+  by_last : (b : Bool) → nat_eq n 0 ≡ b → (b || begins_at ps x (n - 1)) ≡ true
+      → (n ≤ length ps) × ((k : ℕ) (d : Part) → k < n → (slice_index_or ps k d).first.0 ≤ x)
+  by_last true none e = let zero_is = eqb-true n 0 none in (omega (arith, zero_is), λ k d below. absurd (omega (arith, zero_is, below)))
+  by_last false some e =
+      let more : 0 < n = grind (arith, nat_tests, some) in
+      let within = begins_within x ps (n - 1) e in (
+        omega (arith, more, within),
+        λ k d below.
+            let last = begins_is x ps (n - 1) d e in
+            let up = rise k (n - 1) d (omega (arith, below)) within in
+            omega (arith, up, last),
+      )
+
+  pub begun_there : ends_there ps x n ≡ true → AreBegun x ps n
+  begun_there e =
+      let both = and_parts (nat_eq n 0 || begins_at ps x (n - 1)) (not (begins_at ps x n)) e in
+      let behind : begins_at ps x n ≡ false = by_not (begins_at ps x n) both.1 in
+      let front = by_last (nat_eq n 0) refl both.0 in
+      record {
+        place = (
+          λ k d low below. front.1 k d below,
+          λ k d low below.
+              let first = begins_not x ps n d behind (omega (arith, low, below)) in
+              let up = rise n k d low below in
+              omega (arith, up, first),
+        );
+        few = front.0;
+      }
+    where
+      by_not : (b : Bool) → not b ≡ true → b ≡ false
+      by_not true h = absurd (cc)
+      by_not false h = refl
+
+pub parts_rise : (types : List ComponentType) (ps : List Part) → firsts_follow types 0 ps ≡ true → IsNonDecreasingBy (λ (p : Part). p.first.0) ps
+parts_rise types ps follow = IsNonDecreasingBy-from_all_adjacent (λ (p : Part). p.first.0) ps (firsts_rise types 0 ps follow)

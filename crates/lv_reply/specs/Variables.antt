@@ -1,6 +1,7 @@
 -- Variables and their values by the names of the plant.
-use Rattle.std.specs.Prelude.{ℕ, ◌+◌, ◌-◌, ◌≤◌, ◌<◌, Bool, ◌&&◌, nat_eq, nat_le, nat_lt, if◌then◌else◌, List, [], ◌++◌, slice_get, codes}
+use Rattle.std.specs.Prelude.{ℕ, ◌+◌, ◌-◌, ◌≤◌, ◌<◌, Bool, false, not, ◌&&◌, ◌||◌, nat_eq, nat_le, nat_lt, if◌then◌else◌, List, [], ◌++◌, length, slice_get, codes}
 use Rattle.std.specs.List.{find}
+use Rattle.std.specs.List.Sorted.{IsPartitionPoint}
 use Rattle.std.specs.Option.{option_map_or}
 use Rattle.lv_model.specs.declared.plant.Plant.{Plant}
 use Rattle.lv_model.specs.declared.plant.Domain.{Domain}
@@ -33,6 +34,19 @@ begins_by x p = p.first.0 ≤ x
 
 abbrev pub begins_behind : ℕ → Part → Type 0
 begins_behind x p = x < p.first.0
+
+-- just the first so many parts begin at or before this variable
+pub record AreBegun (x : ℕ) (parts : List Part) (n : ℕ) : Type 0 where
+  pub place : IsPartitionPoint (begins_by x) (begins_behind x) parts n
+  pub few : n ≤ length parts
+
+-- whether there is a part at this place, and it begins at or before this variable
+abbrev pub begins_at : List Part → ℕ → ℕ → Bool
+begins_at parts x place = option_map_or (λ (p : Part). nat_le p.first.0 x) (slice_get parts place) false
+
+-- whether the last of so many parts begins at or before this variable, and the one behind them doesn't
+abbrev pub ends_there : List Part → ℕ → ℕ → Bool
+ends_there parts x n = (nat_eq n 0 || begins_at parts x (n - 1)) && not (begins_at parts x n)
 
 -- whether the variable of this number is the part's
 abbrev pub has_variable : List ComponentType → ℕ → Part → Bool

@@ -3,11 +3,10 @@
 
 ghost use Rattle.std.specs.Prelude.{◌≡◌, ◌-◌, ◌++◌, ◌≤◌, [], length, IfOk, nat_lt, slice_get, codes};
 ghost use Rattle.std.specs.List.{find};
-ghost use Rattle.std.specs.List.Sorted.{IsPartitionPoint};
 ghost use Rattle.std.specs.Option.{option_copied, option_map_or};
 ghost use Rattle.lv_model.specs.Lists.{part_width};
 ghost use Rattle.lv_reply.specs.Pieces.{name_at};
-ghost use Rattle.lv_reply.specs.Variables.{own_name, names_of_values, own_values, own_equation, begins_by, begins_behind, has_variable, part_equation, equation};
+ghost use Rattle.lv_reply.specs.Variables.{own_name, names_of_values, own_values, own_equation, begins_at, ends_there, AreBegun, has_variable, part_equation, equation};
 
 use crate::pieces::push_name;
 use lv_base::{ValId, VarId};
@@ -88,10 +87,26 @@ fn is_wider(types: &[ComponentType], part: &Part, n: u32) -> bool
     }
 }
 
+/// Whether the part at a place begins at or before this variable; not where there is none.
+fn begins_by(parts: &[Part], x: u32, place: usize) -> bool
+    ensures { result ≡ begins_at parts.now x place }
+{
+    match parts.get(place) {
+        Some(part) => part.first.0 <= x,
+        None => false,
+    }
+}
+
+/// Whether the last of so many parts begins at or before this variable, and the one behind them doesn't.
+fn ends_there(parts: &[Part], x: u32, n: usize) -> bool
+    ensures { result ≡ ends_there parts.now x n }
+{
+    (n == 0 || begins_by(parts, x, n - 1)) && !begins_by(parts, x, n)
+}
+
 /// How many parts begin at or before this variable. They stand in the order of their variables.
 fn begun_by(model: &Model, x: u32) -> usize
-    ensures place { IsPartitionPoint (begins_by x) (begins_behind x) model.now.parts result }
-    ensures few { result ≤ length model.now.parts }
+    ensures { AreBegun x model.now.parts result }
 {
     let plant = model.plant();
     plant
@@ -100,12 +115,34 @@ fn begun_by(model: &Model, x: u32) -> usize
         .partition_point(|part| part.first.0 <= x)
 }
 
+/// The same, where it is likely to be this number or one more.
+pub fn begun_near(model: &Model, x: u32, near: usize) -> usize
+    ensures { AreBegun x model.now.parts result }
+{
+    let parts = model.plant().parts.as_slice();
+    if ends_there(parts, x, near) {
+        return near;
+    }
+    let next = near.saturating_add(1);
+    if ends_there(parts, x, next) {
+        return next;
+    }
+    begun_by(model, x)
+}
+
 /// The part whose variable this is: if any, the last that begins at or before it.
 pub fn owner_of(model: &Model, x: u32) -> Option<&Part>
     ensures { option_copied result ≡ find (has_variable model.now.types x) model.now.parts }
 {
+    owner_behind(model, x, begun_by(model, x))
+}
+
+/// The same, where so many parts begin at or before it.
+fn owner_behind(model: &Model, x: u32, begun: usize) -> Option<&Part>
+    requires { AreBegun x model.now.parts begun }
+    ensures { option_copied result ≡ find (has_variable model.now.types x) model.now.parts }
+{
     let plant = model.plant();
-    let begun = begun_by(model, x);
     if begun == 0 {
         return None;
     }
@@ -129,7 +166,7 @@ fn push_part_equation(
     ensures { IfOk result (λ _. out.new.items ≡ out.old.items ++ part_equation plant.now sign.now x value.0 part.now) }
 {
     out.extend_from_slice(part.name.as_slice())?;
-    out.extend_from_slice(b".")?;
+    out.push(b'.')?;
     match type_of(plant.types.as_slice(), part) {
         Some(t) => push_own_equation(
             out,
@@ -153,7 +190,23 @@ pub fn push_equation(
 ) -> Result<(), AllocError>
     ensures { IfOk result (λ _. out.new.items ≡ out.old.items ++ equation model.now sign.now variable.0 value.0) }
 {
-    match owner_of(model, variable.0) {
+    let begun = begun_by(model, variable.0);
+    push_equation_behind(out, model, sign, variable, value, begun)
+}
+
+/// The same, where so many parts begin at or before the variable.
+pub fn push_equation_behind(
+    out: &mut Vec<u8>,
+    model: &Model,
+    sign: &[u8],
+    variable: VarId,
+    value: ValId,
+    begun: usize,
+) -> Result<(), AllocError>
+    requires { AreBegun variable.0 model.now.parts begun }
+    ensures { IfOk result (λ _. out.new.items ≡ out.old.items ++ equation model.now sign.now variable.0 value.0) }
+{
+    match owner_behind(model, variable.0, begun) {
         Some(part) => push_part_equation(out, model.plant(), sign, variable.0, value, part),
         None => Ok(()),
     }
