@@ -3,7 +3,7 @@ use Rattle.std.proofs.Common.{◌≡◌, refl}
 use Rattle.lv_formula_text.specs.Descent.{phrase_of}
 use Rattle.lv_reader.specs.Keywords.{keyword_of}
 use Rattle.lv_checker.specs.Checking.{checked}
-use Rattle.lv_checker.specs.Entries.{inside_entry, outside_entry}
+use Rattle.lv_checker.specs.lv_model_entries.Entries.{inside_entry, outside_entry}
 use Rattle.lv_checker.specs.Faults.{fault_of_entry}
 use Rattle.lv_checker.specs.Verdicts.{accepted}
 use Rattle.lv_certcheck.specs.declared.check.Verdict.TheVariants.{Valid, Invalid}

@@ -33,13 +33,13 @@ use Rattle.lv_reader.specs.declared.statement.NumberedStatement.{NumberedStateme
 use Rattle.lv_reader.specs.declared.statement.ModelText.{ModelText}
 use Rattle.lv_reader.specs.Statements.{number_fits}
 use Rattle.lv_reader.specs.Texts.{ReadsAs}
-use Rattle.lv_checker.specs.declared.draft.Draft.{Draft}
-use Rattle.lv_checker.specs.declared.draft.TypeDraft.{TypeDraft}
-use Rattle.lv_checker.specs.declared.draft.Entry.{Entry}
-use Rattle.lv_checker.specs.declared.draft.Entry.TheVariants.{Named, NewDomain, TypeBegins, NewVariable, NewMode, TypeLaw, ModeLaws, NewMoves, TypeEnds, NewPart, SystemLaw, NewPrice}
-use Rattle.lv_checker.specs.Places.{placed, variable_numbered, variable_place, part_of_name, type_place, mode_of_type, mode_place}
-use Rattle.lv_checker.specs.Scopes.{variable_of_part, value_of_system}
-use Rattle.lv_checker.specs.Entries.{system_formula, own_variable, is_control_of, has_control, priced_entry, outside_entry, entry_where}
+use Rattle.lv_model_entries.specs.declared.draft.Draft.{Draft}
+use Rattle.lv_model_entries.specs.declared.draft.TypeDraft.{TypeDraft}
+use Rattle.lv_model_entries.specs.declared.draft.Entry.{Entry}
+use Rattle.lv_model_entries.specs.declared.draft.Entry.TheVariants.{Named, NewDomain, TypeBegins, NewVariable, NewMode, TypeLaw, ModeLaws, NewMoves, TypeEnds, NewPart, SystemLaw, NewPrice}
+use Rattle.lv_model_entries.specs.Places.{placed, variable_numbered, variable_place, part_of_name, type_place, mode_of_type, mode_place}
+use Rattle.lv_model_entries.specs.Scopes.{variable_of_part, value_of_system}
+use Rattle.lv_model_entries.specs.Entries.{system_formula, own_variable, is_control_of, has_control, priced_entry, outside_entry, entry_where}
 use Rattle.lv_checker.specs.Faults.{fault_where, judged, in_use_inside, is_too_long_inside, passes_inside, in_use_outside, is_too_long_outside, passes_outside, is_long_name, share_of}
 use Rattle.lv_checker.specs.Drafts.{empty, begun, with_type, with_inside, with_part, with_law, with_outside, with_where, with_entry, type_with, limited_size}
 use Rattle.lv_checker.specs.Checking.{Checked, fine, faulty, checked_by, after, all_added, finished, checked}

@@ -21,13 +21,13 @@ use Rattle.lv_reader.specs.declared.statement.Repair.{Repair}
 use Rattle.lv_reader.specs.declared.statement.Statement.{Statement}
 use Rattle.lv_reader.specs.declared.statement.Statement.TheVariants.{ModelLine, DomainLine, TypeLine, VariableLine, ModeLine, LawLine, InLine, StepLine, FaultLine, FaultsLine, RepairLine, EndLine, PartLine, PriceLine, VersionLine}
 use Rattle.lv_reader.specs.Statements.{number_fits}
-use Rattle.lv_checker.specs.declared.draft.Draft.{Draft}
-use Rattle.lv_checker.specs.declared.draft.TypeDraft.{TypeDraft}
-use Rattle.lv_checker.specs.declared.draft.Entry.{Entry}
-use Rattle.lv_checker.specs.declared.draft.Entry.TheVariants.{NewMode, TypeLaw, ModeLaws, NewMoves, TypeEnds}
-use Rattle.lv_checker.specs.Places.{placed, domain_place, mode_place}
-use Rattle.lv_checker.specs.Scopes.{variable_of_type, value_of_type}
-use Rattle.lv_checker.specs.Entries.{known, on_ok, type_formula, mode_places, law_in, step_of, fault_of, faults_to, is_short, line_number, guard_in, is_control_of, repair_in, inside_entry, entry_of}
+use Rattle.lv_model_entries.specs.declared.draft.Draft.{Draft}
+use Rattle.lv_model_entries.specs.declared.draft.TypeDraft.{TypeDraft}
+use Rattle.lv_model_entries.specs.declared.draft.Entry.{Entry}
+use Rattle.lv_model_entries.specs.declared.draft.Entry.TheVariants.{NewMode, TypeLaw, ModeLaws, NewMoves, TypeEnds}
+use Rattle.lv_model_entries.specs.Places.{placed, domain_place, mode_place}
+use Rattle.lv_model_entries.specs.Scopes.{variable_of_type, value_of_type}
+use Rattle.lv_model_entries.specs.Entries.{known, on_ok, type_formula, mode_places, law_in, step_of, fault_of, faults_to, is_short, line_number, guard_in, is_control_of, repair_in, inside_entry, entry_of}
 use Rattle.lv_checker.specs.Faults.{first_of, fault_where, fault_of_entry, unless_faulty, judged, in_use_inside, is_too_long_inside, passes_inside, is_long_name}
 use Rattle.lv_checker.proofs.FitsLists.{all_behind, chained, placed_is}
 use Rattle.lv_checker.proofs.FitsNames.{is_spelled, has_names}

@@ -4,7 +4,7 @@ use Rattle.std.specs.List.{list_all, flat_map}
 use Rattle.std.specs.Option.{option_map_or, option_and_then}
 use Rattle.std.proofs.lemmas.Bool.{and_parts, and_from}
 use Rattle.std.proofs.lemmas.List.Sums.{sum_by-cons}
-use Rattle.lv_checker.specs.Places.{placed}
+use Rattle.lv_model_entries.specs.Places.{placed}
 
 pub all_more : {X : Type 0} (p : X → Bool) (xs : List X) (x : X) → list_all p xs ≡ true → p x ≡ true → list_all p (xs ++ x ∷ []) ≡ true
 all_more p [] x h e = and_from (p x) true e refl

@@ -24,10 +24,10 @@ use Rattle.lv_formula_text.specs.Resolving.{resolved}
 use Rattle.lv_formula_text.specs.Fitting.{ScopeFits}
 use Rattle.lv_formula_text.specs.declared.resolver.NameFault.{NameFault}
 use Rattle.lv_formula_text.proofs.FittingLemmas.{resolved_fits}
-use Rattle.lv_checker.specs.declared.draft.Draft.{Draft}
-use Rattle.lv_checker.specs.Places.{placed, value_place, mode_place, value_of_domain, value_of_sort}
-use Rattle.lv_checker.specs.Scopes.{are_one_sort, sort_in_type, value_by_sort, value_of_type, type_names, sort_in_system, system_names, with_code}
-use Rattle.lv_checker.specs.Entries.{type_formula, system_formula}
+use Rattle.lv_model_entries.specs.declared.draft.Draft.{Draft}
+use Rattle.lv_model_entries.specs.Places.{placed, value_place, mode_place, value_of_domain, value_of_sort}
+use Rattle.lv_model_entries.specs.Scopes.{are_one_sort, sort_in_type, value_by_sort, value_of_type, type_names, sort_in_system, system_names, with_code}
+use Rattle.lv_model_entries.specs.Entries.{type_formula, system_formula}
 use Rattle.lv_checker.proofs.FitsLists.{all_at, chained, mapped, placed_is}
 
 pub place_below : (names : List (List ℕ)) (word : List ℕ) (v : ValId) → value_place names word ≡ Some v → v.0 < length names

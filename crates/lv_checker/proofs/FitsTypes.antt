@@ -20,9 +20,9 @@ use Rattle.lv_model.specs.Meaning.{is_step_kind}
 use Rattle.lv_model.specs.Ranges.{variable_range, type_ranges}
 use Rattle.lv_model.specs.Counts.{has_count, variable_size, formula_sizes, mode_formula_has_count, guard_has_counts, type_has_counts, formulas_have_counts}
 use Rattle.lv_model.specs.WellFormed.{name_fits, variable_fits, mode_formula_fits, kind_fits, guard_fits, move_fits, moves_rise, is_stay, is_stay_of, stays_once, names_fit, counts_fit, formulas_fit, moves_fit, type_fits, is_within}
-use Rattle.lv_checker.specs.declared.draft.TypeDraft.{TypeDraft}
-use Rattle.lv_checker.specs.declared.draft.Entry.{Entry}
-use Rattle.lv_checker.specs.declared.draft.Entry.TheVariants.{Named, NewDomain, TypeBegins, NewVariable, NewMode, TypeLaw, ModeLaws, NewMoves, TypeEnds, NewPart, SystemLaw, NewPrice}
+use Rattle.lv_model_entries.specs.declared.draft.TypeDraft.{TypeDraft}
+use Rattle.lv_model_entries.specs.declared.draft.Entry.{Entry}
+use Rattle.lv_model_entries.specs.declared.draft.Entry.TheVariants.{Named, NewDomain, TypeBegins, NewVariable, NewMode, TypeLaw, ModeLaws, NewMoves, TypeEnds, NewPart, SystemLaw, NewPrice}
 use Rattle.lv_checker.specs.Drafts.{begun, stay_in, with_move_in_place, with_variable, with_mode, with_type_law, with_mode_laws, with_moves, type_with}
 use Rattle.lv_checker.proofs.FitsLists.{all_more, all_behind, all_kept, all_joined}
 use Rattle.lv_checker.proofs.FitsCounts.{has_kept}

@@ -1,7 +1,5 @@
 pub mod VerdictLemmas
 pub mod ModelLemmas
-pub mod PlaceLists
-pub mod FaultLists
 pub mod FitsLists
 pub mod FitsCounts
 pub mod FitsMoves

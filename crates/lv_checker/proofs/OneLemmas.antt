@@ -14,12 +14,12 @@ use Rattle.lv_reader.specs.declared.statement.Statement.{Statement}
 use Rattle.lv_reader.specs.declared.statement.Statement.TheVariants.{ModelLine, DomainLine, TypeLine, VariableLine, ModeLine, LawLine, InLine, StepLine, FaultLine, FaultsLine, RepairLine, EndLine, PartLine, PriceLine, VersionLine}
 use Rattle.lv_reader.specs.declared.statement.NumberedStatement.{NumberedStatement}
 use Rattle.lv_reader.specs.Statements.{has_form_of}
-use Rattle.lv_checker.specs.declared.draft.Draft.{Draft}
-use Rattle.lv_checker.specs.declared.draft.TypeDraft.{TypeDraft}
-use Rattle.lv_checker.specs.declared.draft.Entry.{Entry}
-use Rattle.lv_checker.specs.declared.draft.Entry.TheVariants.{Named, NewDomain, TypeBegins, NewVariable, NewMode, TypeLaw, ModeLaws, NewMoves, TypeEnds, NewPart, SystemLaw, NewPrice}
-use Rattle.lv_checker.specs.Places.{placed, domain_place, mode_place}
-use Rattle.lv_checker.specs.Entries.{type_formula, mode_places, law_in, step_of, fault_of, line_number, guard_in, inside_entry, entry_where}
+use Rattle.lv_model_entries.specs.declared.draft.Draft.{Draft}
+use Rattle.lv_model_entries.specs.declared.draft.TypeDraft.{TypeDraft}
+use Rattle.lv_model_entries.specs.declared.draft.Entry.{Entry}
+use Rattle.lv_model_entries.specs.declared.draft.Entry.TheVariants.{Named, NewDomain, TypeBegins, NewVariable, NewMode, TypeLaw, ModeLaws, NewMoves, TypeEnds, NewPart, SystemLaw, NewPrice}
+use Rattle.lv_model_entries.specs.Places.{placed, domain_place, mode_place}
+use Rattle.lv_model_entries.specs.Entries.{type_formula, mode_places, law_in, step_of, fault_of, line_number, guard_in, inside_entry, entry_where}
 use Rattle.lv_checker.specs.Faults.{judged}
 use Rattle.lv_checker.specs.Drafts.{empty, stay_in, with_move_in_place, type_with, with_where, with_entry}
 use Rattle.lv_checker.specs.Checking.{fine, checked_by, after, all_added}

@@ -7,7 +7,7 @@ use Rattle.lv_reader.specs.declared.statement.NumberedStatement.{NumberedStateme
 use Rattle.lv_reader.specs.declared.statement.ModelText.{ModelText}
 use Rattle.lv_reader.specs.Texts.{ReadsAs}
 use Rattle.lv_reader.specs.Taking.{TakesAll, none_taken, one_taken, TakesText}
-use Rattle.lv_checker.specs.declared.draft.Draft.{Draft}
+use Rattle.lv_model_entries.specs.declared.draft.Draft.{Draft}
 use Rattle.lv_checker.specs.declared.checking.Checking.{Checking}
 use Rattle.lv_checker.specs.Drafts.{empty}
 use Rattle.lv_checker.specs.Checking.{Checked, fine, faulty, after, one_added, all_added, finished, checked, Finds}

@@ -5,7 +5,7 @@ use Rattle.lv_model.specs.Counts.{law_sizes, plant_count}
 use Rattle.lv_model.specs.Denials.{held_type_count}
 use Rattle.lv_reader.specs.declared.statement.ModelText.{ModelText}
 use Rattle.lv_reader.specs.Texts.{ReadsAs}
-use Rattle.lv_checker.specs.declared.draft.Draft.{Draft}
+use Rattle.lv_model_entries.specs.declared.draft.Draft.{Draft}
 use Rattle.lv_checker.specs.Drafts.{empty}
 use Rattle.lv_checker.specs.Checking.{fine, all_added}
 

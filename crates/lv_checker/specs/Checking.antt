@@ -8,7 +8,7 @@ use Rattle.lv_reader.specs.declared.fault.ModelFault.TheVariants.{At, Memory}
 use Rattle.lv_reader.specs.declared.statement.NumberedStatement.{NumberedStatement}
 use Rattle.lv_reader.specs.declared.statement.ModelText.{ModelText}
 use Rattle.lv_reader.specs.Texts.{ReadsAs}
-use Rattle.lv_checker.specs.declared.draft.Draft.{Draft}
+use Rattle.lv_model_entries.specs.declared.draft.Draft.{Draft}
 use Rattle.lv_checker.specs.Faults.{judged}
 use Rattle.lv_checker.specs.Drafts.{empty, with_entry}
 

@@ -14,11 +14,11 @@ use Rattle.lv_model.specs.Prices.{is_price_of}
 use Rattle.lv_reader.specs.declared.code.ModelCode.{ModelCode}
 use Rattle.lv_reader.specs.declared.code.ModelCode.TheVariants.{NameInUse, TooManyClauses, LimitPassed}
 use Rattle.lv_reader.specs.declared.statement.Statement.{Statement}
-use Rattle.lv_checker.specs.declared.draft.Draft.{Draft}
-use Rattle.lv_checker.specs.declared.draft.TypeDraft.{TypeDraft}
-use Rattle.lv_checker.specs.declared.draft.Entry.{Entry}
-use Rattle.lv_checker.specs.declared.draft.Entry.TheVariants.{Named, NewDomain, TypeBegins, NewVariable, NewMode, TypeLaw, ModeLaws, NewMoves, NewPart, SystemLaw, NewPrice}
-use Rattle.lv_checker.specs.Entries.{entry_of, on_ok}
+use Rattle.lv_model_entries.specs.declared.draft.Draft.{Draft}
+use Rattle.lv_model_entries.specs.declared.draft.TypeDraft.{TypeDraft}
+use Rattle.lv_model_entries.specs.declared.draft.Entry.{Entry}
+use Rattle.lv_model_entries.specs.declared.draft.Entry.TheVariants.{Named, NewDomain, TypeBegins, NewVariable, NewMode, TypeLaw, ModeLaws, NewMoves, NewPart, SystemLaw, NewPrice}
+use Rattle.lv_model_entries.specs.Entries.{entry_of, on_ok}
 
 -- no name stands twice
 abbrev pub are_distinct : List (List ℕ) → Bool

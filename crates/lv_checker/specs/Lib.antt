@@ -1,6 +1,3 @@
-pub mod Places
-pub mod Scopes
-pub mod Entries
 pub mod Faults
 pub mod Drafts
 pub mod Checking
@@ -8,3 +5,4 @@ pub mod Verdicts
 pub mod VersionOne
 pub mod Caches
 pub mod Standing
+pub use Rattle.lv_model_entries.specs as lv_model_entries

@@ -5,7 +5,7 @@ use Rattle.lv_reader.specs.declared.statement.NumberedStatement.{NumberedStateme
 use Rattle.lv_reader.specs.declared.statement.ModelText.{ModelText}
 use Rattle.lv_reader.specs.Texts.{ReadsAs}
 use Rattle.lv_reader.specs.CanonicalTexts.{version_line, canonical_model, WritesLine}
-use Rattle.lv_checker.specs.declared.draft.Draft.{Draft}
+use Rattle.lv_model_entries.specs.declared.draft.Draft.{Draft}
 use Rattle.lv_checker.specs.declared.checking.Refused.{Refused}
 use Rattle.lv_checker.specs.declared.checking.Checking.{Checking}
 use Rattle.lv_checker.specs.declared.checking.Printing.{Printing}

@@ -7,11 +7,11 @@ use Rattle.lv_reader.specs.declared.version.Version.TheVariants.{One}
 use Rattle.lv_reader.specs.declared.statement.Statement.{Statement}
 use Rattle.lv_reader.specs.declared.statement.NumberedStatement.{NumberedStatement}
 use Rattle.lv_reader.specs.Statements.{has_form_of}
-use Rattle.lv_checker.specs.declared.draft.Draft.{Draft}
-use Rattle.lv_checker.specs.declared.draft.TypeDraft.{TypeDraft}
-use Rattle.lv_checker.specs.declared.draft.Entry.{Entry}
-use Rattle.lv_checker.specs.declared.draft.Entry.TheVariants.{ModeLaws, NewMoves}
-use Rattle.lv_checker.specs.Entries.{inside_entry}
+use Rattle.lv_model_entries.specs.declared.draft.Draft.{Draft}
+use Rattle.lv_model_entries.specs.declared.draft.TypeDraft.{TypeDraft}
+use Rattle.lv_model_entries.specs.declared.draft.Entry.{Entry}
+use Rattle.lv_model_entries.specs.declared.draft.Entry.TheVariants.{ModeLaws, NewMoves}
+use Rattle.lv_model_entries.specs.Entries.{inside_entry}
 use Rattle.lv_checker.specs.Drafts.{empty}
 use Rattle.lv_checker.specs.Checking.{fine, all_added}
 

@@ -5,13 +5,12 @@ ghost use Rattle.std.specs.Prelude.{◌≡◌, ◌+◌, [], ◌∷◌, ◌++◌,
 ghost use Rattle.lv_model.specs.Ranges.{part_ranges};
 ghost use Rattle.lv_model.specs.Counts.{held, type_count};
 ghost use Rattle.lv_model.specs.WellFormed.{is_well_formed};
-ghost use Rattle.lv_checker.specs.declared.draft.Entry.TheVariants.{Named, NewDomain, TypeBegins, NewPrice, TypeEnds};
-ghost use Rattle.lv_checker.specs.Entries.{TellsEntry};
+ghost use Rattle.lv_model_entries.specs.declared.draft.Entry.TheVariants.{Named, NewDomain, TypeBegins, NewPrice, TypeEnds};
+ghost use Rattle.lv_model_entries.specs.Entries.{TellsEntry};
 ghost use Rattle.lv_checker.specs.Faults.{fault_of_entry, judged};
 ghost use Rattle.lv_checker.specs.Drafts.{bare, empty, limited_size, is_end, with_type, with_part, with_law, with_outside, with_where, with_entry};
 ghost use Rattle.lv_checker.specs.Checking.{fine, one_added, ending_code, Finds};
 
-use crate::draft::{CheckFault, Draft, Entry, TypeDraft};
 use crate::faults::{judged, share_of};
 use crate::types::{add_inside, begun};
 use lv_base::{Name, Seq};
@@ -21,6 +20,7 @@ use lv_model::ranges::push_part;
 use lv_model::totals::{limited, with};
 use lv_model::{Domain, Model, Part, Plant, Price};
 use lv_model_draft::{NamedPlant, NamedType};
+use lv_model_entries::{CheckFault, Draft, Entry, TypeDraft};
 use lv_reader::{ModelCode, ModelFault, NumberedStatement, Statement};
 use std::alloc::{AllocError, Global};
 

@@ -9,8 +9,8 @@ ghost use Rattle.lv_checker.specs.Standing.{standing, ended, AddsOne, HasRead, I
 ghost use Rattle.lv_checker.specs.Verdicts.{IsVerdict, accepted, Tells};
 
 use crate::checker::{add_one, empty, ending_code, model_of_draft};
-use crate::draft::Draft;
 use lv_model::Model;
+use lv_model_entries::Draft;
 use lv_reader::{Canonical, ModelCode, ModelFault, NumberedStatement, TakesStatements, read_each};
 use std::alloc::{AllocError, Global};
 

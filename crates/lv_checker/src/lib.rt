@@ -7,23 +7,17 @@
 //! | part | items |
 //! |---|---|
 //! | the model of a text, and its canonical text | `model_of`, `printed_model` |
-//! | statements so far, and what one more adds | `Draft`, `TypeDraft`, `Entry` |
-//! | what names stand for | `places`, `scope` |
-//! | what a statement adds, or why its place or names are wrong | `entries` |
-//! | what else speaks against it | `faults` |
+//! | statements so far, and what one more adds | `Draft`, `TypeDraft`, `Entry` of `lv_model_entries` |
+//! | what else speaks against a statement than its place and names | `faults` |
+//! | what is put behind what is there | `checker`, `types` |
 //! | what holds of every text | `laws` |
 #![tactic(auto)]
 
 mod checker;
 mod checking;
-mod copies;
-pub mod draft;
-mod entries;
 mod faults;
 pub mod laws;
-mod places;
-mod scope;
 mod types;
 
 pub use checking::{model_of, printed_model};
-pub use draft::{Draft, Entry, TypeDraft};
+pub use lv_model_entries::{Draft, Entry, TypeDraft, draft};

@@ -6,7 +6,7 @@ use Rattle.lv_gen.specs.Series.{valve_type, part_lines, link_lines, model_text}
 use Rattle.lv_formula_text.specs.Descent.{phrase_of}
 use Rattle.lv_reader.specs.Keywords.{keyword_of}
 use Rattle.lv_checker.specs.Checking.{checked}
-use Rattle.lv_checker.specs.Entries.{inside_entry, outside_entry}
+use Rattle.lv_checker.specs.lv_model_entries.Entries.{inside_entry, outside_entry}
 use Rattle.lv_checker.specs.Faults.{fault_of_entry}
 use Rattle.lv_checker.specs.Verdicts.{Verdict, accepted, refused, IsVerdict}
 use Rattle.lv_model_verdict.specs.Forms.{form_by}

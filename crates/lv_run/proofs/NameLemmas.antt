@@ -26,13 +26,13 @@ use Rattle.lv_reader.specs.declared.version.Version.{Version}
 use Rattle.lv_reader.specs.Versions.{version_in, gives_version, stated}
 use Rattle.lv_reader.specs.Lines.{Says, SaysOf}
 use Rattle.lv_reader.specs.Texts.{AreStatements, none_left, one_more, numbered}
-use Rattle.lv_checker.specs.declared.draft.Draft.{Draft}
-use Rattle.lv_checker.specs.declared.draft.TypeDraft.{TypeDraft}
-use Rattle.lv_checker.specs.declared.draft.Entry.{Entry}
-use Rattle.lv_checker.specs.declared.draft.Entry.TheVariants.{Named, NewDomain, TypeBegins, NewVariable, NewMode, TypeLaw, ModeLaws, NewMoves, TypeEnds, NewPart, SystemLaw, NewPrice}
-use Rattle.lv_checker.specs.Places.{type_place, mode_of_type, variable_numbered, part_of_name}
-use Rattle.lv_checker.specs.Scopes.{variable_of_part, value_of_system}
-use Rattle.lv_checker.specs.Entries.{known, system_formula, has_control, priced_entry, outside_entry, entry_where}
+use Rattle.lv_checker.specs.lv_model_entries.declared.draft.Draft.{Draft}
+use Rattle.lv_checker.specs.lv_model_entries.declared.draft.TypeDraft.{TypeDraft}
+use Rattle.lv_checker.specs.lv_model_entries.declared.draft.Entry.{Entry}
+use Rattle.lv_checker.specs.lv_model_entries.declared.draft.Entry.TheVariants.{Named, NewDomain, TypeBegins, NewVariable, NewMode, TypeLaw, ModeLaws, NewMoves, TypeEnds, NewPart, SystemLaw, NewPrice}
+use Rattle.lv_checker.specs.lv_model_entries.Places.{type_place, mode_of_type, variable_numbered, part_of_name}
+use Rattle.lv_checker.specs.lv_model_entries.Scopes.{variable_of_part, value_of_system}
+use Rattle.lv_checker.specs.lv_model_entries.Entries.{known, system_formula, has_control, priced_entry, outside_entry, entry_where}
 use Rattle.lv_checker.specs.Faults.{judged}
 use Rattle.lv_checker.specs.Drafts.{empty, with_type, type_with, is_end, with_where, with_entry}
 use Rattle.lv_checker.specs.Checking.{Checked, fine, faulty, checked_by, after, all_added, finished, checked}

@@ -1,7 +1,7 @@
 -- where the text may end, its plant is well formed
 use Rattle.std.proofs.Common.{IsTrue, sym, subst}
 use Rattle.lv_model.specs.WellFormed.{is_well_formed}
-use Rattle.lv_checker.specs.declared.draft.Draft.{Draft}
+use Rattle.lv_model_entries.specs.declared.draft.Draft.{Draft}
 use Rattle.lv_checker.proofs.StandingLemmas.{ends_well}
 use Rattle.lv_checker.proofs.checking.Checking.finish.Goals as goal
 

@@ -5,10 +5,10 @@ ghost use Rattle.std.specs.Prelude.{◌≡◌, [], ◌∷◌, IfOk, IfErr, Ok, S
 ghost use Rattle.std.specs.Option.{option_copied, option_map_or};
 ghost use Rattle.lv_reader.specs.declared.code.ModelCode.TheVariants.{UnknownName};
 ghost use Rattle.lv_reader.specs.declared.statement.Statement.TheVariants.{LawLine};
-ghost use Rattle.lv_checker.specs.Entries.{variable_entry, mode_entry, mode_places, law_in, mode_laws_entry, line_number, fault_of, step_of, step_entry, guard_in, fault_entry, faults_to, is_short, faults_entry, repair_in, repair_entry, end_entry, inside_entry, name_entry, part_entry, own_variable, type_formula, is_control_of, has_control, priced_entry, price_entry, outside_entry, entry_of, TellsEntry, TellsFound};
-ghost use Rattle.lv_checker.specs.Places.{mode_place};
-ghost use Rattle.lv_checker.specs.declared.draft.CheckFault.TheVariants.{Refused};
-ghost use Rattle.lv_checker.specs.declared.draft.Entry.TheVariants.{NewMoves};
+ghost use Rattle.lv_model_entries.specs.Entries.{variable_entry, mode_entry, mode_places, law_in, mode_laws_entry, line_number, fault_of, step_of, step_entry, guard_in, fault_entry, faults_to, is_short, faults_entry, repair_in, repair_entry, end_entry, inside_entry, name_entry, part_entry, own_variable, type_formula, is_control_of, has_control, priced_entry, price_entry, outside_entry, entry_of, TellsEntry, TellsFound};
+ghost use Rattle.lv_model_entries.specs.Places.{mode_place};
+ghost use Rattle.lv_model_entries.specs.declared.draft.CheckFault.TheVariants.{Refused};
+ghost use Rattle.lv_model_entries.specs.declared.draft.Entry.TheVariants.{NewMoves};
 ghost use Rattle.lv_model.specs.Lists.{is_control};
 ghost use Rattle.lv_model.specs.declared.plant.Variable.{Variable};
 

@@ -3,7 +3,7 @@ use Rattle.std.proofs.Common.{◌≡◌, ◌+◌, ℕ, suc, Bool, true, false, n
 use Rattle.std.proofs.lemmas.List.{append-nil}
 use Rattle.lv_base.specs.declared.ids.ValId.{ValId}
 use Rattle.lv_formula.specs.Tree.{Tree}
-use Rattle.lv_checker.specs.Entries.{fault_of, faults_to}
+use Rattle.lv_model_entries.specs.Entries.{fault_of, faults_to}
 
 one_further : (target : ValId) (cost : ℕ) (guard : Option Tree) (line n : ℕ)
     → faults_to target cost guard line (n + 1)

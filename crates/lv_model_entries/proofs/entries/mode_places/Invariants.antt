@@ -1,7 +1,7 @@
 use Rattle.std.proofs.Common.{◌≡◌, drop}
-use Rattle.lv_checker.specs.Entries.{mode_places}
-use Rattle.lv_checker.proofs.PlaceLists.{joined_places}
-use Rattle.lv_checker.proofs.entries.mode_places.Given as goal
+use Rattle.lv_model_entries.specs.Entries.{mode_places}
+use Rattle.lv_model_entries.proofs.PlaceLists.{joined_places}
+use Rattle.lv_model_entries.proofs.entries.mode_places.Given as goal
 
 -- the modes so far and those that are left are all
 abbrev pub invariant-names : goal.invariant-names

@@ -1,6 +1,6 @@
 use Rattle.std.proofs.Common.{◌≡◌}
-use Rattle.lv_checker.specs.Entries.{faults_to}
-use Rattle.lv_checker.proofs.entries.faults_like.Given as goal
+use Rattle.lv_model_entries.specs.Entries.{faults_to}
+use Rattle.lv_model_entries.proofs.entries.faults_like.Given as goal
 
 -- the faults from the modes so far
 abbrev pub invariant-modes : goal.invariant-modes

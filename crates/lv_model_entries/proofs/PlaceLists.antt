@@ -5,8 +5,8 @@ use Rattle.lv_base.specs.declared.ids.ValId.{ValId}
 use Rattle.lv_model.specs.declared.plant.ComponentType.{ComponentType}
 use Rattle.lv_reader.specs.declared.code.ModelCode.{ModelCode}
 use Rattle.lv_reader.specs.declared.code.ModelCode.TheVariants.{UnknownName}
-use Rattle.lv_checker.specs.Places.{mode_place}
-use Rattle.lv_checker.specs.Entries.{known, on_ok, mode_places}
+use Rattle.lv_model_entries.specs.Places.{mode_place}
+use Rattle.lv_model_entries.specs.Entries.{known, on_ok, mode_places}
 
 -- modes and those after them
 abbrev pub joined_places : List ValId → Result (List ValId) ModelCode → Result (List ValId) ModelCode

@@ -71,7 +71,7 @@ pub enum CheckFault {
 }
 
 impl From<AllocError> for CheckFault {
-    ghost use Rattle.lv_checker.specs.declared.draft.CheckFault.TheVariants.{Memory};
+    ghost use Rattle.lv_model_entries.specs.declared.draft.CheckFault.TheVariants.{Memory};
 
     ghost from_gives = { λ _ fault. fault ≡ Memory };
 
@@ -81,7 +81,7 @@ impl From<AllocError> for CheckFault {
 }
 
 impl<T: Drop> From<AllocFailed<T>> for CheckFault {
-    ghost use Rattle.lv_checker.specs.declared.draft.CheckFault.TheVariants.{Memory};
+    ghost use Rattle.lv_model_entries.specs.declared.draft.CheckFault.TheVariants.{Memory};
 
     ghost from_gives = { λ _ fault. fault ≡ Memory };
 

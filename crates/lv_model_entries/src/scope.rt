@@ -3,8 +3,8 @@
 #![tactic(auto)]
 
 ghost use Rattle.std.specs.Prelude.{◌≡◌, IfOk, IfErr, Ok};
-ghost use Rattle.lv_checker.specs.Scopes.{are_one_sort, variable_of_type, sort_in_type, value_by_sort, value_of_type, share_in_type, variable_of_part, variable_of_system, sort_in_system, value_of_system, share_in_system, TellsFormula};
-ghost use Rattle.lv_checker.specs.Entries.{type_formula, system_formula};
+ghost use Rattle.lv_model_entries.specs.Scopes.{are_one_sort, variable_of_type, sort_in_type, value_by_sort, value_of_type, share_in_type, variable_of_part, variable_of_system, sort_in_system, value_of_system, share_in_system, TellsFormula};
+ghost use Rattle.lv_model_entries.specs.Entries.{type_formula, system_formula};
 ghost use Rattle.lv_formula.specs.declared.path.Path.TheVariants.{Own};
 
 use crate::draft::{CheckFault, Draft};
@@ -75,7 +75,7 @@ pub fn own_value(domains: &[Domain], of: &NamedType, variable: VarId, name: &[u8
 }
 
 impl<'a> Scope for TypeScope<'a> {
-    ghost use Rattle.lv_checker.specs.Scopes.{variable_of_type, value_of_type, share_in_type};
+    ghost use Rattle.lv_model_entries.specs.Scopes.{variable_of_type, value_of_type, share_in_type};
 
     ghost named_variable = { λ s path. variable_of_type s.lists.now path };
 
@@ -142,7 +142,7 @@ pub fn value_of_system(draft: &Draft, variable: VarId, word: &[u8]) -> Option<Va
 }
 
 impl<'a> Scope for SystemScope<'a> {
-    ghost use Rattle.lv_checker.specs.Scopes.{variable_of_system, value_of_system, share_in_system};
+    ghost use Rattle.lv_model_entries.specs.Scopes.{variable_of_system, value_of_system, share_in_system};
 
     ghost named_variable = { λ s path. variable_of_system s.draft.now path };
 

@@ -2,11 +2,11 @@ use Rattle.std.proofs.Common.{◌≡◌, ◌∙◌, sym, ap, List, Result, IfErr
 use Rattle.lv_model.specs.declared.plant.Plant.{Plant}
 use Rattle.lv_model.specs.declared.plant.Domain.{Domain}
 use Rattle.lv_reader.specs.declared.statement.Statement.{Statement}
-use Rattle.lv_checker.specs.declared.draft.TypeDraft.{TypeDraft}
-use Rattle.lv_checker.specs.declared.draft.CheckFault.{CheckFault}
-use Rattle.lv_checker.specs.declared.draft.Entry.{Entry}
-use Rattle.lv_checker.specs.Entries.{inside_entry, TellsEntry}
-use Rattle.lv_checker.proofs.entries.inside_entry.Goals as goal
+use Rattle.lv_model_entries.specs.declared.draft.TypeDraft.{TypeDraft}
+use Rattle.lv_model_entries.specs.declared.draft.CheckFault.{CheckFault}
+use Rattle.lv_model_entries.specs.declared.draft.Entry.{Entry}
+use Rattle.lv_model_entries.specs.Entries.{inside_entry, TellsEntry}
+use Rattle.lv_model_entries.proofs.entries.inside_entry.Goals as goal
 
 -- a fault that is told over equal domains of an equal statement
 told_alike : (r : Result Entry CheckFault) (ds es : List Domain) (t : TypeDraft) (s u : Statement) → ds ≡ es → s ≡ u → IfErr r (λ fault. TellsEntry fault (inside_entry ds t u))

@@ -22,14 +22,14 @@ use Rattle.lv_reader.specs.declared.code.ModelCode.TheVariants.{UnknownName, NoF
 use Rattle.lv_reader.specs.declared.statement.Repair.{Repair}
 use Rattle.lv_reader.specs.declared.statement.Statement.{Statement}
 use Rattle.lv_reader.specs.declared.statement.Statement.TheVariants.{ModelLine, DomainLine, TypeLine, VariableLine, ModeLine, LawLine, InLine, StepLine, FaultLine, FaultsLine, RepairLine, EndLine, PartLine, PriceLine}
-use Rattle.lv_checker.specs.declared.draft.Draft.{Draft}
-use Rattle.lv_checker.specs.declared.draft.TypeDraft.{TypeDraft}
-use Rattle.lv_checker.specs.declared.draft.CheckFault.{CheckFault}
-use Rattle.lv_checker.specs.declared.draft.CheckFault.TheVariants.{Refused, Memory}
-use Rattle.lv_checker.specs.declared.draft.Entry.{Entry}
-use Rattle.lv_checker.specs.declared.draft.Entry.TheVariants.{Named, NewDomain, TypeBegins, NewVariable, NewMode, TypeLaw, ModeLaws, NewMoves, TypeEnds, NewPart, SystemLaw, NewPrice}
-use Rattle.lv_checker.specs.Places.{placed, domain_place, type_place, mode_place, variable_numbered, variable_place, part_of_name, mode_of_type}
-use Rattle.lv_checker.specs.Scopes.{formula_in, variable_of_type, value_of_type, type_names, system_names, variable_of_part, value_of_system}
+use Rattle.lv_model_entries.specs.declared.draft.Draft.{Draft}
+use Rattle.lv_model_entries.specs.declared.draft.TypeDraft.{TypeDraft}
+use Rattle.lv_model_entries.specs.declared.draft.CheckFault.{CheckFault}
+use Rattle.lv_model_entries.specs.declared.draft.CheckFault.TheVariants.{Refused, Memory}
+use Rattle.lv_model_entries.specs.declared.draft.Entry.{Entry}
+use Rattle.lv_model_entries.specs.declared.draft.Entry.TheVariants.{Named, NewDomain, TypeBegins, NewVariable, NewMode, TypeLaw, ModeLaws, NewMoves, TypeEnds, NewPart, SystemLaw, NewPrice}
+use Rattle.lv_model_entries.specs.Places.{placed, domain_place, type_place, mode_place, variable_numbered, variable_place, part_of_name, mode_of_type}
+use Rattle.lv_model_entries.specs.Scopes.{formula_in, variable_of_type, value_of_type, type_names, system_names, variable_of_part, value_of_system}
 
 -- what comes of what there is, and the code where there is nothing
 abbrev pub known : {A B : Type 0} → Option A → ModelCode → (A → Result B ModelCode) → Result B ModelCode

@@ -21,10 +21,10 @@ use Rattle.lv_formula_text.specs.declared.resolver.NameFault.{NameFault}
 use Rattle.lv_formula_text.specs.declared.resolver.NameFault.TheVariants as name_fault
 use Rattle.lv_reader.specs.declared.code.ModelCode.{ModelCode}
 use Rattle.lv_reader.specs.declared.code.ModelCode.TheVariants.{UnknownName, NoFit}
-use Rattle.lv_checker.specs.declared.draft.Draft.{Draft}
-use Rattle.lv_checker.specs.declared.draft.CheckFault.{CheckFault}
-use Rattle.lv_checker.specs.declared.draft.CheckFault.TheVariants.{Refused, Memory}
-use Rattle.lv_checker.specs.Places.{variable_numbered, variable_place, part_of_name, mode_place, value_of_domain, value_of_sort}
+use Rattle.lv_model_entries.specs.declared.draft.Draft.{Draft}
+use Rattle.lv_model_entries.specs.declared.draft.CheckFault.{CheckFault}
+use Rattle.lv_model_entries.specs.declared.draft.CheckFault.TheVariants.{Refused, Memory}
+use Rattle.lv_model_entries.specs.Places.{variable_numbered, variable_place, part_of_name, mode_place, value_of_domain, value_of_sort}
 
 -- both are there, and are of one sort
 abbrev pub are_one_sort : Option Sort → Option Sort → Bool

@@ -1,5 +1,5 @@
 use Rattle.std.proofs.Common.{◌≡◌, take}
-use Rattle.lv_checker.proofs.entries.all_copied.Given as goal
+use Rattle.lv_model_entries.proofs.entries.all_copied.Given as goal
 
 -- the names so far are copied
 abbrev pub invariant-loop-name : goal.invariant-loop-name
