@@ -1,5 +1,5 @@
 -- The facts of one question after another, as claims: what is claimed is what was asked about last.
-use Rattle.std.specs.Prelude.{◌<◌, ◌≤◌, ◌^◌, ℕ, List, ◌++◌, length, map, All, Option, IsTrue}
+use Rattle.std.specs.Prelude.{◌≡◌, ◌<◌, ◌≤◌, ◌+◌, ◌-◌, ◌^◌, ℕ, List, ◌++◌, length, map, take, drop, All, Option, IsTrue}
 use Rattle.lv_base.specs.declared.ids.Lit.{Lit}
 use Rattle.lv_model.specs.declared.plant.Plant.{Plant}
 use Rattle.lv_model.specs.declared.state.State.{State}
@@ -42,6 +42,14 @@ pub record AreFactsIn (plant : Plant) (facts : Facts) : Type 0 where
   pub fit : FactsFit plant facts
   pub claims : All (IsClaimIn (values_of plant)) (fact_claims plant facts)
   pub few : length (fact_claims plant facts) ≤ CLAIMS
+
+-- the claims before a place came in place of those before it
+pub record AreTurned (to : ℕ) (before now : List Label) (old new : Claims) : Type 0 where
+  pub values : new.values ≡ old.values
+  pub modes : new.modes ≡ old.modes
+  pub claiming : (plant : Plant) (literals : List Lit) → length before + length now + length literals < 2 ^ 32 - 1
+      → IsClaiming plant (claim_literals plant before ++ literals) old
+      → IsClaiming plant (claim_literals plant (take to now) ++ (claim_literals plant (drop to before) ++ literals)) new
 
 -- if a state is given, each part's type has the mode that the part has in it
 abbrev pub HasOwnModes : Plant → Option State → Type 0

@@ -2,16 +2,17 @@
 //! those that the last question didn't have, or had alone, change an assumption.
 #![tactic(auto)]
 
-ghost use Rattle.std.specs.Prelude.{◌≡◌, ◌+◌, ◌≤◌, ◌<◌, ◌^◌, ◌++◌, List, All, IfOk, length, map};
+ghost use Rattle.std.specs.Prelude.{◌≡◌, ◌+◌, ◌-◌, ◌≤◌, ◌<◌, ◌^◌, ◌∷◌, ◌++◌, List, All, IfOk, length, map};
 ghost use Rattle.std.specs.Option.{option_copied};
 ghost use Rattle.lv_base.specs.declared.ids.Lit.{Lit};
 ghost use Rattle.lv_model.specs.declared.plant.Plant.{Plant};
 ghost use Rattle.lv_meaning.specs.Facts.{FactsFit};
 ghost use Rattle.lv_system.specs.System.{IsSystemOf};
 ghost use Rattle.lv_labels.specs.Literals.{fact_literals, state_literals};
+ghost use Rattle.lv_labels.specs.Labels.{label_literal};
 ghost use Rattle.lv_labels.specs.Finding.{labelling};
 ghost use Rattle.lv_labels.specs.Claims.{IsClaiming};
-ghost use Rattle.lv_labels.specs.Holding.{claim_at, fact_claims, claim_literals, IsClaimIn, AreFactsIn, HasOwnModes};
+ghost use Rattle.lv_labels.specs.Holding.{claim_at, fact_claims, claim_literals, IsClaimIn, AreTurned, AreFactsIn, HasOwnModes};
 
 use crate::fact_labels::FactLabels;
 use crate::labelling::Labelling;
@@ -21,7 +22,7 @@ use lv_model::{Model, State};
 use lv_reply::{Label, Moment};
 use lv_system::StepSystem;
 use std::alloc::{AllocError, Global};
-use std::{marker, mem};
+use std::marker;
 
 /// The clauses of a model, and the facts that the last question was asked under. Contracts see the plant.
 #[derive(Drop)]
@@ -101,6 +102,51 @@ fn release_all(labels: &mut FactLabels, claims: &[Label])
     }
 }
 
+/// Claims a value in place of another one, which is taken back first.
+fn turn(labels: &mut FactLabels, before: Label, now: Label)
+    requires before { IsClaimIn labels.old.values before }
+    requires now { IsClaimIn labels.old.values now }
+    ensures claiming { (plant : Plant) (literals : List Lit) → length literals < 2 ^ 32 - 1 → IsClaiming plant (label_literal plant before ∷ literals) labels.old → IsClaiming plant (label_literal plant now ∷ literals) labels.new }
+    ensures values { labels.new.values ≡ labels.old.values }
+    ensures modes { labels.new.modes ≡ labels.old.modes }
+{
+    if before == now {
+        return;
+    }
+    labels.release(before.moment, before.var, before.val);
+    labels.claim(now.moment, now.var, now.val);
+}
+
+/// Claims these in place of those before, one by one, as long as both are of the same variables. Answers how many are.
+fn turn_first(labels: &mut FactLabels, before: &[Label], now: &[Label]) -> usize
+    requires before { All (IsClaimIn labels.old.values) before.now }
+    requires now { All (IsClaimIn labels.old.values) now.now }
+    ensures turned { AreTurned result before.now now.now labels.old labels.new }
+    ensures before { result ≤ length before.now }
+    ensures now { result ≤ length now.now }
+{
+    let mut at = 0;
+    while at < before.len() && at < now.len() && before[at].var == now[at].var {
+        turn(labels, before[at], now[at]);
+        at += 1;
+    }
+    at
+}
+
+/// Claims all of these in place of all those before. Where one is of the same variable as the one in its place, as with
+/// controls, the value before goes first: both at once would contradict each other.
+fn turn_all(labels: &mut FactLabels, before: &[Label], now: &[Label])
+    requires before { All (IsClaimIn labels.old.values) before.now }
+    requires now { All (IsClaimIn labels.old.values) now.now }
+    ensures claiming { (plant : Plant) (literals : List Lit) → length before.now + length now.now + length literals < 2 ^ 32 - 1 → IsClaiming plant (claim_literals plant before.now ++ literals) labels.old → IsClaiming plant (claim_literals plant now.now ++ literals) labels.new }
+    ensures values { labels.new.values ≡ labels.old.values }
+    ensures modes { labels.new.modes ≡ labels.old.modes }
+{
+    let at = turn_first(labels, before, now);
+    claim_all(labels, &now[at..]);
+    release_all(labels, &before[at..]);
+}
+
 impl<'a> Labeller<'a> {
     /// With no facts so far. The system is the model's.
     pub fn new(
@@ -127,9 +173,8 @@ impl<'a> Labeller<'a> {
         ensures plant { self.new ≡ self.old }
     {
         let claims = claims_of(self.alloc, self.model, facts)?;
-        claim_all(&mut self.labels, claims.as_slice());
-        let before = mem::replace(&mut self.claimed, claims);
-        release_all(&mut self.labels, before.as_slice());
+        turn_all(&mut self.labels, self.claimed.as_slice(), claims.as_slice());
+        self.claimed = claims;
         self.labels.tell(self.alloc, of)
     }
 }
