@@ -7,7 +7,9 @@ ghost use Rattle.lv_model.specs.declared.state.TrackedState.{TrackedState};
 ghost use Rattle.lv_meaning.specs.Recovers.{reaches};
 ghost use Rattle.lv_meaning.specs.lv_search_walk.Reason.{reduced};
 ghost use Rattle.lv_model.specs.Lists.{sizes};
+ghost use Rattle.lv_base.specs.Choices.{pairs_of};
 ghost use Rattle.lv_reconf.specs.Assuming.{pairs_fit};
+ghost use Rattle.lv_reconf.specs.Judging.{candidate_commands};
 ghost use Rattle.lv_reconf.specs.Tests.{can_show, two_pass};
 ghost use Rattle.lv_reconf.specs.Trying.{asking, looking_at, reaches_at};
 
@@ -15,7 +17,7 @@ use super::commanded::Commanded;
 use super::goals::reaching_solver;
 use super::setting::Setting;
 use lv_asking::{Refuter, reduced};
-use lv_base::{Pair, ValId, VarId};
+use lv_base::{Candidate, Pair, ValId, VarId, pairs_of};
 use lv_clauses::{Marks, is_marked};
 use lv_meaning::Observation;
 use lv_sat::Solver;
@@ -64,6 +66,16 @@ impl<'s, 'a> Reaching<'s, 'a> {
         ensures { result.now ≡ asking self.now.plant self.now.aim }
     {
         self.setting
+    }
+
+    /// The values of a command set, each at its control's slot.
+    pub fn values_of(&self, candidate: &Candidate) -> Result<Vec<Pair>, AllocError>
+        requires { candidate_commands self.now.plant candidate.now ≡ true }
+        ensures pairs { IfOk result (λ out. out.items ≡ pairs_of candidate.now.choices) }
+        ensures fit { IfOk result (λ out. pairs_fit self.now.plant out.items ≡ true) }
+    {
+        let _plant = self.setting.compiled().model().plant();
+        pairs_of(self.alloc, candidate.choices.as_slice())
     }
 
     /// From how many tracked states these values reach the goals, up to the first from which they don't.

@@ -12,7 +12,7 @@ ghost use Rattle.lv_reconf.specs.Testing.{TestQuestion, testing, JudgesTest};
 use super::judged::Judged;
 use super::reaching::Reaching;
 use super::setting::Setting;
-use lv_base::{Candidate, Conflict, Pair, ValId, VarId, pairs_of};
+use lv_base::{Candidate, Conflict, Pair, ValId, VarId};
 use lv_search::{Trial, Tried};
 use std::alloc::{AllocError, Global};
 use std::marker;
@@ -93,16 +93,6 @@ impl<'s, 'a> TestTrial<'s, 'a> {
         Ok(false)
     }
 
-    /// The values of a command set, each at its control's slot.
-    fn values_of(&self, candidate: &Candidate) -> Result<Vec<Pair>, AllocError>
-        requires { candidate_commands self.now.plant candidate.now ≡ true }
-        ensures pairs { IfOk result (λ out. out.items ≡ pairs_of candidate.now.choices) }
-        ensures fit { IfOk result (λ out. pairs_fit self.now.plant out.items ≡ true) }
-    {
-        let _plant = self.reaching.setting().compiled().model().plant();
-        pairs_of(self.alloc, candidate.choices.as_slice())
-    }
-
     /// What is found of the values of a command set: first from how many tracked states there is a step with them, then
     /// whether some value of the variable is shared.
     fn judge(&mut self, pairs: &[Pair]) -> Result<Judged, AllocError>
@@ -135,7 +125,7 @@ impl Trial for TestTrial<'_, '_> {
     ghost is_apart = { λ t c d one other cannot can. reason_apart t.plant t.aim t.var c.choices d.choices one other cannot can };
 
     fn attempt(&mut self, candidate: &Candidate) -> Result<Tried, AllocError> {
-        let pairs = self.values_of(candidate)?;
+        let pairs = self.reaching.values_of(candidate)?;
         match self.judge(pairs.as_slice())? {
             Judged::Recovers => Ok(Tried::Fits),
             Judged::Misses => Ok(Tried::Refused(Conflict::from_pairs(

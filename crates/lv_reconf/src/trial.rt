@@ -13,7 +13,7 @@ use super::commanded::Commanded;
 use super::judged::Judged;
 use super::reaching::Reaching;
 use super::setting::Setting;
-use lv_base::{Candidate, Conflict, Pair, pairs_of};
+use lv_base::{Candidate, Conflict, Pair};
 use lv_search::{Trial, Tried};
 use std::alloc::{AllocError, Global};
 use std::marker;
@@ -62,16 +62,6 @@ impl<'s, 'a> ReconfTrial<'s, 'a> {
         )
     }
 
-    /// The values of a command set, each at its control's slot.
-    fn values_of(&self, candidate: &Candidate) -> Result<Vec<Pair>, AllocError>
-        requires { candidate_commands self.now.plant candidate.now ≡ true }
-        ensures pairs { IfOk result (λ out. out.items ≡ pairs_of candidate.now.choices) }
-        ensures fit { IfOk result (λ out. pairs_fit self.now.plant out.items ≡ true) }
-    {
-        let _plant = self.reaching.setting().compiled().model().plant();
-        pairs_of(self.alloc, candidate.choices.as_slice())
-    }
-
     /// What is found of the values of a command set: first from how many tracked states they reach the goals, then whether
     /// from one of these they can miss a goal.
     fn judge(&mut self, pairs: &[Pair]) -> Result<Judged, AllocError>
@@ -104,7 +94,7 @@ impl Trial for ReconfTrial<'_, '_> {
     ghost is_apart = { λ t c d one other cannot can. apart t.plant t.aim c d one other cannot can };
 
     fn attempt(&mut self, candidate: &Candidate) -> Result<Tried, AllocError> {
-        let pairs = self.values_of(candidate)?;
+        let pairs = self.reaching.values_of(candidate)?;
         match self.judge(pairs.as_slice())? {
             Judged::Recovers => Ok(Tried::Fits),
             Judged::Misses => Ok(Tried::Refused(Conflict::from_pairs(

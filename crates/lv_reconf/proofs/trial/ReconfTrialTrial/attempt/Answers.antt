@@ -12,5 +12,5 @@ from_pairs-requires c = ap slots_rise (c.as_slice-in-Misses.ensures.value ∙ c.
 pub from_pairs-requires-in-Stops : goal.from_pairs-requires-in-Stops
 from_pairs-requires-in-Stops c =
     ap slots_rise (c.as_slice-in-Stops-2.ensures.value ∙ c.in_ok-reason-in-Stops.ensures.reduced)
-    ∙ still_rising (reaches_at (looking_at c.self.inside.reaching.plant c.self.inside.reaching.aim c.in-Stops.at)) [] c.as_slice-in-Stops.result.now
+    ∙ still_rising (reaches_at (looking_at c.self-2.inside.reaching.plant c.self-2.inside.reaching.aim c.in-Stops.at)) [] c.as_slice-in-Stops.result.now
     (ap slots_rise (c.as_slice-in-Stops.ensures.value ∙ c.in_ok-pairs.ensures.pairs) ∙ pairs_rise 0 c.args.candidate.now.choices)
