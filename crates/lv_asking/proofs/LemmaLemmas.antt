@@ -12,7 +12,7 @@ use Rattle.lv_sat.specs.lv_reflog.Following.{first_bad_step, IsImplied}
 use Rattle.lv_sat.proofs.lv_reflog.SoundLemmas.{checked}
 use Rattle.lv_sat.specs.Answers.{last_clause, IsModel, IsRefutation}
 use Rattle.lv_system.proofs.NumberingLemmas.{all_present_hold}
-use Rattle.lv_asking.specs.Lemmas.{Follows, HaveSameModels, front_of, IsFilled, HasLemmas, AddsLemmas, AreAlikeBelow}
+use Rattle.lv_asking.specs.Lemmas.{Follows, HaveSameModels, front_of, IsFilled, HasLemmas, AddsLemmas}
 use Rattle.lv_asking.specs.Replies.{IsCore}
 
 same_by : (a b : Bool) → (a ≡ true → b ≡ true) → (b ≡ true → a ≡ true) → a ≡ b
@@ -111,28 +111,25 @@ take_above (suc n) [] id above = refl
 take_above (suc n) (slot ∷ slots) zero above = absurd (omega (arith, above))
 take_above (suc n) (slot ∷ slots) (suc id) above = take_above n slots id (omega (arith, above))
 
--- where a set has numbers below a bound alone, its clauses are told by those of another below it
-pub same_front : (set all : ClauseMap) (bound : ℕ) → IsBound set.slots bound → AreAlikeBelow bound set all → HaveSameModels set (front_of bound all)
-same_front set all bound told alike = same_by_numbers set (front_of bound all) (sym alike.bools) (λ id. by id (cases_lt id bound))
+-- where a set has numbers below a bound alone, it is what it has below it
+same_front : (set : ClauseMap) (bound : ℕ) → IsBound set.slots bound → HaveSameModels set (front_of bound set)
+same_front set bound told = same_by_numbers set (front_of bound set) refl (λ id. by id (cases_lt id bound))
   where
-    by : (id : ℕ) → (id < bound) ⊎ (bound ≤ id) → clause_at set.slots id ≡ clause_at (take bound all.slots) id
-    by id (inl less) = alike.clauses id less ∙ sym (take_below bound all.slots id less)
-    by id (inr above) = absent (clause_at set.slots id) (λ some. let less = told.above id some in absurd (omega (arith, above, less))) ∙ sym (take_above bound all.slots id above)
-
-pub alike_itself : (bound : ℕ) (set : ClauseMap) → AreAlikeBelow bound set set
-alike_itself bound set = record { bools = refl; clauses = λ id less. refl }
+    by : (id : ℕ) → (id < bound) ⊎ (bound ≤ id) → clause_at set.slots id ≡ clause_at (take bound set.slots) id
+    by id (inl less) = sym (take_below bound set.slots id less)
+    by id (inr above) = absent (clause_at set.slots id) (λ some. let less = told.above id some in absurd (omega (arith, above, less))) ∙ sym (take_above bound set.slots id above)
 
 -- a solver of copies has no lemmas yet
 pub none_yet : (set all : ClauseMap) (bound : ℕ) (filled : Bool) → all ≡ set → IsBound set.slots bound → (filled ≡ true → IsFilled bound set) → HasLemmas bound filled all
 none_yet set all bound filled is told fill =
     subst (λ (s : ClauseMap). HasLemmas bound filled s) (sym is)
     (record {
-      models = let one = same_front set set bound told (alike_itself bound set) in record { bools = refl; same = λ values len. sym (one.same values len) };
+      models = let one = same_front set bound told in record { bools = refl; same = λ values len. sym (one.same values len) };
       filled = fill;
     })
 
 pub models_yet : (set all : ClauseMap) (bound : ℕ) → all ≡ set → IsBound set.slots bound → HaveSameModels set (front_of bound all)
-models_yet set all bound is told = subst (λ (s : ClauseMap). HaveSameModels set (front_of bound s)) (sym is) (same_front set set bound told (alike_itself bound set))
+models_yet set all bound is told = subst (λ (s : ClauseMap). HaveSameModels set (front_of bound s)) (sym is) (same_front set bound told)
 
 -- filled slots that are the same below a bound are one list up to it
 take_alike : (bound : ℕ) (one other : List (Option (List Lit))) → ((id : ℕ) → id < bound → IsSome (clause_at one id)) → ((id : ℕ) → id < bound → clause_at other id ≡ clause_at one id) → take bound other ≡ take bound one

@@ -31,8 +31,3 @@ pub record AddsLemmas (bound : ℕ) (is_filled : Bool) (old new : ClauseMap) : T
   pub models : HaveSameModels old new
   pub front : front_of bound new ≡ front_of bound old
   pub filled : is_filled ≡ true → IsFilled bound old → IsFilled bound new
-
--- the sets are over as many booleans, and have the same clauses of the numbers below a bound
-pub record AreAlikeBelow (bound : ℕ) (one other : ClauseMap) : Type 0 where
-  pub bools : other.bools ≡ one.bools
-  pub clauses : (id : ℕ) → id < bound → clause_at one.slots id ≡ clause_at other.slots id

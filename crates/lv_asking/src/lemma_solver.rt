@@ -4,9 +4,8 @@
 
 ghost use Rattle.std.specs.Prelude.{◌≡◌, ◌<◌, true, None, IsTrue, IfOk};
 ghost use Rattle.lv_clauses.specs.Literals.{is_clause};
-ghost use Rattle.lv_clauses.specs.ClauseMap.{clause_at};
 ghost use Rattle.lv_reflog.specs.Following.{first_bad_step};
-ghost use Rattle.lv_asking.specs.Lemmas.{Follows, HaveSameModels, IsFilled, AddsLemmas, AreAlikeBelow};
+ghost use Rattle.lv_asking.specs.Lemmas.{Follows, HaveSameModels, IsFilled, AddsLemmas};
 
 use lv_base::{ClauseId, Lit, Seq};
 use lv_clauses::{ClauseSet, is_clause};
@@ -76,35 +75,6 @@ impl LemmaSolver {
         })
     }
 
-    /// A solver of a set's clauses: this one with all that it learned, where it is of the same ones, since to look at them is
-    /// less work than to make a solver; else one of copies.
-    pub fn renewed(
-        alloc: Global,
-        set: &ClauseSet,
-        spare: Option<LemmaSolver>,
-    ) -> Result<LemmaSolver, AllocError>
-        ensures { IfOk result (λ s. HaveSameModels set.now s) }
-    {
-        match spare {
-            Some(solver) => {
-                if solver.is_of(set) {
-                    Ok(solver)
-                } else {
-                    LemmaSolver::new(alloc, set)
-                }
-            }
-            None => LemmaSolver::new(alloc, set),
-        }
-    }
-
-    /// Whether a set has the same clauses, each with its number.
-    fn is_of(&self, set: &ClauseSet) -> bool
-        ensures { result ≡ true → HaveSameModels set.now self.now }
-    {
-        set.bound() == self.front.bound
-            && are_alike_below(set, self.solver.clauses(), self.front.bound)
-    }
-
     /// The number of booleans.
     pub fn bools(&self) -> u32
         ensures { result ≡ self.now.bools }
@@ -147,32 +117,6 @@ fn is_filled(set: &ClauseSet, bound: usize) -> bool
         }
     }
     true
-}
-
-/// Whether the sets are over as many booleans, and have the same clauses of the numbers below the bound.
-fn are_alike_below(one: &ClauseSet, other: &ClauseSet, bound: usize) -> bool
-    ensures { result ≡ true → AreAlikeBelow bound one.now other.now }
-{
-    if one.bools() != other.bools() {
-        return false;
-    }
-    for at in 0..bound {
-        if !are_alike_at(one, other, ClauseId(at)) {
-            return false;
-        }
-    }
-    true
-}
-
-/// Whether they have the same clause of this number, or both have none.
-fn are_alike_at(one: &ClauseSet, other: &ClauseSet, id: ClauseId) -> bool
-    ensures { result ≡ true → clause_at one.now.slots id.0 ≡ clause_at other.now.slots id.0 }
-{
-    match (one.find(id), other.find(id)) {
-        (Some(lits), Some(others)) => lits == others,
-        (None, None) => true,
-        (Some(_), None) | (None, Some(_)) => false,
-    }
 }
 
 /// Keeps the short clauses that a log derives, beside so many lemmas. Answers how many there are then. Where propagation alone

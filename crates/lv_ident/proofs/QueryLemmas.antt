@@ -1,4 +1,4 @@
--- A query is on the walk of the diagnosis, whatever its trial holds.
+-- A query is on the walk of the diagnosis.
 use Rattle.std.proofs.Common.{◌≡◌, ℕ, Bool, true, false, List, [], refl, sym, subst, ap, ◌∙◌, arith, Result, Ok, Err}
 use Rattle.std.specs.Prelude.{Some, None}
 use Rattle.std.specs.Result.{IfOk}
@@ -16,24 +16,10 @@ use Rattle.lv_meaning.specs.Targets.{are_alike, targets_of_moves}
 use Rattle.lv_meaning.proofs.TargetLemmas.{targets_are_groups}
 use Rattle.lv_search_walk.specs.Groups.{alike_by}
 use Rattle.lv_search.specs.lv_boxes.RankedMembers.{ranked_members}
-use Rattle.lv_search.specs.Standing.{Standing, IsUnderWay, AreSame}
+use Rattle.lv_search.specs.Standing.{Standing, IsUnderWay}
 use Rattle.lv_search_zones.specs.Moves.{move_slots, zones_from, is_full_choice}
-use Rattle.lv_ident.specs.Trial.{TrialValue}
-use Rattle.lv_ident.specs.Query.{QueryValue, groups_for, IsQueryOf, IsTriedBy}
+use Rattle.lv_ident.specs.Query.{QueryValue, groups_for, IsQueryOf}
 use Rattle.lv_search_zones.proofs.ZoneLemmas.{zones_have_candidates, candidates_are_full}
-
--- what holds of the meanings of one trial holds of the same meanings of another
-pub of_same_meaning : (P : (Candidate → Bool) → (Candidate → Bool) → (Candidate → List Pair) → Type 0) (plant : Plant) (facts : Facts) (t : TrialValue) → IsTriedBy plant facts t
-    → P (is_full_choice t.plant) (is_possible_candidate t.plant t.facts) (reason_of t.plant t.facts) → P (is_full_choice plant) (is_possible_candidate plant facts) (reason_of plant facts)
-of_same_meaning P plant facts t h holds =
-    subst (λ (reason : Candidate → List Pair). P (is_full_choice plant) (is_possible_candidate plant facts) reason) h.reason
-    (subst (λ (fits : Candidate → Bool). P (is_full_choice plant) fits (reason_of t.plant t.facts)) h.fits
-    (subst (λ (suits : Candidate → Bool). P suits (is_possible_candidate t.plant t.facts) (reason_of t.plant t.facts)) h.suits holds))
-
--- a trial of which only the meaning is as it was
-pub tried_on : (plant : Plant) (facts : Facts) (old new : TrialValue) → IsTriedBy plant facts old → AreSame (λ (t : TrialValue). is_full_choice t.plant) (λ (t : TrialValue). is_possible_candidate t.plant t.facts) (λ (t : TrialValue). reason_of t.plant t.facts) old new
-    → IsTriedBy plant facts new
-tried_on plant facts old new h same = record { suits = same.suits_same ∙ h.suits; fits = same.fits_same ∙ h.fits; reason = same.reason_same ∙ h.reason }
 
 -- where a search of this many candidates begins
 abbrev start : Plant → Bool → ℕ → List Rank → Standing
@@ -79,9 +65,6 @@ start_is_query plant facts tracked distinct k q is =
 pub alike_is : (distinct : Bool) (plant : Plant) → alike_by (groups_for distinct plant) ≡ are_alike distinct plant
 alike_is false plant = refl
 alike_is true plant = λ i r q. sym (targets_are_groups plant r q) i
-
-pub start_is_tried : (plant : Plant) (facts : Facts) (t : TrialValue) → t ≡ record { plant = plant; facts = facts } → IsTriedBy plant facts t
-start_is_tried plant facts t is = subst (λ (v : TrialValue). IsTriedBy plant facts v) (sym is) (record { suits = refl; fits = refl; reason = refl })
 
 -- what three facts about a result's value say together
 pub of_three : {X Y : Type 0} (r : Result X Y) (P Q R S : X → Type 0) → ((x : X) → P x → Q x → R x → S x) → IfOk r P → IfOk r Q → IfOk r R → IfOk r S

@@ -49,6 +49,10 @@ module _ (plant : Plant) (s : SystemValue) (is : IsSystemOf plant s) where
       let bools : set.bools ≡ bool_count plant = models.bools ∙ is.bools in
       omega (arith, first, counts, bools)
 
+-- two systems of a plant number its moves alike
+pub same_numbering : (plant : Plant) (one other : SystemValue) → IsSystemOf plant one → IsSystemOf plant other → (choices : Choices) → choices ≡ choices_of one → choices ≡ choices_of other
+same_numbering plant one other is also choices at = at ∙ numbering plant one is ∙ sym (numbering plant other also)
+
 module _ (plant : Plant) (h : is_well_formed plant ≡ true) (s : SystemValue) (is : IsSystemOf plant s) where
   choices_are : choices_of s ≡ plant_choices plant
   choices_are = numbering plant s is

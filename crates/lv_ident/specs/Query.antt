@@ -8,7 +8,6 @@ use Rattle.lv_meaning.specs.Diagnosis.{reason_of}
 use Rattle.lv_meaning.specs.Targets.{targets_of_moves}
 use Rattle.lv_search.specs.Standing.{Standing, all_suit, IsUnderWay}
 use Rattle.lv_search_zones.specs.Moves.{is_full_choice}
-use Rattle.lv_ident.specs.Trial.{TrialValue}
 
 -- the plant, the facts, whether no two candidates of one target are to be listed, and where the search stands
 pub record QueryValue : Type 0 where
@@ -27,9 +26,3 @@ pub record IsQueryOf (tracked : List TrackedState) (q : QueryValue) : Type 0 whe
   pub under_way : IsUnderWay (is_full_choice q.plant) (is_possible_candidate q.plant q.facts) (reason_of q.plant q.facts) (candidates q.plant tracked) q.standing
   pub suit : all_suit (is_full_choice q.plant) q.standing ≡ true
   pub groups : q.standing.groups ≡ groups_for q.distinct q.plant
-
--- the trial means what the plant and the facts mean
-pub record IsTriedBy (plant : Plant) (facts : Facts) (t : TrialValue) : Type 0 where
-  pub suits : is_full_choice t.plant ≡ is_full_choice plant
-  pub fits : is_possible_candidate t.plant t.facts ≡ is_possible_candidate plant facts
-  pub reason : reason_of t.plant t.facts ≡ reason_of plant facts

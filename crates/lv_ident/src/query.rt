@@ -1,7 +1,7 @@
 //! A query: the search for the first candidates that are possible under facts, which can be gone on with.
 #![tactic(auto)]
 
-ghost use Rattle.std.specs.Prelude.{◌≡◌, ◌+◌, ◌<◌, ◌≤◌, ◌^◌, [], true, List, All, IfOk, length};
+ghost use Rattle.std.specs.Prelude.{◌≡◌, ◌+◌, ◌<◌, ◌≤◌, ◌^◌, [], true, List, All, IfOk, IfSome, length};
 ghost use Rattle.lv_base.specs.declared.limits.TheConstants.{TRACKED};
 ghost use Rattle.lv_model.specs.declared.state.TrackedState.{TrackedState};
 ghost use Rattle.lv_system.specs.System.{IsSystemOf};
@@ -10,11 +10,11 @@ ghost use Rattle.lv_meaning.specs.Candidates.{candidates, IsTracked};
 ghost use Rattle.lv_meaning.specs.Diagnosis.{diagnosis_walk};
 ghost use Rattle.lv_search.specs.Standing.{trials_of, all_suit};
 ghost use Rattle.lv_ident.specs.Query.{groups_for, IsQueryOf};
+ghost use Rattle.lv_ident.specs.Trial.{IsSolverOf};
 ghost use Rattle.lv_search_zones.specs.Moves.{is_full_choice};
 
 use crate::trial::IdentTrial;
 use lv_asking::LemmaSolver;
-use lv_base::Seq;
 use lv_guide::Guide;
 use lv_meaning::Facts;
 use lv_model::{Model, TrackedState};
@@ -39,13 +39,10 @@ pub struct Listing {
     pub distinct: bool,
 }
 
-/// A search for the first candidates that are possible under facts. It keeps the facts beside its trial, of which a run
-/// leaves only the meaning as it was. Contracts see the plant, the facts, whether no two candidates of one target are to be
-/// listed, and where the search stands.
+/// A search for the first candidates that are possible under facts. Contracts see the plant, the facts, whether no two
+/// candidates of one target are to be listed, and where the search stands.
 #[derive(Drop)]
 pub struct Query<'a> {
-    model: &'a Model,
-    facts: Facts,
     distinct: bool,
     trial: IdentTrial<'a>,
     search: Search<Guide>,
@@ -54,26 +51,13 @@ pub struct Query<'a> {
 impl<'a> marker::Model for Query<'a> {
     ghost use Rattle.std.specs.Coded.{codes};
     ghost use Rattle.lv_model.specs.lv_formula.contracts.Condition as condition;
-    ghost use Rattle.lv_ident.specs.Query.{QueryValue, IsTriedBy};
+    ghost use Rattle.lv_ident.specs.Query.{QueryValue};
 
     ghost Value = { QueryValue };
 
     ghost coded = { Prim.hlevel (codes, condition.the_row.coded) };
 
-    ghost view = { λ q. record { plant = q.model.now; facts = q.facts; distinct = q.distinct; standing = q.search.standing } };
-
-    ghost invariant = { λ q. IsTriedBy q.model.now q.facts q.trial };
-}
-
-/// The same facts once more.
-fn copied(alloc: Global, facts: &Facts) -> Result<Facts, AllocError>
-    ensures { IfOk result (λ copy. copy ≡ facts.now) }
-{
-    Ok(Facts {
-        controls: Seq::from_slice(alloc, facts.controls.as_slice())?,
-        present: Seq::from_slice(alloc, facts.present.as_slice())?,
-        next: Seq::from_slice(alloc, facts.next.as_slice())?,
-    })
+    ghost view = { λ q. record { plant = q.trial.plant; facts = q.trial.facts; distinct = q.distinct; standing = q.search.standing } };
 }
 
 /// The search along the candidates of the tracked states, which has tried none.
@@ -110,15 +94,13 @@ fn started<'a>(
     search: Search<Guide>,
 ) -> Result<Query<'a>, AllocError>
     requires system { IsSystemOf model.now system.now }
+    requires spare { IfSome spare (IsSolverOf model.now) }
     requires fit { FactsFit model.now facts }
     requires in_range { FactsInRange model.now facts }
     ensures { IfOk result (λ query. query ≡ record { plant = model.now; facts = facts; distinct = distinct; standing = search.standing }) }
 {
-    let asked = copied(alloc, &facts)?;
-    match IdentTrial::new(alloc, model, system, spare, asked) {
+    match IdentTrial::new(alloc, model, system, spare, facts) {
         Ok(trial) => Ok(Query {
-            model,
-            facts,
             distinct,
             trial,
             search,
@@ -132,7 +114,7 @@ fn started<'a>(
 
 /// A query that has tried nothing, for the first `k` candidates of the tracked states that are possible under the facts,
 /// which may contradict each other. A `distinct` one passes over a candidate which leads to the state of a listed one. The
-/// solver of an earlier query saves the making of one where it is of the same clauses.
+/// solver of an earlier query of the same plant saves the making of one.
 pub fn identify<'a>(
     alloc: Global,
     model: &'a Model,
@@ -145,6 +127,7 @@ pub fn identify<'a>(
     requires system { IsSystemOf model.now system.now }
     requires few { length tracked.now ≤ TRACKED }
     requires states { All (IsTracked (length model.now.parts)) tracked.now }
+    requires spare { IfSome spare (IsSolverOf model.now) }
     requires fit { FactsFit model.now facts }
     requires in_range { FactsInRange model.now facts }
     ensures start { IfOk result (λ query. query ≡ record { plant = model.now; facts = facts; distinct = listing.distinct; standing = record { k = listing.k; groups = groups_for listing.distinct model.now; listed = []; kept = []; left = candidates model.now tracked.now } }) }
@@ -180,8 +163,10 @@ impl<'a> Query<'a> {
         &self.search
     }
 
-    /// The solver alone, for another query.
-    pub fn into_solver(self) -> LemmaSolver {
+    /// The solver alone, for another query of the same plant.
+    pub fn into_solver(self) -> LemmaSolver
+        ensures { IsSolverOf self.entry.plant result }
+    {
         self.trial.into_solver()
     }
 

@@ -2,7 +2,7 @@
 //! where it is asked only about choices that its last refutation needed.
 #![tactic(auto)]
 
-ghost use Rattle.std.specs.Prelude.{◌≡◌, [], IfOk, IsTrue};
+ghost use Rattle.std.specs.Prelude.{◌≡◌, [], IfOk, IfSome, IsTrue};
 ghost use Rattle.lv_base.specs.Choices.{pairs_of};
 ghost use Rattle.lv_model.specs.Lists.{sizes};
 ghost use Rattle.lv_system.specs.System.{IsSystemOf};
@@ -13,7 +13,7 @@ ghost use Rattle.lv_meaning.specs.Candidates.{is_possible_candidate};
 ghost use Rattle.lv_meaning.specs.Diagnosis.{reason_of};
 ghost use Rattle.lv_ident.specs.Literals.{IsPartial};
 ghost use Rattle.lv_ident.specs.Probing.{is_allowed};
-ghost use Rattle.lv_ident.specs.Trial.{TellsFacts};
+ghost use Rattle.lv_ident.specs.Trial.{TellsFacts, IsSolverOf};
 ghost use Rattle.lv_search_zones.specs.Moves.{is_full_choice};
 
 use crate::literals::fact_literals;
@@ -41,9 +41,7 @@ pub struct IdentTrial<'a> {
 }
 
 impl<'a> marker::Model for IdentTrial<'a> {
-    ghost use Rattle.std.specs.Prelude.{◌≡◌};
-    ghost use Rattle.lv_compile.specs.Booleans.{booleans_next};
-    ghost use Rattle.lv_ident.specs.Trial.{TrialValue, TellsFacts};
+    ghost use Rattle.lv_ident.specs.Trial.{TrialValue, IsTrial};
     ghost use Rattle.std.specs.Coded.{codes};
     ghost use Rattle.lv_model.specs.lv_formula.contracts.Condition as condition;
 
@@ -53,10 +51,27 @@ impl<'a> marker::Model for IdentTrial<'a> {
 
     ghost view = { λ t. record { plant = t.model.now; facts = t.facts } };
 
-    ghost invariant = { λ t. (t.after ≡ booleans_next t.model.now) × TellsFacts t.model.now t.facts t.asking };
+    ghost invariant = { λ t. IsTrial t.model.now t.facts t.after t.asking };
 }
 
-/// What is asked about the moves of candidates under facts, of the solver at hand where that is of the same clauses.
+/// A solver of the plant: the one at hand, or else one of its clauses.
+fn solver_of(
+    alloc: Global,
+    model: &Model,
+    system: &StepSystem,
+    spare: Option<LemmaSolver>,
+) -> Result<LemmaSolver, AllocError>
+    requires system { IsSystemOf model.now system.now }
+    requires spare { IfSome spare (IsSolverOf model.now) }
+    ensures { IfOk result (λ solver. IsSolverOf model.now solver) }
+{
+    match spare {
+        Some(solver) => Ok(solver),
+        None => LemmaSolver::new(alloc, system.clauses()),
+    }
+}
+
+/// What is asked about the moves of candidates under facts, of the solver at hand where there is one.
 fn asking_of(
     alloc: Global,
     model: &Model,
@@ -67,19 +82,21 @@ fn asking_of(
     requires system { IsSystemOf model.now system.now }
     requires fit { FactsFit model.now facts.now }
     requires in_range { FactsInRange model.now facts.now }
-    ensures { IfOk result (λ asking. TellsFacts model.now facts.now asking) }
+    requires spare { IfSome spare (IsSolverOf model.now) }
+    ensures tells { IfOk result (λ asking. TellsFacts model.now facts.now asking) }
+    ensures solver { IfOk result (λ asking. IsSolverOf model.now asking.set) }
 {
     let _plant = model.plant();
     let literals = fact_literals(alloc, model, system, facts)?;
     let choices = system.choices().copied(alloc)?;
     let assumed = each_once(alloc, choices.as_values().first(), literals.as_slice())?;
-    let solver = LemmaSolver::renewed(alloc, system.clauses(), spare)?;
+    let solver = solver_of(alloc, model, system, spare)?;
     Ok(Asking::of(alloc, solver, choices, assumed))
 }
 
 impl<'a> IdentTrial<'a> {
-    /// A trial under facts, which may contradict each other. A solver at hand saves the making of one where it is of the same
-    /// clauses.
+    /// A trial under facts, which may contradict each other. The solver of an earlier trial of the same plant saves the making
+    /// of one.
     pub fn new(
         alloc: Global,
         model: &'a Model,
@@ -90,6 +107,7 @@ impl<'a> IdentTrial<'a> {
         requires system { IsSystemOf model.now system.now }
         requires fit { FactsFit model.now facts }
         requires in_range { FactsInRange model.now facts }
+        requires spare { IfSome spare (IsSolverOf model.now) }
         ensures { IfOk result (λ trial. trial ≡ record { plant = model.now; facts = facts }) }
     {
         let after = system.bools_at(Moment::Next).copied(alloc)?;
@@ -131,8 +149,10 @@ impl<'a> IdentTrial<'a> {
         self.asking.possible_beside(pairs.as_slice(), seen)
     }
 
-    /// The solver alone, for another trial.
-    pub fn into_solver(self) -> LemmaSolver {
+    /// The solver alone, for another trial of the same plant.
+    pub fn into_solver(self) -> LemmaSolver
+        ensures { IsSolverOf self.entry.plant result }
+    {
         self.asking.into_solver()
     }
 

@@ -14,7 +14,7 @@ use Rattle.lv_search_walk.specs.Walk.{candidate_of, is_ruled_out, suit_all, walk
 use Rattle.lv_search_walk.specs.Groups.{have_same_groups, alike_by}
 use Rattle.lv_search_walk.proofs.TurnLemmas.{walk_full, walk_repeated, walk_thinned, walk_listed, walk_refused}
 use Rattle.lv_search.specs.Frontier.{Thins, ThinsAlike, IsLikeFirst, LeftAfter}
-use Rattle.lv_search.specs.Standing.{Standing, trials_of, walk_on, conflict_at, all_suit, Follows, AreSame}
+use Rattle.lv_search.specs.Standing.{Standing, trials_of, walk_on, conflict_at, all_suit, Follows}
 use Rattle.lv_search.specs.Turn.{PassesOver, IsRepeated, IsTrial, IsListed, GoesOnTo, EndsAt}
 use Rattle.lv_search.proofs.NextLemmas.{first_and_rest, shorter_without}
 use Rattle.lv_search.proofs.GroupLemmas.{has_own_groups, groups_join, alike_listed, alike_last}
@@ -241,29 +241,19 @@ module _ (suits fits : Candidate → Bool) (reason : Candidate → List Pair) wh
       ∙ (and_parts (suits (candidate_of rank)) (list_all (λ (r : Rank). suits (candidate_of r)) left.0)
       (subst (λ (rs : List Rank). list_all (λ (r : Rank). suits (candidate_of r)) rs ≡ true) left.1 h)).0
 
-module _ {T : Type 0} (suits fits : T → Candidate → Bool) (reason : T → Candidate → List Pair) where
-  pub are_same_itself : (t : T) → AreSame suits fits reason t t
-  are_same_itself t = record { suits_same = refl; fits_same = refl; reason_same = refl }
+module _ {T : Type 0} (suits fits : T → Candidate → Bool) (reason : T → Candidate → List Pair) (start now : T) (same : now ≡ start) where
+  -- what a turn's trial means is what it meant at the start
+  pub suit_now : (old new : Standing) → Follows (suits start) (fits start) (reason start) old new → all_suit (suits start) old ≡ true → all_suit (suits now) new ≡ true
+  suit_now old new f h = subst (λ (t : T). all_suit (suits t) new ≡ true) (sym same) (f.suit h)
 
-  pub are_same_on : (a b d : T) → AreSame suits fits reason a b → AreSame suits fits reason b d → AreSame suits fits reason a d
-  are_same_on a b d p q = record { suits_same = q.suits_same ∙ p.suits_same; fits_same = q.fits_same ∙ p.fits_same; reason_same = q.reason_same ∙ p.reason_same }
+  pub goes_on_after : (budget : ℕ) (a b d : Standing) → Follows (suits start) (fits start) (reason start) a b → GoesOnTo (suits now) (fits now) (reason now) budget b d
+      → Follows (suits start) (fits start) (reason start) a d
+  goes_on_after budget a b d f turn =
+      follows_on (suits start) (fits start) (reason start) a b d f
+      (subst (λ (t : T). Follows (suits t) (fits t) (reason t) b d) same turn.follows)
 
-  module _ (start now : T) (same : AreSame suits fits reason start now) where
-    -- what a turn's trial means is what it meant at the start
-    pub suit_now : (old new : Standing) → Follows (suits start) (fits start) (reason start) old new → all_suit (suits start) old ≡ true → all_suit (suits now) new ≡ true
-    suit_now old new f h = ap (λ (p : Candidate → Bool). all_suit p new) same.suits_same ∙ f.suit h
-
-    pub goes_on_after : (budget : ℕ) (a b d : Standing) → Follows (suits start) (fits start) (reason start) a b → GoesOnTo (suits now) (fits now) (reason now) budget b d
-        → Follows (suits start) (fits start) (reason start) a d
-    goes_on_after budget a b d f turn =
-        follows_on (suits start) (fits start) (reason start) a b d f
-        (subst (λ (p : Candidate → Bool). Follows p (fits start) (reason start) b d) same.suits_same
-        (subst (λ (p : Candidate → Bool). Follows (suits now) p (reason start) b d) same.fits_same
-        (subst (λ (r : Candidate → List Pair). Follows (suits now) (fits now) r b d) same.reason_same turn.follows)))
-
-    pub ends_after : (outcome : Outcome) (budget : ℕ) (a b d : Standing) → Follows (suits start) (fits start) (reason start) a b → trials_of b ≤ budget
-        → EndsAt outcome (fits now) (reason now) budget b d → EndsAt outcome (fits start) (reason start) budget a d
-    ends_after outcome budget a b d f few ends =
-        sym (f.walk budget few)
-        ∙ subst (λ (p : Candidate → Bool). EndsAt outcome p (reason start) budget b d) same.fits_same
-        (subst (λ (r : Candidate → List Pair). EndsAt outcome (fits now) r budget b d) same.reason_same ends)
+  pub ends_after : (outcome : Outcome) (budget : ℕ) (a b d : Standing) → Follows (suits start) (fits start) (reason start) a b → trials_of b ≤ budget
+      → EndsAt outcome (fits now) (reason now) budget b d → EndsAt outcome (fits start) (reason start) budget a d
+  ends_after outcome budget a b d f few ends =
+      sym (f.walk budget few)
+      ∙ subst (λ (t : T). EndsAt outcome (fits t) (reason t) budget b d) same ends

@@ -49,9 +49,3 @@ first_fitting (Some groups) k fits entries = take k (first_of_each (alike_by (So
 -- the conflict of this number
 abbrev pub conflict_at : List (List Pair) → ℕ → List Pair
 conflict_at kept number = slice_index_or kept number []
-
--- a trial's meanings are as they were
-pub record AreSame {T : Type 0} (suits fits : T → Candidate → Bool) (reason : T → Candidate → List Pair) (old new : T) : Type 0 where
-  pub suits_same : suits new ≡ suits old
-  pub fits_same : fits new ≡ fits old
-  pub reason_same : reason new ≡ reason old

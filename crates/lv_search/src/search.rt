@@ -6,7 +6,7 @@ ghost use Rattle.lv_base.specs.declared.rank.Rank.{Rank};
 ghost use Rattle.lv_search_walk.specs.declared.outcome.Outcome.TheVariants.{Settled};
 ghost use Rattle.lv_search_walk.specs.Walk.{distinct_walk, suit_all};
 ghost use Rattle.lv_search_walk.specs.Groups.{alike_by};
-ghost use Rattle.lv_search.specs.Standing.{trials_of, all_suit, first_fitting, AreSame, IsUnderWay};
+ghost use Rattle.lv_search.specs.Standing.{trials_of, all_suit, first_fitting, IsUnderWay};
 
 use super::frontier::Frontier;
 use super::trial::Trial;
@@ -96,7 +96,7 @@ impl<F: Frontier + Drop> Search<F> {
         ensures suit { IfOk result (λ _. all_suit (T.suits trial.old) self.new.standing ≡ true) }
         ensures k { IfOk result (λ _. self.new.standing.k ≡ self.old.standing.k) }
         ensures groups { IfOk result (λ _. self.new.standing.groups ≡ self.old.standing.groups) }
-        ensures same { AreSame T.suits T.fits T.reason trial.old trial.new }
+        ensures same { trial.new ≡ trial.old }
     {
         let budget = self.held.trials() + more;
         take_turns(

@@ -28,13 +28,11 @@ pub trait Trial {
 
     ghost reason: { Self → Candidate → List Pair };
 
-    /// Tries a candidate that suits. After want of memory the trial's meanings are as they were.
+    /// Tries a candidate that suits. What contracts see of the trial stays as it was, after want of memory too.
     fn attempt(&mut self, candidate: &Candidate) -> Result<Tried, AllocError>
         requires { IsTrue (suits self.old candidate.now) }
         ensures told { IfOk result (λ tried. Tells tried (fits self.old candidate.now) (reason self.old candidate.now)) }
-        ensures suits { suits self.new ≡ suits self.old }
-        ensures fits { fits self.new ≡ fits self.old }
-        ensures reason { reason self.new ≡ reason self.old };
+        ensures same { self.new ≡ self.old };
 
     ghost is_inside: { (s : Self) (c : Candidate) → suits s c ≡ true → fits s c ≡ false → contains_all c.choices (reason s c) ≡ true };
 

@@ -8,7 +8,7 @@ ghost use Rattle.std.specs.List.{list_any};
 ghost use Rattle.lv_search_walk.specs.Walk.{candidate_of, is_ruled_out};
 ghost use Rattle.lv_search_walk.specs.Groups.{have_same_groups, alike_by};
 ghost use Rattle.lv_search.specs.Frontier.{Thins, LeftAfter};
-ghost use Rattle.lv_search.specs.Standing.{Standing, trials_of, all_suit, walk_on, AreSame, Follows, conflict_at};
+ghost use Rattle.lv_search.specs.Standing.{Standing, trials_of, all_suit, walk_on, Follows, conflict_at};
 ghost use Rattle.lv_search.specs.Turn.{standing, PassesOver, IsListed, NextTells, EndsAt, TurnTells};
 
 use super::frontier::Frontier;
@@ -181,7 +181,7 @@ fn try_first<F: Frontier, T: Trial>(
 ) -> Result<(), AllocError>
     requires first { slice_get (F.left frontier.old) 0 ≡ Some rank }
     requires suits { IsTrue (T.suits trial.old candidate.now) }
-    ensures same { AreSame T.suits T.fits T.reason trial.old trial.new }
+    ensures same { trial.new ≡ trial.old }
     ensures fits { IfOk result (λ _. T.fits trial.old candidate.now ≡ true → IsListed rank (standing (F.left frontier.old) held.old) (standing (F.left frontier.new) held.new)) }
     ensures refused { IfOk result (λ _. T.fits trial.old candidate.now ≡ false → standing (F.left frontier.new) held.new ≡ record { k = held.old.k; groups = held.old.groups; listed = held.old.listed; kept = held.old.conflicts ++ T.reason trial.old candidate.now ∷ []; left = F.left frontier.old }) }
 {
@@ -201,7 +201,7 @@ fn take_turn<F: Frontier, T: Trial>(
 ) -> Result<Turn, AllocError>
     requires suit { all_suit (T.suits trial.old) (standing (F.left frontier.old) held.old) ≡ true }
     requires few { trials_of (standing (F.left frontier.old) held.old) ≤ budget }
-    ensures same { AreSame T.suits T.fits T.reason trial.old trial.new }
+    ensures same { trial.new ≡ trial.old }
     ensures told { IfOk result (λ turn. TurnTells turn (T.suits trial.old) (T.fits trial.old) (T.reason trial.old) budget (standing (F.left frontier.old) held.old) (standing (F.left frontier.new) held.new)) }
 {
     match look(alloc, frontier, held, budget)? {
@@ -231,7 +231,7 @@ pub(crate) fn take_turns<F: Frontier, T: Trial>(
 ) -> Result<Outcome, AllocError>
     requires suit { all_suit (T.suits trial.old) (standing (F.left frontier.old) held.old) ≡ true }
     requires few { trials_of (standing (F.left frontier.old) held.old) ≤ budget }
-    ensures same { AreSame T.suits T.fits T.reason trial.old trial.new }
+    ensures same { trial.new ≡ trial.old }
     ensures few { IfOk result (λ _. trials_of (standing (F.left frontier.new) held.new) ≤ budget) }
     ensures follows { IfOk result (λ _. Follows (T.suits trial.old) (T.fits trial.old) (T.reason trial.old) (standing (F.left frontier.old) held.old) (standing (F.left frontier.new) held.new)) }
     ensures ends { IfOk result (λ outcome. EndsAt outcome (T.fits trial.old) (T.reason trial.old) budget (standing (F.left frontier.old) held.old) (standing (F.left frontier.new) held.new)) }

@@ -105,4 +105,5 @@ session_applied plant w state new wanting u is found same =
       labeller_is = is.labeller_is;
       is_state = subst (IsStateOf plant) (sym same) (applied_kept plant state u is.is_state set);
       current = λ _. subst (λ (s : SessionState). IsCurrent plant s w.running) (sym same) tt;
+      solver = is.solver;
     }

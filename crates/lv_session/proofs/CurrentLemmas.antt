@@ -25,7 +25,7 @@ use Rattle.lv_session_state.specs.declared.running.Running.TheVariants as kept
 use Rattle.lv_session_state.specs.lv_session_request.Held.{lacks_name}
 use Rattle.lv_session_state.specs.State.{SessionState, Stepped, unchanged, cleared, walked, recovery, is_held, has_no_room, observe, retract, is_goal, has_no_goal_room, lacks_goal_name, set_goal, drop_goal, commit, commit_by, testing, tracing, last_step, conflicts, taken_over, advanced_to}
 use Rattle.lv_session.specs.Session.{labelled, labelled_from, is_certifiable, certificate, probed_reply, probe_by, probe, carried_out}
-use Rattle.lv_session_state.specs.Current.{IsKeptOf, IsCurrent}
+use Rattle.lv_session_state.specs.Current.{IsKeptOf, IsCurrent, KeepsSolverOf, IsWorking}
 use Rattle.lv_session.specs.Kept.{IsCaredFor}
 
 same_walk : (plant : Plant) (state : SessionState) (budget : ℕ) (ended : Bool) (sum : ℕ) → walked plant (record state { budget = budget; is_ended = ended }) sum ≡ walked plant state sum
@@ -176,11 +176,11 @@ module _ (plant : Plant) (old : SessionState) (before after : Running) (is : IsC
   cared_for (RetractAt r) care = left (retract_at old r).state (retract_at_current plant old before is r) care
   cared_for (SetGoal g) care = left (set_goal old g).state (set_goal_current plant old before is g) care
   cared_for (DropGoal name) care = left (drop_goal old name).state (drop_goal_current plant old before is name) care
-  cared_for Diagnose care = care
-  cared_for Recover care = care
-  cared_for (More n) care = care
-  cared_for (ToTest x) care = care
-  cared_for (ToWindow steps) care = care
+  cared_for Diagnose care = care.current
+  cared_for Recover care = care.current
+  cared_for (More n) care = care.current
+  cared_for (ToTest x) care = care.current
+  cared_for (ToWindow steps) care = care.current
   cared_for Commit care = left (commit old.query plant old).state (commit_current plant old before is old.query) care
   cared_for Conflicts care = left (conflicts old.query plant old).state (conflicts_current plant old before is old.query) care
   cared_for Certificate care = left (certificate old.query plant old).state (certificate_current plant old before is old.query) care
@@ -197,9 +197,21 @@ module _ (plant : Plant) (old : SessionState) (before after : Running) (is : IsC
       let e : next ≡ (carried_out plant old request).state = same ∙ ap (λ (t : Stepped). t.state) done in
       subst (λ (n : SessionState). IsCurrent plant n after) (sym e) (cared_for request (subst (λ (n : SessionState). IsCaredFor request plant n before after) e care))
 
+-- a solver that is kept stays one of the plant
+stays_kept : (plant : Plant) (next : SessionState) (before after : Running) → KeepsSolverOf plant before → (request : Request) → IsCaredFor request plant next before after → KeepsSolverOf plant after
+stays_kept plant next before after keeps Diagnose care = care.solver
+stays_kept plant next before after keeps Recover care = care.solver
+stays_kept plant next before after keeps (More n) care = care.solver
+stays_kept plant next before after keeps (ToTest x) care = care.solver
+stays_kept plant next before after keeps (ToWindow steps) care = care.solver
+stays_kept plant next before after keeps request care = subst (KeepsSolverOf plant) (sym care) keeps
+
 -- whether a request was carried out or memory was wanting
-pub current_kept : {E : Type 0} (plant : Plant) (old new : SessionState) (before after : Running) (request : Request) (result : Result Reply E) → IsCurrent plant old before
+pub work_kept : {E : Type 0} (plant : Plant) (old new : SessionState) (before after : Running) (request : Request) (result : Result Reply E) → IsCurrent plant old before → KeepsSolverOf plant before
     → IfOk result (λ reply. ◌≡◌ {A = Stepped} (record { state = new; reply = reply }) (carried_out plant old request)) → OnOk result (IsCaredFor request plant new before after)
-    → OnOk result (IsCurrent plant new after)
-current_kept plant old new before after request (Ok reply) is done care = stays_current plant old before after is new request (record { state = new; reply = reply }) done refl care
-current_kept plant old new before after request (Err fault) is done care = tt
+    → OnOk result (IsWorking plant new after)
+work_kept plant old new before after request (Ok reply) is keeps done care = record {
+  current = stays_current plant old before after is new request (record { state = new; reply = reply }) done refl care;
+  solver = stays_kept plant new before after keeps request care;
+}
+work_kept plant old new before after request (Err fault) is keeps done care = tt

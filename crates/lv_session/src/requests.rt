@@ -5,7 +5,7 @@ ghost use Rattle.std.specs.Prelude.{◌≡◌, IfOk, OnOk, OnErr};
 ghost use Rattle.lv_session_state.specs.lv_session_request.Requests.{IsRequestOf};
 ghost use Rattle.lv_session.specs.Session.{carried_out};
 ghost use Rattle.lv_session.specs.Kept.{IsCaredFor, IsLabellerOf};
-ghost use Rattle.lv_session_state.specs.Current.{IsCurrent};
+ghost use Rattle.lv_session_state.specs.Current.{IsCurrent, KeepsSolverOf};
 ghost use Rattle.lv_session_state.specs.States.{IsStateOf};
 
 use crate::certificates::certificate;
@@ -28,6 +28,7 @@ pub(crate) fn carry_out<'a>(
     requires state { IsStateOf compiled.now state.old }
     requires request { IsRequestOf compiled.now request }
     requires running { IsCurrent compiled.now state.old workings.old.running }
+    requires solver { KeepsSolverOf compiled.now workings.old.running }
     requires labeller { IsLabellerOf compiled.now workings.old.labeller }
     ensures ok { IfOk result (λ reply. record { state = state.new; reply = reply } ≡ carried_out compiled.now state.old request) }
     ensures err { OnErr result (state.new ≡ state.old) }

@@ -6,7 +6,8 @@ ghost use Rattle.lv_session_state.specs.lv_session_request.Requests.{IsRequestOf
 ghost use Rattle.lv_session.specs.Session.{stepped};
 ghost use Rattle.lv_session.specs.Applying.{performed};
 ghost use Rattle.lv_session_state.specs.States.{IsStateOf};
-ghost use Rattle.lv_session_state.specs.Current.{IsCurrent};
+ghost use Rattle.lv_session_state.specs.declared.running.Running.TheVariants.{Nothing};
+ghost use Rattle.lv_session_state.specs.Current.{IsCurrent, KeepsSolverOf, IsWorking};
 ghost use Rattle.lv_session.specs.Kept.{IsLabellerOf};
 
 use crate::compiled::CompiledModel;
@@ -29,6 +30,7 @@ impl<'a> Workings<'a> {
     /// What is kept where no line was served yet. Takes no memory.
     pub(crate) fn new(alloc: Global) -> Workings<'a>
         ensures labeller { result.labeller ≡ None }
+        ensures running { result.running ≡ Nothing }
     {
         Workings {
             room: Vec::new(alloc),
@@ -40,6 +42,7 @@ impl<'a> Workings<'a> {
     /// The same in a box, since letting go of it where it lies is slow to check.
     pub(crate) fn boxed(alloc: Global) -> Result<Box<Workings<'a>>, AllocError>
         ensures labeller { IfOk result (λ w. w.value.labeller ≡ None) }
+        ensures running { IfOk result (λ w. w.value.running ≡ Nothing) }
     {
         Ok(Box::new(alloc, Workings::new(alloc))?)
     }
@@ -57,11 +60,12 @@ pub(crate) fn answer<'a>(
 ) -> Result<Reply, AllocError>
     requires state { IsStateOf compiled.now state.old }
     requires running { IsCurrent compiled.now state.old workings.old.running }
+    requires solver { KeepsSolverOf compiled.now workings.old.running }
     requires labeller { IsLabellerOf compiled.now workings.old.labeller }
     ensures ok { IfOk result (λ reply. record { state = state.new; reply = reply } ≡ stepped compiled.now state.old line.now) }
     ensures err { OnErr result (state.new ≡ state.old) }
     ensures kept { IsStateOf compiled.now state.new }
-    ensures running { OnOk result (IsCurrent compiled.now state.new workings.new.running) }
+    ensures running { OnOk result (IsWorking compiled.now state.new workings.new.running) }
     ensures labeller { IsLabellerOf compiled.now workings.new.labeller }
 {
     if state.is_ended() {
@@ -90,11 +94,12 @@ pub(crate) fn perform<'a>(
     requires state { IsStateOf compiled.now state.old }
     requires request { IsRequestOf compiled.now request }
     requires running { IsCurrent compiled.now state.old workings.old.running }
+    requires solver { KeepsSolverOf compiled.now workings.old.running }
     requires labeller { IsLabellerOf compiled.now workings.old.labeller }
     ensures ok { IfOk result (λ reply. record { state = state.new; reply = reply } ≡ performed compiled.now state.old request) }
     ensures err { OnErr result (state.new ≡ state.old) }
     ensures kept { IsStateOf compiled.now state.new }
-    ensures running { OnOk result (IsCurrent compiled.now state.new workings.new.running) }
+    ensures running { OnOk result (IsWorking compiled.now state.new workings.new.running) }
     ensures labeller { IsLabellerOf compiled.now workings.new.labeller }
 {
     if state.is_ended() {

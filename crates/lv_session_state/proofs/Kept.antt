@@ -1,5 +1,5 @@
 -- What is kept of the current query: what it has come to, and that it goes on.
-use Rattle.std.proofs.Common.{◌≡◌, ℕ, ◌+◌, ◌<◌, ◌≤◌, ◌^◌, true, List, length, map, refl, sym, ◌∙◌, ap, subst, arith}
+use Rattle.std.proofs.Common.{◌≡◌, ℕ, ◌+◌, ◌<◌, ◌≤◌, ◌^◌, true, false, List, length, map, refl, sym, ◌∙◌, ap, subst, arith}
 use Rattle.std.specs.declared.alloc.Global.{Global}
 use Rattle.std.specs.declared.boxed.Box.{Box}
 use Rattle.lv_base.specs.declared.limits.TheConstants.{TRACKED, BUDGET}
@@ -7,7 +7,7 @@ use Rattle.lv_model.specs.declared.plant.Plant.{Plant}
 use Rattle.lv_model.specs.declared.state.TrackedState.{TrackedState}
 use Rattle.lv_model.specs.WellFormed.{is_well_formed}
 use Rattle.lv_search_walk.specs.declared.outcome.Outcome.{Outcome}
-use Rattle.lv_search_walk.specs.declared.outcome.Outcome.TheVariants.{Unsettled}
+use Rattle.lv_search_walk.specs.declared.outcome.Outcome.TheVariants.{Settled, Unsettled}
 use Rattle.lv_search_walk.specs.Walk.{Walked}
 use Rattle.lv_meaning.specs.Candidates.{candidates}
 use Rattle.lv_meaning.specs.Diagnosis.{diagnosis_walk}
@@ -28,7 +28,7 @@ use Rattle.lv_session_state.specs.declared.query.Query.TheVariants.{Absent, Diag
 use Rattle.lv_session_state.specs.declared.running.Running.{Running}
 use Rattle.lv_session_state.specs.declared.running.Running.TheVariants as kept
 use Rattle.lv_session_state.specs.Current.{Diagnosed, Recovering, Testing, Tracing, come_to, kept_walk, IsDiagnosisOf, IsDiagnosisAt, IsRecoveryOf, IsRecoveryAt, IsTestOf, IsTestAt, IsWindowOf, IsTracingAt, IsOn, IsKeptOf}
-use Rattle.lv_session_state.specs.State.{SessionState, facts_of, aim_of, test_aim_of, window_base, window_facts, walked, recovery, testing, tracing, walk_of, trials, asked, sum_of, with_more, more, more_by, more_recovery_by, more_test_by, more_window_by, is_asked, last_step}
+use Rattle.lv_session_state.specs.State.{SessionState, facts_of, aim_of, test_aim_of, window_base, window_facts, walked, recovery, testing, tracing, walk_of, trials, asked, sum_of, with_more, more, more_by, more_recovery_by, more_test_by, more_window_by, is_asked, last_step, is_settled, is_settled_by}
 use Rattle.lv_session_state.specs.States.{IsStateOf, IsListOf}
 use Rattle.lv_session_state.proofs.Listed.{list_of, all_trials}
 use Rattle.lv_session_state.proofs.Asking.{has_run}
@@ -121,6 +121,18 @@ pub record HasRoom (q : Query) (r : Running) (n : ℕ) : Type 0 where
   pub sum : trials (kept_walk r) + n ≡ sum_of (with_more q n)
   pub room : trials (kept_walk r) + n < 2 ^ 64
   pub query : sum_of q + n < 2 ^ 64
+
+unsettled_by : (o : Outcome) → is_settled_by o ≡ false → o ≡ Unsettled
+unsettled_by Settled goes = absurd (cc goes)
+unsettled_by Unsettled goes = refl
+
+-- a query that isn't settled has come to a walk that isn't
+pub walks_on : (q : Query) (plant : Plant) (state : SessionState) → is_settled q plant state ≡ false → (walk_of q plant state).outcome ≡ Unsettled
+walks_on Absent plant state goes = refl
+walks_on (Diagnosis sum) plant state goes = unsettled_by (walked plant state sum).outcome goes
+walks_on (Recovery sum) plant state goes = unsettled_by (recovery plant state sum).outcome goes
+walks_on (Test x sum) plant state goes = unsettled_by (testing plant state x sum).outcome goes
+walks_on (Window steps sum) plant state goes = unsettled_by (tracing plant state steps sum).outcome goes
 
 pub has_room : (q : Query) (plant : Plant) (state : SessionState) (r : Running) (n made : ℕ) → is_well_formed plant ≡ true → IsStateOf plant state → is_asked q ≡ true → IsKeptOf q plant state r
     → (kept_walk r).outcome ≡ Unsettled → made ≡ trials (kept_walk r) → (length (kept_walk r).listed ≤ TRACKED → made + BUDGET < 2 ^ 64) → n ≤ BUDGET → HasRoom q r n

@@ -1,5 +1,5 @@
 -- The current query, and what is kept of it from line to line.
-use Rattle.std.specs.Prelude.{◌≡◌, ◌≤◌, None, ℕ, Bool, List, [], length}
+use Rattle.std.specs.Prelude.{◌≡◌, ◌≤◌, None, ℕ, Bool, List, [], length, IfSome}
 use Rattle.lv_base.specs.declared.ids.VarId.{VarId}
 use Rattle.lv_model.specs.declared.plant.Plant.{Plant}
 use Rattle.lv_model.specs.declared.state.TrackedState.{TrackedState}
@@ -11,6 +11,7 @@ use Rattle.lv_meaning.specs.declared.facts.Facts.{Facts}
 use Rattle.lv_meaning.specs.Candidates.{candidates}
 use Rattle.lv_ident.specs.lv_search.Standing.{Standing}
 use Rattle.lv_ident.specs.Query.{QueryValue, groups_for, IsQueryOf}
+use Rattle.lv_ident.specs.Trial.{IsSolverOf}
 use Rattle.lv_reconf.specs.Query.{QueryValue as RecoveryValue, IsQuery as IsRecoveryQuery}
 use Rattle.lv_reconf.specs.Testing.{TestValue, IsTestQuery}
 use Rattle.lv_window.specs.Trajectories.{trajectories}
@@ -130,3 +131,16 @@ IsKeptOf q plant state running = ⊥
 -- what is kept is that of the current query
 abbrev pub IsCurrent : Plant → SessionState → Running → Type 0
 IsCurrent plant state running = IsKeptOf state.query plant state running
+
+-- a solver that is kept, by a diagnosis or beside another search, is of the plant
+abbrev pub KeepsSolverOf : Plant → Running → Type 0
+KeepsSolverOf plant kept.Nothing = Unit {0}
+KeepsSolverOf plant (kept.Diagnosis d) = d.value.query.plant ≡ plant
+KeepsSolverOf plant (kept.Recovery r) = IfSome r.value.spare (IsSolverOf plant)
+KeepsSolverOf plant (kept.Test t) = IfSome t.value.spare (IsSolverOf plant)
+KeepsSolverOf plant (kept.Window w) = IfSome w.value.spare (IsSolverOf plant)
+
+-- what is kept is that of the current query, and so is a solver for the next diagnosis
+pub record IsWorking (plant : Plant) (state : SessionState) (running : Running) : Type 0 where
+  pub current : IsCurrent plant state running
+  pub solver : KeepsSolverOf plant running

@@ -1,12 +1,13 @@
 //! Diagnoses of the state as it is: asked for, and taken over.
 #![tactic(auto)]
 
-ghost use Rattle.std.specs.Prelude.{◌≡◌, IfOk, OnOk, OnErr};
+ghost use Rattle.std.specs.Prelude.{◌≡◌, IfOk, IfSome, OnOk, OnErr};
 ghost use Rattle.lv_system.specs.System.{IsSystemOf};
 ghost use Rattle.lv_session_state.specs.State.{facts_of, diagnosed, taken_over};
 ghost use Rattle.lv_session_state.specs.States.{IsStateOf, IsListOf};
-ghost use Rattle.lv_session_state.specs.Current.{untried, IsCurrent};
+ghost use Rattle.lv_session_state.specs.Current.{untried, KeepsSolverOf, IsWorking};
 ghost use Rattle.lv_ident.specs.Query.{IsQueryOf};
+ghost use Rattle.lv_ident.specs.Trial.{IsSolverOf};
 
 use crate::query::Query;
 use crate::running::{Running, unrun};
@@ -30,7 +31,7 @@ impl State {
         facts(alloc, self.controls.as_slice(), &self.present, &self.next)
     }
 
-    /// A diagnosis of the state that has tried nothing, by the solver at hand where it serves.
+    /// A diagnosis of the state that has tried nothing, by the solver at hand where there is one.
     fn untried<'a>(
         &self,
         alloc: Global,
@@ -40,6 +41,7 @@ impl State {
     ) -> Result<Identified<'a>, AllocError>
         requires state { IsStateOf model.now self.now }
         requires system { IsSystemOf model.now system.now }
+        requires spare { IfSome spare (IsSolverOf model.now) }
         ensures start { IfOk result (λ query. query ≡ untried model.now self.now) }
         ensures query { IfOk result (λ query. IsQueryOf self.now.tracked query) }
     {
@@ -62,9 +64,10 @@ impl State {
     ) -> Result<Reply, AllocError>
         requires state { IsStateOf model.now self.old }
         requires system { IsSystemOf model.now system.now }
+        requires solver { KeepsSolverOf model.now running.old }
         ensures ok { IfOk result (λ reply. record { state = self.new; reply = reply } ≡ diagnosed model.now self.old self.old.budget) }
         ensures err { OnErr result (self.new ≡ self.old) }
-        ensures running { OnOk result (IsCurrent model.now self.new running.new) }
+        ensures running { OnOk result (IsWorking model.now self.new running.new) }
     {
         let spare = running.take_solver();
         let query = self.untried(alloc, model, system, spare)?;

@@ -9,7 +9,7 @@ ghost use Rattle.std.specs.Prelude.{◌≡◌, ◌≤◌, ◌+◌, ◌<◌, ◌^
 ghost use Rattle.lv_base.specs.declared.limits.TheConstants.{BUDGET};
 ghost use Rattle.lv_session_state.specs.State.{trials, sum_of, with_more, asked, more, conflicts, commit, is_settled_by, is_settled, is_asked, is_unsettled};
 ghost use Rattle.lv_session_state.specs.States.{IsStateOf};
-ghost use Rattle.lv_session_state.specs.Current.{kept_walk, IsOn, IsKeptOf, IsCurrent};
+ghost use Rattle.lv_session_state.specs.Current.{kept_walk, IsOn, IsKeptOf, IsCurrent, KeepsSolverOf, IsWorking};
 
 use crate::query::Query;
 use crate::replies::{conflicts, reply_to};
@@ -65,7 +65,9 @@ impl State {
         requires on { IsOn query model.now self.now running.old }
         requires sum { trials (kept_walk running.old) + n ≡ sum_of query }
         requires room { trials (kept_walk running.old) + n < 2 ^ 64 }
-        ensures { OnOk result (IsKeptOf query model.now self.now running.new) }
+        requires solver { KeepsSolverOf model.now running.old }
+        ensures kept { OnOk result (IsKeptOf query model.now self.now running.new) }
+        ensures solver { OnOk result (KeepsSolverOf model.now running.new) }
     {
         match running {
             Running::Diagnosis(run) => {
@@ -101,9 +103,10 @@ impl State {
         requires on { IsOn query model.now self.old running.old }
         requires sum { trials (kept_walk running.old) + n ≡ sum_of query }
         requires room { trials (kept_walk running.old) + n < 2 ^ 64 }
+        requires solver { KeepsSolverOf model.now running.old }
         ensures ok { IfOk result (λ reply. record { state = self.new; reply = reply } ≡ asked query model.now self.old) }
         ensures err { OnErr result (self.new ≡ self.old) }
-        ensures running { OnOk result (IsCurrent model.now self.new running.new) }
+        ensures running { OnOk result (IsWorking model.now self.new running.new) }
     {
         self.run_on(model, running, query, n)?;
         let reply = reply_to(alloc, query, running)?;
@@ -121,10 +124,11 @@ impl State {
     ) -> Result<Reply, AllocError>
         requires state { IsStateOf model.now self.old }
         requires running { IsCurrent model.now self.old running.old }
+        requires solver { KeepsSolverOf model.now running.old }
         requires few { n ≤ BUDGET }
         ensures ok { IfOk result (λ reply. record { state = self.new; reply = reply } ≡ more self.old.query model.now self.old n) }
         ensures err { OnErr result (self.new ≡ self.old) }
-        ensures running { OnOk result (IsCurrent model.now self.new running.new) }
+        ensures running { OnOk result (IsWorking model.now self.new running.new) }
     {
         let _plant = model.plant();
         if !is_asked(self.query) || self.is_settled(model, running) {

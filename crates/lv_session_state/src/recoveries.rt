@@ -5,7 +5,7 @@ ghost use Rattle.std.specs.Prelude.{◌≡◌, IfOk, OnOk, OnErr};
 ghost use Rattle.lv_system.specs.System.{IsSystemOf};
 ghost use Rattle.lv_session_state.specs.State.{aim_of, recover};
 ghost use Rattle.lv_session_state.specs.States.{IsStateOf};
-ghost use Rattle.lv_session_state.specs.Current.{IsCurrent};
+ghost use Rattle.lv_session_state.specs.Current.{IsCurrent, KeepsSolverOf, IsWorking};
 
 use crate::goals::formulas_of;
 use crate::query::Query;
@@ -43,9 +43,10 @@ impl State {
         requires state { IsStateOf model.now self.old }
         requires system { IsSystemOf model.now system.now }
         requires running { IsCurrent model.now self.old running.old }
+        requires solver { KeepsSolverOf model.now running.old }
         ensures ok { IfOk result (λ reply. record { state = self.new; reply = reply } ≡ recover model.now self.old) }
         ensures err { OnErr result (self.new ≡ self.old) }
-        ensures running { OnOk result (IsCurrent model.now self.new running.new) }
+        ensures running { OnOk result (IsWorking model.now self.new running.new) }
     {
         if self.goals.is_empty() {
             return Ok(Reply::Refused(Refusal::NoGoal));

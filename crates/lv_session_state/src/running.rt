@@ -1,11 +1,13 @@
 //! What is kept of the current query from line to line, so that it goes on where it stopped.
 #![tactic(auto)]
 
-ghost use Rattle.std.specs.Prelude.{◌≡◌, ◌≤◌, ◌+◌, ◌<◌, ◌^◌, IfOk, length};
+ghost use Rattle.std.specs.Prelude.{◌≡◌, ◌≤◌, ◌+◌, ◌<◌, ◌^◌, IfOk, IfSome, length};
 ghost use Rattle.lv_base.specs.declared.limits.TheConstants.{TRACKED, BUDGET};
+ghost use Rattle.lv_model.specs.declared.plant.Plant.{Plant};
 ghost use Rattle.lv_search_walk.specs.declared.outcome.Outcome.TheVariants.{Unsettled};
 ghost use Rattle.lv_session_state.specs.State.{trials};
-ghost use Rattle.lv_session_state.specs.Current.{kept_walk};
+ghost use Rattle.lv_session_state.specs.Current.{kept_walk, KeepsSolverOf};
+ghost use Rattle.lv_ident.specs.Trial.{IsSolverOf};
 
 use lv_base::{Conflict, Rank};
 use lv_ident::{LemmaSolver, Query, QueryEffort};
@@ -51,6 +53,7 @@ pub(crate) fn unrun<Q: Drop>(
 ) -> Result<Box<Asked<Q>>, AllocError>
     ensures query { IfOk result (λ asked. asked.value.query ≡ query) }
     ensures outcome { IfOk result (λ asked. asked.value.outcome ≡ Unsettled) }
+    ensures spare { IfOk result (λ asked. asked.value.spare ≡ spare) }
 {
     let asked = Asked {
         query,
@@ -62,7 +65,9 @@ pub(crate) fn unrun<Q: Drop>(
 
 impl Running<'_> {
     /// The solver of the last diagnosis, if there is one, for the next. A diagnosis that is kept is let go of.
-    pub(crate) fn take_solver(&mut self) -> Option<LemmaSolver> {
+    pub(crate) fn take_solver(&mut self) -> Option<LemmaSolver>
+        ensures { (plant : Plant) → KeepsSolverOf plant self.old → IfSome result (IsSolverOf plant) }
+    {
         match self {
             Running::Diagnosis(_) => self.take_diagnosis(),
             Running::Recovery(run) => run.spare.take(),
@@ -74,7 +79,9 @@ impl Running<'_> {
 
     /// The solver of a diagnosis, which is taken apart. Of no other query, since each that a function can take apart is one
     /// more to check.
-    fn take_diagnosis(&mut self) -> Option<LemmaSolver> {
+    fn take_diagnosis(&mut self) -> Option<LemmaSolver>
+        ensures { (plant : Plant) → KeepsSolverOf plant self.old → IfSome result (IsSolverOf plant) }
+    {
         match mem::replace(self, Running::Nothing) {
             Running::Diagnosis(run) => Some(Box::into_inner(run).query.into_solver()),
             _ => None,

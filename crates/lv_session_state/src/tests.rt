@@ -6,7 +6,7 @@ ghost use Rattle.lv_system.specs.System.{IsSystemOf};
 ghost use Rattle.lv_session_state.specs.State.{test_aim_of, tested};
 ghost use Rattle.lv_session_request.specs.Requests.{IsObservableOf};
 ghost use Rattle.lv_session_state.specs.States.{IsStateOf};
-ghost use Rattle.lv_session_state.specs.Current.{IsCurrent};
+ghost use Rattle.lv_session_state.specs.Current.{KeepsSolverOf, IsWorking};
 
 use crate::query::Query;
 use crate::running::{Running, unrun};
@@ -44,9 +44,10 @@ impl State {
         requires state { IsStateOf model.now self.old }
         requires system { IsSystemOf model.now system.now }
         requires there { IsObservableOf model.now var }
+        requires solver { KeepsSolverOf model.now running.old }
         ensures ok { IfOk result (λ reply. record { state = self.new; reply = reply } ≡ tested model.now self.old var self.old.budget) }
         ensures err { OnErr result (self.new ≡ self.old) }
-        ensures running { OnOk result (IsCurrent model.now self.new running.new) }
+        ensures running { OnOk result (IsWorking model.now self.new running.new) }
     {
         let aim = self.test_aim(alloc)?;
         let query = find_test(alloc, model, system, aim, var)?;

@@ -5,7 +5,7 @@ ghost use Rattle.std.specs.Prelude.{◌≡◌, ◌≤◌, IfOk, OnOk, OnErr, map
 ghost use Rattle.lv_base.specs.declared.limits.TheConstants.{COMMITS};
 ghost use Rattle.lv_session_state.specs.State.{window_base, window_facts, window_start, look_back, last_step, taken_over};
 ghost use Rattle.lv_session_state.specs.States.{IsStateOf, IsListOf};
-ghost use Rattle.lv_session_state.specs.Current.{untraced, IsCurrent};
+ghost use Rattle.lv_session_state.specs.Current.{untraced, IsCurrent, KeepsSolverOf, IsWorking};
 ghost use Rattle.lv_window_query.specs.Query.{IsWindowQueryOf};
 
 use crate::query::Query;
@@ -82,7 +82,7 @@ impl State {
     {
         let facts = self.window_facts(alloc, steps)?;
         let base = self.window_base(steps);
-        window(alloc, model, base.as_slice(), facts.as_slice(), self.k)
+        window(alloc, model, base.as_slice(), facts, self.k)
     }
 
     /// A window over so many steps with the budget, if as many are kept.
@@ -95,9 +95,10 @@ impl State {
     ) -> Result<Reply, AllocError>
         requires state { IsStateOf model.now self.old }
         requires running { IsCurrent model.now self.old running.old }
+        requires solver { KeepsSolverOf model.now running.old }
         ensures ok { IfOk result (λ reply. record { state = self.new; reply = reply } ≡ look_back model.now self.old steps) }
         ensures err { OnErr result (self.new ≡ self.old) }
-        ensures running { OnOk result (IsCurrent model.now self.new running.new) }
+        ensures running { OnOk result (IsWorking model.now self.new running.new) }
     {
         if !self.history.has_steps(steps) {
             return Ok(Reply::Refused(Refusal::OutOfLimits));

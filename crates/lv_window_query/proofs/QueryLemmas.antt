@@ -1,4 +1,4 @@
--- A query is on the walk of the window, whatever its trial holds.
+-- A query is on the walk of the window.
 use Rattle.std.proofs.Common.{◌≡◌, ℕ, suc, ◌+◌, Bool, true, List, [], length, refl, sym, subst, ap, ◌∙◌, arith, Result, Ok, Err}
 use Rattle.std.specs.Prelude.{None}
 use Rattle.std.specs.Result.{IfOk}
@@ -12,33 +12,14 @@ use Rattle.lv_model.specs.declared.plant.Plant.{Plant}
 use Rattle.lv_model.specs.declared.state.TrackedState.{TrackedState}
 use Rattle.lv_model.specs.WellFormed.{is_well_formed}
 use Rattle.lv_meaning.specs.declared.facts.Facts.{Facts}
-use Rattle.lv_search.specs.Standing.{Standing, IsUnderWay, AreSame}
+use Rattle.lv_search.specs.Standing.{Standing, IsUnderWay}
 use Rattle.lv_search.specs.Free.{free_of}
 use Rattle.lv_window.specs.Trajectories.{trajectories}
 use Rattle.lv_window.specs.Possible.{is_possible_trajectory}
 use Rattle.lv_window.specs.Walk.{window_reason}
 use Rattle.lv_window.specs.Joints.{window_slots, window_zones, joints, is_full_window}
 use Rattle.lv_window.proofs.ZoneLemmas.{zones_have_trajectories, window_zones_differ, trajectories_are_full}
-use Rattle.lv_window_query.specs.Trial.{WindowTrialValue}
-use Rattle.lv_window_query.specs.Query.{WindowQueryValue, IsWindowQueryOf, IsWindowTriedBy}
-
--- what holds of the meanings of one trial holds of the same meanings of another
-pub of_same_meaning : (P : (Candidate → Bool) → (Candidate → Bool) → (Candidate → List Pair) → Type 0) (plant : Plant) (steps : List Facts) (t : WindowTrialValue) → IsWindowTriedBy plant steps t
-    → P (is_full_window t.plant (length t.steps)) (is_possible_trajectory t.plant t.steps) (window_reason t.plant t.steps)
-    → P (is_full_window plant (length steps)) (is_possible_trajectory plant steps) (window_reason plant steps)
-of_same_meaning P plant steps t h holds =
-    subst (λ (reason : Candidate → List Pair). P (is_full_window plant (length steps)) (is_possible_trajectory plant steps) reason) h.reason
-    (subst (λ (fits : Candidate → Bool). P (is_full_window plant (length steps)) fits (window_reason t.plant t.steps)) h.fits
-    (subst (λ (suits : Candidate → Bool). P suits (is_possible_trajectory t.plant t.steps) (window_reason t.plant t.steps)) h.suits holds))
-
--- a trial of which only the meaning is as it was
-pub tried_on : (plant : Plant) (steps : List Facts) (old new : WindowTrialValue) → IsWindowTriedBy plant steps old
-    → AreSame (λ (t : WindowTrialValue). is_full_window t.plant (length t.steps)) (λ (t : WindowTrialValue). is_possible_trajectory t.plant t.steps) (λ (t : WindowTrialValue). window_reason t.plant t.steps) old new
-    → IsWindowTriedBy plant steps new
-tried_on plant steps old new h same = record { suits = same.suits_same ∙ h.suits; fits = same.fits_same ∙ h.fits; reason = same.reason_same ∙ h.reason }
-
-pub start_is_tried : (plant : Plant) (steps : List Facts) (t : WindowTrialValue) → t ≡ record { plant = plant; steps = steps } → IsWindowTriedBy plant steps t
-start_is_tried plant steps t is = subst (λ (v : WindowTrialValue). IsWindowTriedBy plant steps v) (sym is) (record { suits = refl; fits = refl; reason = refl })
+use Rattle.lv_window_query.specs.Query.{WindowQueryValue, IsWindowQueryOf}
 
 -- where a search of this many trajectories begins
 abbrev pub start : ℕ → List Rank → Standing
@@ -61,9 +42,8 @@ started : (suits fits : Candidate → Bool) (reason : Candidate → List Pair) (
 started suits fits reason k entries = record { walk = λ budget few. refl; trials = omega arith; k = refl; groups = refl; suit = λ suit. suit }
 
 pub start_is : (plant : Plant) (steps : List Facts) (tracked : List TrackedState) (k : ℕ) (s : Standing) → s ≡ start k (trajectories plant (length steps) tracked)
-    → (held : List Facts) → held ≡ steps → (q : WindowQueryValue) → q ≡ record { plant = plant; steps = held; standing = s }
-    → q ≡ record { plant = plant; steps = steps; standing = start k (trajectories plant (length steps) tracked) }
-start_is plant steps tracked k s is held held_is q made = made ∙ (λ i. record { plant = plant; steps = held_is i; standing = is i })
+    → (q : WindowQueryValue) → q ≡ record { plant = plant; steps = steps; standing = s } → q ≡ record { plant = plant; steps = steps; standing = start k (trajectories plant (length steps) tracked) }
+start_is plant steps tracked k s is q made = made ∙ ap (λ (t : Standing). record { plant = plant; steps = steps; standing = t }) is
 
 -- a query that has tried nothing
 pub start_is_query : (plant : Plant) (steps : List Facts) (tracked : List TrackedState) (k : ℕ) (q : WindowQueryValue)

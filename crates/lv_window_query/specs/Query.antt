@@ -8,7 +8,6 @@ use Rattle.lv_window.specs.Trajectories.{trajectories}
 use Rattle.lv_window.specs.Possible.{is_possible_trajectory}
 use Rattle.lv_window.specs.Walk.{window_reason}
 use Rattle.lv_window.specs.Joints.{is_full_window}
-use Rattle.lv_window_query.specs.Trial.{WindowTrialValue}
 
 -- the plant, what is known of each step, and where the search stands
 pub record WindowQueryValue : Type 0 where
@@ -21,9 +20,3 @@ pub record IsWindowQueryOf (tracked : List TrackedState) (q : WindowQueryValue) 
   pub under_way : IsUnderWay (is_full_window q.plant (length q.steps)) (is_possible_trajectory q.plant q.steps) (window_reason q.plant q.steps) (trajectories q.plant (length q.steps) tracked) q.standing
   pub suit : all_suit (is_full_window q.plant (length q.steps)) q.standing ≡ true
   pub groups : q.standing.groups ≡ None
-
--- the trial means what the plant and what is known mean
-pub record IsWindowTriedBy (plant : Plant) (steps : List Facts) (t : WindowTrialValue) : Type 0 where
-  pub suits : is_full_window t.plant (length t.steps) ≡ is_full_window plant (length steps)
-  pub fits : is_possible_trajectory t.plant t.steps ≡ is_possible_trajectory plant steps
-  pub reason : window_reason t.plant t.steps ≡ window_reason plant steps

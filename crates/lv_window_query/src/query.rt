@@ -17,7 +17,6 @@ ghost use Rattle.lv_window_query.specs.Query.{IsWindowQueryOf};
 use crate::joints::joints;
 use crate::trial::WindowTrial;
 use crate::zones::{window_grid, window_zones};
-use lv_base::Seq;
 use lv_guide::Guide;
 use lv_meaning::Facts;
 use lv_model::{Model, TrackedState};
@@ -26,12 +25,10 @@ use lv_search::{Outcome, Search};
 use std::alloc::{AllocError, Global};
 use std::marker;
 
-/// A search for the first trajectories of tracked states that are possible. It keeps what is known beside its trial, of which
-/// a run leaves only the meaning as it was. Contracts see the plant, what is known of each step, and where the search stands.
+/// A search for the first trajectories of tracked states that are possible. Contracts see the plant, what is known of each
+/// step, and where the search stands.
 #[derive(Drop)]
 pub struct WindowQuery<'a> {
-    model: &'a Model,
-    steps: Seq<Facts>,
     trial: WindowTrial<'a>,
     search: Search<Guide>,
 }
@@ -39,37 +36,13 @@ pub struct WindowQuery<'a> {
 impl<'a> marker::Model for WindowQuery<'a> {
     ghost use Rattle.std.specs.Coded.{codes};
     ghost use Rattle.lv_model.specs.lv_formula.contracts.Condition as condition;
-    ghost use Rattle.lv_window_query.specs.Query.{WindowQueryValue, IsWindowTriedBy};
+    ghost use Rattle.lv_window_query.specs.Query.{WindowQueryValue};
 
     ghost Value = { WindowQueryValue };
 
     ghost coded = { Prim.hlevel (codes, condition.the_row.coded) };
 
-    ghost view = { λ q. record { plant = q.model.now; steps = q.steps; standing = q.search.standing } };
-
-    ghost invariant = { λ q. IsWindowTriedBy q.model.now q.steps q.trial };
-}
-
-/// The same facts once more.
-fn copied(alloc: Global, facts: &Facts) -> Result<Facts, AllocError>
-    ensures { IfOk result (λ copy. copy ≡ facts.now) }
-{
-    Ok(Facts {
-        controls: Seq::from_slice(alloc, facts.controls.as_slice())?,
-        present: Seq::from_slice(alloc, facts.present.as_slice())?,
-        next: Seq::from_slice(alloc, facts.next.as_slice())?,
-    })
-}
-
-/// What is known of each step once more.
-fn all_copied(alloc: Global, steps: &[Facts]) -> Result<Vec<Facts>, AllocError>
-    ensures { IfOk result (λ copies. copies.items ≡ steps.now) }
-{
-    let mut copies = Vec::with_capacity(alloc, steps.len())?;
-    for facts in steps {
-        copies.push(copied(alloc, facts)?)?;
-    }
-    Ok(copies)
+    ghost view = { λ q. record { plant = q.trial.plant; steps = q.trial.steps; standing = q.search.standing } };
 }
 
 /// The search along the trajectories of the tracked states over so many steps, which has tried none.
@@ -94,27 +67,20 @@ fn search_of(
     Search::new(alloc, left, k)
 }
 
-/// A query that has tried nothing: what is known is asked about, and held beside the trial.
+/// A query that has tried nothing.
 fn started<'a>(
     alloc: Global,
     model: &'a Model,
-    asked: Vec<Facts>,
-    held: Vec<Facts>,
+    steps: Vec<Facts>,
     search: Search<Guide>,
 ) -> Result<WindowQuery<'a>, AllocError>
-    requires some { 1 ≤ length asked.items }
-    requires few { length asked.items ≤ WINDOW }
-    requires fits { All (StepFits model.now) asked.items }
-    requires same { asked.items ≡ held.items }
-    ensures { IfOk result (λ query. query ≡ record { plant = model.now; steps = held.items; standing = search.standing }) }
+    requires some { 1 ≤ length steps.items }
+    requires few { length steps.items ≤ WINDOW }
+    requires fits { All (StepFits model.now) steps.items }
+    ensures { IfOk result (λ query. query ≡ record { plant = model.now; steps = steps.items; standing = search.standing }) }
 {
-    match WindowTrial::new(alloc, model, asked) {
-        Ok(trial) => Ok(WindowQuery {
-            model,
-            steps: Seq::from_vec(held),
-            trial,
-            search,
-        }),
+    match WindowTrial::new(alloc, model, steps) {
+        Ok(trial) => Ok(WindowQuery { trial, search }),
         Err(error) => {
             drop(search);
             Err(error)
@@ -129,21 +95,20 @@ pub fn window<'a>(
     alloc: Global,
     model: &'a Model,
     tracked: &[TrackedState],
-    steps: &[Facts],
+    steps: Vec<Facts>,
     k: u32,
 ) -> Result<WindowQuery<'a>, AllocError>
-    requires some { 1 ≤ length steps.now }
-    requires few_steps { length steps.now ≤ WINDOW }
+    requires some { 1 ≤ length steps.items }
+    requires few_steps { length steps.items ≤ WINDOW }
     requires few { length tracked.now ≤ TRACKED }
     requires states { All (IsTracked (length model.now.parts)) tracked.now }
-    requires fits { All (StepFits model.now) steps.now }
-    ensures start { IfOk result (λ query. query ≡ record { plant = model.now; steps = steps.now; standing = record { k = k; groups = None; listed = []; kept = []; left = trajectories model.now (length steps.now) tracked.now } }) }
+    requires fits { All (StepFits model.now) steps.items }
+    ensures start { IfOk result (λ query. query ≡ record { plant = model.now; steps = steps.items; standing = record { k = k; groups = None; listed = []; kept = []; left = trajectories model.now (length steps.items) tracked.now } }) }
     ensures query { IfOk result (λ query. IsWindowQueryOf tracked.now query) }
 {
-    let asked = all_copied(alloc, steps)?;
-    let held = all_copied(alloc, steps)?;
-    let search = search_of(alloc, model, tracked, steps.len() as u32, k)?;
-    started(alloc, model, asked, held, search)
+    let count = steps.as_slice().len() as u32;
+    let search = search_of(alloc, model, tracked, count, k)?;
+    started(alloc, model, steps, search)
 }
 
 impl<'a> WindowQuery<'a> {

@@ -1,12 +1,10 @@
--- the clauses are the plant's, or the same values satisfy them, and the facts are of booleans of values
+-- the solver's clauses are satisfied as the plant's are, and the facts are of booleans of values
 use Rattle.std.proofs.Common.{◌≡◌, ℕ, sym, subst, ap, ◌∙◌}
-use Rattle.lv_clauses.specs.ClauseMap.{ClauseMap}
 use Rattle.lv_clauses.specs.Literals.{is_clause}
 use Rattle.lv_compile.specs.Booleans.{Booleans}
 use Rattle.lv_asking.specs.Asking.{AskingValue}
-use Rattle.lv_asking.specs.Lemmas.{HaveSameModels}
-use Rattle.lv_ident.specs.Trial.{TellsFacts}
-use Rattle.lv_ident.proofs.TrialLemmas.{first_is, choices_fit, tells_facts, facts_asked}
+use Rattle.lv_ident.specs.Trial.{TellsFacts, IsSolverOf}
+use Rattle.lv_ident.proofs.TrialLemmas.{first_is, choices_fit, same_numbering, tells_facts, facts_asked}
 use Rattle.lv_ident.proofs.trial.asking_of.Goals as goal
 
 pub each_once-requires : goal.each_once-requires
@@ -23,12 +21,17 @@ of-requires-clause-clause c =
 
 pub of-requires-clause-fit : goal.of-requires-clause-fit
 of-requires-clause-fit c =
-    choices_fit c.args.model.now c.args.system.now c.requires.system c.in_ok-choices.choices (c.in_ok-choices.ensures ∙ c.choices.ensures) c.in_ok-solver.solver
-    (subst (λ (set : ClauseMap). HaveSameModels set c.in_ok-solver.solver) c.clauses.ensures c.in_ok-solver.ensures)
+    let own = c.in_ok-solver.ensures in
+    choices_fit c.args.model.now own.system own.system_of c.in_ok-choices.choices
+    (same_numbering c.args.model.now c.args.system.now own.system c.requires.system own.system_of c.in_ok-choices.choices (c.in_ok-choices.ensures ∙ c.choices.ensures)) c.in_ok-solver.solver own.models
 
-pub returns : goal.returns
-returns c =
+pub returns-clause-tells : goal.returns-clause-tells
+returns-clause-tells c =
+    let own = c.in_ok-solver.ensures in
     subst (λ (a : AskingValue). TellsFacts c.args.model.now c.args.facts.now a) (sym c.of.ensures)
-    (tells_facts c.args.model.now (rw c.plant-plant.ensures.plant at c.plant-plant.ensures.well_formed) c.args.system.now c.requires.system c.args.facts.now c.requires.in_range c.in_ok-choices.choices
-    (c.in_ok-choices.ensures ∙ c.choices.ensures) c.in_ok-solver.solver (subst (λ (set : ClauseMap). HaveSameModels set c.in_ok-solver.solver) c.clauses.ensures c.in_ok-solver.ensures) c.first.result c.as_slice.result.now
-    (c.as_slice.ensures.value ∙ c.in_ok-literals.ensures) c.in_ok-assumed.assumed.items c.in_ok-assumed.ensures)
+    (tells_facts c.args.model.now (rw c.plant-plant.ensures.plant at c.plant-plant.ensures.well_formed) own.system own.system_of c.args.facts.now c.requires.in_range c.in_ok-choices.choices
+    (same_numbering c.args.model.now c.args.system.now own.system c.requires.system own.system_of c.in_ok-choices.choices (c.in_ok-choices.ensures ∙ c.choices.ensures)) c.in_ok-solver.solver own.models
+    c.first.result c.as_slice.result.now (c.as_slice.ensures.value ∙ c.in_ok-literals.ensures) c.in_ok-assumed.assumed.items c.in_ok-assumed.ensures)
+
+pub returns-clause-solver : goal.returns-clause-solver
+returns-clause-solver c = subst (λ (a : AskingValue). IsSolverOf c.args.model.now a.set) (sym c.of.ensures) c.in_ok-solver.ensures

@@ -1,14 +1,14 @@
 -- each turn follows the one before, and the last one ends the walk
 use Rattle.lv_search.specs.Turn.{standing}
-use Rattle.lv_search.proofs.FollowLemmas.{follows_itself, are_same_itself, are_same_on, suit_now, goes_on_after, ends_after}
-use Rattle.std.proofs.Common.{sym, subst, ◌≤◌}
+use Rattle.lv_search.proofs.FollowLemmas.{follows_itself, suit_now, goes_on_after, ends_after}
+use Rattle.std.proofs.Common.{refl, sym, subst, ◌∙◌, ◌≤◌}
 use Rattle.lv_search.specs.Standing.{Standing, Follows, trials_of}
 use Rattle.lv_search.proofs.turn.take_turns.Goals as goal
 
 pub turns-init : goal.turns-init
 turns-init g c =
     record {
-      same = are_same_itself g.T.Trial.suits g.T.Trial.fits g.T.Trial.reason c.args.trial.now;
+      same = refl;
       follows = follows_itself (g.T.Trial.suits c.args.trial.now) (g.T.Trial.fits c.args.trial.now) (g.T.Trial.reason c.args.trial.now) (standing (g.F.Frontier.left c.args.frontier.now) c.args.held.now);
       few = c.requires.few;
     }
@@ -23,7 +23,7 @@ take_turn-requires-clause-few g c = c.turns.invariant.few
 
 pub returns-in_err-take_turn-clause-same : goal.returns-in_err-take_turn-clause-same
 returns-in_err-take_turn-clause-same g c =
-    are_same_on g.T.Trial.suits g.T.Trial.fits g.T.Trial.reason c.args.trial.now c.turns.trial c.take_turn.new.trial c.turns.invariant.same c.in_err-take_turn.ensures.same
+    c.in_err-take_turn.ensures.same ∙ c.turns.invariant.same
 
 pub turns-smaller : goal.turns-smaller
 turns-smaller g c = (rw c.in-GoesOn.is at c.in_ok-take_turn.ensures.told).nearer
@@ -31,7 +31,7 @@ turns-smaller g c = (rw c.in-GoesOn.is at c.in_ok-take_turn.ensures.told).nearer
 pub turns-preserved : goal.turns-preserved
 turns-preserved g c =
     record {
-      same = are_same_on g.T.Trial.suits g.T.Trial.fits g.T.Trial.reason c.args.trial.now c.turns.trial c.take_turn.new.trial c.turns.invariant.same c.in_ok-take_turn.ensures.same;
+      same = c.in_ok-take_turn.ensures.same ∙ c.turns.invariant.same;
       follows =
           goes_on_after g.T.Trial.suits g.T.Trial.fits g.T.Trial.reason c.args.trial.now c.turns.trial c.turns.invariant.same c.args.budget
           (standing (g.F.Frontier.left c.args.frontier.now) c.args.held.now) (standing (g.F.Frontier.left c.turns.frontier) c.turns.held)
@@ -41,7 +41,7 @@ turns-preserved g c =
 
 pub returns-in-Ends-clause-same : goal.returns-in-Ends-clause-same
 returns-in-Ends-clause-same g c =
-    are_same_on g.T.Trial.suits g.T.Trial.fits g.T.Trial.reason c.args.trial.now c.turns.trial c.take_turn.new.trial c.turns.invariant.same c.in_ok-take_turn.ensures.same
+    c.in_ok-take_turn.ensures.same ∙ c.turns.invariant.same
 
 pub returns-in-Ends-clause-follows : goal.returns-in-Ends-clause-follows
 returns-in-Ends-clause-follows g c =

@@ -4,7 +4,7 @@ use Rattle.lv_model.specs.declared.plant.Plant.{Plant}
 use Rattle.lv_model.specs.WellFormed.{is_well_formed}
 use Rattle.lv_session_state.specs.lv_session_request.Requests.{IsRequestOf}
 use Rattle.lv_session.proofs.Keeping.{state_kept}
-use Rattle.lv_session.proofs.CurrentLemmas.{current_kept}
+use Rattle.lv_session.proofs.CurrentLemmas.{work_kept}
 use Rattle.lv_session.proofs.workings.answer.Goals as goal
 
 pub returns-in-Ok-clause-kept : goal.returns-in-Ok-clause-kept
@@ -15,5 +15,5 @@ returns-in-Ok-clause-kept c =
 
 pub returns-in-Ok-clause-running : goal.returns-in-Ok-clause-running
 returns-in-Ok-clause-running c =
-    current_kept c.args.compiled.now c.args.state.now c.carry_out.new.state c.args.workings.now.running c.carry_out.new.workings.running c.in-Ok.request c.carry_out.result c.requires.running
+    work_kept c.args.compiled.now c.args.state.now c.carry_out.new.state c.args.workings.now.running c.carry_out.new.workings.running c.in-Ok.request c.carry_out.result c.requires.running c.requires.solver
     c.carry_out.ensures.ok c.carry_out.ensures.running

@@ -3,7 +3,7 @@ use Rattle.std.proofs.Common.{◌≡◌, true, subst, ◌∙◌}
 use Rattle.lv_model.specs.declared.plant.Plant.{Plant}
 use Rattle.lv_model.specs.WellFormed.{is_well_formed}
 use Rattle.lv_session.proofs.Keeping.{state_kept}
-use Rattle.lv_session.proofs.CurrentLemmas.{current_kept}
+use Rattle.lv_session.proofs.CurrentLemmas.{work_kept}
 use Rattle.lv_session.proofs.workings.perform.Goals as goal
 
 pub returns-clause-kept : goal.returns-clause-kept
@@ -14,5 +14,5 @@ returns-clause-kept c =
 
 pub returns-clause-running : goal.returns-clause-running
 returns-clause-running c =
-    current_kept c.args.compiled.now c.args.state.now c.carry_out.new.state c.args.workings.now.running c.carry_out.new.workings.running c.args.request c.carry_out.result c.requires.running
+    work_kept c.args.compiled.now c.args.state.now c.carry_out.new.state c.args.workings.now.running c.carry_out.new.workings.running c.args.request c.carry_out.result c.requires.running c.requires.solver
     c.carry_out.ensures.ok c.carry_out.ensures.running

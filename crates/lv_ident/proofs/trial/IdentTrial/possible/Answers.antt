@@ -5,17 +5,17 @@ use Rattle.lv_asking.specs.Asking.{AskingValue, IsPartial as IsPartialOf}
 use Rattle.lv_system.specs.Choices.{Choices}
 use Rattle.lv_meaning.specs.Possible.{is_possible}
 use Rattle.lv_ident.specs.Literals.{IsPartial}
-use Rattle.lv_ident.specs.Trial.{TrialValue, TellsFacts}
+use Rattle.lv_ident.specs.Trial.{TrialValue, IsTrial}
 use Rattle.lv_ident.proofs.trial.IdentTrial.possible.Goals as goal
 
 pub possible-requires : goal.possible-requires
 possible-requires c =
-    subst (λ (n : Choices). IsPartialOf n.counts c.args.pairs.now) (sym c.self.invariant.1.choices) (subst (λ (t : TrialValue). IsPartial t.plant c.args.pairs.now) (sym c.self.view_is) c.requires)
+    subst (λ (n : Choices). IsPartialOf n.counts c.args.pairs.now) (sym c.self.invariant.tells.choices) (subst (λ (t : TrialValue). IsPartial t.plant c.args.pairs.now) (sym c.self.view_is) c.requires)
 
 pub invariant_of-self : goal.invariant_of-self
-invariant_of-self c = (c.self.invariant.0, subst (λ (a : AskingValue). TellsFacts c.self.inside.model.now c.self.inside.facts a) (sym c.possible.ensures.same) c.self.invariant.1)
+invariant_of-self c = subst (λ (a : AskingValue). IsTrial c.self.inside.model.now c.self.inside.facts c.self.inside.after a) (sym c.possible.ensures.same) c.self.invariant
 
 pub returns-clause-answer : goal.returns-clause-answer
 returns-clause-answer c =
     subst (λ (t : TrialValue). IfOk c.possible.result (λ answer. answer ≡ is_possible t.plant t.facts c.args.pairs.now)) c.self.view_is
-    (c.possible.ensures.answer (is_possible c.self.inside.model.now c.self.inside.facts) c.self.invariant.1.decides)
+    (c.possible.ensures.answer (is_possible c.self.inside.model.now c.self.inside.facts) c.self.invariant.tells.decides)

@@ -5,17 +5,17 @@ use Rattle.lv_asking.specs.Asking.{AskingValue, IsReason, IsPartial as IsPartial
 use Rattle.lv_system.specs.Choices.{Choices}
 use Rattle.lv_meaning.specs.Possible.{is_possible}
 use Rattle.lv_ident.specs.Literals.{IsPartial}
-use Rattle.lv_ident.specs.Trial.{TrialValue, TellsFacts}
+use Rattle.lv_ident.specs.Trial.{TrialValue, IsTrial}
 use Rattle.lv_ident.proofs.trial.IdentTrial.refusal.Goals as goal
 
 pub reason-requires : goal.reason-requires
 reason-requires c =
-    subst (λ (n : Choices). IsPartialOf n.counts c.args.pairs.now) (sym c.self.invariant.1.choices) (subst (λ (t : TrialValue). IsPartial t.plant c.args.pairs.now) (sym c.self.view_is) c.requires)
+    subst (λ (n : Choices). IsPartialOf n.counts c.args.pairs.now) (sym c.self.invariant.tells.choices) (subst (λ (t : TrialValue). IsPartial t.plant c.args.pairs.now) (sym c.self.view_is) c.requires)
 
 pub invariant_of-self : goal.invariant_of-self
-invariant_of-self c = (c.self.invariant.0, subst (λ (a : AskingValue). TellsFacts c.self.inside.model.now c.self.inside.facts a) (sym c.reason.ensures.same) c.self.invariant.1)
+invariant_of-self c = subst (λ (a : AskingValue). IsTrial c.self.inside.model.now c.self.inside.facts c.self.inside.after a) (sym c.reason.ensures.same) c.self.invariant
 
 pub returns-clause-reason : goal.returns-clause-reason
 returns-clause-reason c =
     subst (λ (t : TrialValue). IfOk c.reason.result (IsReason (is_possible t.plant t.facts) c.args.pairs.now)) c.self.view_is
-    (c.reason.ensures.reason (is_possible c.self.inside.model.now c.self.inside.facts) c.self.invariant.1.decides)
+    (c.reason.ensures.reason (is_possible c.self.inside.model.now c.self.inside.facts) c.self.invariant.tells.decides)

@@ -1,14 +1,13 @@
 -- what is kept goes on; all trials made before and those to come fit
-use Rattle.std.proofs.Common.{◌≡◌, ◌+◌, ◌<◌, ◌^◌, true, sym, ap, subst, ◌∙◌, rules}
+use Rattle.std.proofs.Common.{◌≡◌, ◌+◌, ◌<◌, ◌^◌, true, false, sym, ap, subst, ◌∙◌, rules}
 use Rattle.lv_model.specs.declared.plant.Plant.{Plant}
 use Rattle.lv_model.specs.WellFormed.{is_well_formed}
 use Rattle.lv_search_walk.specs.declared.outcome.Outcome.TheVariants.{Unsettled}
 use Rattle.std.proofs.lemmas.Result.{IfOk-weaker}
-use Rattle.lv_search_walk.specs.Walk.{Walked}
 use Rattle.lv_session_state.specs.declared.query.Query.{Query}
-use Rattle.lv_session_state.specs.State.{SessionState, trials, sum_of, with_more, is_asked, asked}
+use Rattle.lv_session_state.specs.State.{SessionState, trials, sum_of, with_more, is_asked, is_settled, asked}
 use Rattle.lv_session_state.specs.Current.{kept_walk, IsOn}
-use Rattle.lv_session_state.proofs.Kept.{HasRoom, has_room, goes_on, came_to, more_asks}
+use Rattle.lv_session_state.proofs.Kept.{HasRoom, has_room, goes_on, more_asks, walks_on}
 use Rattle.lv_session_state.proofs.state.State.more.Goals as goal
 
 pub with_more-query-requires : goal.with_more-query-requires
@@ -33,14 +32,14 @@ ask-requires c =
       on = subst (λ (q : Query). IsOn q c.args.model.now c.args.self.now c.args.running.now) query (goes_on c.args.self.now.query c.args.n c.args.model.now c.args.self.now c.args.running.now current c.requires.running);
       sum = subst (λ (q : Query). trials (kept_walk c.args.running.now) + c.args.n ≡ sum_of q) query room.sum;
       room = room.room;
+      solver = c.requires.solver;
     }
 
 pub returns-clause-ok : goal.returns-clause-ok
 returns-clause-ok c =
     let current : is_asked c.args.self.now.query ≡ true = search rules in
-    let unsettled : (kept_walk c.args.running.now).outcome ≡ Unsettled = search rules in
-    let came = came_to c.args.self.now.query c.args.model.now c.args.self.now c.args.running.now current c.requires.running in
+    let free : is_settled c.args.self.now.query c.args.model.now c.args.self.now ≡ false = search rules in
     let query = c.with_more-query.ensures ∙ ap (λ (s : SessionState). with_more s.query c.args.n) c.self.view_is in
     let goes = ap (λ (q : Query). asked q c.args.model.now c.args.self.now) query
-    ∙ more_asks c.args.self.now.query c.args.n c.args.model.now c.args.self.now current (ap (λ (w : Walked). w.outcome) came ∙ unsettled) in
+    ∙ more_asks c.args.self.now.query c.args.n c.args.model.now c.args.self.now current (walks_on c.args.self.now.query c.args.model.now c.args.self.now free) in
     IfOk-weaker c.ask.result _ _ (λ reply h. h ∙ goes) c.ask.ensures.ok

@@ -11,8 +11,8 @@ run-requires-clause-suit c =
     diagnosis_suits c.args.model.now c.args.self.now c.args.n c.args.query c.in-Diagnosis.run' c.deref_mut.result.now
     (subst (λ (r : Running). IsOn c.args.query c.args.model.now c.args.self.now r) c.in-Diagnosis.is c.requires.on) c.deref_mut.ensures.value
 
-pub returns-in_ok-running-in-Diagnosis : goal.returns-in_ok-running-in-Diagnosis
-returns-in_ok-running-in-Diagnosis c =
+pub returns-in_ok-running-in-Diagnosis-clause-kept : goal.returns-in_ok-running-in-Diagnosis-clause-kept
+returns-in_ok-running-in-Diagnosis-clause-kept c =
     let ran = c.in_ok-running-in-Diagnosis in
     let run = c.run in
     diagnosis_ran c.args.model.now c.args.self.now c.args.n c.args.query c.in-Diagnosis.run' _ c.deref_mut.result.now run.new.self ran.field-0
@@ -26,8 +26,8 @@ run-requires-in-Recovery-clause-suit c =
     recovery_suits c.args.model.now c.args.self.now c.args.n c.args.query c.in-Recovery.run' c.deref_mut-in-Recovery.result.now
     (subst (λ (r : Running). IsOn c.args.query c.args.model.now c.args.self.now r) c.in-Recovery.is c.requires.on) c.deref_mut-in-Recovery.ensures.value
 
-pub returns-in_ok-running-in-Recovery : goal.returns-in_ok-running-in-Recovery
-returns-in_ok-running-in-Recovery c =
+pub returns-in_ok-running-in-Recovery-clause-kept : goal.returns-in_ok-running-in-Recovery-clause-kept
+returns-in_ok-running-in-Recovery-clause-kept c =
     let ran = c.in_ok-running-in-Recovery in
     let run = c.run-in-Recovery in
     recovery_ran c.args.model.now c.args.self.now c.args.n c.args.query c.in-Recovery.run' _ c.deref_mut-in-Recovery.result.now run.new.self ran.field-0
@@ -41,8 +41,8 @@ run-requires-in-Test-clause-suit c =
     test_suits c.args.model.now c.args.self.now c.args.n c.args.query c.in-Test.run' c.deref_mut-in-Test.result.now
     (subst (λ (r : Running). IsOn c.args.query c.args.model.now c.args.self.now r) c.in-Test.is c.requires.on) c.deref_mut-in-Test.ensures.value
 
-pub returns-in_ok-running-in-Test : goal.returns-in_ok-running-in-Test
-returns-in_ok-running-in-Test c =
+pub returns-in_ok-running-in-Test-clause-kept : goal.returns-in_ok-running-in-Test-clause-kept
+returns-in_ok-running-in-Test-clause-kept c =
     let ran = c.in_ok-running-in-Test in
     let run = c.run-in-Test in
     test_ran c.args.model.now c.args.self.now c.args.n c.args.query c.in-Test.run' _ c.deref_mut-in-Test.result.now run.new.self ran.field-0
@@ -56,8 +56,8 @@ run-requires-in-Window-clause-suit c =
     window_suits c.args.model.now c.args.self.now c.args.n c.args.query c.in-Window.run' c.deref_mut-in-Window.result.now
     (subst (λ (r : Running). IsOn c.args.query c.args.model.now c.args.self.now r) c.in-Window.is c.requires.on) c.deref_mut-in-Window.ensures.value
 
-pub returns-in_ok-running-in-Window : goal.returns-in_ok-running-in-Window
-returns-in_ok-running-in-Window c =
+pub returns-in_ok-running-in-Window-clause-kept : goal.returns-in_ok-running-in-Window-clause-kept
+returns-in_ok-running-in-Window-clause-kept c =
     let ran = c.in_ok-running-in-Window in
     let run = c.run-in-Window in
     window_ran c.args.model.now c.args.self.now c.args.n c.args.query c.in-Window.run' _ c.deref_mut-in-Window.result.now run.new.self ran.field-0
