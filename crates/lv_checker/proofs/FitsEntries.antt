@@ -7,7 +7,7 @@ use Rattle.std.proofs.lemmas.List.Quantifiers.{position-Some}
 use Rattle.lv_base.specs.declared.limits.TheConstants.{MODES, MOVES, NAME_BYTES, LEAST_FAULT_COST, FAULT_COST}
 use Rattle.lv_base.specs.declared.ids.ValId.{ValId}
 use Rattle.lv_formula.specs.Tree.{Tree, is}
-use Rattle.lv_formula.specs.declared.path.Path.TheVariants.{Own}
+use Rattle.lv_formula_text.specs.declared.path.Path.TheVariants.{Own}
 use Rattle.lv_formula.specs.Fits.{fits}
 use Rattle.lv_model.specs.declared.plant.Domain.{Domain}
 use Rattle.lv_model.specs.declared.plant.Move.{Move}

@@ -16,11 +16,9 @@ pub mod boxed;
 mod copies;
 pub mod counts;
 pub mod laws;
-pub mod path;
 pub mod range;
 
 use lv_base::{ValId, VarId};
-pub use path::Path;
 pub use range::{Range, Sort};
 use range::{are_alike, has_value};
 use std::marker::Model;

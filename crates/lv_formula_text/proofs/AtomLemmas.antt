@@ -3,8 +3,8 @@ use Rattle.std.proofs.Common.{◌≡◌, ◌≢◌, ℕ, Bool, true, false, ◌|
 use Rattle.lv_base.specs.Names.{is_named}
 use Rattle.lv_text.specs.declared.lexer.TokenKind.TheVariants.{Word, Equals, Dot}
 use Rattle.lv_text.specs.Lexemes.{Lexeme}
-use Rattle.lv_formula.specs.declared.path.Path.{Path}
-use Rattle.lv_formula.specs.declared.path.Path.TheVariants.{Own, OfPart}
+use Rattle.lv_formula_text.specs.declared.path.Path.{Path}
+use Rattle.lv_formula_text.specs.declared.path.Path.TheVariants.{Own, OfPart}
 use Rattle.lv_formula_text.specs.PhraseTree.{PhraseTree, always, never, equals}
 use Rattle.lv_formula_text.specs.Connectives.{first_kind}
 use Rattle.lv_formula_text.specs.Cursors.{Takes, TakesWord, TakesName}

@@ -2,8 +2,8 @@
 use Rattle.std.proofs.Common.{◌≡◌, Bool, true, false, ◌&&◌, List, Option, Some, None, Result, Ok, Err, IfOk, if◌then◌else◌, refl, ap₂, subst}
 use Rattle.lv_base.specs.declared.ids.VarId.{VarId}
 use Rattle.lv_base.specs.declared.ids.ValId.{ValId}
-use Rattle.lv_formula.specs.declared.path.Path.{Path}
-use Rattle.lv_formula.specs.declared.path.Path.TheVariants.{Own, OfPart}
+use Rattle.lv_formula_text.specs.declared.path.Path.{Path}
+use Rattle.lv_formula_text.specs.declared.path.Path.TheVariants.{Own, OfPart}
 use Rattle.lv_formula.specs.declared.range.Range.{Range}
 use Rattle.lv_formula.specs.Tree.{Tree, Trees, same, negation, all, any, implies, iff, more}
 use Rattle.lv_formula.specs.Fits.{has_value, fits, each_fits}

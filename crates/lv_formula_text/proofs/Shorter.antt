@@ -1,7 +1,7 @@
 -- A text has at least one token.
 use Rattle.std.proofs.Common.{◌<◌, List, length, arith}
 use Rattle.lv_text.specs.Lexemes.{Lexeme}
-use Rattle.lv_formula.specs.declared.path.Path.{Path}
+use Rattle.lv_formula_text.specs.declared.path.Path.{Path}
 use Rattle.lv_formula_text.specs.declared.connective.Connective.{Connective}
 use Rattle.lv_formula_text.specs.PhraseTree.{PhraseTree}
 use Rattle.lv_formula_text.specs.Grammar.{IsPath, own_word, word_of_part, IsEquation, sides, IsAtom, truth, falsity, equation, IsUnary, negated, enclosed, atomic, IsOperand, implication, disjunction, conjunction, unary, IsChain, alone, followed, IsJoined, joining}

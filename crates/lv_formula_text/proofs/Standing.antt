@@ -3,8 +3,8 @@ use Rattle.std.proofs.Common.{◌≡◌, ◌≢◌, ℕ, ◌+◌, ◌<◌, ◌�
 use Rattle.std.proofs.lemmas.Bool.Decides.{nat_tests}
 use Rattle.lv_text.specs.declared.lexer.TokenKind.TheVariants.{Equals, Not, Open, Close, Dot, Iff, Implies}
 use Rattle.lv_text.specs.Lexemes.{Lexeme}
-use Rattle.lv_formula.specs.declared.path.Path.{Path}
-use Rattle.lv_formula.specs.declared.path.Path.TheVariants.{Own, OfPart}
+use Rattle.lv_formula_text.specs.declared.path.Path.{Path}
+use Rattle.lv_formula_text.specs.declared.path.Path.TheVariants.{Own, OfPart}
 use Rattle.lv_formula_text.specs.declared.connective.Connective.{Connective}
 use Rattle.lv_formula_text.specs.declared.connective.Connective.TheVariants.{Equivalence, Implication, Disjunction, Conjunction}
 use Rattle.lv_formula_text.specs.PhraseTree.{PhraseTree, always, never, equals, negation, all, any, implies, iff, trees_of}

@@ -2,7 +2,7 @@
 use Rattle.std.specs.Prelude.{◌≡◌, List, [], ◌∷◌, Some, None, codes}
 use Rattle.lv_text.specs.declared.lexer.TokenKind.TheVariants.{Implies, Equals, Not, And, Or, Open, Close, Dot}
 use Rattle.lv_text.specs.Lexemes.{Lexeme}
-use Rattle.lv_formula.specs.declared.path.Path.TheVariants.{Own, OfPart}
+use Rattle.lv_formula_text.specs.declared.path.Path.TheVariants.{Own, OfPart}
 use Rattle.lv_formula_text.specs.PhraseTree.{PhraseTree, always, never, equals, negation, all, any, implies, none, more}
 use Rattle.lv_formula_text.specs.Spacing.{symbol, word}
 use Rattle.lv_formula_text.specs.Descent.{phrase_of}

@@ -3,8 +3,8 @@ use Rattle.std.specs.Prelude.{◌≡◌, refl, ℕ, List}
 use Rattle.std.proofs.Common.{ap, ap₂, ◌⊎◌, inl, inr}
 use Rattle.std.specs.Coded.{Coded, coded_ℕ, coded_list, coded×, coded⊎, code_by}
 use base.Stored.{Gv, gnil, gnum, gcons}
-use Rattle.lv_formula.specs.declared.path.Path.{Path}
-use Rattle.lv_formula.specs.declared.path.Path.TheVariants.{Own, OfPart}
+use Rattle.lv_formula_text.specs.declared.path.Path.{Path}
+use Rattle.lv_formula_text.specs.declared.path.Path.TheVariants.{Own, OfPart}
 use Rattle.lv_formula_text.specs.PhraseTree.{PhraseTree, always, never, equals, negation, all, any, implies, iff, PhraseTrees, none, more}
 
 abbrev names_of : Path → List ℕ ⊎ (List ℕ × List ℕ)

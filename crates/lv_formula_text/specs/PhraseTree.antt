@@ -1,7 +1,7 @@
 -- A formula with names as written, as clauses see it.
 use Rattle.std.specs.Prelude.{List, [], ◌∷◌, Box}
 use Rattle.std.specs.declared.alloc.Global.{Global}
-use Rattle.lv_formula.specs.declared.path.Path.{Path}
+use Rattle.lv_formula_text.specs.declared.path.Path.{Path}
 use Rattle.lv_formula_text.specs.declared.phrase.PhraseNode.{PhraseNode}
 use Rattle.lv_formula_text.specs.declared.phrase.PhraseNode.TheOpen.{PhraseNode-F, True, False, Equals, Not, And, Or, Implies, Iff}
 use Rattle.lv_formula_text.specs.declared.phrase.PhraseNode.TheFolds.{fold-PhraseNode}

@@ -7,9 +7,8 @@ ghost use Rattle.lv_formula_text.specs.Grammar.{IsPath, IsEquation, IsAtom};
 ghost use Rattle.lv_formula_text.specs.Reading.{Finds};
 
 use crate::cursor::Cursor;
+use crate::path::{Path, Word};
 use crate::phrase::{Equation, PhraseNode};
-use lv_base::Seq;
-use lv_formula::Path;
 use lv_text::TokenKind;
 use std::alloc::{AllocError, Global};
 
@@ -57,13 +56,13 @@ fn path(alloc: Global, cursor: &mut Cursor<'_>) -> Result<Option<Path>, AllocErr
     let Some(first) = cursor.word() else {
         return Ok(None);
     };
-    let first = Seq::from_slice(alloc, first)?;
+    let first = Word::from_slice(alloc, first)?;
     if !cursor.takes(TokenKind::Dot) {
         return Ok(Some(Path::Own(first)));
     }
     let Some(second) = cursor.word() else {
         return Ok(None);
     };
-    let second = Seq::from_slice(alloc, second)?;
+    let second = Word::from_slice(alloc, second)?;
     Ok(Some(Path::OfPart(first, second)))
 }

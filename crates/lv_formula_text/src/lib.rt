@@ -2,7 +2,7 @@
 //!
 //! | part | items |
 //! |---|---|
-//! | names | `Path`, `Scope` |
+//! | names | `Path`, `Word`, `Scope` |
 //! | a formula with names as written | `Phrase`, `PhraseNode` |
 //! | reading it, exactly by the grammar | `read_phrase`, `read_shallow_phrase`, `PhraseFault` |
 //! | its canonical text | `print_phrase`, `write_phrase`, `LineWriter` |
@@ -20,6 +20,7 @@ pub mod descent;
 pub mod fault;
 pub mod laws;
 mod parser;
+pub mod path;
 pub mod phrase;
 mod printer;
 pub mod reader;
@@ -29,7 +30,7 @@ pub mod writer;
 
 pub use descent::{examples, phrase_of_is_formula};
 pub use fault::PhraseFault;
-pub use lv_formula::Path;
+pub use path::{Path, Word};
 pub use phrase::{Phrase, PhraseNode};
 pub use printer::{print_phrase, write_phrase};
 pub use reader::{is_too_deep, read_phrase, read_shallow_phrase};

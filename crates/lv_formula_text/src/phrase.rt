@@ -7,7 +7,7 @@
 ghost use Rattle.std.specs.Prelude.{◌≡◌};
 ghost use Rattle.lv_formula_text.specs.PhraseTree.{tree_of};
 
-use lv_formula::Path;
+use crate::path::Path;
 use std::marker::Model;
 
 /// An equation with names as written.

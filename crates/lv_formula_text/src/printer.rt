@@ -8,9 +8,9 @@ ghost use Rattle.lv_formula_text.specs.Spacing.{written};
 ghost use Rattle.lv_formula_text.specs.Canonical.{path_tokens, level_of, enclosed, tokens_of, operand_tokens, sign_before, canonical_text};
 
 use crate::connective::Connective;
+use crate::path::Path;
 use crate::phrase::{Phrase, PhraseNode};
 use crate::writer::LineWriter;
-use lv_formula::Path;
 use lv_text::TokenKind;
 use std::alloc::{AllocError, Global};
 

@@ -8,11 +8,12 @@ ghost use Rattle.lv_formula.specs.Tree.{tree_of as formula_of, always, never, im
 ghost use Rattle.lv_formula_text.specs.Resolving.{names_of, equation_of, value_named, on_ok, resolved, resolved_all, tree_result, boxed_result, trees_result};
 ghost use Rattle.lv_formula_text.specs.ResolveFaults.{Tells};
 
+use crate::path::Path;
 use crate::phrase::{Phrase, PhraseNode};
 use crate::scope::Scope;
 use lv_base::{ValId, VarId};
+use lv_formula::Formula;
 use lv_formula::boxed::{boxed, push_unboxed};
-use lv_formula::{Formula, Path};
 use std::alloc::{AllocError, Global};
 use thiserror::Error;
 

@@ -4,15 +4,15 @@
 
 ghost use Rattle.std.specs.Prelude.{◌≡◌};
 
+use crate::path::Path;
 use lv_base::{ValId, VarId};
-use lv_formula::Path;
 
 /// The variables and values that a formula may name. No call takes memory.
 pub trait Scope {
     ghost use Rattle.std.specs.Prelude.{ℕ, List, Bool, Option};
     ghost use Rattle.lv_base.specs.declared.ids.VarId.{VarId};
     ghost use Rattle.lv_base.specs.declared.ids.ValId.{ValId};
-    ghost use Rattle.lv_formula.specs.declared.path.Path.{Path};
+    ghost use Rattle.lv_formula_text.specs.declared.path.Path.{Path};
 
     ghost named_variable: { Self → Path → Option VarId };
 

@@ -5,7 +5,7 @@
 ghost use Rattle.std.specs.Prelude.{◌≡◌, IfOk, IfErr, Ok};
 ghost use Rattle.lv_model_entries.specs.Scopes.{are_one_sort, variable_of_type, sort_in_type, value_by_sort, value_of_type, share_in_type, variable_of_part, variable_of_system, sort_in_system, value_of_system, share_in_system, TellsFormula};
 ghost use Rattle.lv_model_entries.specs.Entries.{type_formula, system_formula};
-ghost use Rattle.lv_formula.specs.declared.path.Path.TheVariants.{Own};
+ghost use Rattle.lv_formula_text.specs.declared.path.Path.TheVariants.{Own};
 
 use crate::draft::{CheckFault, Draft};
 use crate::places::{
@@ -14,8 +14,8 @@ use crate::places::{
 };
 use lv_base::{ValId, VarId};
 use lv_formula::range::is_same_sort;
-use lv_formula::{Condition, Path, Sort};
-use lv_formula_text::{Phrase, ResolveFault, Scope, resolve};
+use lv_formula::{Condition, Sort};
+use lv_formula_text::{Path, Phrase, ResolveFault, Scope, resolve};
 use lv_model::{ComponentType, Domain, Part};
 use lv_model_draft::{NamedPlant, NamedType};
 use lv_reader::ModelCode;

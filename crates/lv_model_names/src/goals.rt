@@ -8,8 +8,8 @@ ghost use Rattle.lv_model_names.specs.Names.{names_over};
 
 use crate::names::{share_domain, value_of, variable_of};
 use lv_base::{ValId, VarId};
-use lv_formula::{Condition, Path, Range};
-use lv_formula_text::{Phrase, ResolveFault, Scope, resolve};
+use lv_formula::{Condition, Range};
+use lv_formula_text::{Path, Phrase, ResolveFault, Scope, resolve};
 use lv_model::Plant;
 use std::alloc::Global;
 

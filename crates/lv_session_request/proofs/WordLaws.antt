@@ -12,7 +12,7 @@ use Rattle.lv_text.specs.Bytes.{is_letter, is_digit, is_word_byte}
 use Rattle.lv_text.specs.Kinds.{has_kind}
 use Rattle.lv_text.specs.Lexemes.{Lexeme}
 use Rattle.lv_text.specs.Laws.{IsLexeme}
-use Rattle.lv_formula.specs.declared.path.Path.{Path}
+use Rattle.lv_formula_text.specs.declared.path.Path.{Path}
 use Rattle.lv_formula_text.specs.declared.connective.Connective.{Connective}
 use Rattle.lv_formula_text.specs.declared.connective.Connective.TheVariants.{Equivalence, Implication, Disjunction, Conjunction}
 use Rattle.lv_formula_text.specs.PhraseTree.{PhraseTree}
