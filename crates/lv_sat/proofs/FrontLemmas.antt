@@ -190,7 +190,7 @@ shared_more levels assumptions count d e within inside same shared =
     ∙ ap₂ (λ (ls : List Lit) (l : Lit). ls ++ l ∷ []) (assumed_take levels count ∙ shared) same
     ∙ sym (take_more assumptions count e inside)
 
-pub cut_shared : (levels kept : List Level) (assumptions : List Lit) (count : ℕ) → count < length levels → kept ≡ take count levels → take count (assumed levels) ≡ take count assumptions → assumed kept ≡ take (length kept) assumptions
+pub cut_shared : (levels kept : List Level) (assumptions : List Lit) (count : ℕ) → count ≤ length levels → kept ≡ take count levels → take count (assumed levels) ≡ take count assumptions → assumed kept ≡ take (length kept) assumptions
 cut_shared levels kept assumptions count within is shared =
     ap (λ (ls : List Level). assumed ls) is
     ∙ assumed_take levels count
@@ -389,11 +389,6 @@ pub kept_grown : (cs : ClauseMap) (levels : List Level) (before marks : Marks) (
 kept_grown cs levels before marks old entries found here grown =
     let standing : IsStanding cs levels marks entries = begun_stands cs levels before marks old entries [] found here grown refl in
     record { trail = λ some. standing.trail; places = standing.places; front = standing.front }
-
--- unless a clause is false
-pub kept_unless : (cs : ClauseMap) (levels : List Level) (before marks : Marks) (old entries : List Entry) (found : Option Hint) → IsKept cs levels before old → IsPropagated cs [] old marks entries found → IfNone found (IsKept cs levels marks entries)
-kept_unless cs levels before marks old entries None here grown = kept_grown cs levels before marks old entries None here grown
-kept_unless cs levels before marks old entries (Some h) here grown = tt
 
 -- a clause more
 module _ (old new : ClauseMap) (id : ℕ) (c : List Lit) (puts : Puts old new id (Some c)) (vacant : clause_at old.slots id ≡ None) where

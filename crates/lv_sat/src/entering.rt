@@ -1,7 +1,7 @@
 //! A clause that is added while assumptions stand: they stay, and what it forces comes behind them.
 #![tactic(auto)]
 
-ghost use Rattle.std.specs.Prelude.{◌≡◌, ◌<◌, [], List, length, IfOk, IfNone};
+ghost use Rattle.std.specs.Prelude.{◌≡◌, ◌<◌, [], List, length, IfOk};
 ghost use Rattle.lv_sat.specs.declared.front.Level.{Level};
 ghost use Rattle.lv_sat.specs.Front.{IsKept};
 ghost use Rattle.lv_trail.specs.Trail.{IsTrail};
@@ -16,15 +16,34 @@ use lv_trail::{Reasons, Trail};
 use std::alloc::{AllocError, Global};
 
 impl Front {
-    /// Takes in a clause of the set that is new. Where it is false, or memory is wanting, the front is taken back.
+    /// Takes in a clause of the set that is new, with what it forces. Where a clause is false by that, assumptions give way;
+    /// where one is so without any, or memory is wanting, the whole front is taken back.
     pub fn take_in(&mut self, set: &ClauseSet, lits: &[Lit], id: ClauseId)
         requires { IsKept set.now self.old.levels.items self.old.search.trail.marks.items self.old.search.trail.entries.items }
         ensures { IsKept set.now self.new.levels.items self.new.search.trail.marks.items self.new.search.trail.entries.items }
     {
         match self.search.enter(set, lits, id) {
             Ok(None) => {}
-            Ok(Some(_)) | Err(_) => self.forget(),
+            Ok(Some(_)) => self.give_way(set, lits, id),
+            Err(_) => self.forget(),
         }
+    }
+
+    /// Takes assumptions back, from the last one on, until what the clause forces leaves no clause false.
+    fn give_way(&mut self, set: &ClauseSet, lits: &[Lit], id: ClauseId)
+        requires { IsKept set.now self.old.levels.items self.old.search.trail.marks.items self.old.search.trail.entries.items }
+        ensures { IsKept set.now self.new.levels.items self.new.search.trail.marks.items self.new.search.trail.entries.items }
+    {
+        let count = self.levels.len();
+        'levels: for left in (0..count).rev() {
+            self.cut_to(left);
+            match self.search.force_new(set, lits, id) {
+                Ok(None) => return,
+                Ok(Some(_)) => {}
+                Err(_) => break 'levels,
+            }
+        }
+        self.forget();
     }
 }
 
@@ -38,10 +57,24 @@ impl Search {
     ) -> Result<Option<Hint>, AllocError>
         requires { 0 < length self.old.trail.entries.items → IsTrail set.now [] self.old.trail.marks.items self.old.trail.entries.items }
         ensures { (levels : List Level) → IsKept set.now levels self.old.trail.marks.items self.old.trail.entries.items
-            → IfOk result (λ found. IfNone found (IsKept set.now levels self.new.trail.marks.items self.new.trail.entries.items)) }
+            → IfOk result (λ _. IsKept set.now levels self.new.trail.marks.items self.new.trail.entries.items) }
     {
         let order = in_watch_order(self.alloc, &self.trail, lits)?;
         self.guide.watches.add_given(order.as_slice(), id)?;
+        self.force_new(set, lits, id)
+    }
+
+    /// Adds what a clause of the set forces to the trail, if it does; or finds a false clause.
+    fn force_new(
+        &mut self,
+        set: &ClauseSet,
+        lits: &[Lit],
+        id: ClauseId,
+    ) -> Result<Option<Hint>, AllocError>
+        requires { 0 < length self.old.trail.entries.items → IsTrail set.now [] self.old.trail.marks.items self.old.trail.entries.items }
+        ensures { (levels : List Level) → IsKept set.now levels self.old.trail.marks.items self.old.trail.entries.items
+            → IfOk result (λ _. IsKept set.now levels self.new.trail.marks.items self.new.trail.entries.items) }
+    {
         if self.trail.entries().is_empty() {
             return Ok(None);
         }
@@ -58,7 +91,7 @@ impl Search {
     fn force_by(&mut self, reasons: Reasons, id: ClauseId) -> Result<Option<Hint>, AllocError>
         requires { IsTrail reasons.set.now reasons.log.now self.old.trail.marks.items self.old.trail.entries.items }
         ensures { (levels : List Level) → reasons.entry.log.now ≡ [] → IsKept reasons.entry.set.now levels self.old.trail.marks.items self.old.trail.entries.items
-            → IfOk result (λ found. IfNone found (IsKept reasons.entry.set.now levels self.new.trail.marks.items self.new.trail.entries.items)) }
+            → IfOk result (λ _. IsKept reasons.entry.set.now levels self.new.trail.marks.items self.new.trail.entries.items) }
     {
         let place = self.trail.entries().len();
         match visit_all(reasons, &[Hint::Given(id)], &mut self.trail)? {

@@ -12,6 +12,7 @@ ghost use Rattle.lv_sat.specs.Answers.{Answers, last_clause};
 ghost use Rattle.lv_sat.specs.Front.{assumed, AreLevels, Assumes, IsFront, IsKept, IsRefuted, IsStanding, Stands};
 
 use super::answer::Answer;
+use super::near::near_values;
 use super::propagation::{propagate, visit_all};
 use super::search::Search;
 use lv_base::{Lit, Seq};
@@ -50,7 +51,7 @@ impl Front {
         ensures kept { IsKept set.now self.new.levels.items self.new.search.trail.marks.items self.new.search.trail.entries.items }
     {
         self.search.guide.note_call();
-        match self.find_answer(set, last, assumptions) {
+        match self.answer_near(set, last, assumptions) {
             Ok(answer) => Ok(answer),
             Err(error) => {
                 self.search.guide.analysis.clear();
@@ -60,7 +61,36 @@ impl Front {
         }
     }
 
-    /// The answer, where memory suffices.
+    /// The answer, where memory suffices: values near the last ones, where they are found, else what a search finds.
+    fn answer_near(
+        &mut self,
+        set: &ClauseSet,
+        last: &LastValues,
+        assumptions: &[Lit],
+    ) -> Result<Answer, AllocError>
+        requires clause { IsTrue (is_clause set.now.bools assumptions.now) }
+        requires kept { IsKept set.now self.old.levels.items self.old.search.trail.marks.items self.old.search.trail.entries.items }
+        requires last { IsUpToDate set.now last.now.values last.now.occurrences }
+        ensures answer { IfOk result (λ answer. Answers set.now assumptions.now answer) }
+        ensures kept { OnOk result (IsKept set.now self.new.levels.items self.new.search.trail.marks.items self.new.search.trail.entries.items) }
+    {
+        let alloc = self.search.alloc;
+        let is_tried = self.search.guide.near.is_given();
+        if is_tried && let Some(values) = near_values(alloc, set, last, assumptions)? {
+            self.search.guide.near = self.search.guide.near.met();
+            return Ok(Answer::Sat {
+                values,
+                log: Log::new(alloc)?,
+            });
+        }
+        let answer = self.find_answer(set, last, assumptions)?;
+        if is_tried && let Answer::Sat { .. } = answer {
+            self.search.guide.near = self.search.guide.near.led();
+        }
+        Ok(answer)
+    }
+
+    /// What a search finds, where memory suffices.
     fn find_answer(
         &mut self,
         set: &ClauseSet,
@@ -124,6 +154,16 @@ impl Front {
         ensures shared { assumed self.new.levels.items ≡ take (length self.new.levels.items) assumptions.now }
     {
         let count = count_shared(self.levels.as_slice(), assumptions);
+        self.cut_to(count);
+    }
+
+    /// Takes back all assumptions but the first, so many.
+    pub fn cut_to(&mut self, count: usize)
+        requires { AreLevels self.old.levels.items self.old.search.trail.entries.items }
+        ensures kept { (set : ClauseMap) → IsKept set self.old.levels.items self.old.search.trail.marks.items self.old.search.trail.entries.items
+            → IsKept set self.new.levels.items self.new.search.trail.marks.items self.new.search.trail.entries.items }
+        ensures levels { self.new.levels.items ≡ take count self.old.levels.items }
+    {
         if count < self.levels.len() {
             let place = self.levels[count].place;
             self.search.take_back(place);

@@ -32,6 +32,8 @@ pub struct Guide {
     pub analysis: Analysis,
     pub effort: Effort,
     pub trust: Trust,
+    /// How far it is trusted that values near the last ones answer a question.
+    pub near: Trust,
     /// So many of the first entries are true by the last values.
     pub agreed: usize,
 }
@@ -46,6 +48,7 @@ impl Guide {
             analysis: Analysis::new(alloc),
             effort: Effort::new(),
             trust: Trust::new(),
+            near: Trust::new(),
             agreed: 0,
         })
     }
@@ -54,6 +57,7 @@ impl Guide {
     pub fn note_call(&mut self) {
         self.effort = self.effort.with_call();
         self.trust = self.trust.renewed();
+        self.near = self.near.renewed();
         self.watches.clear_learned();
         self.room = FIRST_ROOM;
         self.order.begin();

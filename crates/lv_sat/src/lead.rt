@@ -54,7 +54,7 @@ fn lead_by(
             && let Some(id) = first_unmet(set, occurrences, trail.marks(), values, turned)
         {
             return Lead {
-                lit: open_lit(set, trail, id),
+                lit: open_lit(set, trail.marks(), id),
                 is_met: false,
                 place: at,
             };
@@ -68,7 +68,7 @@ fn lead_by(
 }
 
 /// A clause of the literal's row that the guess leaves false.
-fn first_unmet(
+pub fn first_unmet(
     set: &ClauseSet,
     occurrences: &Occurrences,
     marks: &[Option<bool>],
@@ -103,14 +103,15 @@ fn is_guessed(marks: &[Option<bool>], values: &[bool], lit: Lit) -> bool {
 }
 
 /// The first literal of a clause that isn't marked.
-fn open_lit(set: &ClauseSet, trail: &Trail, id: ClauseId) -> Option<Lit> {
-    match set.find(id) {
-        Some(clause) => clause.iter().copied().find(|lit| trail.is_open(*lit)),
-        None => None,
-    }
+pub fn open_lit(set: &ClauseSet, marks: &[Option<bool>], id: ClauseId) -> Option<Lit> {
+    let clause = set.find(id)?;
+    clause
+        .iter()
+        .copied()
+        .find(|lit| matches!(marks.get(lit.var.0 as usize), Some(None)))
 }
 
-/// How far leads are trusted: they cost more than they save where questions are hard, or far from each other.
+/// How far leads, or guesses, are trusted: they cost more than they save where questions are hard, or far from each other.
 #[derive(Clone, Copy, Debug)]
 pub struct Trust {
     credit: u32,
@@ -142,6 +143,11 @@ impl Trust {
     /// Whether a question is to be led.
     pub fn is_given(&self) -> bool {
         self.credit > 0
+    }
+
+    /// Whether a guess answered this question.
+    pub fn is_met(&self) -> bool {
+        self.is_met
     }
 
     /// With this question led.

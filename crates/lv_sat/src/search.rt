@@ -19,7 +19,7 @@ use super::effort::Effort;
 use super::guide::Guide;
 use super::propagation::propagate;
 use lv_base::Seq;
-use lv_clauses::ClauseSet;
+use lv_clauses::{ClauseSet, lit_holds};
 use lv_last_values::LastValues;
 use lv_reflog::{Hint, Log};
 use lv_sat_guide::Pace;
@@ -75,11 +75,20 @@ impl Search {
         self.trail.cut(len);
     }
 
-    /// Notes that the last values are those of the trail.
-    pub fn note_values(&mut self)
+    /// Notes which of the first entries are true by these values, which are the last ones: all, unless they were found without
+    /// the trail.
+    pub fn note_values(&mut self, values: &[bool])
         ensures { self.new.trail ≡ self.old.trail }
     {
-        self.guide.agreed = self.trail.entries().len();
+        let entries = self.trail.entries();
+        self.guide.agreed = entries.len();
+        if self.guide.near.is_met()
+            && let Some(place) = entries
+                .iter()
+                .position(|entry| !lit_holds(values, entry.lit))
+        {
+            self.guide.agreed = place;
+        }
     }
 
     /// What was done so far.

@@ -1,5 +1,5 @@
 -- the front was taken back
 use Rattle.lv_sat.proofs.front.Front.take_in.Goals as goal
 
-pub returns-in-Ok-Some : goal.returns-in-Ok-Some
-returns-in-Ok-Some c = c.forget.ensures c.args.set.now
+pub returns-in-Err : goal.returns-in-Err
+returns-in-Err c = c.forget.ensures c.args.set.now
