@@ -10,7 +10,7 @@ tree_of-True = search (rules, the_lemmas)
 pub tree_of-False : tree_of False ≡ never
 tree_of-False = search (rules, the_lemmas)
 
-pub tree_of-Equals : (sides : Box Equation Global) → tree_of (Equals sides) ≡ equals sides.value.left sides.value.right
+pub tree_of-Equals : (sides : Equation) → tree_of (Equals sides) ≡ equals sides.left sides.right
 tree_of-Equals sides = search (rules, the_lemmas)
 
 pub tree_of-Not : (f : Box PhraseNode Global) → tree_of (Not f) ≡ negation (tree_of f.value)

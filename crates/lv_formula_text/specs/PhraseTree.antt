@@ -29,7 +29,7 @@ trees_of (t ∷ ts) = more t (trees_of ts)
 abbrev pub tree_step : PhraseNode-F PhraseTree → PhraseTree
 tree_step True = always
 tree_step False = never
-tree_step (Equals sides) = equals sides.value.left sides.value.right
+tree_step (Equals sides) = equals sides.left sides.right
 tree_step (Not f) = negation f.value
 tree_step (And fs) = all (trees_of fs.items)
 tree_step (Or fs) = any (trees_of fs.items)

@@ -44,8 +44,8 @@ fn equation(alloc: Global, cursor: &mut Cursor<'_>) -> Result<Option<Box<PhraseN
     let Some(right) = path(alloc, cursor)? else {
         return Ok(None);
     };
-    let equation = Box::new(alloc, Equation { left, right })?;
-    Ok(Some(Box::new(alloc, PhraseNode::Equals(equation))?))
+    let equation = PhraseNode::Equals(Equation { left, right });
+    Ok(Some(Box::new(alloc, equation)?))
 }
 
 /// Reads a word, or two with a dot between them.

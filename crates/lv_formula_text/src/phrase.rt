@@ -5,7 +5,7 @@
 #![tactic(auto)]
 
 ghost use Rattle.std.specs.Prelude.{◌≡◌};
-ghost use Rattle.lv_formula_text.specs.PhraseTree.{tree_of};
+ghost use Rattle.lv_formula_text.specs.PhraseTree.{tree_in, tree_of};
 
 use crate::path::Path;
 use std::marker::Model;
@@ -22,7 +22,7 @@ pub struct Equation {
 pub enum PhraseNode {
     True,
     False,
-    Equals(Box<Equation>),
+    Equals(Equation),
     Not(Box<PhraseNode>),
     And(Vec<PhraseNode>),
     Or(Vec<PhraseNode>),
@@ -33,23 +33,23 @@ pub enum PhraseNode {
 /// A formula with names as written, inside a larger value, seen by clauses as its tree.
 #[derive(Debug, Drop)]
 pub struct Phrase {
-    root: PhraseNode,
+    root: Box<PhraseNode>,
 }
 
 impl Model for Phrase {
     ghost use Rattle.lv_formula_text.specs.PhraseCode.{tree_code};
-    ghost use Rattle.lv_formula_text.specs.PhraseTree.{PhraseTree, tree_of};
+    ghost use Rattle.lv_formula_text.specs.PhraseTree.{PhraseTree, tree_in};
 
     ghost Value = { PhraseTree };
 
     ghost coded = { tree_code };
 
-    ghost view = { λ p. tree_of p.root };
+    ghost view = { λ p. tree_in p.root };
 }
 
 impl Phrase {
-    pub fn new(root: PhraseNode) -> Phrase
-        ensures { result ≡ tree_of root }
+    pub fn new(root: Box<PhraseNode>) -> Phrase
+        ensures { result ≡ tree_in root }
     {
         Phrase { root }
     }

@@ -3,7 +3,7 @@
 
 ghost use Rattle.std.specs.Prelude.{◌≡◌, false, IfOk, IfErr};
 ghost use Rattle.std.specs.Option.{option_map_or};
-ghost use Rattle.lv_formula_text.specs.Nesting.{one_if, opens, closes, nests, is_too_open, nests_too_often, is_too_deep};
+ghost use Rattle.lv_formula_text.specs.Nesting.{one_if, opens, closes, nests, is_too_deep};
 ghost use Rattle.lv_formula_text.specs.ReadPhrase.{IsReadAs, Explains};
 
 use crate::connective::Connective;
@@ -46,7 +46,7 @@ pub fn read_shallow_phrase(
     if !cursor.is_at_end() {
         return Err(PhraseFault::Form);
     }
-    Ok(Phrase::new(Box::into_inner(root)))
+    Ok(Phrase::new(root))
 }
 
 /// Whether parentheses or operators of a line nest deeper than is allowed, whatever else the line holds. Takes no memory. A
@@ -58,35 +58,26 @@ pub fn is_too_deep(line: &TokenLine<'_>) -> bool
     if line.len() <= limits::OPEN_PARENTHESES as usize {
         return false;
     }
-    is_too_open(line) || nests_too_often(line)
+    nests_too_deep(line)
 }
 
-/// Whether too many parentheses are open at some place.
-fn is_too_open(line: &TokenLine<'_>) -> bool
-    ensures { result ≡ is_too_open line.now }
+/// Whether too many parentheses are open at some place, or there are too many operators that nest.
+fn nests_too_deep(line: &TokenLine<'_>) -> bool
+    ensures { result ≡ is_too_deep line.now }
 {
     let mut opened: usize = 0;
     let mut closed: usize = 0;
+    let mut nested: usize = 0;
     'tokens: for place in 0..line.len() {
         let kind = line.kind(place);
         opened += one_if(opens(kind));
         closed += one_if(closes(kind));
+        nested += one_if(nests(kind));
         if opened.saturating_sub(closed) > limits::OPEN_PARENTHESES as usize {
             return true;
         }
     }
-    false
-}
-
-/// Whether there are too many operators that nest.
-fn nests_too_often(line: &TokenLine<'_>) -> bool
-    ensures { result ≡ nests_too_often line.now }
-{
-    let mut count: usize = 0;
-    'tokens: for place in 0..line.len() {
-        count += one_if(nests(line.kind(place)));
-    }
-    count > limits::NESTING_OPERATORS as usize
+    nested > limits::NESTING_OPERATORS as usize
 }
 
 fn opens(kind: Option<TokenKind>) -> bool

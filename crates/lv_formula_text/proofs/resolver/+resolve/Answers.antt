@@ -2,8 +2,6 @@
 use Rattle.std.proofs.Common.{◌≡◌, ◌+◌, ◌<◌, ◌≤◌, ◌∷◌, [], Ok, map, drop, length, sym, ap, ap₂, ◌∙◌, arith}
 use Rattle.std.proofs.lemmas.List.{drop_more, drop_all, map-append}
 use Rattle.lv_formula.specs.Tree as formula
-use Rattle.lv_formula_text.specs.declared.path.Path.{Path}
-use Rattle.lv_formula_text.specs.declared.phrase.Equation.{Equation}
 use Rattle.lv_formula_text.specs.PhraseTree.{tree_of, trees_of, equals}
 use Rattle.lv_formula_text.specs.Resolving.{names_of, equation_of, resolved}
 use Rattle.lv_formula_text.proofs.TreeLemmas.{tree_of-Equals}
@@ -29,10 +27,9 @@ resolve_all-operands-preserved-in-Equals g t c =
     let index = c.operands.operand-index in
     let inside : index < length c.args.operands.now = omega arith in
     let left = drop_more c.args.operands.now index c.operand-item.result inside ∙ ap (λ x. x ∷ drop (index + 1) c.args.operands.now) (sym c.operand-item.is) in
-    let tree : tree_of c.operand-item.result ≡ equals c.in-Equals.sides.value.left c.in-Equals.sides.value.right = ap tree_of c.in-Equals.is ∙ tree_of-Equals c.in-Equals.sides in
-    let sides = ap₂ (λ (l r : Path). equation_of names l r) (ap (λ (e : Equation). e.left) c.deref.ensures) (ap (λ (e : Equation). e.right) c.deref-in-Equals.ensures) in
-    let solved : equation_of names c.deref.result.now.left c.deref-in-Equals.result.now.right ≡ Ok (formula.tree_of c.in-Ok.formula) = sym (rw c.in-Ok.is at c.equation.ensures) in
-    let found : resolved names (tree_of c.operand-item.result) ≡ Ok (formula.tree_of c.in-Ok.formula) = ap (resolved names) tree ∙ sym sides ∙ solved in
+    let tree : tree_of c.operand-item.result ≡ equals c.in-Equals.sides.left c.in-Equals.sides.right = ap tree_of c.in-Equals.is ∙ tree_of-Equals c.in-Equals.sides in
+    let solved : equation_of names c.in-Equals.sides.left c.in-Equals.sides.right ≡ Ok (formula.tree_of c.in-Ok.formula) = sym (rw c.in-Ok.is at c.equation.ensures) in
+    let found : resolved names (tree_of c.operand-item.result) ≡ Ok (formula.tree_of c.in-Ok.formula) = ap (resolved names) tree ∙ solved in
     let all = ap (map formula.tree_of) c.in_ok-push-in-Ok.ensures.items ∙ map-append formula.tree_of c.operands.found.items (c.in-Ok.formula ∷ []) in
     continued_step names (map formula.tree_of c.operands.found.items) (map formula.tree_of c.push.new.self.items) (tree_of c.operand-item.result)
     (trees_of (map tree_of (drop index c.args.operands.now))) (trees_of (map tree_of (drop (index + 1) c.args.operands.now))) (formula.tree_of c.in-Ok.formula)
