@@ -170,6 +170,18 @@ tell_all old new at turned past past_too tells var = elim (cases_lt var at) [
   | inr behind ↦ inl (get_or_past new var false (omega (arith, behind, past_too)) ∙ sym (get_or_past old var false (omega (arith, behind, past))))
 ]
 
+-- a boolean that is set is told
+pub turned_more : (last values more : List Bool) (i : ℕ) (b : Bool) (turned longer : List BoolId) → more ≡ set values i b → longer ≡ turned ++ record { 0 = i } ∷ [] → AreTurned last values turned → AreTurned last more longer
+turned_more last values more i b turned longer set_is is tells var =
+    subst (λ (ls : List BoolId). (get_or more var false ≡ get_or last var false) ⊎ Contains ls (record { 0 = var })) (sym is) (by_place (cases_eq var i))
+  where
+    by_place : (var ≡ i) ⊎ (var ≢ i) → (get_or more var false ≡ get_or last var false) ⊎ Contains (turned ++ record { 0 = i } ∷ []) (record { 0 = var })
+    by_place (inl at) = inr (subst (λ (k : ℕ). Contains (turned ++ record { 0 = i } ∷ []) (record { 0 = k })) (sym at) (contains_last turned (record { 0 = i })))
+    by_place (inr differs) = elim (tells var) [
+      | inl e ↦ inl (ap (λ (vs : List Bool). get_or vs var false) set_is ∙ get_or-set_other values i var b false differs ∙ e)
+      | inr has ↦ inr (contains_more turned (record { 0 = var }) (record { 0 = i }) has)
+    ]
+
 -- all booleans that turned were looked at
 pub each_settled : (slots : Slots) (rows : Rows) (last values : List Bool) (turned : List BoolId) → AreTurned last values turned
     → ((k : ℕ) (d : BoolId) → k < length turned → IsSettled slots rows last values (get_or turned k d).0) → (var : ℕ) → IsSettled slots rows last values var

@@ -109,6 +109,20 @@ impl LastValues {
         })
     }
 
+    /// The last values with these literals made false.
+    pub fn turn(&self, alloc: Global, set: &ClauseSet, lits: &[Lit]) -> Result<Guess, AllocError>
+        requires kept { IsUpToDate set.now self.now.values self.now.occurrences }
+        ensures len { IfOk result (λ guess. length guess.values ≡ set.now.bools) }
+        ensures turned { IfOk result (λ guess. IfSome self.now.values (λ last. AreTurned last guess.values guess.turned.items)) }
+    {
+        let mut values = self.copied_for(alloc, set)?;
+        let turned = make_false(alloc, lits, &mut values)?;
+        Ok(Guess {
+            values: Seq::from_vec(values),
+            turned,
+        })
+    }
+
     /// A copy of the values; as many that are false, where there are none.
     fn copied_for(&self, alloc: Global, set: &ClauseSet) -> Result<Vec<bool>, AllocError>
         requires { IsUpToDate set.now self.now.values self.now.occurrences }
@@ -193,6 +207,22 @@ fn push_turned(
         }
     }
     Ok(())
+}
+
+/// Makes the literals false. Answers their booleans.
+fn make_false(alloc: Global, lits: &[Lit], values: &mut [bool]) -> Result<Vec<BoolId>, AllocError>
+    ensures len { OnOk result (length values.new ≡ length values.old) }
+    ensures turned { IfOk result (λ turned. AreTurned values.old values.new turned.items) }
+{
+    let mut turned = Vec::with_capacity(alloc, lits.len())?;
+    for lit in lits {
+        let index = lit.var.0 as usize;
+        if index < values.len() {
+            values[index] = !lit.sign;
+            turned.push(lit.var)?;
+        }
+    }
+    Ok(turned)
 }
 
 /// The value that a boolean is marked with; where there is no mark, the other one.
@@ -307,7 +337,7 @@ fn true_lit(values: &[bool], var: BoolId) -> Lit
 }
 
 /// A clause of the literal's row that the values make false.
-fn first_in(
+pub(crate) fn first_in(
     set: &ClauseSet,
     occurrences: &Occurrences,
     lit: Lit,

@@ -12,12 +12,11 @@ ghost use Rattle.lv_sat.specs.Answers.{Answers, last_clause};
 ghost use Rattle.lv_sat.specs.Front.{assumed, AreLevels, Assumes, IsFront, IsKept, IsRefuted, IsStanding, Stands};
 
 use super::answer::Answer;
-use super::near::near_values;
 use super::propagation::{propagate, visit_all};
 use super::search::Search;
 use lv_base::{Lit, Seq};
 use lv_clauses::{ClauseSet, is_marked, negation};
-use lv_last_values::LastValues;
+use lv_last_values::{LastValues, near_values};
 use lv_reflog::{Hint, Log};
 use lv_trail::{Conflict, Entry, Reasons};
 use std::alloc::{AllocError, Global};
@@ -61,7 +60,8 @@ impl Front {
         }
     }
 
-    /// The answer, where memory suffices: values near the last ones, where they are found, else what a search finds.
+    /// The answer, where memory suffices: values near the last ones, where they are found, else what a search finds. There
+    /// are none near where an assumption is false by those that stand still.
     fn answer_near(
         &mut self,
         set: &ClauseSet,
@@ -75,7 +75,8 @@ impl Front {
         ensures kept { OnOk result (IsKept set.now self.new.levels.items self.new.search.trail.marks.items self.new.search.trail.entries.items) }
     {
         let alloc = self.search.alloc;
-        let is_tried = self.search.guide.near.is_given();
+        self.keep(assumptions);
+        let is_tried = self.search.guide.near.is_given() && !self.is_contradicted(assumptions);
         if is_tried && let Some(values) = near_values(alloc, set, last, assumptions)? {
             self.search.guide.near = self.search.guide.near.met();
             return Ok(Answer::Sat {
@@ -191,6 +192,15 @@ impl Front {
             }
         }
         Ok(true)
+    }
+
+    /// Whether one of the assumptions behind those that stand is false by these.
+    fn is_contradicted(&self, assumptions: &[Lit]) -> bool {
+        let marks = self.search.trail.marks();
+        assumptions
+            .iter()
+            .skip(self.levels.len())
+            .any(|lit| is_marked(marks, negation(*lit)))
     }
 
     /// Takes one more assumption. Where it is refuted, the front is as it was.

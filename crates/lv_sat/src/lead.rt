@@ -6,7 +6,7 @@
 
 use lv_base::{ClauseId, Lit};
 use lv_clauses::{ClauseSet, lit_holds, negation};
-use lv_last_values::{LastValues, Occurrences};
+use lv_last_values::{LastValues, Occurrences, open_lit};
 use lv_trail::Trail;
 
 /// What to choose next, and how far that was looked at.
@@ -54,7 +54,7 @@ fn lead_by(
             && let Some(id) = first_unmet(set, occurrences, trail.marks(), values, turned)
         {
             return Lead {
-                lit: open_lit(set, trail.marks(), id),
+                lit: open_lit(set, trail.marks(), id, 0),
                 is_met: false,
                 place: at,
             };
@@ -68,7 +68,7 @@ fn lead_by(
 }
 
 /// A clause of the literal's row that the guess leaves false.
-pub fn first_unmet(
+fn first_unmet(
     set: &ClauseSet,
     occurrences: &Occurrences,
     marks: &[Option<bool>],
@@ -100,15 +100,6 @@ fn is_guessed(marks: &[Option<bool>], values: &[bool], lit: Lit) -> bool {
         Some(Some(sign)) => *sign == lit.sign,
         _ => lit_holds(values, lit),
     }
-}
-
-/// The first literal of a clause that isn't marked.
-pub fn open_lit(set: &ClauseSet, marks: &[Option<bool>], id: ClauseId) -> Option<Lit> {
-    let clause = set.find(id)?;
-    clause
-        .iter()
-        .copied()
-        .find(|lit| matches!(marks.get(lit.var.0 as usize), Some(None)))
 }
 
 /// How far leads, or guesses, are trusted: they cost more than they save where questions are hard, or far from each other.

@@ -12,7 +12,6 @@
 //! | what clauses force | `propagation` |
 //! | the search | `search` |
 //! | what the last values say of the next choice | `lead` |
-//! | values near the last ones | `near` |
 //! | the assumptions on the trail | `front` |
 //! | a clause that is added behind them | `entering` |
 #![tactic(auto)]
@@ -24,7 +23,6 @@ mod entering;
 mod front;
 mod guide;
 mod lead;
-mod near;
 mod part;
 mod propagation;
 mod search;

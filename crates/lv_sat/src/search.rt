@@ -19,7 +19,7 @@ use super::effort::Effort;
 use super::guide::Guide;
 use super::propagation::propagate;
 use lv_base::Seq;
-use lv_clauses::{ClauseSet, lit_holds};
+use lv_clauses::ClauseSet;
 use lv_last_values::LastValues;
 use lv_reflog::{Hint, Log};
 use lv_sat_guide::Pace;
@@ -75,20 +75,16 @@ impl Search {
         self.trail.cut(len);
     }
 
-    /// Notes which of the first entries are true by these values, which are the last ones: all, unless they were found without
-    /// the trail.
-    pub fn note_values(&mut self, values: &[bool])
+    /// Notes which of the first entries are true by the last values, which are new: all, or it isn't known where they were
+    /// found without the trail.
+    pub fn note_values(&mut self)
         ensures { self.new.trail ≡ self.old.trail }
     {
-        let entries = self.trail.entries();
-        self.guide.agreed = entries.len();
-        if self.guide.near.is_met()
-            && let Some(place) = entries
-                .iter()
-                .position(|entry| !lit_holds(values, entry.lit))
-        {
-            self.guide.agreed = place;
-        }
+        self.guide.agreed = if self.guide.near.is_met() {
+            0
+        } else {
+            self.trail.entries().len()
+        };
     }
 
     /// What was done so far.

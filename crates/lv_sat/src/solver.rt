@@ -142,7 +142,7 @@ impl Solver {
         match &answer {
             Answer::Sat { values, log: _ } => {
                 self.last.keep(self.alloc, &self.set, values.as_slice());
-                self.front.search.note_values(values.as_slice());
+                self.front.search.note_values();
             }
             Answer::Unsat { core, log } => {
                 self.refuted = Some(Refutation::copy_of(self.alloc, core.as_slice(), log)?);

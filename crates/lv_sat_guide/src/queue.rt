@@ -21,6 +21,8 @@ pub struct Queue {
     links: Vec<Link>,
     first: Option<BoolId>,
     from: Option<BoolId>,
+    /// The stamp of that boolean.
+    from_stamp: u32,
     stamps: u32,
 }
 
@@ -41,6 +43,7 @@ impl Queue {
             links,
             first,
             from: first,
+            from_stamp: bools,
             stamps: bools,
         })
     }
@@ -53,6 +56,7 @@ impl Queue {
                 return Some(var);
             }
             self.from = self.link(var)?.behind;
+            self.from_stamp = self.stamp_of(self.from);
         }
         None
     }
@@ -61,8 +65,8 @@ impl Queue {
     pub fn put_back(&mut self, lit: Lit) {
         if let Some(link) = self.links.get_mut(lit.var.0 as usize) {
             link.sign = lit.sign;
-            let stamp = link.stamp;
-            if stamp > self.stamp_of(self.from) {
+            if link.stamp > self.from_stamp {
+                self.from_stamp = link.stamp;
                 self.from = Some(lit.var);
             }
         }
@@ -79,6 +83,9 @@ impl Queue {
             let stamp = self.stamps;
             if let Some(link) = self.links.get_mut(var.0 as usize) {
                 link.stamp = stamp;
+            }
+            if self.from == Some(var) {
+                self.from_stamp = stamp;
             }
         }
     }
