@@ -93,7 +93,7 @@ impl Asking {
         ensures answer { IfOk result (λ core. Refutes self.old.set (pair_literals self.old.choices pairs.now ++ more.now) self.old.assumed core) }
         ensures same { self.new ≡ self.old }
     {
-        let mut chosen = Vec::new(self.alloc);
+        let mut chosen = Vec::with_capacity(self.alloc, pairs.len())?;
         push_pairs(&mut chosen, &self.choices, pairs)?;
         chosen.extend_from_slice(more)?;
         refute(

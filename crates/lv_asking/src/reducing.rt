@@ -55,7 +55,8 @@ fn all_but(alloc: Global, kept: &[Pair], pairs: &[Pair], at: usize) -> Result<Ve
     requires { at < length pairs.now }
     ensures { IfOk result (λ out. out.items ≡ kept.now ++ drop (at + 1) pairs.now) }
 {
-    let mut out = Vec::from_slice(alloc, kept)?;
+    let mut out = Vec::with_capacity(alloc, pairs.len())?;
+    out.extend_from_slice(kept)?;
     out.extend_from_slice(&pairs[at + 1..])?;
     Ok(out)
 }

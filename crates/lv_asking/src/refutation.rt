@@ -120,7 +120,8 @@ fn assumptions(
 {
     let (kept, others) = chosen.split_at(kept.min(chosen.len()));
     let (blocks, last) = kept.split_at(kept.len() - kept.len() % BLOCK);
-    let mut out = Vec::from_slice(alloc, assumed)?;
+    let mut out = Vec::with_capacity(alloc, assumed.len().saturating_add(chosen.len()))?;
+    out.extend_from_slice(assumed)?;
     out.extend_from_slice(blocks)?;
     push_backwards(alloc, others, &mut out)?;
     out.extend_from_slice(last)?;

@@ -17,7 +17,7 @@ pub refute-requires-clause-clause : goal.refute-requires-clause-clause
 refute-requires-clause-clause c =
     let chosen : c.as_slice.result.now ≡ pair_literals c.self.inside.choices c.args.pairs.now ++ c.args.more.now =
     c.as_slice.ensures.value ∙ c.in_ok-extend_from_slice.ensures.items
-    ∙ ap (λ (ls : List Lit). ls ++ c.args.more.now) (c.in_ok-push_pairs.ensures ∙ ap (λ (ls : List Lit). ls ++ pair_literals c.self.inside.choices c.args.pairs.now) c.new-chosen.ensures.items)
+    ∙ ap (λ (ls : List Lit). ls ++ c.args.more.now) (c.in_ok-push_pairs.ensures ∙ ap (λ (ls : List Lit). ls ++ pair_literals c.self.inside.choices c.args.pairs.now) c.in_ok-chosen.ensures.items)
     in
     rw (chosen, c.as_slice-2.ensures.value)
     (asked_is_clause (record { set = c.self.inside.solver; choices = c.self.inside.choices; assumed = c.self.inside.assumed.items }) c.self.inside.solutions c.self.invariant c.args.pairs.now
@@ -40,7 +40,7 @@ pub returns-clause-answer : goal.returns-clause-answer
 returns-clause-answer c =
     let chosen : c.as_slice.result.now ≡ pair_literals c.self.inside.choices c.args.pairs.now ++ c.args.more.now =
     c.as_slice.ensures.value ∙ c.in_ok-extend_from_slice.ensures.items
-    ∙ ap (λ (ls : List Lit). ls ++ c.args.more.now) (c.in_ok-push_pairs.ensures ∙ ap (λ (ls : List Lit). ls ++ pair_literals c.self.inside.choices c.args.pairs.now) c.new-chosen.ensures.items)
+    ∙ ap (λ (ls : List Lit). ls ++ c.args.more.now) (c.in_ok-push_pairs.ensures ∙ ap (λ (ls : List Lit). ls ++ pair_literals c.self.inside.choices c.args.pairs.now) c.in_ok-chosen.ensures.items)
     in
     IfOk-weaker c.refute.result _ _
     (λ core told. subst (λ (v : AskingValue). Refutes v.set (pair_literals v.choices c.args.pairs.now ++ c.args.more.now) v.assumed core) c.self.view_is
