@@ -4,7 +4,7 @@
 //!
 //! | part | items |
 //! |---|---|
-//! | names | `Name`, `has_name`, `find_name`, `Class` |
+//! | names | `Name`, `has_name`, `find_name`, `is_same_text`, `Class` |
 //! | numbers with names | `VarId`, `ValId`, `PartId`, `MoveId`, `BoolId`, `ClauseId`, `Lit`, `Cost` |
 //! | lists | `Seq` |
 //! | a search's values | `Pair`, `Conflict`, `Candidate`, `contains`, `pairs_of` |
@@ -20,7 +20,7 @@ pub mod search;
 pub mod seq;
 
 pub use ids::{BoolId, ClauseId, Cost, Lit, MoveId, PartId, ValId, VarId};
-pub use names::{Class, Name, find_name, has_name};
+pub use names::{Class, Name, find_name, has_name, is_same_text};
 pub use rank::Rank;
 pub use search::{Candidate, Conflict, Pair, contains, pairs_of};
 pub use seq::Seq;

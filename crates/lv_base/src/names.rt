@@ -18,11 +18,26 @@ pub enum Class {
     Observable,
 }
 
+/// Whether both are the same bytes. Words are so short that going along them is faster than comparing slices.
+pub fn is_same_text(one: &[u8], other: &[u8]) -> bool
+    ensures { result ≡ is_named other.now one.now }
+{
+    if one.len() != other.len() {
+        return false;
+    }
+    for at in 0..one.len() {
+        if one[at] != other[at] {
+            return false;
+        }
+    }
+    true
+}
+
 /// Whether a name is this text, byte by byte.
 pub fn has_name(name: &Name, text: &[u8]) -> bool
     ensures { result ≡ is_named text.now name.now }
 {
-    name.as_slice() == text
+    is_same_text(name.as_slice(), text)
 }
 
 /// The place of the first name that is this text.

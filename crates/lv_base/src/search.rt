@@ -92,7 +92,7 @@ pub fn pairs_of(alloc: Global, choices: &[u32]) -> Result<Vec<Pair>, AllocError>
     requires { length choices.now < 2 ^ 32 }
     ensures { IfOk result (λ out. out.items ≡ pairs_of choices.now) }
 {
-    let mut out = Vec::new(alloc);
+    let mut out = Vec::with_capacity(alloc, choices.len())?;
     for (slot, choice) in choices.iter().enumerate() {
         out.push(Pair {
             slot: slot as u32,

@@ -7,10 +7,10 @@
 ghost use Rattle.std.specs.Prelude.{◌≡◌, [], length, nat_eq, IfOk, IfErr};
 ghost use Rattle.std.specs.Option.{option_copied};
 ghost use Rattle.lv_text.specs.Lexemes.{line_reading, reads, Explains, kind_at, text_at, word_at, number_at, says};
-ghost use Rattle.lv_base.specs.Names.{is_named};
 
 use crate::lexer::{TextFault, Token, TokenKind, put_line, tokens};
 use crate::numbers::number;
+use lv_base::is_same_text;
 use std::alloc::Global;
 use std::{marker, mem};
 
@@ -112,7 +112,7 @@ impl<'a> TokenLine<'a> {
         ensures { result ≡ says text.now self.now place }
     {
         match self.word(place) {
-            Some(word) => are_same(word, text),
+            Some(word) => is_same_text(word, text),
             None => false,
         }
     }
@@ -126,19 +126,4 @@ impl<'a> TokenLine<'a> {
             _ => None,
         }
     }
-}
-
-/// Whether both are the same bytes. Words are so short that going along them is faster than comparing slices.
-fn are_same(one: &[u8], other: &[u8]) -> bool
-    ensures { result ≡ is_named other.now one.now }
-{
-    if one.len() != other.len() {
-        return false;
-    }
-    for at in 0..one.len() {
-        if one[at] != other[at] {
-            return false;
-        }
-    }
-    true
 }
