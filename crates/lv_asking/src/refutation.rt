@@ -13,7 +13,7 @@ ghost use Rattle.lv_asking.specs.Refutation.{Refutes, Tells, latest};
 
 use crate::lemma_solver::{LemmaSolver, Reply};
 use lv_base::{Lit, Seq};
-use lv_clauses::{Marks, lit_holds};
+use lv_clauses::{Marks, all_hold};
 use lv_sat::{Answer, Solver};
 use std::alloc::{AllocError, Global};
 use std::marker::Model;
@@ -38,20 +38,13 @@ impl Model for Solutions {
     ghost invariant = { λ s. length s.kept.items ≤ KEPT };
 }
 
-/// Whether the values make all the literals true.
-fn make_true(values: &[bool], lits: &[Lit]) -> bool
-    ensures { result ≡ list_all (lit_holds values.now) lits.now }
-{
-    lits.iter().all(|lit| lit_holds(values, *lit))
-}
-
-/// Whether some of the values do.
+/// Whether some of the values make all the literals true.
 fn some_make_true(solutions: &[Seq<bool>], lits: &[Lit]) -> bool
     ensures { result ≡ list_any (λ values. list_all (lit_holds values) lits.now) solutions.now }
 {
     solutions
         .iter()
-        .any(|values| make_true(values.as_slice(), lits))
+        .any(|values| all_hold(values.as_slice(), lits))
 }
 
 impl Solutions {

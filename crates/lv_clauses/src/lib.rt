@@ -6,7 +6,7 @@
 //! | one clause | `Clause` |
 //! | the arena | `ClauseSet` |
 //! | laws of the unit closure | `closure_is_least`, `closure_is_sound` |
-//! | literals | `negation`, `is_clause`, `lit_holds`, `clause_holds` |
+//! | literals | `negation`, `is_clause`, `lit_holds`, `clause_holds`, `all_hold` |
 //! | marks of booleans | `Marks`, `is_marked`, `unmark`, `look`, `Finding` |
 #![tactic(auto)]
 
@@ -20,6 +20,6 @@ pub mod noted_marks;
 pub use clause::Clause;
 pub use clause_set::ClauseSet;
 pub use laws::{closure_is_least, closure_is_sound};
-pub use literals::{clause_holds, is_clause, lit_holds, negation};
+pub use literals::{all_hold, clause_holds, is_clause, lit_holds, negation};
 pub use marks::{Finding, is_marked, look, unmark};
 pub use noted_marks::Marks;

@@ -34,6 +34,13 @@ pub fn clause_holds(values: &[bool], clause: &[Lit]) -> bool
     clause.iter().any(|lit| lit_holds(values, *lit))
 }
 
+/// Whether values make all literals true.
+pub fn all_hold(values: &[bool], lits: &[Lit]) -> bool
+    ensures { result ≡ list_all (Literals.lit_holds values.now) lits.now }
+{
+    lits.iter().all(|lit| lit_holds(values, *lit))
+}
+
 /// Whether literals are a clause over so many booleans: each is in range, and no boolean stands twice. It compares each
 /// with each.
 pub fn is_clause(bools: u32, lits: &[Lit]) -> bool

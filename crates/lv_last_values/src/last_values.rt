@@ -110,7 +110,12 @@ impl LastValues {
     }
 
     /// The last values with these literals made false.
-    pub fn turn(&self, alloc: Global, set: &ClauseSet, lits: &[Lit]) -> Result<Guess, AllocError>
+    pub(crate) fn turn(
+        &self,
+        alloc: Global,
+        set: &ClauseSet,
+        lits: &[Lit],
+    ) -> Result<Guess, AllocError>
         requires kept { IsUpToDate set.now self.now.values self.now.occurrences }
         ensures len { IfOk result (λ guess. length guess.values ≡ set.now.bools) }
         ensures turned { IfOk result (λ guess. IfSome self.now.values (λ last. AreTurned last guess.values guess.turned.items)) }

@@ -4,16 +4,14 @@
 //! What comes of it is judged: by the assumptions, and by all clauses that hold a literal that turned.
 #![tactic(auto)]
 
-ghost use Rattle.std.specs.Prelude.{◌≡◌, IfOk, IfSome};
-ghost use Rattle.std.specs.List.{list_all};
-ghost use Rattle.lv_clauses.specs.Literals.{lit_holds};
+ghost use Rattle.std.specs.Prelude.{IfOk, IfSome};
 ghost use Rattle.lv_last_values.specs.Occurrences.{IsUpToDate};
 ghost use Rattle.lv_last_values.specs.Values.{IsModel};
 
 use super::last_values::{LastValues, first_in};
 use super::occurrences::Occurrences;
 use lv_base::{ClauseId, Lit, Seq};
-use lv_clauses::{ClauseSet, lit_holds, negation};
+use lv_clauses::{ClauseSet, all_hold, negation};
 use std::alloc::{AllocError, Global};
 
 /// So many looks are taken at the clauses of a literal that turned, and so many assumptions may turn.
@@ -36,18 +34,11 @@ pub fn near_values(
         return Ok(None);
     };
     let guess = last.turn(alloc, set, turned.as_slice())?;
-    if make_true(guess.values.as_slice(), assumptions) && last.first_false(set, &guess).is_none() {
+    if all_hold(guess.values.as_slice(), assumptions) && last.first_false(set, &guess).is_none() {
         Ok(Some(guess.values))
     } else {
         Ok(None)
     }
-}
-
-/// Whether the values make all the literals true.
-fn make_true(values: &[bool], lits: &[Lit]) -> bool
-    ensures { result ≡ list_all (lit_holds values.now) lits.now }
-{
-    lits.iter().all(|lit| lit_holds(values, *lit))
 }
 
 /// The literals to be made false, so that the assumptions are true and behind them all clauses, where these are few.
