@@ -18,7 +18,7 @@ ghost use Rattle.lv_ltms.specs.Trail.{IsDerivation};
 use super::arena::Arena;
 use super::labels::Labels;
 use super::propagation::{Progress, pick, propagate, settle};
-use super::revision::{lower_all, support_all, sweep};
+use super::revision::{Grounds, lower_all, support_all, sweep};
 use super::watchers::Watchers;
 use lv_base::{ClauseId, Lit};
 use std::alloc::{AllocError, Global};
@@ -140,24 +140,15 @@ impl Network {
     {
         self.fallen.clear();
         let both = self.may_turn(turns);
-        let looked = sweep(
-            from,
-            self.progress.done,
+        let grounds = Grounds {
             assumed,
-            &self.arena,
-            &self.near,
-            &self.far,
-            &mut self.labels,
-            &mut self.fallen,
-        );
-        support_all(
-            self.fallen.as_slice(),
-            both,
-            assumed,
-            &self.near,
-            &self.far,
-            &mut self.labels,
-        );
+            arena: &self.arena,
+            near: &self.near,
+            far: &self.far,
+        };
+        let done = self.progress.done;
+        let looked = sweep(from, done, grounds, &mut self.labels, &mut self.fallen);
+        support_all(self.fallen.as_slice(), both, grounds, &mut self.labels);
         let done = lower_all(
             self.fallen.as_slice(),
             &self.near,

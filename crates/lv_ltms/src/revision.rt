@@ -25,29 +25,35 @@ use super::watchers::Watchers;
 use lv_base::{ClauseId, Lit};
 use lv_clauses::{is_marked, negation};
 
+/// What labels rest on: the assumptions, and the clauses, each with the two literals that it watches.
+#[derive(Clone, Copy)]
+pub struct Grounds<'a> {
+    pub assumed: &'a [Option<bool>],
+    pub arena: &'a Arena,
+    pub near: &'a Watchers,
+    pub far: &'a Watchers,
+}
+
 /// Goes along the trail from a place on: what still stands closes up, what doesn't loses its mark and is written down.
 /// Answers how many are kept of the links before the place up to which the trail was looked at.
 pub fn sweep(
     from: usize,
     done: usize,
-    assumed: &[Option<bool>],
-    arena: &Arena,
-    near: &Watchers,
-    far: &Watchers,
+    grounds: Grounds,
     labels: &mut Labels,
     fallen: &mut Vec<Lit>,
 ) -> usize
     requires labels { AreLabels (length labels.old.marks) labels.old }
     requires place { from ≤ length labels.old.trail }
-    requires shaken { IsShaken (is_marked assumed.now) arena.now labels.old.trail from }
+    requires shaken { IsShaken (is_marked grounds.assumed.now) grounds.arena.now labels.old.trail from }
     requires room { length labels.old.marks ≤ vec_capacity fallen.old }
     requires empty { fallen.old.items ≡ [] }
-    requires pairs { AreWatched arena.now near.now far.now }
+    requires pairs { AreWatched grounds.arena.now grounds.near.now grounds.far.now }
     ensures labels { AreLabels (length labels.old.marks) labels.new }
     ensures range { IsTrue (list_all (in_range (length labels.old.marks)) fallen.new.items) }
-    ensures swept { IsSwept (is_marked assumed.now) arena.now labels.old labels.new fallen.new.items }
-    ensures stays { (l : Lit) → IsWithout (is_marked assumed.now) arena.now labels.old.trail l
-        → StaysOn arena.now labels.old.trail l labels.old.trail labels.new.trail }
+    ensures swept { IsSwept (is_marked grounds.entry.assumed.now) grounds.entry.arena.now labels.old labels.new fallen.new.items }
+    ensures stays { (l : Lit) → IsWithout (is_marked grounds.entry.assumed.now) grounds.entry.arena.now labels.old.trail l
+        → StaysOn grounds.entry.arena.now labels.old.trail l labels.old.trail labels.new.trail }
     ensures within { result ≤ length labels.new.trail }
     ensures looked { (l : Lit) → true_before result labels.new.trail l ≡ true → true_before done labels.old.trail l ≡ true }
     ensures room { vec_capacity fallen.new ≡ vec_capacity fallen.old }
@@ -56,7 +62,7 @@ pub fn sweep(
     let mut looked = from.min(done);
     for at in from..labels.trail().len() {
         let link = labels.trail()[at];
-        if stands(link, assumed, arena, near, far, labels.marks()) {
+        if stands(link, grounds, labels.marks()) {
             labels.put(kept, link);
             kept += 1;
             if at < done {
@@ -73,40 +79,26 @@ pub fn sweep(
 
 /// Whether a label's reason still supports it: the assumption is present, or the clause is and its other literals are
 /// false. An assumption of the negation takes the label away.
-fn stands(
-    link: Link,
-    assumed: &[Option<bool>],
-    arena: &Arena,
-    near: &Watchers,
-    far: &Watchers,
-    marks: &[Option<bool>],
-) -> bool
-    requires pairs { AreWatched arena.now near.now far.now }
-    ensures { result ≡ (not (is_marked assumed.now (neg link.lit)) && reason_stands (is_marked assumed.now) arena.now (is_marked marks.now) link.lit link.reason) }
+fn stands(link: Link, grounds: Grounds, marks: &[Option<bool>]) -> bool
+    requires pairs { AreWatched grounds.arena.now grounds.near.now grounds.far.now }
+    ensures { result ≡ (not (is_marked grounds.entry.assumed.now (neg link.lit)) && reason_stands (is_marked grounds.entry.assumed.now) grounds.entry.arena.now (is_marked marks.now) link.lit link.reason) }
 {
-    !is_marked(assumed, negation(link.lit))
+    !is_marked(grounds.assumed, negation(link.lit))
         && match link.reason {
-            Reason::Assumed => is_marked(assumed, link.lit),
-            Reason::Clause(id) => derives(id, link.lit, arena, near, far, marks),
+            Reason::Assumed => is_marked(grounds.assumed, link.lit),
+            Reason::Clause(id) => derives(id, link.lit, grounds, marks),
         }
 }
 
 /// Whether a clause is there whose literals but this one are false.
-fn derives(
-    id: ClauseId,
-    lit: Lit,
-    arena: &Arena,
-    near: &Watchers,
-    far: &Watchers,
-    marks: &[Option<bool>],
-) -> bool
-    requires pairs { AreWatched arena.now near.now far.now }
-    ensures { result ≡ derives_lit (is_marked marks.now) lit (clause_at arena.now id.0) }
+fn derives(id: ClauseId, lit: Lit, grounds: Grounds, marks: &[Option<bool>]) -> bool
+    requires pairs { AreWatched grounds.arena.now grounds.near.now grounds.far.now }
+    ensures { result ≡ derives_lit (is_marked marks.now) lit (clause_at grounds.entry.arena.now id.0) }
 {
-    if arena.is_pair(id) {
-        return are_both_false_but(near.lit(id), far.lit(id), lit, marks);
+    if grounds.arena.is_pair(id) {
+        return are_both_false_but(grounds.near.lit(id), grounds.far.lit(id), lit, marks);
     }
-    match arena.find(id) {
+    match grounds.arena.find(id) {
         Some(lits) => are_false_but(lits, lit, marks),
         None => false,
     }
@@ -135,72 +127,58 @@ fn is_false_but(other: Lit, lit: Lit, marks: &[Option<bool>]) -> bool
 
 /// Gives each boolean that lost its label that of an assumption or of a clause of one literal, if there is one. The
 /// negations of the literals that fell are looked at only where this says so.
-pub fn support_all(
-    fallen: &[Lit],
-    both: bool,
-    assumed: &[Option<bool>],
-    near: &Watchers,
-    far: &Watchers,
-    labels: &mut Labels,
-)
-    requires rows { AreRows near.now far.now }
+pub fn support_all(fallen: &[Lit], both: bool, grounds: Grounds, labels: &mut Labels)
+    requires rows { AreRows grounds.near.now grounds.far.now }
     requires labels { AreLabels (length labels.old.marks) labels.old }
     requires range { IsTrue (list_all (in_range (length labels.old.marks)) fallen.now) }
-    requires one_sided { IsOneSided (is_marked assumed.now) }
-    requires against { NoneAgainst (is_marked assumed.now) (is_marked labels.old.marks) }
-    requires marked { AreMarkedOrWait (is_marked assumed.now) labels.old fallen.now }
-    requires upright { both ≡ false → AreUpright (is_marked assumed.now) fallen.now }
+    requires one_sided { IsOneSided (is_marked grounds.assumed.now) }
+    requires against { NoneAgainst (is_marked grounds.assumed.now) (is_marked labels.old.marks) }
+    requires marked { AreMarkedOrWait (is_marked grounds.assumed.now) labels.old fallen.now }
+    requires upright { both ≡ false → AreUpright (is_marked grounds.assumed.now) fallen.now }
     ensures grows { Grows labels.old labels.new }
-    ensures marked { AreMarked (is_marked assumed.now) labels.new }
-    ensures derivation { (slots : Slots) (bools : ℕ) (truth : Lit → Bool) (marks : Marks) → IsThreaded near.now slots bools → AreGuarded slots (lit_at near.now) (lit_at far.now) truth marks fallen.now
-        → IsDerivation slots (is_marked assumed.now) labels.old.trail → IsDerivation slots (is_marked assumed.now) labels.new.trail }
-    ensures settled { (slots : Slots) (bools : ℕ) → IsThreaded near.now slots bools → (both ≡ false → NoneOpposed slots (lit_at near.now) (lit_at far.now) fallen.now) → AreSettled slots (lit_at near.now) (lit_at far.now) labels.old.marks fallen.now
-        → AreSettled slots (lit_at near.now) (lit_at far.now) labels.new.marks [] }
+    ensures marked { AreMarked (is_marked grounds.entry.assumed.now) labels.new }
+    ensures derivation { (slots : Slots) (bools : ℕ) (truth : Lit → Bool) (marks : Marks) → IsThreaded grounds.entry.near.now slots bools → AreGuarded slots (lit_at grounds.entry.near.now) (lit_at grounds.entry.far.now) truth marks fallen.now
+        → IsDerivation slots (is_marked grounds.entry.assumed.now) labels.old.trail → IsDerivation slots (is_marked grounds.entry.assumed.now) labels.new.trail }
+    ensures settled { (slots : Slots) (bools : ℕ) → IsThreaded grounds.entry.near.now slots bools → (both ≡ false → NoneOpposed slots (lit_at grounds.entry.near.now) (lit_at grounds.entry.far.now) fallen.now) → AreSettled slots (lit_at grounds.entry.near.now) (lit_at grounds.entry.far.now) labels.old.marks fallen.now
+        → AreSettled slots (lit_at grounds.entry.near.now) (lit_at grounds.entry.far.now) labels.new.marks [] }
 {
     for lit in fallen {
-        support(*lit, assumed, near, far, labels);
-        support_negation(*lit, both, assumed, near, far, labels);
+        support(*lit, grounds, labels);
+        support_negation(*lit, both, grounds, labels);
     }
 }
 
 /// Marks the negation of a literal in the same way, where both are looked at.
-fn support_negation(
-    lit: Lit,
-    both: bool,
-    assumed: &[Option<bool>],
-    near: &Watchers,
-    far: &Watchers,
-    labels: &mut Labels,
-)
-    requires rows { AreRows near.now far.now }
+fn support_negation(lit: Lit, both: bool, grounds: Grounds, labels: &mut Labels)
+    requires rows { AreRows grounds.near.now grounds.far.now }
     requires labels { AreLabels (length labels.old.marks) labels.old }
     requires range { lit.var.0 < length labels.old.marks }
-    requires one_sided { IsOneSided (is_marked assumed.now) }
-    requires against { NoneAgainst (is_marked assumed.now) (is_marked labels.old.marks) }
-    ensures { (all : List Lit) → (both ≡ false → AreUpright (is_marked assumed.now) all) → has_lit all lit ≡ true
-        → TurnedToo (is_marked assumed.now) near.now far.now both all labels.old labels.new lit }
+    requires one_sided { IsOneSided (is_marked grounds.assumed.now) }
+    requires against { NoneAgainst (is_marked grounds.assumed.now) (is_marked labels.old.marks) }
+    ensures { (all : List Lit) → (both ≡ false → AreUpright (is_marked grounds.entry.assumed.now) all) → has_lit all lit ≡ true
+        → TurnedToo (is_marked grounds.entry.assumed.now) grounds.entry.near.now grounds.entry.far.now both all labels.old labels.new lit }
 {
     if !both {
         return;
     }
-    support(negation(lit), assumed, near, far, labels);
+    support(negation(lit), grounds, labels);
 }
 
 /// Marks a literal where it is assumed, or a clause has no other; unless its boolean is marked, or its negation is
 /// assumed.
 #[inline(always)]
-fn support(lit: Lit, assumed: &[Option<bool>], near: &Watchers, far: &Watchers, labels: &mut Labels)
-    requires rows { AreRows near.now far.now }
+fn support(lit: Lit, grounds: Grounds, labels: &mut Labels)
+    requires rows { AreRows grounds.near.now grounds.far.now }
     requires labels { AreLabels (length labels.old.marks) labels.old }
     requires range { lit.var.0 < length labels.old.marks }
-    requires one_sided { IsOneSided (is_marked assumed.now) }
-    requires against { NoneAgainst (is_marked assumed.now) (is_marked labels.old.marks) }
-    ensures { GetsSupport (is_marked assumed.now) near.now far.now labels.old labels.new lit }
+    requires one_sided { IsOneSided (is_marked grounds.assumed.now) }
+    requires against { NoneAgainst (is_marked grounds.assumed.now) (is_marked labels.old.marks) }
+    ensures { GetsSupport (is_marked grounds.entry.assumed.now) grounds.entry.near.now grounds.entry.far.now labels.old labels.new lit }
 {
-    if !is_wanted(lit, assumed, labels.marks()) {
+    if !is_wanted(lit, grounds.assumed, labels.marks()) {
         return;
     }
-    if let Some(reason) = reason_for(lit, assumed, near, far) {
+    if let Some(reason) = reason_for(lit, grounds) {
         labels.push(Link { lit, reason });
     }
 }
@@ -221,14 +199,14 @@ fn is_free(marks: &[Option<bool>], lit: Lit) -> bool
 }
 
 /// An assumption or a clause of one literal that gives a literal its label.
-fn reason_for(lit: Lit, assumed: &[Option<bool>], near: &Watchers, far: &Watchers) -> Option<Reason>
-    requires { AreRows near.now far.now }
-    ensures { GivesReason (is_marked assumed.now) near.now far.now lit result }
+fn reason_for(lit: Lit, grounds: Grounds) -> Option<Reason>
+    requires { AreRows grounds.near.now grounds.far.now }
+    ensures { GivesReason (is_marked grounds.entry.assumed.now) grounds.entry.near.now grounds.entry.far.now lit result }
 {
-    if is_marked(assumed, lit) {
+    if is_marked(grounds.assumed, lit) {
         return Some(Reason::Assumed);
     }
-    match find_unit(lit, near, far) {
+    match find_unit(lit, grounds.near, grounds.far) {
         Some(id) => Some(Reason::Clause(id)),
         None => None,
     }
