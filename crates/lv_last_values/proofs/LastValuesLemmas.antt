@@ -124,6 +124,15 @@ keep_next ms vs i v within kept own = record { len = length-set vs i v ∙ kept.
         ∙ mark_holds (get_or ms i None) v l.sign own (ap (λ k. mark_is (get_or ms k None) l.sign) (sym same) ∙ e)
     by_place l before e (inr differs) = ap (λ b. same_truth b l.sign) (get_or-set_other vs i l.var.0 v false differs) ∙ kept.marked l (omega (arith, before, differs)) e
 
+pub keep_same : (ms : Marks) (vs : List Bool) (i : ℕ) → KeepBefore ms vs i → IfSome (get_or ms i None) (λ b. get_or vs i false ≡ b) → KeepBefore ms vs (i + 1)
+keep_same ms vs i kept own = record { len = kept.len; marked = λ l before e. by_place l before e (cases_eq l.var.0 i) }
+  where
+    by_place : (l : Lit) → l.var.0 < i + 1 → is_marked ms l ≡ true → (l.var.0 ≡ i) ⊎ (l.var.0 ≢ i) → lit_holds vs l ≡ true
+    by_place l before e (inl same) =
+        ap (λ b. same_truth b l.sign) (ap (λ k. get_or vs k false) same)
+        ∙ mark_holds (get_or ms i None) (get_or vs i false) l.sign own (ap (λ k. mark_is (get_or ms k None) l.sign) (sym same) ∙ e)
+    by_place l before e (inr differs) = kept.marked l (omega (arith, before, differs)) e
+
 marked_within : (ms : Marks) (l : Lit) → is_marked ms l ≡ true → l.var.0 < length ms
 marked_within ms l e = elim (cases_lt l.var.0 (length ms)) [
   | inl within ↦ within
@@ -133,42 +142,11 @@ marked_within ms l e = elim (cases_lt l.var.0 (length ms)) [
 pub keep_all : (ms : Marks) (vs : List Bool) (at : ℕ) → length ms ≤ at → KeepBefore ms vs at → KeepMarks ms vs
 keep_all ms vs at past kept = record { len = kept.len; marked = λ l e. kept.marked l (omega (arith, past, marked_within ms l e)) e }
 
--- those that turned are told, of the booleans before this one
-pub record TellTurned (old new : List Bool) (at : ℕ) (turned : List BoolId) : Type 0 where
-  pub told : (var : ℕ) → var < at → (get_or new var false ≡ get_or old var false) ⊎ Contains turned (record { 0 = var })
-
 contains_more : {X : Type 0} (xs : List X) (x y : X) → Contains xs x → Contains (xs ++ y ∷ []) x
 contains_more xs x y has = (has.0, omega (arith, has.1, length-append xs (y ∷ [])), get_or_append_left xs (y ∷ []) x has.0 has.1 ∙ has.2)
 
 contains_last : {X : Type 0} (xs : List X) (x : X) → Contains (xs ++ x ∷ []) x
 contains_last xs x = (length xs, omega (arith, length-append xs (x ∷ [])), get_or_push xs x x (length xs) refl)
-
-pub tell_none : (old new : List Bool) (turned : List BoolId) → TellTurned old new 0 turned
-tell_none old new turned = record { told = λ var before. absurd (omega (arith, before)) }
-
--- a boolean more, which is the same, or is told
-pub tell_same : (old new : List Bool) (i : ℕ) (turned : List BoolId) → get_or old i false ≡ get_or new i false → TellTurned old new i turned → TellTurned old new (i + 1) turned
-tell_same old new i turned same tells = record { told = λ var before. by_place var before (cases_eq var i) }
-  where
-    by_place : (var : ℕ) → var < i + 1 → (var ≡ i) ⊎ (var ≢ i) → (get_or new var false ≡ get_or old var false) ⊎ Contains turned (record { 0 = var })
-    by_place var before (inl at) = inl (subst (λ (k : ℕ). get_or new k false ≡ get_or old k false) (sym at) (sym same))
-    by_place var before (inr differs) = tells.told var (omega (arith, before, differs))
-
-pub tell_more : (old new : List Bool) (i : ℕ) (turned more : List BoolId) → more ≡ turned ++ record { 0 = i } ∷ [] → TellTurned old new i turned → TellTurned old new (i + 1) more
-tell_more old new i turned more is tells = record { told = λ var before. subst (λ (ls : List BoolId). (get_or new var false ≡ get_or old var false) ⊎ Contains ls (record { 0 = var })) (sym is) (by_place var before (cases_eq var i)) }
-  where
-    by_place : (var : ℕ) → var < i + 1 → (var ≡ i) ⊎ (var ≢ i) → (get_or new var false ≡ get_or old var false) ⊎ Contains (turned ++ record { 0 = i } ∷ []) (record { 0 = var })
-    by_place var before (inl at) = inr (subst (λ (k : ℕ). Contains (turned ++ record { 0 = i } ∷ []) (record { 0 = k })) (sym at) (contains_last turned (record { 0 = i })))
-    by_place var before (inr differs) = elim (tells.told var (omega (arith, before, differs))) [
-      | inl e ↦ inl e
-      | inr has ↦ inr (contains_more turned (record { 0 = var }) (record { 0 = i }) has)
-    ]
-
-pub tell_all : (old new : List Bool) (at : ℕ) (turned : List BoolId) → length old ≤ at → length new ≤ at → TellTurned old new at turned → AreTurned old new turned
-tell_all old new at turned past past_too tells var = elim (cases_lt var at) [
-  | inl before ↦ tells.told var before
-  | inr behind ↦ inl (get_or_past new var false (omega (arith, behind, past_too)) ∙ sym (get_or_past old var false (omega (arith, behind, past))))
-]
 
 -- a boolean that is set is told
 pub turned_more : (last values more : List Bool) (i : ℕ) (b : Bool) (turned longer : List BoolId) → more ≡ set values i b → longer ≡ turned ++ record { 0 = i } ∷ [] → AreTurned last values turned → AreTurned last more longer

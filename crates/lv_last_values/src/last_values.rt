@@ -2,7 +2,7 @@
 //! judged: each clause that holds a literal that was true and is false.
 #![tactic(auto)]
 
-ghost use Rattle.std.specs.Prelude.{◌≡◌, ℕ, [], true, false, length, None, Some, IfOk, OnOk, IfSome, IfNone};
+ghost use Rattle.std.specs.Prelude.{◌≡◌, ℕ, [], true, false, length, not, None, Some, IfOk, OnOk, IfSome, IfNone};
 ghost use Rattle.lv_clauses.specs.ClauseMap.{ClauseMap, Puts, satisfies};
 ghost use Rattle.lv_last_values.specs.Values.{IsModel};
 ghost use Rattle.lv_last_values.specs.Occurrences as Occurring;
@@ -101,8 +101,7 @@ impl LastValues {
         ensures turned { IfOk result (λ guess. IfSome self.now.values (λ last. AreTurned last guess.values guess.turned.items)) }
     {
         let mut values = self.copied_for(alloc, set)?;
-        write_marks(marks, set.bools(), &mut values);
-        let turned = self.turned_in(alloc, set, values.as_slice())?;
+        let turned = write_marks(alloc, marks, set.bools(), &mut values)?;
         Ok(Guess {
             values: Seq::from_vec(values),
             turned,
@@ -140,24 +139,6 @@ impl LastValues {
         }
     }
 
-    /// The booleans at which these differ from the values; none, where there are no values.
-    fn turned_in(
-        &self,
-        alloc: Global,
-        set: &ClauseSet,
-        values: &[bool],
-    ) -> Result<Vec<BoolId>, AllocError>
-        requires kept { IsUpToDate set.now self.now.values self.now.occurrences }
-        requires len { length values.now ≡ set.now.bools }
-        ensures { IfOk result (λ turned. IfSome self.now.values (λ last. AreTurned last values.now turned.items)) }
-    {
-        let mut turned = Vec::new(alloc);
-        if let Some(last) = &self.values {
-            push_turned(last.as_slice(), values, set.bools(), &mut turned)?;
-        }
-        Ok(turned)
-    }
-
     /// A clause that a guess makes false; None exactly where it satisfies all.
     pub fn first_false(&self, set: &ClauseSet, guess: &Guess) -> Option<ClauseId>
         requires kept { IsUpToDate set.now self.now.values self.now.occurrences }
@@ -180,38 +161,27 @@ impl LastValues {
     }
 }
 
-/// Writes the marks of so many booleans in place of their values. A loop that does nothing else is gone through many booleans
-/// at a time.
-fn write_marks(marks: &[Option<bool>], bools: u32, values: &mut [bool])
+/// Writes the marks of so many booleans in place of their values. Answers those that turn by that.
+fn write_marks(
+    alloc: Global,
+    marks: &[Option<bool>],
+    bools: u32,
+    values: &mut [bool],
+) -> Result<Vec<BoolId>, AllocError>
     requires marks { length marks.now ≡ bools }
     requires values { length values.old ≡ bools }
-    ensures keep { KeepMarks marks.now values.new }
-    ensures len { length values.new ≡ length values.old }
+    ensures keep { OnOk result (KeepMarks marks.now values.new) }
+    ensures turned { IfOk result (λ turned. AreTurned values.old values.new turned.items) }
 {
+    let mut turned = Vec::new(alloc);
     for var in 0..bools {
         let at = var as usize;
-        values[at] = marked_or(marks[at], values[at]);
-    }
-}
-
-/// Adds the booleans, of so many, at which the values differ from the last ones.
-fn push_turned(
-    last: &[bool],
-    values: &[bool],
-    bools: u32,
-    turned: &mut Vec<BoolId>,
-) -> Result<(), AllocError>
-    requires last { length last.now ≡ bools }
-    requires values { length values.now ≡ bools }
-    ensures { OnOk result (AreTurned last.now values.now turned.new.items) }
-{
-    for var in 0..bools {
-        let at = var as usize;
-        if differ(last[at], values[at]) {
+        if turns(marks[at], values[at]) {
+            values[at] = !values[at];
             turned.push(BoolId(var))?;
         }
     }
-    Ok(())
+    Ok(turned)
 }
 
 /// Makes the literals false. Answers their booleans.
@@ -230,22 +200,16 @@ fn make_false(alloc: Global, lits: &[Lit], values: &mut [bool]) -> Result<Vec<Bo
     Ok(turned)
 }
 
-/// The value that a boolean is marked with; where there is no mark, the other one.
+/// Whether a boolean of this value is marked with the other one.
 #[inline(always)]
-fn marked_or(mark: Option<bool>, other: bool) -> bool
-    ensures { IfSome mark (λ value. result ≡ value) }
+fn turns(mark: Option<bool>, value: bool) -> bool
+    ensures yes { result ≡ true → mark ≡ Some (not value) }
+    ensures no { result ≡ false → IfSome mark (λ marked. value ≡ marked) }
 {
     match mark {
-        Some(value) => value,
-        None => other,
+        Some(marked) => marked != value,
+        None => false,
     }
-}
-
-#[inline(always)]
-fn differ(one: bool, other: bool) -> bool
-    ensures { result ≡ false → one ≡ other }
-{
-    one != other
 }
 
 /// Finds the occurrences where they aren't known, if memory suffices.
