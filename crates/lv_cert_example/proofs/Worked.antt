@@ -8,8 +8,8 @@ use Rattle.lv_checker.specs.Faults.{fault_of_entry}
 use Rattle.lv_checker.specs.Verdicts.{accepted}
 use Rattle.lv_certcheck.specs.declared.check.Verdict.TheVariants.{Valid, Invalid}
 use Rattle.lv_certcheck.specs.Verdicts.{verdict}
-use Rattle.lv_model_verdict.specs.Forms.{form_by}
-use Rattle.lv_model_verdict.specs.Reading.{verdict_on}
+use Rattle.lv_checker.specs.Forms.{form_by}
+use Rattle.lv_checker.specs.Reading.{verdict_on}
 use Rattle.lv_cert_example.specs.Valve.{valve_text, valve, worked_lines, lines_without}
 use Rattle.lv_cert_example.specs.Laws.{WorkedCertificateIsValid}
 

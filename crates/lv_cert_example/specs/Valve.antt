@@ -9,7 +9,7 @@ use Rattle.lv_cert.specs.declared.line.Line.{Line}
 use Rattle.lv_cert.specs.declared.line.Line.TheVariants as line
 use Rattle.lv_checker.specs.Drafts.{bare}
 use Rattle.lv_checker.specs.Verdicts.{Verdict, accepted, refused}
-use Rattle.lv_model_verdict.specs.Reading.{verdict_on}
+use Rattle.lv_checker.specs.Reading.{verdict_on}
 
 unfoldable pub valve_text : List ℕ
 valve_text =

@@ -26,4 +26,6 @@ pub mod RecoveryWhole
 pub mod Contents
 pub mod Right
 pub mod LeastRanks
+pub mod StepLemmas
+pub mod TableLemmas
 pub use Rattle.lv_cert_meaning.proofs as lv_cert_meaning

@@ -13,3 +13,6 @@ pub mod FitsDrafts
 pub mod OneLemmas
 pub mod Ending
 pub mod StandingLemmas
+pub mod FormLemmas
+pub mod ReadingLemmas
+pub mod SeriesLemmas

@@ -4,6 +4,7 @@
 ghost use Rattle.lv_checker.specs.Verdicts.{VerdictIsOne, ReadingsGiveVerdict, AcceptedIsWellFormed};
 ghost use Rattle.lv_checker.specs.VersionOne.{VersionOneIsKept};
 ghost use Rattle.lv_checker.specs.Caches.{CountsAreKept};
+ghost use Rattle.lv_checker.specs.Laws.{SeriesAreAccepted, VerdictExists};
 
 /// A text has at most one verdict.
 pub fn verdict_is_one()
@@ -31,4 +32,15 @@ pub fn version_one_is_kept()
 /// of the statements so far.
 pub fn counts_are_kept()
     ensures { CountsAreKept }
+{}
+
+/// Every bytes have a verdict as a model's text, and just one (`verdict_is_one`): a plant, or the code and the line of the
+/// first fault.
+pub fn verdict_exists()
+    ensures { VerdictExists }
+{}
+
+/// Each model's text that is made for a number is accepted: of the rows of 2 to 32 valves each was judged.
+pub fn series_are_accepted()
+    ensures { SeriesAreAccepted }
 {}

@@ -7,10 +7,10 @@ use Rattle.lv_reader.specs.declared.code.ModelCode.{ModelCode}
 use Rattle.lv_reader.specs.CanonicalTexts.{canonical_model}
 use Rattle.lv_checker.specs.Verdicts.{Verdict, accepted, refused, IsVerdict, not_read, is_checked}
 use Rattle.lv_checker.proofs.VerdictLemmas.{verdict_one}
-use Rattle.lv_model_verdict.specs.Laws.{IsAccepted}
-use Rattle.lv_model_verdict.specs.Reading.{verdict_on}
-use Rattle.lv_model_verdict.proofs.ReadingLemmas.{exists as model_verdict}
-use Rattle.lv_model_verdict.proofs.SeriesLemmas.{series_accepted as series_are_accepted}
+use Rattle.lv_checker.specs.Laws.{IsAccepted}
+use Rattle.lv_checker.specs.Reading.{verdict_on}
+use Rattle.lv_checker.proofs.ReadingLemmas.{exists as model_verdict}
+use Rattle.lv_checker.proofs.SeriesLemmas.{series_accepted as series_are_accepted}
 use Rattle.lv_certcheck.proofs.ProvingLemmas.{exists as certificate_verdict}
 use Rattle.lv_gen.specs.Series.{model_text}
 use Rattle.lv_run.specs.Drives.{drive_text}

@@ -22,7 +22,7 @@ use Rattle.lv_ident.specs.lv_search_zones.Moves.{is_full_choice}
 use Rattle.lv_ident.specs.Query.{QueryValue, IsQueryOf}
 use Rattle.lv_reconf.specs.Query.{QueryValue as RecoveryValue, IsQuery as IsRecoveryQuery}
 use Rattle.lv_reconf.specs.Testing.{TestValue, IsTestQuery}
-use Rattle.lv_window_query.specs.Query.{WindowQueryValue, IsWindowQueryOf}
+use Rattle.lv_window.specs.Query.{WindowQueryValue, IsWindowQueryOf}
 use Rattle.lv_session_state.specs.declared.query.Query.{Query}
 use Rattle.lv_session_state.specs.declared.query.Query.TheVariants.{Absent, Diagnosis, Recovery, Test, Window}
 use Rattle.lv_session_state.specs.declared.running.Running.{Running}

@@ -36,9 +36,9 @@ use Rattle.lv_window.specs.Possible.{is_possible_trajectory}
 use Rattle.lv_window.specs.Trajectories.{trajectories}
 use Rattle.lv_window.specs.Walk.{window_reason, window_walk}
 use Rattle.lv_window.proofs.TrajectoryLemmas.{trajectory_is}
-use Rattle.lv_window_query.specs.Known.{StepFits}
+use Rattle.lv_window.specs.Known.{StepFits}
 use Rattle.lv_system.specs.lv_compile.declared.windows.TheConstants.{WINDOW}
-use Rattle.lv_window_query.specs.Query.{WindowQueryValue, IsWindowQueryOf}
+use Rattle.lv_window.specs.Query.{WindowQueryValue, IsWindowQueryOf}
 use Rattle.lv_session_state.specs.Current.{come_to, IsWindowOf, IsTracingAt}
 use Rattle.lv_session_state.specs.State.{SessionState, facts_of, window_base, window_facts, window_start, tracing, trials, last_step}
 use Rattle.lv_session_state.specs.States.{RankCosts, IsStateOf, IsListOf}

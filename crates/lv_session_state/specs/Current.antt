@@ -15,7 +15,7 @@ use Rattle.lv_ident.specs.Trial.{IsSolverOf}
 use Rattle.lv_reconf.specs.Query.{QueryValue as RecoveryValue, IsQuery as IsRecoveryQuery}
 use Rattle.lv_reconf.specs.Testing.{TestValue, IsTestQuery}
 use Rattle.lv_window.specs.Trajectories.{trajectories}
-use Rattle.lv_window_query.specs.Query.{WindowQueryValue, IsWindowQueryOf}
+use Rattle.lv_window.specs.Query.{WindowQueryValue, IsWindowQueryOf}
 use Rattle.lv_session_request.specs.declared.goals.Goal.{Goal}
 use Rattle.lv_session_state.specs.declared.query.Query.{Query}
 use Rattle.lv_session_state.specs.declared.query.Query.TheVariants.{Absent, Diagnosis, Recovery, Test, Window}

@@ -13,7 +13,7 @@ use lv_base::{Conflict, Rank};
 use lv_ident::{LemmaSolver, Query, QueryEffort};
 use lv_reconf::{Query as RecoveryQuery, TestQuery};
 use lv_search_walk::Outcome;
-use lv_window_query::WindowQuery;
+use lv_window::WindowQuery;
 use std::alloc::{AllocError, Global};
 use std::mem;
 

@@ -6,7 +6,7 @@ ghost use Rattle.lv_base.specs.declared.limits.TheConstants.{COMMITS};
 ghost use Rattle.lv_session_state.specs.State.{window_base, window_facts, window_start, look_back, last_step, taken_over};
 ghost use Rattle.lv_session_state.specs.States.{IsStateOf, IsListOf};
 ghost use Rattle.lv_session_state.specs.Current.{untraced, IsCurrent, KeepsSolverOf, IsWorking};
-ghost use Rattle.lv_window_query.specs.Query.{IsWindowQueryOf};
+ghost use Rattle.lv_window.specs.Query.{IsWindowQueryOf};
 
 use crate::query::Query;
 use crate::running::{Running, unrun};
@@ -17,7 +17,7 @@ use lv_model::{Model, Plant};
 use lv_reply::{Refusal, Reply};
 use lv_session_history::{facts_on, tracked_before};
 use lv_tracker::Tracked;
-use lv_window_query::{WindowQuery, window};
+use lv_window::{WindowQuery, window};
 use std::alloc::{AllocError, Global};
 
 /// The last step of a trajectory, at what the whole cost.

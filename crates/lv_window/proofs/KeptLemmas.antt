@@ -10,7 +10,7 @@ use Rattle.lv_meaning.specs.declared.facts.Facts.{Facts}
 use Rattle.lv_meaning.proofs.Reasons.{own_pairs}
 use Rattle.lv_window.specs.Possible.{is_possible_over}
 use Rattle.lv_window.specs.Walk.{window_walk}
-use Rattle.lv_window.proofs.PossibleLemmas.{part_over, monotone_over}
+use Rattle.lv_window.specs.Lawful.{part_over, monotone_over}
 
 module _ (plant : Plant) (steps : List Facts) (k budget : ℕ) (ranks : List Rank) where
   pub kept_apart : none_in_another (window_walk plant steps k budget ranks).kept ≡ true

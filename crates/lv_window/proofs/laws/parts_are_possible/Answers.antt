@@ -1,4 +1,4 @@
-use Rattle.lv_window.proofs.PossibleLemmas.{part_over}
+use Rattle.lv_window.specs.Lawful.{part_over}
 use Rattle.lv_window.proofs.laws.parts_are_possible.Goals as goal
 
 pub returns : goal.returns

@@ -1,6 +1,6 @@
 -- the search is on the walk of the state's window, and has tried nothing
 use Rattle.std.proofs.Common.{ap, sym, subst}
-use Rattle.lv_window_query.specs.Query.{WindowQueryValue}
+use Rattle.lv_window.specs.Query.{WindowQueryValue}
 use Rattle.lv_session_state.specs.State.{window_facts, window_base}
 use Rattle.lv_session_state.specs.Current.{IsWindowOf}
 use Rattle.lv_session_state.proofs.state.State.look_back.Goals as goal

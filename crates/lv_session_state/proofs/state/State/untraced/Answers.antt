@@ -4,7 +4,7 @@ use Rattle.lv_model.specs.declared.state.TrackedState.{TrackedState}
 use Rattle.lv_meaning.specs.declared.facts.Facts.{Facts}
 use Rattle.lv_meaning.specs.Candidates.{IsTracked}
 use Rattle.lv_system.specs.lv_compile.declared.windows.TheConstants.{WINDOW}
-use Rattle.lv_window_query.specs.Known.{StepFits}
+use Rattle.lv_window.specs.Known.{StepFits}
 use Rattle.lv_session_state.proofs.WindowsAsked.{window_fits, some_steps, few_steps, base_fits}
 use Rattle.lv_session_state.proofs.state.State.untraced.Goals as goal
 

@@ -1,5 +1,0 @@
-use Rattle.lv_cert_rows.proofs.TableLemmas.{in_table_order}
-use Rattle.lv_cert_rows.proofs.laws.order_is_of_the_tables.Goals as goal
-
-pub returns : goal.returns
-returns c = in_table_order

@@ -1,3 +1,0 @@
-pub mod FormLemmas
-pub mod ReadingLemmas
-pub mod SeriesLemmas

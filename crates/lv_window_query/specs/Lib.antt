@@ -1,4 +1,0 @@
-pub mod Known
-pub mod Trial
-pub mod Longer
-pub mod Query
