@@ -6,6 +6,7 @@ ghost use Rattle.lv_cert_laws.specs.lv_cert_meaning.Judging as Judging;
 ghost use Rattle.lv_cert_laws.specs.lv_cert_meaning.Laws.{AnswersRight};
 ghost use Rattle.lv_certcheck.specs.Settings.{IsSetting, plant_of};
 ghost use Rattle.lv_certcheck.specs.Giving.{Fits};
+ghost use Rattle.lv_certcheck.specs.Judges.{Judges};
 ghost use Rattle.lv_certcheck.specs.Verdicts.{judged_of, verdict, IsVerdictOn, ProvesItsAnswer};
 ghost use Rattle.lv_certcheck.specs.declared.check.Verdict.TheVariants as Verdict;
 
@@ -88,10 +89,9 @@ fn judge_on<'a>(
     judged: &mut Judged<'a>,
     lines: &[Line],
 ) -> Result<Verdict, AllocError>
-    requires setting { IsSetting judge.now.setting }
+    requires judges { Judges judge.now judged.old }
     requires question { judge.now.question ≡ Judging.question_of lines.now }
     requires start { judged_of judged.old ≡ Judging.unjudged (plant_of judge.now.setting) judge.now.question }
-    requires fits { Fits (plant_of judge.now.setting) judge.now.setting.system.now judged.old }
     ensures { IfOk result (λ v. v ≡ verdict (plant_of judge.now.setting) lines.now) }
 {
     for (at, line) in lines.iter().enumerate() {

@@ -21,7 +21,8 @@ ghost use Rattle.lv_model.specs.declared.state.TrackedState.{TrackedState};
 ghost use Rattle.lv_meaning.specs.Commands.{control_sizes};
 ghost use Rattle.lv_boxes.specs.Members.{ZoneValue};
 ghost use Rattle.lv_certcheck.specs.Settings.{IsSetting, plant_of};
-ghost use Rattle.lv_certcheck.specs.Giving.{Fits, with_clauses};
+ghost use Rattle.lv_certcheck.specs.Giving.{with_clauses};
+ghost use Rattle.lv_certcheck.specs.Judges.{Judges, StillFits};
 ghost use Rattle.lv_certcheck.specs.Verdicts.{judged_of, came};
 ghost use Rattle.lv_certcheck.specs.Splits.{split_into};
 ghost use Rattle.lv_cert.specs.declared.line.Evidence.TheVariants as evidence;
@@ -100,10 +101,9 @@ impl<'a> Judge<'a> {
         rest: &[Line],
         line: &Line,
     ) -> Result<bool, AllocError>
-        requires setting { IsSetting self.now.setting }
-        requires fits { Fits (plant_of self.now.setting) self.now.setting.system.now judged.old }
+        requires { Judges self.now judged.old }
         ensures judged { IfOk result (λ good. came good judged.new ≡ Judging.judge_line self.now.question (plant_of self.now.setting) (judged_of judged.old) rest.now line.now) }
-        ensures fits { IfOk result (λ good. IsTrue good → Fits (plant_of self.now.setting) self.now.setting.system.now judged.new) }
+        ensures fits { IfOk result (λ good. StillFits self.now good judged.new) }
     {
         match line {
             Line::Certificate(_) => Ok(true),
@@ -127,10 +127,9 @@ impl<'a> Judge<'a> {
         head: Head,
         ns: &[u128],
     ) -> Result<bool, AllocError>
-        requires setting { IsSetting self.now.setting }
-        requires fits { Fits (plant_of self.now.setting) self.now.setting.system.now judged.old }
+        requires { Judges self.now judged.old }
         ensures judged { IfOk result (λ good. came good judged.new ≡ Judging.judge_numbers self.now.question (plant_of self.now.setting) (judged_of judged.old) rest.now ns.now head) }
-        ensures fits { IfOk result (λ good. IsTrue good → Fits (plant_of self.now.setting) self.now.setting.system.now judged.new) }
+        ensures fits { IfOk result (λ good. StillFits self.now good judged.new) }
     {
         match head {
             Head::Limit => Ok(self.limit(judged, ns)),
@@ -148,10 +147,9 @@ impl<'a> Judge<'a> {
     }
 
     fn limit(&self, judged: &mut Judged<'a>, ns: &[u128]) -> bool
-        requires setting { IsSetting self.now.setting }
-        requires fits { Fits (plant_of self.now.setting) self.now.setting.system.now judged.old }
+        requires { Judges self.now judged.old }
         ensures judged { came result judged.new ≡ Judging.judge_limit (judged_of judged.old) ns.now }
-        ensures fits { IsTrue result → Fits (plant_of self.now.setting) self.now.setting.system.now judged.new }
+        ensures fits { StillFits self.now result judged.new }
     {
         let [k] = ns else {
             return false;
@@ -161,10 +159,9 @@ impl<'a> Judge<'a> {
 
     /// States how many candidates are listed at most, and whether their targets have to be distinct.
     fn limit_to(&self, judged: &mut Judged<'a>, most: u128, distinct: bool) -> bool
-        requires setting { IsSetting self.now.setting }
-        requires fits { Fits (plant_of self.now.setting) self.now.setting.system.now judged.old }
+        requires { Judges self.now judged.old }
         ensures judged { came result judged.new ≡ Judging.limited (judged_of judged.old) (record { most = most; distinct = distinct }) }
-        ensures fits { IsTrue result → Fits (plant_of self.now.setting) self.now.setting.system.now judged.new }
+        ensures fits { StillFits self.now result judged.new }
     {
         if 0 < most && most <= 64 {
             judged.stated.k = most as u32;
@@ -176,10 +173,9 @@ impl<'a> Judge<'a> {
     }
 
     fn state(&self, judged: &mut Judged<'a>, ns: &[u128]) -> Result<bool, AllocError>
-        requires setting { IsSetting self.now.setting }
-        requires fits { Fits (plant_of self.now.setting) self.now.setting.system.now judged.old }
+        requires { Judges self.now judged.old }
         ensures judged { IfOk result (λ good. came good judged.new ≡ Judging.judge_state (plant_of self.now.setting) (judged_of judged.old) ns.now) }
-        ensures fits { IfOk result (λ good. IsTrue good → Fits (plant_of self.now.setting) self.now.setting.system.now judged.new) }
+        ensures fits { IfOk result (λ good. StillFits self.now good judged.new) }
     {
         if judged.stated.tracked.len() as u64 >= u64::from(TRACKED) {
             return Ok(false);
@@ -207,10 +203,9 @@ impl<'a> Judge<'a> {
     }
 
     fn control(&self, judged: &mut Judged<'a>, ns: &[u128]) -> Result<bool, AllocError>
-        requires setting { IsSetting self.now.setting }
-        requires fits { Fits (plant_of self.now.setting) self.now.setting.system.now judged.old }
+        requires { Judges self.now judged.old }
         ensures judged { IfOk result (λ good. came good judged.new ≡ Judging.judge_control (plant_of self.now.setting) (judged_of judged.old) ns.now) }
-        ensures fits { IfOk result (λ good. IsTrue good → Fits (plant_of self.now.setting) self.now.setting.system.now judged.new) }
+        ensures fits { IfOk result (λ good. StillFits self.now good judged.new) }
     {
         let counts = self.setting.counts;
         let Some(values) = values_of(self.alloc, counts.controlled.as_slice(), ns)? else {
@@ -234,10 +229,9 @@ impl<'a> Judge<'a> {
         x: u128,
         v: u128,
     ) -> Result<bool, AllocError>
-        requires setting { IsSetting self.now.setting }
-        requires fits { Fits (plant_of self.now.setting) self.now.setting.system.now judged.old }
+        requires { Judges self.now judged.old }
         ensures judged { IfOk result (λ good. came good judged.new ≡ option_map (λ o. record (judged_of judged.old) { stated = with_observation (plant_of self.now.setting) moment judged.old.stated o }) (observation_of (plant_of self.now.setting) x v)) }
-        ensures fits { IfOk result (λ good. IsTrue good → Fits (plant_of self.now.setting) self.now.setting.system.now judged.new) }
+        ensures fits { IfOk result (λ good. StillFits self.now good judged.new) }
     {
         let setting = self.setting;
         match observation_of(setting.model, setting.lists, setting.counts, x, v) {
@@ -252,11 +246,10 @@ impl<'a> Judge<'a> {
         moment: Moment,
         o: Observation,
     ) -> Result<bool, AllocError>
-        requires setting { IsSetting self.now.setting }
-        requires fits { Fits (plant_of self.now.setting) self.now.setting.system.now judged.old }
+        requires judges { Judges self.now judged.old }
         requires observation { ObservationFits (plant_of self.now.setting) o }
         ensures judged { IfOk result (λ good. came good judged.new ≡ Some (record (judged_of judged.old) { stated = with_observation (plant_of self.now.setting) moment judged.old.stated o })) }
-        ensures fits { IfOk result (λ good. IsTrue good → Fits (plant_of self.now.setting) self.now.setting.system.now judged.new) }
+        ensures fits { IfOk result (λ good. StillFits self.now good judged.new) }
     {
         let side = match moment {
             Moment::Now => Side::Now,
@@ -268,10 +261,9 @@ impl<'a> Judge<'a> {
     }
 
     fn goal(&self, judged: &mut Judged<'a>, text: &[u8]) -> Result<bool, AllocError>
-        requires setting { IsSetting self.now.setting }
-        requires fits { Fits (plant_of self.now.setting) self.now.setting.system.now judged.old }
+        requires { Judges self.now judged.old }
         ensures judged { IfOk result (λ good. came good judged.new ≡ option_map (λ goal. record (judged_of judged.old) { stated = with_goal judged.old.stated goal }) (Stated.goal_of (plant_of self.now.setting) text.now)) }
-        ensures fits { IfOk result (λ good. IsTrue good → Fits (plant_of self.now.setting) self.now.setting.system.now judged.new) }
+        ensures fits { IfOk result (λ good. StillFits self.now good judged.new) }
     {
         match goal_of(self.alloc, self.setting.model, self.setting.lists, text)? {
             Some(goal) => {
@@ -283,10 +275,9 @@ impl<'a> Judge<'a> {
     }
 
     fn listed(&self, judged: &mut Judged<'a>, ns: &[u128]) -> Result<bool, AllocError>
-        requires setting { IsSetting self.now.setting }
-        requires fits { Fits (plant_of self.now.setting) self.now.setting.system.now judged.old }
+        requires { Judges self.now judged.old }
         ensures judged { IfOk result (λ good. came good judged.new ≡ Judging.judge_listed (plant_of self.now.setting) (judged_of judged.old) ns.now) }
-        ensures fits { IfOk result (λ good. IsTrue good → Fits (plant_of self.now.setting) self.now.setting.system.now judged.new) }
+        ensures fits { IfOk result (λ good. StillFits self.now good judged.new) }
     {
         let tracked = judged.stated.tracked.as_slice();
         match candidate_of(self.alloc, self.setting.model, tracked, ns)? {
@@ -305,11 +296,10 @@ impl<'a> Judge<'a> {
 
     /// Lists a candidate, if it ranks behind the one before, and has a new target where this is asked for.
     fn list(&self, judged: &mut Judged<'a>, rank: Rank) -> Result<bool, AllocError>
-        requires setting { IsSetting self.now.setting }
-        requires fits { Fits (plant_of self.now.setting) self.now.setting.system.now judged.old }
+        requires judges { Judges self.now judged.old }
         requires few { HasFewChoices rank }
         ensures judged { IfOk result (λ good. came good judged.new ≡ Judging.with_listed (plant_of self.now.setting) (judged_of judged.old) rank) }
-        ensures fits { IfOk result (λ good. IsTrue good → Fits (plant_of self.now.setting) self.now.setting.system.now judged.new) }
+        ensures fits { IfOk result (λ good. StillFits self.now good judged.new) }
     {
         if !is_next(judged, &rank) || self.has_old_target(judged, &rank) {
             return Ok(false);
@@ -319,10 +309,9 @@ impl<'a> Judge<'a> {
     }
 
     fn now(&self, judged: &mut Judged<'a>, ns: &[u128]) -> Result<bool, AllocError>
-        requires setting { IsSetting self.now.setting }
-        requires fits { Fits (plant_of self.now.setting) self.now.setting.system.now judged.old }
+        requires { Judges self.now judged.old }
         ensures judged { IfOk result (λ good. came good judged.new ≡ Judging.judge_now (plant_of self.now.setting) (judged_of judged.old) ns.now) }
-        ensures fits { IfOk result (λ good. IsTrue good → Fits (plant_of self.now.setting) self.now.setting.system.now judged.new) }
+        ensures fits { IfOk result (λ good. StillFits self.now good judged.new) }
     {
         match values_of(self.alloc, self.setting.counts.values.as_slice(), ns)? {
             Some(values) => {
@@ -334,8 +323,7 @@ impl<'a> Judge<'a> {
     }
 
     fn next(&self, judged: &Judged<'a>, ns: &[u128]) -> Result<bool, AllocError>
-        requires setting { IsSetting self.now.setting }
-        requires fits { Fits (plant_of self.now.setting) self.now.setting.system.now judged.now }
+        requires { Judges self.now judged.now }
         ensures { IfOk result (λ good. good ≡ (are_of (sizes (plant_of self.now.setting)) ns.now && option_map_or (Judging.shows self.now.question (plant_of self.now.setting) (judged_of judged.now) (values_of ns.now)) judged.now.before false)) }
     {
         match values_of(self.alloc, self.setting.counts.values.as_slice(), ns)? {
@@ -356,10 +344,9 @@ impl<'a> Judge<'a> {
         ns: &[u128],
         rest: &[Line],
     ) -> Result<bool, AllocError>
-        requires setting { IsSetting self.now.setting }
-        requires fits { Fits (plant_of self.now.setting) self.now.setting.system.now judged.old }
+        requires { Judges self.now judged.old }
         ensures judged { IfOk result (λ good. came good judged.new ≡ Judging.judge_conflict self.now.question (plant_of self.now.setting) (judged_of judged.old) ns.now rest.now) }
-        ensures fits { IfOk result (λ good. IsTrue good → Fits (plant_of self.now.setting) self.now.setting.system.now judged.new) }
+        ensures fits { IfOk result (λ good. StillFits self.now good judged.new) }
     {
         match self.question {
             Question::Diagnosis => self.refute_choices(judged, ns, rest),
@@ -374,10 +361,9 @@ impl<'a> Judge<'a> {
         ns: &[u128],
         rest: &[Line],
     ) -> Result<bool, AllocError>
-        requires setting { IsSetting self.now.setting }
-        requires fits { Fits (plant_of self.now.setting) self.now.setting.system.now judged.old }
+        requires { Judges self.now judged.old }
         ensures judged { IfOk result (λ good. came good judged.new ≡ Judging.choices_refuted (plant_of self.now.setting) (judged_of judged.old) ns.now rest.now) }
-        ensures fits { IfOk result (λ good. IsTrue good → Fits (plant_of self.now.setting) self.now.setting.system.now judged.new) }
+        ensures fits { IfOk result (λ good. StillFits self.now good judged.new) }
     {
         let Some(conflict) = conflict_of(self.alloc, self.setting.counts.moves.as_slice(), ns)?
         else {
@@ -400,10 +386,9 @@ impl<'a> Judge<'a> {
         ns: &[u128],
         rest: &[Line],
     ) -> Result<bool, AllocError>
-        requires setting { IsSetting self.now.setting }
-        requires fits { Fits (plant_of self.now.setting) self.now.setting.system.now judged.old }
+        requires { Judges self.now judged.old }
         ensures judged { IfOk result (λ good. came good judged.new ≡ Judging.goals_refuted (plant_of self.now.setting) (judged_of judged.old) ns.now rest.now) }
-        ensures fits { IfOk result (λ good. IsTrue good → Fits (plant_of self.now.setting) self.now.setting.system.now judged.new) }
+        ensures fits { IfOk result (λ good. StillFits self.now good judged.new) }
     {
         let [s, ns @ ..] = ns else {
             return Ok(false);
@@ -436,8 +421,7 @@ impl<'a> Judge<'a> {
         place: usize,
         pairs: &[Pair],
     ) -> Result<(), AllocError>
-        requires setting { IsSetting self.now.setting }
-        requires fits { Fits (plant_of self.now.setting) self.now.setting.system.now judged.old }
+        requires judges { Judges self.now judged.old }
         requires place { place < length judged.old.stated.tracked }
         requires pairs { All (IsPairOf (control_sizes (plant_of self.now.setting))) pairs.now }
         ensures { OnOk result ((d : TrackedState) → judged.new ≡ record judged.old { block = with_clauses (record { system = judged.old.block.system; own = [] }) (nominal_units (plant_of self.now.setting) (slice_index_or judged.old.stated.tracked place d).state.modes judged.old.stated.literals pairs.now) }) }
@@ -453,10 +437,9 @@ impl<'a> Judge<'a> {
     }
 
     fn recovery(&self, judged: &mut Judged<'a>, ns: &[u128]) -> Result<bool, AllocError>
-        requires setting { IsSetting self.now.setting }
-        requires fits { Fits (plant_of self.now.setting) self.now.setting.system.now judged.old }
+        requires { Judges self.now judged.old }
         ensures judged { IfOk result (λ good. came good judged.new ≡ Judging.judge_recovery (plant_of self.now.setting) (judged_of judged.old) ns.now) }
-        ensures fits { IfOk result (λ good. IsTrue good → Fits (plant_of self.now.setting) self.now.setting.system.now judged.new) }
+        ensures fits { IfOk result (λ good. StillFits self.now good judged.new) }
     {
         match places_of(self.alloc, self.setting.counts.controlled.as_slice(), ns)? {
             Some(values) => {
@@ -509,10 +492,9 @@ impl<'a> Judge<'a> {
     }
 
     fn good(&self, judged: &mut Judged<'a>, ns: &[u128]) -> Result<bool, AllocError>
-        requires setting { IsSetting self.now.setting }
-        requires fits { Fits (plant_of self.now.setting) self.now.setting.system.now judged.old }
+        requires { Judges self.now judged.old }
         ensures judged { IfOk result (λ good. came good judged.new ≡ Judging.judge_good (judged_of judged.old) ns.now) }
-        ensures fits { IfOk result (λ good. IsTrue good → Fits (plant_of self.now.setting) self.now.setting.system.now judged.new) }
+        ensures fits { IfOk result (λ good. StillFits self.now good judged.new) }
     {
         let [s] = ns else {
             return Ok(false);
@@ -530,10 +512,9 @@ impl<'a> Judge<'a> {
 
     /// Opens the block of a goal that can't be missed from a state with the values of the answer.
     fn proof(&self, judged: &mut Judged<'a>, ns: &[u128], rest: &[Line]) -> Result<bool, AllocError>
-        requires setting { IsSetting self.now.setting }
-        requires fits { Fits (plant_of self.now.setting) self.now.setting.system.now judged.old }
+        requires { Judges self.now judged.old }
         ensures judged { IfOk result (λ good. came good judged.new ≡ Judging.judge_proof (plant_of self.now.setting) (judged_of judged.old) ns.now rest.now) }
-        ensures fits { IfOk result (λ good. IsTrue good → Fits (plant_of self.now.setting) self.now.setting.system.now judged.new) }
+        ensures fits { IfOk result (λ good. StillFits self.now good judged.new) }
     {
         let [s, g] = ns else {
             return Ok(false);
@@ -563,10 +544,9 @@ impl<'a> Judge<'a> {
     }
 
     fn counter(&self, judged: &mut Judged<'a>, ns: &[u128]) -> Result<bool, AllocError>
-        requires setting { IsSetting self.now.setting }
-        requires fits { Fits (plant_of self.now.setting) self.now.setting.system.now judged.old }
+        requires { Judges self.now judged.old }
         ensures judged { IfOk result (λ good. came good judged.new ≡ Judging.judge_counter (plant_of self.now.setting) (judged_of judged.old) ns.now) }
-        ensures fits { IfOk result (λ good. IsTrue good → Fits (plant_of self.now.setting) self.now.setting.system.now judged.new) }
+        ensures fits { IfOk result (λ good. StillFits self.now good judged.new) }
     {
         let [s, ns @ ..] = ns else {
             return Ok(false);
@@ -594,20 +574,18 @@ impl<'a> Judge<'a> {
         lits: &[Literal],
         hints: &[u128],
     ) -> Result<bool, AllocError>
-        requires setting { IsSetting self.now.setting }
-        requires fits { Fits (plant_of self.now.setting) self.now.setting.system.now judged.old }
+        requires { Judges self.now judged.old }
         ensures judged { IfOk result (λ good. came good judged.new ≡ Judging.judge_clause (plant_of self.now.setting) (judged_of judged.old) lits.now hints.now) }
-        ensures fits { IfOk result (λ good. IsTrue good → Fits (plant_of self.now.setting) self.now.setting.system.now judged.new) }
+        ensures fits { IfOk result (λ good. StillFits self.now good judged.new) }
     {
         let good = judged.block.derive(lits, hints)?;
         Ok(good)
     }
 
     fn split(&self, judged: &mut Judged<'a>, n: u128, by: Evidence) -> Result<bool, AllocError>
-        requires setting { IsSetting self.now.setting }
-        requires fits { Fits (plant_of self.now.setting) self.now.setting.system.now judged.old }
+        requires { Judges self.now judged.old }
         ensures judged { IfOk result (λ good. came good judged.new ≡ Judging.judge_split (plant_of self.now.setting) (judged_of judged.old) n by) }
-        ensures fits { IfOk result (λ good. IsTrue good → Fits (plant_of self.now.setting) self.now.setting.system.now judged.new) }
+        ensures fits { IfOk result (λ good. StillFits self.now good judged.new) }
     {
         let Some(source) = source_of(judged, n) else {
             return Ok(false);
@@ -626,10 +604,9 @@ impl<'a> Judge<'a> {
         n: u128,
         j: u128,
     ) -> Result<bool, AllocError>
-        requires setting { IsSetting self.now.setting }
-        requires fits { Fits (plant_of self.now.setting) self.now.setting.system.now judged.old }
+        requires { Judges self.now judged.old }
         ensures judged { (zone : ZoneValue) → open_zone judged.old.space n ≡ Some zone → IfOk result (λ good. came good judged.new ≡ split_into (judged_of judged.old) n (Judging.split_parts (plant_of self.now.setting) (judged_of judged.old) zone (evidence.Conflict j))) }
-        ensures fits { IfOk result (λ good. IsTrue good → Fits (plant_of self.now.setting) self.now.setting.system.now judged.new) }
+        ensures fits { IfOk result (λ good. StillFits self.now good judged.new) }
     {
         let Some(place) = place_in(judged.excluded.len(), j) else {
             return Ok(false);
@@ -646,10 +623,9 @@ impl<'a> Judge<'a> {
         source: u32,
         j: u128,
     ) -> Result<bool, AllocError>
-        requires setting { IsSetting self.now.setting }
-        requires fits { Fits (plant_of self.now.setting) self.now.setting.system.now judged.old }
+        requires { Judges self.now judged.old }
         ensures judged { (zone : ZoneValue) → open_zone judged.old.space n ≡ Some zone → zone.source ≡ source → IfOk result (λ good. came good judged.new ≡ split_into (judged_of judged.old) n (option_map (parts_of zone) (Judging.listed_choices (judged_of judged.old) zone j))) }
-        ensures fits { IfOk result (λ good. IsTrue good → Fits (plant_of self.now.setting) self.now.setting.system.now judged.new) }
+        ensures fits { IfOk result (λ good. StillFits self.now good judged.new) }
     {
         let Some(place) = place_in(judged.listed.len(), j) else {
             return Ok(false);
@@ -666,10 +642,9 @@ impl<'a> Judge<'a> {
     /// Splits a zone by the target of the listed candidate of this number, where targets have to be distinct and no member of
     /// the zone ranks before it.
     fn split_by_target(&self, judged: &mut Judged<'a>, n: u128, j: u128) -> Result<bool, AllocError>
-        requires setting { IsSetting self.now.setting }
-        requires fits { Fits (plant_of self.now.setting) self.now.setting.system.now judged.old }
+        requires { Judges self.now judged.old }
         ensures judged { (zone : ZoneValue) → open_zone judged.old.space n ≡ Some zone → IfOk result (λ good. came good judged.new ≡ split_into (judged_of judged.old) n (Judging.target_parts (plant_of self.now.setting) (judged_of judged.old) zone j)) }
-        ensures fits { IfOk result (λ good. IsTrue good → Fits (plant_of self.now.setting) self.now.setting.system.now judged.new) }
+        ensures fits { IfOk result (λ good. StillFits self.now good judged.new) }
     {
         if !judged.stated.distinct {
             return Ok(false);
