@@ -3,4 +3,5 @@ pub mod Measure
 pub mod Front
 pub mod Search
 pub mod Solver
+pub mod Fronts
 pub use Rattle.lv_reflog.specs as lv_reflog

@@ -4,6 +4,7 @@
 ghost use Rattle.std.specs.Prelude.{◌≡◌, ◌<◌, [], List, length, IfOk};
 ghost use Rattle.lv_sat.specs.declared.front.Level.{Level};
 ghost use Rattle.lv_sat.specs.Front.{IsKept};
+ghost use Rattle.lv_sat.specs.Fronts.{FrontIsKept};
 ghost use Rattle.lv_trail.specs.Trail.{IsTrail};
 
 use super::front::Front;
@@ -19,8 +20,8 @@ impl Front {
     /// Takes in a clause of the set that is new, with what it forces. Where a clause is false by that, assumptions give way;
     /// where one is so without any, or memory is wanting, the whole front is taken back.
     pub fn take_in(&mut self, set: &ClauseSet, lits: &[Lit], id: ClauseId)
-        requires { IsKept set.now self.old.levels.items self.old.search.trail.marks.items self.old.search.trail.entries.items }
-        ensures { IsKept set.now self.new.levels.items self.new.search.trail.marks.items self.new.search.trail.entries.items }
+        requires { FrontIsKept set.now self.old }
+        ensures { FrontIsKept set.now self.new }
     {
         match self.search.enter(set, lits, id) {
             Ok(None) => {}
@@ -31,8 +32,8 @@ impl Front {
 
     /// Takes assumptions back, from the last one on, until what the clause forces leaves no clause false.
     fn give_way(&mut self, set: &ClauseSet, lits: &[Lit], id: ClauseId)
-        requires { IsKept set.now self.old.levels.items self.old.search.trail.marks.items self.old.search.trail.entries.items }
-        ensures { IsKept set.now self.new.levels.items self.new.search.trail.marks.items self.new.search.trail.entries.items }
+        requires { FrontIsKept set.now self.old }
+        ensures { FrontIsKept set.now self.new }
     {
         let count = self.levels.len();
         'levels: for left in (0..count).rev() {

@@ -5,11 +5,11 @@
 ghost use Rattle.std.specs.Prelude.{◌≡◌, ◌<◌, ◌≤◌, ◌++◌, ◌∷◌, [], List, length, take, map, true, IsTrue, IfOk, IfSome, OnOk, None, slice_index_or};
 ghost use Rattle.lv_clauses.specs.Literals.{neg, is_clause};
 ghost use Rattle.lv_clauses.specs.ClauseMap.{ClauseMap};
-ghost use Rattle.lv_last_values.specs.Occurrences.{IsUpToDate};
 ghost use Rattle.lv_trail.specs.Trail.{is_open, IsTrail, IsPropagated, IsChain, IsFalse, among, lits_of, unforced};
 ghost use Rattle.lv_trail.specs.Analysis.{IsDerived};
 ghost use Rattle.lv_sat.specs.Answers.{Answers, last_clause};
-ghost use Rattle.lv_sat.specs.Front.{assumed, AreLevels, Assumes, IsFront, IsKept, IsRefuted, IsStanding, Stands};
+ghost use Rattle.lv_sat.specs.Front.{assumed, AreLevels, Assumes, IsFront, IsRefuted, Stands};
+ghost use Rattle.lv_sat.specs.Fronts.{FrontIsKept, FrontStands, IsAsked};
 
 use super::answer::Answer;
 use super::propagation::{propagate, visit_all};
@@ -43,11 +43,9 @@ impl Front {
         last: &LastValues,
         assumptions: &[Lit],
     ) -> Result<Answer, AllocError>
-        requires clause { IsTrue (is_clause set.now.bools assumptions.now) }
-        requires kept { IsKept set.now self.old.levels.items self.old.search.trail.marks.items self.old.search.trail.entries.items }
-        requires last { IsUpToDate set.now last.now.values last.now.occurrences }
+        requires { IsAsked set.now last.now assumptions.now self.old }
         ensures answer { IfOk result (λ answer. Answers set.now assumptions.now answer) }
-        ensures kept { IsKept set.now self.new.levels.items self.new.search.trail.marks.items self.new.search.trail.entries.items }
+        ensures kept { FrontIsKept set.now self.new }
     {
         self.search.guide.note_call();
         match self.answer_near(set, last, assumptions) {
@@ -68,11 +66,9 @@ impl Front {
         last: &LastValues,
         assumptions: &[Lit],
     ) -> Result<Answer, AllocError>
-        requires clause { IsTrue (is_clause set.now.bools assumptions.now) }
-        requires kept { IsKept set.now self.old.levels.items self.old.search.trail.marks.items self.old.search.trail.entries.items }
-        requires last { IsUpToDate set.now last.now.values last.now.occurrences }
+        requires { IsAsked set.now last.now assumptions.now self.old }
         ensures answer { IfOk result (λ answer. Answers set.now assumptions.now answer) }
-        ensures kept { OnOk result (IsKept set.now self.new.levels.items self.new.search.trail.marks.items self.new.search.trail.entries.items) }
+        ensures kept { OnOk result (FrontIsKept set.now self.new) }
     {
         let alloc = self.search.alloc;
         self.keep(assumptions);
@@ -98,11 +94,9 @@ impl Front {
         last: &LastValues,
         assumptions: &[Lit],
     ) -> Result<Answer, AllocError>
-        requires clause { IsTrue (is_clause set.now.bools assumptions.now) }
-        requires kept { IsKept set.now self.old.levels.items self.old.search.trail.marks.items self.old.search.trail.entries.items }
-        requires last { IsUpToDate set.now last.now.values last.now.occurrences }
+        requires { IsAsked set.now last.now assumptions.now self.old }
         ensures answer { IfOk result (λ answer. Answers set.now assumptions.now answer) }
-        ensures kept { OnOk result (IsKept set.now self.new.levels.items self.new.search.trail.marks.items self.new.search.trail.entries.items) }
+        ensures kept { OnOk result (FrontIsKept set.now self.new) }
     {
         let alloc = self.search.alloc;
         let mut log = Log::new(alloc)?;
@@ -125,9 +119,9 @@ impl Front {
     ) -> Result<bool, AllocError>
         requires clause { IsTrue (is_clause set.now.bools assumptions.now) }
         requires log { log.old ≡ [] }
-        requires kept { IsKept set.now self.old.levels.items self.old.search.trail.marks.items self.old.search.trail.entries.items }
-        ensures kept { OnOk result (IsKept set.now self.new.levels.items self.new.search.trail.marks.items self.new.search.trail.entries.items) }
-        ensures standing { IfOk result (λ stands. stands ≡ true → IsStanding set.now self.new.levels.items self.new.search.trail.marks.items self.new.search.trail.entries.items) }
+        requires kept { FrontIsKept set.now self.old }
+        ensures kept { OnOk result (FrontIsKept set.now self.new) }
+        ensures standing { IfOk result (λ stands. stands ≡ true → FrontStands set.now self.new) }
         ensures told { IfOk result (λ stands. Stands set.now assumptions.now self.new.levels.items log.new stands) }
     {
         self.keep(assumptions);
@@ -141,7 +135,7 @@ impl Front {
 
     /// Takes the whole front back.
     pub fn forget(&mut self)
-        ensures { (set : ClauseMap) → IsKept set self.new.levels.items self.new.search.trail.marks.items self.new.search.trail.entries.items }
+        ensures { (set : ClauseMap) → FrontIsKept set self.new }
     {
         self.search.take_back(0);
         self.levels.clear();
@@ -150,8 +144,7 @@ impl Front {
     /// Takes back what the front doesn't share with these assumptions.
     fn keep(&mut self, assumptions: &[Lit])
         requires { AreLevels self.old.levels.items self.old.search.trail.entries.items }
-        ensures kept { (set : ClauseMap) → IsKept set self.old.levels.items self.old.search.trail.marks.items self.old.search.trail.entries.items
-            → IsKept set self.new.levels.items self.new.search.trail.marks.items self.new.search.trail.entries.items }
+        ensures kept { (set : ClauseMap) → FrontIsKept set self.old → FrontIsKept set self.new }
         ensures shared { assumed self.new.levels.items ≡ take (length self.new.levels.items) assumptions.now }
     {
         let count = count_shared(self.levels.as_slice(), assumptions);
@@ -161,8 +154,7 @@ impl Front {
     /// Takes back all assumptions but the first, so many.
     pub fn cut_to(&mut self, count: usize)
         requires { AreLevels self.old.levels.items self.old.search.trail.entries.items }
-        ensures kept { (set : ClauseMap) → IsKept set self.old.levels.items self.old.search.trail.marks.items self.old.search.trail.entries.items
-            → IsKept set self.new.levels.items self.new.search.trail.marks.items self.new.search.trail.entries.items }
+        ensures kept { (set : ClauseMap) → FrontIsKept set self.old → FrontIsKept set self.new }
         ensures levels { self.new.levels.items ≡ take count self.old.levels.items }
     {
         if count < self.levels.len() {
@@ -181,9 +173,9 @@ impl Front {
     ) -> Result<bool, AllocError>
         requires clause { IsTrue (is_clause set.now.bools assumptions.now) }
         requires log { log.old ≡ [] }
-        requires standing { IsStanding set.now self.old.levels.items self.old.search.trail.marks.items self.old.search.trail.entries.items }
+        requires standing { FrontStands set.now self.old }
         requires shared { assumed self.old.levels.items ≡ take (length self.old.levels.items) assumptions.now }
-        ensures standing { OnOk result (IsStanding set.now self.new.levels.items self.new.search.trail.marks.items self.new.search.trail.entries.items) }
+        ensures standing { OnOk result (FrontStands set.now self.new) }
         ensures told { IfOk result (λ stands. Stands set.now assumptions.now self.new.levels.items log.new stands) }
     {
         for at in self.levels.len()..assumptions.len() {
@@ -206,9 +198,9 @@ impl Front {
     /// Takes one more assumption. Where it is refuted, the front is as it was.
     fn assume(&mut self, set: &ClauseSet, log: &mut Log, lit: Lit) -> Result<bool, AllocError>
         requires log { log.old ≡ [] }
-        requires standing { IsStanding set.now self.old.levels.items self.old.search.trail.marks.items self.old.search.trail.entries.items }
+        requires standing { FrontStands set.now self.old }
         requires clause { is_clause set.now.bools (assumed self.old.levels.items ++ lit ∷ []) ≡ true }
-        ensures standing { OnOk result (IsStanding set.now self.new.levels.items self.new.search.trail.marks.items self.new.search.trail.entries.items) }
+        ensures standing { OnOk result (FrontStands set.now self.new) }
         ensures told { IfOk result (λ stands. Assumes set.now self.old.levels.items lit self.new.levels.items log.new stands) }
     {
         let place = self.search.trail.entries().len();

@@ -33,7 +33,7 @@ pub struct Solver {
 
 impl Model for Solver {
     ghost use Rattle.std.specs.Prelude.{IfSome};
-    ghost use Rattle.lv_sat.specs.Front.{IsKept};
+    ghost use Rattle.lv_sat.specs.Fronts.{FrontIsKept};
     ghost use Rattle.lv_last_values.specs.Occurrences.{IsUpToDate};
     ghost use Rattle.lv_sat.specs.Solver.{SolverValue, Refutes};
 
@@ -42,7 +42,7 @@ impl Model for Solver {
     ghost view = { λ s. record { set = s.set; refuted = s.refuted } };
 
     ghost invariant = { λ s. record {
-      front : IsKept s.set s.front.levels.items s.front.search.trail.marks.items s.front.search.trail.entries.items;
+      front : FrontIsKept s.set s.front;
       last : IsUpToDate s.set s.last.values s.last.occurrences;
       refuted : IfSome s.refuted (Refutes s.set);
     } };
