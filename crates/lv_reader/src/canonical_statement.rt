@@ -5,7 +5,7 @@ ghost use Rattle.std.specs.Prelude.{◌≡◌, OnOk, [], ◌∷◌, map, Some, c
 ghost use Rattle.std.specs.List.{flat_map};
 ghost use Rattle.lv_text.specs.declared.lexer.TokenKind.TheVariants.{Arrow};
 ghost use Rattle.lv_formula_text.specs.Spacing.{written, word, symbol};
-ghost use Rattle.lv_reader.specs.CanonicalTokens.{number, class_word, named_tokens, alternative_tokens, mode_tokens, move_tokens, guard_tokens, repair_tokens, price_tokens, statement_tokens};
+ghost use Rattle.lv_reader.specs.CanonicalTokens.{number, class_word, cost_tokens, named_tokens, alternative_tokens, mode_tokens, move_tokens, guard_tokens, repair_tokens, price_tokens, statement_tokens};
 
 use crate::{Repair, Statement};
 use itoa::Buffer;
@@ -44,13 +44,11 @@ pub fn write_statement(writer: &mut LineWriter, statement: &Statement) -> Result
         }
         Statement::FaultLine(source, target, cost, guard) => {
             write_move(writer, b"fault", source, target)?;
-            write_cost(writer, *cost)?;
-            write_any_guard(writer, guard)
+            write_cost_and_guard(writer, *cost, guard)
         }
         Statement::FaultsLine(target, cost, guard) => {
             write_target(writer, target)?;
-            write_cost(writer, *cost)?;
-            write_any_guard(writer, guard)
+            write_cost_and_guard(writer, *cost, guard)
         }
         Statement::RepairLine(source, target, cost, repair, guard) => {
             write_move(writer, b"fault", source, target)?;
@@ -178,6 +176,17 @@ fn write_cost(writer: &mut LineWriter, cost: u64) -> Result<(), AllocError>
 {
     writer.word(b"cost")?;
     write_number(writer, cost)
+}
+
+fn write_cost_and_guard(
+    writer: &mut LineWriter,
+    cost: u64,
+    guard: &Option<Phrase>,
+) -> Result<(), AllocError>
+    ensures { OnOk result (writer.new ≡ written (cost_tokens cost guard.now) writer.old) }
+{
+    write_cost(writer, cost)?;
+    write_any_guard(writer, guard)
 }
 
 fn write_any_guard(writer: &mut LineWriter, guard: &Option<Phrase>) -> Result<(), AllocError>

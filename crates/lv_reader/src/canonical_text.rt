@@ -4,9 +4,9 @@
 ghost use Rattle.std.specs.Prelude.{◌≡◌, ◌++◌, [], false, IfOk, OnOk};
 ghost use Rattle.lv_reader.specs.CanonicalTexts.{names_model, version_line, ended_line, written_lines, canonical_model, WritesLine};
 
+use crate::Statement;
 use crate::canonical_statement::write_statement;
 use crate::version::NEWEST;
-use crate::{ModelText, Statement};
 use lv_formula_text::LineWriter;
 use std::alloc::{AllocError, Global};
 
@@ -57,17 +57,6 @@ impl Canonical {
         }
         Ok(bytes)
     }
-}
-
-/// The canonical text of a model.
-pub fn print_model(alloc: Global, text: &ModelText) -> Result<Vec<u8>, AllocError>
-    ensures { IfOk result (λ bytes. bytes.items ≡ canonical_model text.now) }
-{
-    let mut canonical = Canonical::new(alloc)?;
-    'lines: for numbered in text.statements.as_slice() {
-        canonical.push(&numbered.statement)?;
-    }
-    canonical.into_bytes()
 }
 
 fn names_model(statement: &Statement) -> bool

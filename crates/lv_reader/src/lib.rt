@@ -12,7 +12,7 @@
 //! | the versions of the language | `Version` |
 //! | why not | `ModelFault`, `ModelCode` |
 //! | what holds of every text | `laws` |
-//! | a model's canonical text | `Canonical`, `print_model` |
+//! | a model's canonical text | `Canonical` |
 //! | that of one statement | `write_statement` |
 //! | what holds of every canonical text | `print_laws` |
 //!
@@ -35,7 +35,7 @@ pub mod version;
 pub mod words;
 
 pub use canonical_statement::write_statement;
-pub use canonical_text::{Canonical, print_model};
+pub use canonical_text::Canonical;
 pub use code::ModelCode;
 pub use fault::ModelFault;
 pub use reader::{TakesStatements, read_each, read_model};

@@ -1,6 +1,6 @@
 //! Texts with every kind of statement, of both versions, and their canonical texts.
 
-use lv_reader::{print_model, read_model};
+use lv_reader::{Canonical, read_model};
 use std::alloc::{AllocError, Global};
 
 const WRITTEN: &[u8] = b"# a plant with every statement
@@ -94,7 +94,11 @@ fn is_printed_so(alloc: Global, written: &[u8], canonical: &[u8]) -> Result<bool
     let Ok(text) = read_model(alloc, written) else {
         return Ok(false);
     };
-    Ok(print_model(alloc, &text)?.as_slice() == canonical)
+    let mut printed = Canonical::new(alloc)?;
+    for numbered in text.statements.as_slice() {
+        printed.push(&numbered.statement)?;
+    }
+    Ok(printed.into_bytes()?.as_slice() == canonical)
 }
 
 #[test]
