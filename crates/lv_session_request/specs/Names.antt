@@ -1,5 +1,5 @@
 -- What the names in a line stand for: a control, an observable, a value of either.
-use Rattle.std.specs.Prelude.{ℕ, List, position, if◌then◌else◌, Result, Ok, Err, option_map}
+use Rattle.std.specs.Prelude.{◌≡◌, ℕ, List, position, if◌then◌else◌, Result, Ok, Err, option_map}
 use Rattle.std.specs.Option.{ok_or}
 use Rattle.lv_base.specs.declared.ids.ValId.{ValId}
 use Rattle.lv_base.specs.declared.ids.VarId.{VarId}
@@ -8,9 +8,15 @@ use Rattle.lv_model.specs.Lists.{is_variable}
 use Rattle.lv_reply.specs.declared.reply.Refusal.{Refusal}
 use Rattle.lv_reply.specs.declared.reply.Refusal.TheVariants.{UnknownName, NoControl, NoObservable, NoValue}
 use Rattle.lv_model_names.specs.declared.lists.Lists.{Lists}
+use Rattle.lv_model_names.specs.Lists.{lists_of}
 use Rattle.lv_model_names.specs.Names.{variable_of, value_of, is_observable}
 use Rattle.lv_session_request.specs.Chain.{and_then}
 use Rattle.lv_session_request.specs.declared.names.Controlled.{Controlled}
+use Rattle.lv_session_request.specs.declared.names.Names.{Names}
+
+-- the lists are those of the plant
+abbrev pub AreNames : Names → Type 0
+AreNames names = names.lists.now ≡ lists_of names.plant.now
 
 -- the part and its variable have to be known
 abbrev pub variable_named : Plant → List ℕ → List ℕ → Result VarId Refusal

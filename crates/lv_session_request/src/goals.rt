@@ -9,16 +9,16 @@ ghost use Rattle.lv_text.specs.Lexemes.{word_at};
 ghost use Rattle.lv_formula_text.specs.Nesting.{is_too_deep};
 ghost use Rattle.lv_formula_text.specs.Laws.{is_flat};
 ghost use Rattle.lv_formula_text.specs.Descent.{phrase_of};
-ghost use Rattle.lv_model_names.specs.Lists.{lists_of};
 ghost use Rattle.lv_session_request.specs.Goals.{phrase_in, formula_of, is_simple, simple, goal_as, goal_of, AreRead, ReadsBack, IsGoalIn};
+ghost use Rattle.lv_session_request.specs.Names.{AreNames};
 ghost use Rattle.lv_session_request.specs.Requests.{Explains};
 
 use crate::forms::name_at;
+use crate::names::Names;
 use crate::unread::Unread;
 use lv_base::{Name, Seq};
 use lv_formula::Condition;
 use lv_formula_text::{Phrase, PhraseFault, ResolveFault, print_phrase, read_phrase};
-use lv_model::Plant;
 use lv_model_names::{Lists, goal_formula};
 use lv_reply::Refusal;
 use lv_text::TokenLine;
@@ -51,16 +51,11 @@ fn phrase_in(alloc: Global, line: &TokenLine<'_>) -> Result<Phrase, Unread>
 }
 
 /// The formula that a phrase is over the plant.
-fn formula_of(
-    alloc: Global,
-    plant: &Plant,
-    lists: &Lists,
-    phrase: &Phrase,
-) -> Result<Condition, Unread>
-    ensures ok { IfOk result (λ f. formula_of plant.now lists.now phrase.now ≡ Ok f) }
-    ensures fault { IfErr result (λ fault. Explains fault (formula_of plant.now lists.now phrase.now)) }
+fn formula_of(alloc: Global, names: Names, phrase: &Phrase) -> Result<Condition, Unread>
+    ensures ok { IfOk result (λ f. formula_of names.entry.plant.now names.entry.lists.now phrase.now ≡ Ok f) }
+    ensures fault { IfErr result (λ fault. Explains fault (formula_of names.entry.plant.now names.entry.lists.now phrase.now)) }
 {
-    match goal_formula(alloc, plant, lists.ranges.as_slice(), phrase) {
+    match goal_formula(alloc, names.plant, names.lists.ranges.as_slice(), phrase) {
         Ok(formula) => Ok(formula),
         Err(ResolveFault::UnknownName) => Err(Unread::Refused(Refusal::UnknownName)),
         Err(ResolveFault::NoFit) => Err(Unread::Refused(Refusal::NoValue)),
@@ -92,22 +87,16 @@ fn simple(lists: &Lists, formula: Condition) -> Result<Condition, Refusal>
 }
 
 /// A phrase as a goal of this name, with its canonical text.
-fn goal_as(
-    alloc: Global,
-    plant: &Plant,
-    lists: &Lists,
-    name: &[u8],
-    phrase: &Phrase,
-) -> Result<Goal, Unread>
-    requires lists { lists.now ≡ lists_of plant.now }
+fn goal_as(alloc: Global, names: Names, name: &[u8], phrase: &Phrase) -> Result<Goal, Unread>
+    requires names { AreNames names }
     requires back { ReadsBack phrase.now }
-    ensures ok { IfOk result (λ g. goal_as plant.now lists.now name.now phrase.now ≡ Ok g) }
-    ensures fault { IfErr result (λ fault. Explains fault (goal_as plant.now lists.now name.now phrase.now)) }
-    ensures within { IfOk result (IsGoalIn plant.now) }
+    ensures ok { IfOk result (λ g. goal_as names.entry.plant.now names.entry.lists.now name.now phrase.now ≡ Ok g) }
+    ensures fault { IfErr result (λ fault. Explains fault (goal_as names.entry.plant.now names.entry.lists.now name.now phrase.now)) }
+    ensures within { IfOk result (IsGoalIn names.entry.plant.now) }
 {
     let name = Seq::from_slice(alloc, name)?;
-    let formula = formula_of(alloc, plant, lists, phrase)?;
-    let formula = simple(lists, formula)?;
+    let formula = formula_of(alloc, names, phrase)?;
+    let formula = simple(names.lists, formula)?;
     let text = Seq::from_vec(print_phrase(alloc, phrase)?);
     Ok(Goal {
         name,
@@ -118,21 +107,16 @@ fn goal_as(
 
 /// `goal NAME FORMULA`
 #[tactic(auto, unfolding(crate::specs::Goals::goal_of))]
-pub fn goal_of(
-    alloc: Global,
-    plant: &Plant,
-    lists: &Lists,
-    line: &TokenLine<'_>,
-) -> Result<Goal, Unread>
-    requires lists { lists.now ≡ lists_of plant.now }
+pub fn goal_of(alloc: Global, names: Names, line: &TokenLine<'_>) -> Result<Goal, Unread>
+    requires names { AreNames names }
     requires shallow { is_too_deep line.now ≡ false }
     requires read { AreRead line.now }
     requires word { word_at line.now 0 ≢ None }
-    ensures ok { IfOk result (λ g. goal_of plant.now lists.now line.now ≡ Ok g) }
-    ensures fault { IfErr result (λ fault. Explains fault (goal_of plant.now lists.now line.now)) }
-    ensures within { IfOk result (IsGoalIn plant.now) }
+    ensures ok { IfOk result (λ g. goal_of names.entry.plant.now names.entry.lists.now line.now ≡ Ok g) }
+    ensures fault { IfErr result (λ fault. Explains fault (goal_of names.entry.plant.now names.entry.lists.now line.now)) }
+    ensures within { IfOk result (IsGoalIn names.entry.plant.now) }
 {
     let name = name_at(line, 1).ok_or(Refusal::Form)?;
     let phrase = phrase_in(alloc, line)?;
-    goal_as(alloc, plant, lists, name, &phrase)
+    goal_as(alloc, names, name, &phrase)
 }

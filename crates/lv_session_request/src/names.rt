@@ -12,6 +12,13 @@ use lv_model_names::Lists;
 use lv_model_names::names::{is_observable, value_of, variable_of};
 use lv_reply::Refusal;
 
+/// A plant and the lists that are made of it, by which names are looked up.
+#[derive(Clone, Copy)]
+pub struct Names<'a> {
+    pub plant: &'a Plant,
+    pub lists: &'a Lists,
+}
+
 /// A control by its place among the controls in written order, and its variable.
 #[derive(Clone, Copy, Debug, PartialEq, Eq)]
 pub struct Controlled {
@@ -55,35 +62,25 @@ fn observable_among(lists: &Lists, var: VarId) -> Result<VarId, Refusal>
 }
 
 /// The control of these names.
-pub fn control_of(
-    plant: &Plant,
-    lists: &Lists,
-    part: &[u8],
-    name: &[u8],
-) -> Result<Controlled, Refusal>
-    ensures { result ≡ control_of plant.now lists.now part.now name.now }
+pub fn control_of(names: Names, part: &[u8], name: &[u8]) -> Result<Controlled, Refusal>
+    ensures { result ≡ control_of names.entry.plant.now names.entry.lists.now part.now name.now }
 {
     control_among(
-        lists.controls.as_slice(),
-        variable_named(plant, part, name)?,
+        names.lists.controls.as_slice(),
+        variable_named(names.plant, part, name)?,
     )
 }
 
 /// The observable of these names.
-pub fn observable_of(
-    plant: &Plant,
-    lists: &Lists,
-    part: &[u8],
-    name: &[u8],
-) -> Result<VarId, Refusal>
-    ensures { result ≡ observable_of plant.now lists.now part.now name.now }
+pub fn observable_of(names: Names, part: &[u8], name: &[u8]) -> Result<VarId, Refusal>
+    ensures { result ≡ observable_of names.entry.plant.now names.entry.lists.now part.now name.now }
 {
-    observable_among(lists, variable_named(plant, part, name)?)
+    observable_among(names.lists, variable_named(names.plant, part, name)?)
 }
 
 /// The value of this name, which the variable has to have.
-pub fn value_in(plant: &Plant, lists: &Lists, var: VarId, name: &[u8]) -> Result<ValId, Refusal>
-    ensures { result ≡ value_in plant.now lists.now var name.now }
+pub fn value_in(names: Names, var: VarId, name: &[u8]) -> Result<ValId, Refusal>
+    ensures { result ≡ value_in names.entry.plant.now names.entry.lists.now var name.now }
 {
-    value_of(plant, lists.ranges.as_slice(), var, name).ok_or(Refusal::NoValue)
+    value_of(names.plant, names.lists.ranges.as_slice(), var, name).ok_or(Refusal::NoValue)
 }

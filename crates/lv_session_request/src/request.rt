@@ -11,6 +11,7 @@ ghost use Rattle.lv_model_names.specs.declared.lists.Lists.{Lists as ListsOf};
 ghost use Rattle.lv_model_names.specs.Lists.{lists_of};
 ghost use Rattle.lv_formula_text.specs.Nesting.{is_too_deep};
 ghost use Rattle.lv_session_request.specs.Goals.{AreRead};
+ghost use Rattle.lv_session_request.specs.Names.{AreNames};
 ghost use Rattle.lv_session_request.specs.declared.words.Word.TheVariants.{Command as CommandWord, Release as ReleaseWord, Observe as ObserveWord, Goal as GoalWord, Test as TestWord};
 ghost use Rattle.lv_session_request.specs.Requests.{alone_by, track_of, budget_of, more_of, command_to, command_of, release_of, seen_as, tested_of, sighting_of, retracted_of, retraction_of, retract_of, labels_of, drop_of, window_of, request_by, asked, asked_by, request_of, Explains, IsSightingIn, IsCommandIn, IsObservableOf, IsRequestOf};
 
@@ -20,13 +21,13 @@ use crate::forms::{
     limited, name_at, number_to,
 };
 use crate::goals::{Goal, goal_of};
-use crate::names::{control_of, observable_of, value_in};
+use crate::names::{Names, control_of, observable_of, value_in};
 use crate::unread::Unread;
 use crate::words::{Word, first_word};
 use lv_base::limits::{BUDGET, TRACKED};
 use lv_base::{Name, Seq, ValId, VarId};
 use lv_formula_text::is_too_deep;
-use lv_model::{Model, Plant as PlantLists};
+use lv_model::Model;
 use lv_model_names::Lists;
 use lv_reply::Refusal;
 use lv_text::lexer::Token;
@@ -158,19 +159,13 @@ fn more_of(line: &TokenLine<'_>) -> Result<Request, Unread>
 
 /// The command of a control, by its names, to a value of its domain.
 #[tactic(auto, using(crate::proofs::RequestLaws::command_fits))]
-fn command_to(
-    plant: &PlantLists,
-    lists: &Lists,
-    part: &[u8],
-    name: &[u8],
-    value: &[u8],
-) -> Result<Command, Refusal>
-    requires { lists.now ≡ lists_of plant.now }
-    ensures command { result ≡ command_to plant.now lists.now part.now name.now value.now }
-    ensures within { IfOk result (IsCommandIn plant.now) }
+fn command_to(names: Names, part: &[u8], name: &[u8], value: &[u8]) -> Result<Command, Refusal>
+    requires { AreNames names }
+    ensures command { result ≡ command_to names.entry.plant.now names.entry.lists.now part.now name.now value.now }
+    ensures within { IfOk result (IsCommandIn names.entry.plant.now) }
 {
-    let control = control_of(plant, lists, part, name)?;
-    let value = value_in(plant, lists, control.var, value)?;
+    let control = control_of(names, part, name)?;
+    let value = value_in(names, control.var, value)?;
     Ok(Command {
         place: control.place,
         value,
@@ -179,10 +174,10 @@ fn command_to(
 
 /// `command P.C = V`
 #[tactic(auto, unfolding(crate::specs::Requests::command_of))]
-fn command_of(plant: &PlantLists, lists: &Lists, line: &TokenLine<'_>) -> Result<Command, Refusal>
-    requires { lists.now ≡ lists_of plant.now }
-    ensures command { result ≡ command_of plant.now lists.now line.now }
-    ensures within { IfOk result (IsCommandIn plant.now) }
+fn command_of(names: Names, line: &TokenLine<'_>) -> Result<Command, Refusal>
+    requires { AreNames names }
+    ensures command { result ≡ command_of names.entry.plant.now names.entry.lists.now line.now }
+    ensures within { IfOk result (IsCommandIn names.entry.plant.now) }
 {
     if !has_command_signs(line) {
         return Err(Refusal::Form);
@@ -190,55 +185,54 @@ fn command_of(plant: &PlantLists, lists: &Lists, line: &TokenLine<'_>) -> Result
     let part = line.word(1).ok_or(Refusal::Form)?;
     let name = line.word(3).ok_or(Refusal::Form)?;
     let value = line.word(5).ok_or(Refusal::Form)?;
-    command_to(plant, lists, part, name, value)
+    command_to(names, part, name, value)
 }
 
 /// `release P.C`: the control's place.
 #[tactic(auto, unfolding(crate::specs::Requests::release_of))]
-fn release_of(plant: &PlantLists, lists: &Lists, line: &TokenLine<'_>) -> Result<usize, Refusal>
-    ensures { result ≡ release_of plant.now lists.now line.now }
+fn release_of(names: Names, line: &TokenLine<'_>) -> Result<usize, Refusal>
+    ensures { result ≡ release_of names.entry.plant.now names.entry.lists.now line.now }
 {
     if !has_release_signs(line) {
         return Err(Refusal::Form);
     }
     let part = line.word(1).ok_or(Refusal::Form)?;
     let name = line.word(3).ok_or(Refusal::Form)?;
-    Ok(control_of(plant, lists, part, name)?.place)
+    Ok(control_of(names, part, name)?.place)
 }
 
 /// `test P.O`: the observable.
 #[tactic(auto, unfolding(crate::specs::Requests::tested_of))]
-fn tested_of(plant: &PlantLists, lists: &Lists, line: &TokenLine<'_>) -> Result<VarId, Refusal>
-    requires { lists.now ≡ lists_of plant.now }
-    ensures var { result ≡ tested_of plant.now lists.now line.now }
-    ensures within { IfOk result (IsObservableOf plant.now) }
+fn tested_of(names: Names, line: &TokenLine<'_>) -> Result<VarId, Refusal>
+    requires { AreNames names }
+    ensures var { result ≡ tested_of names.entry.plant.now names.entry.lists.now line.now }
+    ensures within { IfOk result (IsObservableOf names.entry.plant.now) }
 {
     if !has_release_signs(line) {
         return Err(Refusal::Form);
     }
     let part = line.word(1).ok_or(Refusal::Form)?;
     let name = line.word(3).ok_or(Refusal::Form)?;
-    observable_of(plant, lists, part, name)
+    observable_of(names, part, name)
 }
 
 /// An observable, by its names, seen to have a value of its domain, under a name.
 #[tactic(auto, using(crate::proofs::RequestLaws::sighting_fits))]
 fn seen_as(
     alloc: Global,
-    plant: &PlantLists,
-    lists: &Lists,
+    names: Names,
     name: &[u8],
     part: &[u8],
     variable: &[u8],
     value: &[u8],
 ) -> Result<Sighting, Unread>
-    requires { lists.now ≡ lists_of plant.now }
-    ensures ok { IfOk result (λ s. seen_as plant.now lists.now name.now part.now variable.now value.now ≡ Ok s) }
-    ensures fault { IfErr result (λ fault. Explains fault (seen_as plant.now lists.now name.now part.now variable.now value.now)) }
-    ensures within { IfOk result (IsSightingIn plant.now) }
+    requires { AreNames names }
+    ensures ok { IfOk result (λ s. seen_as names.entry.plant.now names.entry.lists.now name.now part.now variable.now value.now ≡ Ok s) }
+    ensures fault { IfErr result (λ fault. Explains fault (seen_as names.entry.plant.now names.entry.lists.now name.now part.now variable.now value.now)) }
+    ensures within { IfOk result (IsSightingIn names.entry.plant.now) }
 {
-    let var = observable_of(plant, lists, part, variable)?;
-    let val = value_in(plant, lists, var, value)?;
+    let var = observable_of(names, part, variable)?;
+    let val = value_in(names, var, value)?;
     Ok(Sighting {
         name: Seq::from_slice(alloc, name)?,
         var,
@@ -248,16 +242,11 @@ fn seen_as(
 
 /// `observe NAME P.O = V`
 #[tactic(auto, unfolding(crate::specs::Requests::sighting_of))]
-fn sighting_of(
-    alloc: Global,
-    plant: &PlantLists,
-    lists: &Lists,
-    line: &TokenLine<'_>,
-) -> Result<Sighting, Unread>
-    requires { lists.now ≡ lists_of plant.now }
-    ensures ok { IfOk result (λ s. sighting_of plant.now lists.now line.now ≡ Ok s) }
-    ensures fault { IfErr result (λ fault. Explains fault (sighting_of plant.now lists.now line.now)) }
-    ensures within { IfOk result (IsSightingIn plant.now) }
+fn sighting_of(alloc: Global, names: Names, line: &TokenLine<'_>) -> Result<Sighting, Unread>
+    requires { AreNames names }
+    ensures ok { IfOk result (λ s. sighting_of names.entry.plant.now names.entry.lists.now line.now ≡ Ok s) }
+    ensures fault { IfErr result (λ fault. Explains fault (sighting_of names.entry.plant.now names.entry.lists.now line.now)) }
+    ensures within { IfOk result (IsSightingIn names.entry.plant.now) }
 {
     if !has_observe_signs(line) {
         return Err(Unread::Refused(Refusal::Form));
@@ -266,7 +255,7 @@ fn sighting_of(
     let part = line.word(2).ok_or(Refusal::Form)?;
     let variable = line.word(4).ok_or(Refusal::Form)?;
     let value = line.word(6).ok_or(Refusal::Form)?;
-    seen_as(alloc, plant, lists, name, part, variable, value)
+    seen_as(alloc, names, name, part, variable, value)
 }
 
 /// `retract NAME`, and `drop NAME`.
@@ -331,56 +320,46 @@ fn labels_of(line: &TokenLine<'_>) -> Result<Request, Unread>
 }
 
 /// The request of a `command` line.
-fn commanding(plant: &PlantLists, lists: &Lists, line: &TokenLine<'_>) -> Result<Request, Unread>
-    requires lists { lists.now ≡ lists_of plant.now }
-    ensures ok { IfOk result (λ request. request_by plant.now lists.now CommandWord line.now ≡ Ok request) }
-    ensures fault { IfErr result (λ fault. Explains fault (request_by plant.now lists.now CommandWord line.now)) }
-    ensures within { IfOk result (IsRequestOf plant.now) }
+fn commanding(names: Names, line: &TokenLine<'_>) -> Result<Request, Unread>
+    requires names { AreNames names }
+    ensures ok { IfOk result (λ request. request_by names.entry.plant.now names.entry.lists.now CommandWord line.now ≡ Ok request) }
+    ensures fault { IfErr result (λ fault. Explains fault (request_by names.entry.plant.now names.entry.lists.now CommandWord line.now)) }
+    ensures within { IfOk result (IsRequestOf names.entry.plant.now) }
 {
-    Ok(Request::SetControl(command_of(plant, lists, line)?))
+    Ok(Request::SetControl(command_of(names, line)?))
 }
 
 /// The request of a `release` line.
-fn releasing(plant: &PlantLists, lists: &Lists, line: &TokenLine<'_>) -> Result<Request, Unread>
-    requires lists { lists.now ≡ lists_of plant.now }
-    ensures ok { IfOk result (λ request. request_by plant.now lists.now ReleaseWord line.now ≡ Ok request) }
-    ensures fault { IfErr result (λ fault. Explains fault (request_by plant.now lists.now ReleaseWord line.now)) }
-    ensures within { IfOk result (IsRequestOf plant.now) }
+fn releasing(names: Names, line: &TokenLine<'_>) -> Result<Request, Unread>
+    requires names { AreNames names }
+    ensures ok { IfOk result (λ request. request_by names.entry.plant.now names.entry.lists.now ReleaseWord line.now ≡ Ok request) }
+    ensures fault { IfErr result (λ fault. Explains fault (request_by names.entry.plant.now names.entry.lists.now ReleaseWord line.now)) }
+    ensures within { IfOk result (IsRequestOf names.entry.plant.now) }
 {
-    Ok(Request::Release(release_of(plant, lists, line)?))
+    Ok(Request::Release(release_of(names, line)?))
 }
 
 /// The request of an `observe` line.
-fn observing(
-    alloc: Global,
-    plant: &PlantLists,
-    lists: &Lists,
-    line: &TokenLine<'_>,
-) -> Result<Request, Unread>
-    requires lists { lists.now ≡ lists_of plant.now }
-    ensures ok { IfOk result (λ request. request_by plant.now lists.now ObserveWord line.now ≡ Ok request) }
-    ensures fault { IfErr result (λ fault. Explains fault (request_by plant.now lists.now ObserveWord line.now)) }
-    ensures within { IfOk result (IsRequestOf plant.now) }
+fn observing(alloc: Global, names: Names, line: &TokenLine<'_>) -> Result<Request, Unread>
+    requires names { AreNames names }
+    ensures ok { IfOk result (λ request. request_by names.entry.plant.now names.entry.lists.now ObserveWord line.now ≡ Ok request) }
+    ensures fault { IfErr result (λ fault. Explains fault (request_by names.entry.plant.now names.entry.lists.now ObserveWord line.now)) }
+    ensures within { IfOk result (IsRequestOf names.entry.plant.now) }
 {
-    Ok(Request::Observe(sighting_of(alloc, plant, lists, line)?))
+    Ok(Request::Observe(sighting_of(alloc, names, line)?))
 }
 
 /// The request of a `goal` line.
-fn wanting(
-    alloc: Global,
-    plant: &PlantLists,
-    lists: &Lists,
-    line: &TokenLine<'_>,
-) -> Result<Request, Unread>
-    requires lists { lists.now ≡ lists_of plant.now }
+fn wanting(alloc: Global, names: Names, line: &TokenLine<'_>) -> Result<Request, Unread>
+    requires names { AreNames names }
     requires shallow { is_too_deep line.now ≡ false }
     requires read { AreRead line.now }
     requires word { word_at line.now 0 ≢ None }
-    ensures ok { IfOk result (λ request. request_by plant.now lists.now GoalWord line.now ≡ Ok request) }
-    ensures fault { IfErr result (λ fault. Explains fault (request_by plant.now lists.now GoalWord line.now)) }
-    ensures within { IfOk result (IsRequestOf plant.now) }
+    ensures ok { IfOk result (λ request. request_by names.entry.plant.now names.entry.lists.now GoalWord line.now ≡ Ok request) }
+    ensures fault { IfErr result (λ fault. Explains fault (request_by names.entry.plant.now names.entry.lists.now GoalWord line.now)) }
+    ensures within { IfOk result (IsRequestOf names.entry.plant.now) }
 {
-    let goal = goal_of(alloc, plant, lists, line)?;
+    let goal = goal_of(alloc, names, line)?;
     Ok(Request::SetGoal(Apart::new(alloc, goal)?))
 }
 
@@ -394,40 +373,39 @@ fn dropping(alloc: Global, line: &TokenLine<'_>) -> Result<Request, Unread>
 }
 
 /// The request of a `test` line.
-fn testing(plant: &PlantLists, lists: &Lists, line: &TokenLine<'_>) -> Result<Request, Unread>
-    requires lists { lists.now ≡ lists_of plant.now }
-    ensures ok { IfOk result (λ request. request_by plant.now lists.now TestWord line.now ≡ Ok request) }
-    ensures fault { IfErr result (λ fault. Explains fault (request_by plant.now lists.now TestWord line.now)) }
-    ensures within { IfOk result (IsRequestOf plant.now) }
+fn testing(names: Names, line: &TokenLine<'_>) -> Result<Request, Unread>
+    requires names { AreNames names }
+    ensures ok { IfOk result (λ request. request_by names.entry.plant.now names.entry.lists.now TestWord line.now ≡ Ok request) }
+    ensures fault { IfErr result (λ fault. Explains fault (request_by names.entry.plant.now names.entry.lists.now TestWord line.now)) }
+    ensures within { IfOk result (IsRequestOf names.entry.plant.now) }
 {
-    Ok(Request::Test(tested_of(plant, lists, line)?))
+    Ok(Request::Test(tested_of(names, line)?))
 }
 
 /// What a line that begins with this word asks for. Each arm hands on what it is answered, so that a line pays for the
 /// room of its own request alone.
 fn request_by(
     alloc: Global,
-    plant: &PlantLists,
-    lists: &Lists,
+    names: Names,
     word: Word,
     line: &TokenLine<'_>,
 ) -> Result<Request, Unread>
-    requires lists { lists.now ≡ lists_of plant.now }
+    requires names { AreNames names }
     requires shallow { is_too_deep line.now ≡ false }
     requires read { AreRead line.now }
     requires word { word_at line.now 0 ≢ None }
-    ensures ok { IfOk result (λ request. request_by plant.now lists.now word line.now ≡ Ok request) }
-    ensures fault { IfErr result (λ fault. Explains fault (request_by plant.now lists.now word line.now)) }
-    ensures within { IfOk result (IsRequestOf plant.now) }
+    ensures ok { IfOk result (λ request. request_by names.entry.plant.now names.entry.lists.now word line.now ≡ Ok request) }
+    ensures fault { IfErr result (λ fault. Explains fault (request_by names.entry.plant.now names.entry.lists.now word line.now)) }
+    ensures within { IfOk result (IsRequestOf names.entry.plant.now) }
 {
     match word {
         Word::Track => track_of(line),
         Word::Budget => budget_of(line),
-        Word::Command => commanding(plant, lists, line),
-        Word::Release => releasing(plant, lists, line),
-        Word::Observe => observing(alloc, plant, lists, line),
+        Word::Command => commanding(names, line),
+        Word::Release => releasing(names, line),
+        Word::Observe => observing(alloc, names, line),
         Word::Retract => retract_of(alloc, line),
-        Word::Goal => wanting(alloc, plant, lists, line),
+        Word::Goal => wanting(alloc, names, line),
         Word::Drop => dropping(alloc, line),
         Word::Diagnose => alone(word, line),
         Word::Recover => alone(word, line),
@@ -440,23 +418,18 @@ fn request_by(
         Word::Reset => alone(word, line),
         Word::Quit => alone(word, line),
         Word::Probe => alone(word, line),
-        Word::Test => testing(plant, lists, line),
+        Word::Test => testing(names, line),
         Word::Window => window_of(line),
     }
 }
 
 /// What the tokens of a line ask for.
-fn asked(
-    alloc: Global,
-    plant: &PlantLists,
-    lists: &Lists,
-    line: &TokenLine<'_>,
-) -> Result<Request, Unread>
-    requires lists { lists.now ≡ lists_of plant.now }
+fn asked(alloc: Global, names: Names, line: &TokenLine<'_>) -> Result<Request, Unread>
+    requires names { AreNames names }
     requires read { AreRead line.now }
-    ensures ok { IfOk result (λ request. asked plant.now lists.now line.now ≡ Ok request) }
-    ensures fault { IfErr result (λ fault. Explains fault (asked plant.now lists.now line.now)) }
-    ensures within { IfOk result (IsRequestOf plant.now) }
+    ensures ok { IfOk result (λ request. asked names.entry.plant.now names.entry.lists.now line.now ≡ Ok request) }
+    ensures fault { IfErr result (λ fault. Explains fault (asked names.entry.plant.now names.entry.lists.now line.now)) }
+    ensures within { IfOk result (IsRequestOf names.entry.plant.now) }
 {
     if line.is_empty() {
         return Ok(Request::Nothing);
@@ -467,7 +440,7 @@ fn asked(
     if is_too_deep(line) {
         return Err(Unread::Refused(Refusal::TooComplex));
     }
-    request_by(alloc, plant, lists, word, line)
+    request_by(alloc, names, word, line)
 }
 
 /// The tokens of a line, in the room that is given.
@@ -504,7 +477,11 @@ pub fn request_of(
     ensures within { IfOk result (IsRequestOf model.now) }
 {
     let found = tokens_in(alloc, room, line)?;
-    let request = asked(alloc, model.plant(), lists, &found);
+    let names = Names {
+        plant: model.plant(),
+        lists,
+    };
+    let request = asked(alloc, names, &found);
     *room = found.into_room();
     request
 }
