@@ -15,14 +15,13 @@ use Rattle.lv_certcheck.proofs.ProvingLemmas.{exists as certificate_verdict}
 use Rattle.lv_gen.specs.Series.{model_text}
 use Rattle.lv_run.specs.Drives.{drive_text}
 use Rattle.lv_run_words.specs.Words.{Said, runs, checks, prints, generates, drives}
-use Rattle.lv_run_words.specs.declared.commands.Kind.{Kind}
 use Rattle.lv_run_words.specs.declared.commands.Service.{Service}
 use Rattle.lv_checker.specs.Standing.{IsCanonical}
 use Rattle.lv_run.specs.Inputs.{model_told, made_text}
 use Rattle.lv_run.specs.Services.{fits}
-use Rattle.lv_run.specs.Expected.{serves, overruns, judges, exceeds, shows, fails, Expects, words_refused, model_refused, session_served, session_too_long, certificate_judged, certificate_too_long, model_printed, text_made, session_driven, IsRefused}
+use Rattle.lv_run.specs.Expected.{serves, overruns, judges, exceeds, shows, fails, words_refused, model_refused, session_served, session_too_long, certificate_judged, certificate_too_long, model_printed, text_made, session_driven, IsRefused}
 use Rattle.lv_run.specs.declared.fault.RunFault.TheVariants.{WordsRefused, ModelRefused}
-use Rattle.lv_run.specs.Ends.{IsTold, AreTold, IsExpected, SomethingIsExpected}
+use Rattle.lv_run.specs.Ends.{IsExpected, SomethingIsExpected}
 
 -- the text of an accepted model has a canonical text
 pub record HasCanonical (text : List ℕ) : Type 0 where

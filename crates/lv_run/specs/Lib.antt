@@ -1,5 +1,6 @@
 pub mod Expected
 pub mod Faults
+pub mod Causes
 pub mod Inputs
 pub mod Judged
 pub mod OfLanes

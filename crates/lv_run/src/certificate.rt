@@ -8,6 +8,7 @@ ghost use Rattle.lv_io.specs.declared.Role.TheVariants.{Second as OfSecond};
 ghost use Rattle.lv_base.specs.declared.limits.TheConstants.{CERTIFICATE_BYTES as MOST};
 ghost use Rattle.lv_run.specs.Judged.{verdict_line, verdict_end, JudgesTold};
 ghost use Rattle.lv_run.specs.Inputs.{second_open, AddsOpens};
+ghost use Rattle.lv_run.specs.Causes.{SinkEnds};
 ghost use Rattle.lv_run.specs.Faults.{EndsReading, EndsWriting, EndsCheck, ended_status};
 
 use crate::fault::{RunFault, push_number};
@@ -27,22 +28,20 @@ pub fn judge_certificate<F: Shelf, O: Sink>(
     shelf: &mut F,
     out: &mut O,
 ) -> Result<Ended, RunFault>
-    // What was written, and flushed.
+    // What was written.
     ensures told { (text : List ℕ) → F.file shelf.old cert.now ≡ Some text → JudgesTold model.now text (O.text out.old) (O.text out.new) result }
     ensures ends { IfErr result EndsCheck }
     ensures unread { ended_status result ≡ Status.SecondUnread → O.text out.new ≡ O.text out.old }
     ensures too_long { ended_status result ≡ Status.SecondTooLong → O.text out.new ≡ O.text out.old }
-    ensures flushed { ended_status result ≢ Status.OutputFailed → ended_status result ≢ Status.OutOfMemory → O.is_flushed out.old ≡ true → O.is_flushed out.new ≡ true }
 
     // What is recorded.
     ensures opens { AddsOpens (F.opens shelf.old) (second_open cert.now ∷ []) (F.opens shelf.new) }
     ensures opened { ended_status result ≢ Status.OutOfMemory → F.opens shelf.new ≡ F.opens shelf.old ++ second_open cert.now ∷ [] }
 
-    // Whose fault it was.
+    // Whose fault it was, and what was flushed.
     ensures failed { ended_status result ≡ Status.SecondUnread → Rose (F.faults shelf.old OfSecond) (F.faults shelf.new OfSecond) }
     ensures as_before { ended_status result ≢ Status.SecondUnread → (r : Role) → F.faults shelf.new r ≡ F.faults shelf.old r }
-    ensures output_failed { ended_status result ≡ Status.OutputFailed → Rose (O.faults out.old) (O.faults out.new) }
-    ensures out_as_before { ended_status result ≢ Status.OutputFailed → O.faults out.new ≡ O.faults out.old }
+    ensures sink { SinkEnds (ended_status result) (O.is_flushed out.old) (O.is_flushed out.new) (O.faults out.old) (O.faults out.new) }
 {
     let text = load_certificate(alloc, shelf, cert)?;
     tell_verdict(alloc, model, text.as_slice(), out)

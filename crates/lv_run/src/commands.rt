@@ -2,10 +2,9 @@
 #![tactic(auto)]
 
 ghost use Rattle.std.specs.Prelude.{◌≡◌, ◌≢◌, Some, List, Option, ℕ, true, IsTrue};
-ghost use Rattle.lv_io.specs.Outside.{Rose, Opened};
-ghost use Rattle.lv_io.specs.declared.Role.{Role};
-ghost use Rattle.lv_io.specs.declared.Role.TheVariants.{Model as OfModel, Second as OfSecond};
+ghost use Rattle.lv_io.specs.Outside.{Opened};
 ghost use Rattle.lv_run_words.specs.Words.{runs, checks, prints, generates, drives};
+ghost use Rattle.lv_run.specs.Causes.{SinkEnds, ShelfEnds};
 ghost use Rattle.lv_run.specs.Faults.{ended_status};
 ghost use Rattle.lv_run.specs.Inputs.{opens_of};
 ghost use Rattle.lv_run.specs.Expected.{Expected, Expects, Meets, Follows, TellsVerdict, is_silent};
@@ -35,17 +34,13 @@ pub fn run<F: Shelf, O: Sink>(
     ensures follows { Follows (F.file shelf.old) (Some (runs service model.now session.now)) (ended_status result) }
     ensures verdict { TellsVerdict (F.file shelf.old) (Some (runs service model.now session.now)) result }
     ensures silent { IsTrue (is_silent (Some (runs service model.now session.now)) (ended_status result)) → O.text out.new ≡ O.text out.old }
-    ensures flushed { ended_status result ≢ Status.OutputFailed → ended_status result ≢ Status.OutOfMemory → O.is_flushed out.old ≡ true → O.is_flushed out.new ≡ true }
 
     // What is recorded.
     ensures opens { HasOpened (opens_of (Some (runs service model.now session.now))) (F.opens shelf.old) (F.opens shelf.new) (ended_status result) }
 
-    // Whose fault it was.
-    ensures model_unread { ended_status result ≡ Status.ModelUnread → Rose (F.faults shelf.old OfModel) (F.faults shelf.new OfModel) }
-    ensures session_unread { ended_status result ≡ Status.SecondUnread → Rose (F.faults shelf.old OfSecond) (F.faults shelf.new OfSecond) }
-    ensures shelf_as_before { ended_status result ≢ Status.ModelUnread → ended_status result ≢ Status.SecondUnread → (r : Role) → F.faults shelf.new r ≡ F.faults shelf.old r }
-    ensures output_failed { ended_status result ≡ Status.OutputFailed → Rose (O.faults out.old) (O.faults out.new) }
-    ensures out_as_before { ended_status result ≢ Status.OutputFailed → O.faults out.new ≡ O.faults out.old }
+    // Whose fault it was, and what was flushed.
+    ensures shelf { ShelfEnds (ended_status result) (F.faults shelf.old) (F.faults shelf.new) }
+    ensures sink { SinkEnds (ended_status result) (O.is_flushed out.old) (O.is_flushed out.new) (O.faults out.old) (O.faults out.new) }
 {
     let model = load_model(alloc, shelf, model)?;
     serve_session(alloc, service, &model, session, shelf, out)
@@ -64,17 +59,13 @@ pub fn check<F: Shelf, O: Sink>(
     ensures follows { Follows (F.file shelf.old) (Some (checks model.now cert.now)) (ended_status result) }
     ensures verdict { TellsVerdict (F.file shelf.old) (Some (checks model.now cert.now)) result }
     ensures silent { IsTrue (is_silent (Some (checks model.now cert.now)) (ended_status result)) → O.text out.new ≡ O.text out.old }
-    ensures flushed { ended_status result ≢ Status.OutputFailed → ended_status result ≢ Status.OutOfMemory → O.is_flushed out.old ≡ true → O.is_flushed out.new ≡ true }
 
     // What is recorded.
     ensures opens { HasOpened (opens_of (Some (checks model.now cert.now))) (F.opens shelf.old) (F.opens shelf.new) (ended_status result) }
 
-    // Whose fault it was.
-    ensures model_unread { ended_status result ≡ Status.ModelUnread → Rose (F.faults shelf.old OfModel) (F.faults shelf.new OfModel) }
-    ensures session_unread { ended_status result ≡ Status.SecondUnread → Rose (F.faults shelf.old OfSecond) (F.faults shelf.new OfSecond) }
-    ensures shelf_as_before { ended_status result ≢ Status.ModelUnread → ended_status result ≢ Status.SecondUnread → (r : Role) → F.faults shelf.new r ≡ F.faults shelf.old r }
-    ensures output_failed { ended_status result ≡ Status.OutputFailed → Rose (O.faults out.old) (O.faults out.new) }
-    ensures out_as_before { ended_status result ≢ Status.OutputFailed → O.faults out.new ≡ O.faults out.old }
+    // Whose fault it was, and what was flushed.
+    ensures shelf { ShelfEnds (ended_status result) (F.faults shelf.old) (F.faults shelf.new) }
+    ensures sink { SinkEnds (ended_status result) (O.is_flushed out.old) (O.is_flushed out.new) (O.faults out.old) (O.faults out.new) }
 {
     let plant = load_model(alloc, shelf, model)?;
     judge_certificate(alloc, &plant, cert, shelf, out)
@@ -92,17 +83,13 @@ pub fn print<F: Shelf, O: Sink>(
     ensures follows { Follows (F.file shelf.old) (Some (prints model.now)) (ended_status result) }
     ensures verdict { TellsVerdict (F.file shelf.old) (Some (prints model.now)) result }
     ensures silent { IsTrue (is_silent (Some (prints model.now)) (ended_status result)) → O.text out.new ≡ O.text out.old }
-    ensures flushed { ended_status result ≢ Status.OutputFailed → ended_status result ≢ Status.OutOfMemory → O.is_flushed out.old ≡ true → O.is_flushed out.new ≡ true }
 
     // What is recorded.
     ensures opens { HasOpened (opens_of (Some (prints model.now))) (F.opens shelf.old) (F.opens shelf.new) (ended_status result) }
 
-    // Whose fault it was.
-    ensures model_unread { ended_status result ≡ Status.ModelUnread → Rose (F.faults shelf.old OfModel) (F.faults shelf.new OfModel) }
-    ensures session_unread { ended_status result ≡ Status.SecondUnread → Rose (F.faults shelf.old OfSecond) (F.faults shelf.new OfSecond) }
-    ensures shelf_as_before { ended_status result ≢ Status.ModelUnread → ended_status result ≢ Status.SecondUnread → (r : Role) → F.faults shelf.new r ≡ F.faults shelf.old r }
-    ensures output_failed { ended_status result ≡ Status.OutputFailed → Rose (O.faults out.old) (O.faults out.new) }
-    ensures out_as_before { ended_status result ≢ Status.OutputFailed → O.faults out.new ≡ O.faults out.old }
+    // Whose fault it was, and what was flushed.
+    ensures shelf { ShelfEnds (ended_status result) (F.faults shelf.old) (F.faults shelf.new) }
+    ensures sink { SinkEnds (ended_status result) (O.is_flushed out.old) (O.is_flushed out.new) (O.faults out.old) (O.faults out.new) }
 {
     let canonical = load_canonical(alloc, shelf, model)?;
     write_text(canonical.as_slice(), out)?;
@@ -121,16 +108,14 @@ pub fn generate<O: Sink>(
     ensures follows { (file : List ℕ → Option (List ℕ)) → Follows file (Some (generates kind number)) (ended_status result) }
     ensures verdict { (file : List ℕ → Option (List ℕ)) → TellsVerdict file (Some (generates kind number)) result }
     ensures silent { IsTrue (is_silent (Some (generates kind number)) (ended_status result)) → O.text out.new ≡ O.text out.old }
-    ensures flushed { ended_status result ≢ Status.OutputFailed → ended_status result ≢ Status.OutOfMemory → O.is_flushed out.old ≡ true → O.is_flushed out.new ≡ true }
 
     // Nothing is opened or read.
     ensures opens { (opens : List Opened) → HasOpened (opens_of (Some (generates kind number))) opens opens (ended_status result) }
     ensures model_read { ended_status result ≢ Status.ModelUnread }
     ensures session_read { ended_status result ≢ Status.SecondUnread }
 
-    // Whose fault it was.
-    ensures output_failed { ended_status result ≡ Status.OutputFailed → Rose (O.faults out.old) (O.faults out.new) }
-    ensures out_as_before { ended_status result ≢ Status.OutputFailed → O.faults out.new ≡ O.faults out.old }
+    // Whose fault it was, and what was flushed.
+    ensures sink { SinkEnds (ended_status result) (O.is_flushed out.old) (O.is_flushed out.new) (O.faults out.old) (O.faults out.new) }
 {
     let text = made_text(alloc, kind, number)?;
     write_text(text.as_slice(), out)?;
@@ -144,16 +129,14 @@ pub fn drive<O: Sink>(alloc: Global, number: u32, out: &mut O) -> Result<Ended, 
     ensures follows { (file : List ℕ → Option (List ℕ)) → Follows file (Some (drives number)) (ended_status result) }
     ensures verdict { (file : List ℕ → Option (List ℕ)) → TellsVerdict file (Some (drives number)) result }
     ensures silent { IsTrue (is_silent (Some (drives number)) (ended_status result)) → O.text out.new ≡ O.text out.old }
-    ensures flushed { ended_status result ≢ Status.OutputFailed → ended_status result ≢ Status.OutOfMemory → O.is_flushed out.old ≡ true → O.is_flushed out.new ≡ true }
 
     // Nothing is opened or read.
     ensures opens { (opens : List Opened) → HasOpened (opens_of (Some (drives number))) opens opens (ended_status result) }
     ensures model_read { ended_status result ≢ Status.ModelUnread }
     ensures session_read { ended_status result ≢ Status.SecondUnread }
 
-    // Whose fault it was.
-    ensures output_failed { ended_status result ≡ Status.OutputFailed → Rose (O.faults out.old) (O.faults out.new) }
-    ensures out_as_before { ended_status result ≢ Status.OutputFailed → O.faults out.new ≡ O.faults out.old }
+    // Whose fault it was, and what was flushed.
+    ensures sink { SinkEnds (ended_status result) (O.is_flushed out.old) (O.is_flushed out.new) (O.faults out.old) (O.faults out.new) }
 {
     let text = load_summary(alloc, number)?;
     write_text(text.as_slice(), out)?;

@@ -8,6 +8,7 @@ ghost use Rattle.lv_serve.specs.Faults.{HasShelfCause, HasSinkCause, IsFlushed};
 ghost use Rattle.lv_run.specs.Services.{Serves};
 ghost use Rattle.lv_run.specs.Expected.{ServesTold};
 ghost use Rattle.lv_run.specs.Inputs.{second_open, AddsOpens};
+ghost use Rattle.lv_run.specs.Causes.{SinkEnds};
 ghost use Rattle.lv_run.specs.Faults.{EndsOpening, EndsSession, ended_status};
 
 use crate::fault::RunFault;
@@ -29,21 +30,19 @@ pub fn serve_session<F: Shelf, O: Sink>(
     shelf: &mut F,
     out: &mut O,
 ) -> Result<Ended, RunFault>
-    // What was written, and flushed.
+    // What was written.
     ensures told { (text : List ℕ) → F.file shelf.old session.now ≡ Some text → ServesTold service model.now text (O.text out.old) (O.text out.new) result }
     ensures done { IfOk result (λ ended. ended ≡ Ended.Done) }
     ensures ends { IfErr result EndsSession }
-    ensures flushed { ended_status result ≢ Status.OutputFailed → ended_status result ≢ Status.OutOfMemory → O.is_flushed out.old ≡ true → O.is_flushed out.new ≡ true }
 
     // What is recorded.
     ensures opens { AddsOpens (F.opens shelf.old) (second_open session.now ∷ []) (F.opens shelf.new) }
     ensures opened { ended_status result ≢ Status.OutOfMemory → F.opens shelf.new ≡ F.opens shelf.old ++ second_open session.now ∷ [] }
 
-    // Whose fault it was.
+    // Whose fault it was, and what was flushed.
     ensures failed { ended_status result ≡ Status.SecondUnread → Rose (F.faults shelf.old OfSecond) (F.faults shelf.new OfSecond) }
     ensures as_before { ended_status result ≢ Status.SecondUnread → (r : Role) → F.faults shelf.new r ≡ F.faults shelf.old r }
-    ensures output_failed { ended_status result ≡ Status.OutputFailed → Rose (O.faults out.old) (O.faults out.new) }
-    ensures out_as_before { ended_status result ≢ Status.OutputFailed → O.faults out.new ≡ O.faults out.old }
+    ensures sink { SinkEnds (ended_status result) (O.is_flushed out.old) (O.is_flushed out.new) (O.faults out.old) (O.faults out.new) }
 {
     let slot = open_session(shelf, session)?;
     serve_opened(alloc, service, model, shelf, slot, out)?;

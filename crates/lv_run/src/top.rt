@@ -10,6 +10,7 @@ ghost use Rattle.lv_run_words.specs.declared.commands.Service.{Service};
 ghost use Rattle.lv_run_words.specs.declared.commands.Service.TheVariants.{Single, Lanes, Simulation};
 ghost use Rattle.lv_run.specs.OfLanes.{AddsLanes, AddsOwnParts};
 ghost use Rattle.lv_run.specs.OfPlants.{AddsScript};
+ghost use Rattle.lv_run.specs.Causes.{SinkEnds, ShelfEnds};
 ghost use Rattle.lv_run.specs.Faults.{ended_status};
 ghost use Rattle.lv_run.specs.Inputs.{opens_of};
 ghost use Rattle.lv_run.specs.Expected.{Expected, Expects, status_expected, Meets, Follows, TellsVerdict, is_silent, keeps_shelf};
@@ -181,17 +182,13 @@ fn carry_out<F: Shelf, O: Sink>(
     ensures follows { Follows (F.file shelf.old) (command_of (map string_bytes words.now)) (ended_status result) }
     ensures verdict { TellsVerdict (F.file shelf.old) (command_of (map string_bytes words.now)) result }
     ensures silent { IsTrue (is_silent (command_of (map string_bytes words.now)) (ended_status result)) → O.text out.new ≡ O.text out.old }
-    ensures flushed { ended_status result ≢ Status.OutputFailed → ended_status result ≢ Status.OutOfMemory → O.is_flushed out.old ≡ true → O.is_flushed out.new ≡ true }
 
     // What is recorded.
     ensures opens { HasOpened (opens_of (command_of (map string_bytes words.now))) (F.opens shelf.old) (F.opens shelf.new) (ended_status result) }
 
-    // Whose fault it was.
-    ensures model_unread { ended_status result ≡ Status.ModelUnread → Rose (F.faults shelf.old OfModel) (F.faults shelf.new OfModel) }
-    ensures session_unread { ended_status result ≡ Status.SecondUnread → Rose (F.faults shelf.old OfSecond) (F.faults shelf.new OfSecond) }
-    ensures shelf_as_before { ended_status result ≢ Status.ModelUnread → ended_status result ≢ Status.SecondUnread → (r : Role) → F.faults shelf.new r ≡ F.faults shelf.old r }
-    ensures output_failed { ended_status result ≡ Status.OutputFailed → Rose (O.faults out.old) (O.faults out.new) }
-    ensures out_as_before { ended_status result ≢ Status.OutputFailed → O.faults out.new ≡ O.faults out.old }
+    // Whose fault it was, and what was flushed.
+    ensures shelf { ShelfEnds (ended_status result) (F.faults shelf.old) (F.faults shelf.new) }
+    ensures sink { SinkEnds (ended_status result) (O.is_flushed out.old) (O.is_flushed out.new) (O.faults out.old) (O.faults out.new) }
 {
     match read_words(alloc, words)? {
         Command::Run {

@@ -46,14 +46,10 @@ returns-clause-opens g c =
     opened_at_second _ _ _ _ _ c.serve_session.result (session_ends c.serve_session.result c.serve_session.ensures.ends)
     (c.in_ok-model.ensures.opened (λ e. cc)) c.serve_session.ensures.opens c.serve_session.ensures.opened
 
-pub returns-clause-model_unread : goal.returns-clause-model_unread
-returns-clause-model_unread g c = λ e. absurd (second_no_model c.serve_session.result (session_ends c.serve_session.result c.serve_session.ensures.ends) e)
-
-pub returns-clause-session_unread : goal.returns-clause-session_unread
-returns-clause-session_unread g c =
-    λ e. subst (λ (n : ℕ). Rose n (g.F.Shelf.faults c.serve_session.new.shelf Second)) (c.in_ok-model.ensures.as_before (λ f. cc) Second)
-    (c.serve_session.ensures.failed e)
-
-pub returns-clause-shelf_as_before : goal.returns-clause-shelf_as_before
-returns-clause-shelf_as_before g c =
-    λ model session r. c.serve_session.ensures.as_before session r ∙ c.in_ok-model.ensures.as_before (λ f. cc) r
+pub returns-clause-shelf : goal.returns-clause-shelf
+returns-clause-shelf g c =
+    record {
+      model_unread = λ e. absurd (second_no_model c.serve_session.result (session_ends c.serve_session.result c.serve_session.ensures.ends) e);
+      second_unread = λ e. subst (λ (n : ℕ). Rose n (g.F.Shelf.faults c.serve_session.new.shelf Second)) (c.in_ok-model.ensures.as_before (λ f. cc) Second) (c.serve_session.ensures.failed e);
+      as_before = λ model session r. c.serve_session.ensures.as_before session r ∙ c.in_ok-model.ensures.as_before (λ f. cc) r;
+    }

@@ -25,13 +25,13 @@ returns-clause-meets g c =
 pub returns-clause-output_failed : goal.returns-clause-output_failed
 returns-clause-output_failed g c =
     output_cause (ended_status c.carry_out-ended.result) c.tell_end.result
-    (λ e. (c.carry_out-ended.ensures.output_failed e, c.tell_end.ensures.untold e)) c.tell_end.ensures.failed
+    (λ e. (c.carry_out-ended.ensures.sink.failed e, c.tell_end.ensures.untold e)) c.tell_end.ensures.failed
 
 pub returns-clause-exact : goal.returns-clause-exact
 returns-clause-exact g c =
     λ d expects. status_due (g.F.Shelf.faults c.args.shelf.now) (g.F.Shelf.faults c.carry_out-ended.new.shelf) _ _ _ _ _ _ d c.tell_end.result
-    (λ e. c.carry_out-ended.ensures.model_unread (sym (c.tell_end.ensures.status (λ f. cc) (λ f. cc)) ∙ e))
-    (λ e. c.carry_out-ended.ensures.session_unread (sym (c.tell_end.ensures.status (λ f. cc) (λ f. cc)) ∙ e))
+    (λ e. c.carry_out-ended.ensures.shelf.model_unread (sym (c.tell_end.ensures.status (λ f. cc) (λ f. cc)) ∙ e))
+    (λ e. c.carry_out-ended.ensures.shelf.second_unread (sym (c.tell_end.ensures.status (λ f. cc) (λ f. cc)) ∙ e))
     (returns-clause-output_failed g c)
     (returns-clause-meets g c d expects)
 
