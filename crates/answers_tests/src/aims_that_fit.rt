@@ -3,13 +3,12 @@
 
 ghost use Rattle.std.specs.Prelude.{◌≡◌, true};
 ghost use Rattle.std.specs.List.{list_all};
-ghost use Rattle.lv_formula.specs.Fits.{fits};
+ghost use Rattle.lv_base.specs.Fits.{fits};
 ghost use Rattle.lv_model.specs.Ranges.{plant_ranges};
 ghost use Rattle.lv_meaning.specs.Ranges.{modes_fit, AimFits};
 
-use lv_base::ValId;
-use lv_formula::range::has_value;
-use lv_formula::{Condition, Range};
+use lv_base::range::has_value;
+use lv_base::{Condition, Range, ValId};
 use lv_meaning::Aim;
 use lv_model::{Part, Plant, TrackedState};
 

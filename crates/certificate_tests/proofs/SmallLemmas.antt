@@ -6,8 +6,8 @@ use Rattle.lv_base.specs.declared.search.Pair.{Pair}
 use Rattle.lv_base.specs.declared.search.Candidate.{Candidate}
 use Rattle.lv_base.specs.Choices.{picks}
 use Rattle.lv_boxes.specs.Members.{ZoneValue}
-use Rattle.lv_boxes.specs.lv_search_walk.declared.outcome.Outcome.TheVariants.{Settled}
-use Rattle.lv_boxes.specs.lv_search_walk.Walk.{walk}
+use Rattle.lv_boxes.specs.declared.outcome.Outcome.TheVariants.{Settled}
+use Rattle.lv_boxes.specs.Walk.{walk}
 use Rattle.lv_boxes.specs.RankedMembers.{ranked_members}
 use Rattle.lv_cert_writing.specs.Explained.{AreExplained, last_if_full}
 use Rattle.lv_cert_writing.specs.SplitLaws.{HasReasonsInside}

@@ -7,9 +7,9 @@ use Rattle.lv_base.specs.declared.ids.Lit.{Lit}
 use Rattle.lv_clauses.specs.Literals.{neg, clause_holds}
 use Rattle.lv_clauses.specs.ClauseMap.{ClauseMap, clause_at, IsBound, Puts, satisfies}
 use Rattle.lv_clauses.proofs.LiteralLemmas.{present_holds}
-use Rattle.lv_sat.specs.lv_reflog.declared.log.Step.{Step}
-use Rattle.lv_sat.specs.lv_reflog.Following.{first_bad_step, IsImplied}
-use Rattle.lv_sat.proofs.lv_reflog.SoundLemmas.{checked}
+use Rattle.lv_sat.specs.lv_clauses.declared.log.Step.{Step}
+use Rattle.lv_sat.specs.lv_clauses.Following.{first_bad_step, IsImplied}
+use Rattle.lv_sat.proofs.lv_clauses.SoundLemmas.{checked}
 use Rattle.lv_sat.specs.Answers.{last_clause, IsModel, IsRefutation}
 use Rattle.lv_system.proofs.NumberingLemmas.{all_present_hold}
 use Rattle.lv_asking.specs.Lemmas.{Follows, HaveSameModels, front_of, IsFilled, HasLemmas, AddsLemmas}

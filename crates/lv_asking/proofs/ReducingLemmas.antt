@@ -4,9 +4,9 @@ use Rattle.std.proofs.lemmas.List.{drop_all, drop_more}
 use Rattle.std.proofs.lemmas.List.Elements.{All-nil, All-cons, All-take, filter-append}
 use Rattle.lv_base.specs.declared.search.Pair.{Pair}
 use Rattle.lv_clauses.specs.Marks.{Marks}
-use Rattle.lv_search_walk.specs.Laws.{IsMonotone}
-use Rattle.lv_search_walk.specs.Reason.{reduced}
-use Rattle.lv_search_walk.proofs.ReasonLemmas.{pair_kept, pair_left_out}
+use Rattle.lv_boxes.specs.WalkLaws.{IsMonotone}
+use Rattle.lv_boxes.specs.Reason.{reduced}
+use Rattle.lv_boxes.proofs.ReasonLemmas.{pair_kept, pair_left_out}
 use Rattle.lv_asking.specs.Reducing.{RefutesPairs, is_needed, IsReducing}
 
 -- what has a false consequence is false

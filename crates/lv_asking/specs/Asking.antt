@@ -8,7 +8,7 @@ use Rattle.lv_clauses.specs.ClauseMap.{ClauseMap}
 use Rattle.lv_clauses.specs.Literals.{is_clause}
 use Rattle.lv_clauses.specs.Noted.{is_of}
 use Rattle.lv_sat.specs.Answers.{IsModel}
-use Rattle.lv_search_walk.specs.Reason.{reduced}
+use Rattle.lv_boxes.specs.Reason.{reduced}
 use Rattle.lv_system.specs.Choices.{Choices}
 use Rattle.lv_asking.specs.Literals.{HasMove, pair_literals}
 use Rattle.lv_asking.specs.Lemmas.{HaveSameModels}

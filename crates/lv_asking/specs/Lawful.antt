@@ -2,8 +2,8 @@
 use Rattle.std.proofs.Common.{ℕ, List, [], ◌∷◌, ◌++◌, Bool, arith, All}
 use Rattle.std.proofs.lemmas.List.Elements.{All-tail, All-cons}
 use Rattle.lv_base.specs.declared.search.Pair.{Pair}
-use Rattle.lv_search_walk.specs.Laws.{IsMonotone}
-use Rattle.lv_search_walk.proofs.ReasonLemmas.{rising_without}
+use Rattle.lv_boxes.specs.WalkLaws.{IsMonotone}
+use Rattle.lv_boxes.proofs.ReasonLemmas.{rising_without}
 use Rattle.lv_meaning.proofs.Possibility.{still_there}
 use Rattle.lv_asking.specs.Literals.{HasMove}
 use Rattle.lv_asking.specs.Asking.{AskingValue, Decides, IsPartial}

@@ -2,7 +2,7 @@
 use Rattle.std.specs.Prelude.{◌≡◌, ℕ, Bool, true, false, List, [], ◌++◌, drop, filter, Option, Some, None, IfSome}
 use Rattle.lv_base.specs.declared.search.Pair.{Pair}
 use Rattle.lv_clauses.specs.Marks.{Marks}
-use Rattle.lv_search_walk.specs.Reason.{reduced}
+use Rattle.lv_boxes.specs.Reason.{reduced}
 
 -- without marks the pairs are possible together; with marks those of them that it needed aren't
 abbrev pub RefutesPairs : (List Pair → Bool) → (Marks → Pair → Bool) → List Pair → Option Marks → Type 0

@@ -4,12 +4,11 @@
 
 ghost use Rattle.std.specs.Prelude.{◌≡◌, ◌<◌, true, None, IsTrue, IfOk};
 ghost use Rattle.lv_clauses.specs.Literals.{is_clause};
-ghost use Rattle.lv_reflog.specs.Following.{first_bad_step};
+ghost use Rattle.lv_clauses.specs.Following.{first_bad_step};
 ghost use Rattle.lv_asking.specs.Lemmas.{Follows, HaveSameModels, IsFilled, AddsLemmas};
 
 use lv_base::{ClauseId, Lit, Seq};
-use lv_clauses::{ClauseSet, is_clause};
-use lv_reflog::Log;
+use lv_clauses::{ClauseSet, Log, is_clause};
 use lv_sat::{Answer, Effort, Solver};
 use std::alloc::{AllocError, Global};
 use std::marker::Model;

@@ -4,7 +4,7 @@
 
 ghost use Rattle.std.specs.Prelude.{◌≡◌, ◌+◌, ◌<◌, ◌≤◌, ◌++◌, ◌∷◌, [], Bool, false, List, All, drop, filter, length, IfOk, IfSome};
 ghost use Rattle.lv_base.specs.declared.search.Pair.{Pair};
-ghost use Rattle.lv_search_walk.specs.Reason.{reduced};
+ghost use Rattle.lv_boxes.specs.Reason.{reduced};
 ghost use Rattle.lv_asking.specs.Reducing.{IsReducing, is_needed};
 
 use lv_base::Pair;
@@ -16,7 +16,7 @@ use std::alloc::{AllocError, Global};
 /// a pair less, pairs can still be asked for, and stay possible.
 pub trait Refuter {
     ghost use Rattle.lv_clauses.specs.Marks.{Marks};
-    ghost use Rattle.lv_search_walk.specs.Laws.{IsMonotone};
+    ghost use Rattle.lv_boxes.specs.WalkLaws.{IsMonotone};
     ghost use Rattle.lv_asking.specs.Reducing.{RefutesPairs};
 
     ghost fits: { Self → List Pair → Type 0 };

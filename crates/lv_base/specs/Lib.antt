@@ -2,3 +2,9 @@ pub mod Order
 pub mod Rank
 pub mod Choices
 pub mod Names
+pub mod Tree
+pub mod TreeCode
+pub mod Fits
+pub mod Fold
+pub mod Counts
+pub mod Laws

@@ -8,7 +8,7 @@ use Rattle.std.proofs.lemmas.List.Elements.{All-nil, All-cons, All-weaker}
 use Rattle.std.proofs.lemmas.List.Kept.{AllPairs-cons}
 use Rattle.lv_base.specs.declared.ids.Cost.{Cost}
 use Rattle.lv_base.specs.declared.search.Candidate.{Candidate}
-use Rattle.lv_search_walk.specs.Groups.{group_of, are_grouped, have_same_groups}
+use Rattle.lv_boxes.specs.Groups.{group_of, are_grouped, have_same_groups}
 use Rattle.lv_boxes.specs.Masks.{has_choice, only_group, without_group}
 use Rattle.lv_boxes.specs.Members.{ZoneValue, are_left, is_member}
 use Rattle.lv_boxes.specs.Parts.{AreDisjoint, IsAlike}

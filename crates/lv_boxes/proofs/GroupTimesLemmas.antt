@@ -5,8 +5,8 @@ use Rattle.std.proofs.Math.ListN.{length-set}
 use Rattle.std.proofs.lemmas.Bool.{and_parts, ltb-true}
 use Rattle.lv_base.specs.declared.ids.Cost.{Cost}
 use Rattle.lv_base.specs.declared.rank.Rank.{Rank}
-use Rattle.lv_search_walk.specs.Walk.{candidate_of}
-use Rattle.lv_search_walk.specs.Groups.{group_of, are_grouped, have_same_groups}
+use Rattle.lv_boxes.specs.Walk.{candidate_of}
+use Rattle.lv_boxes.specs.Groups.{group_of, are_grouped, have_same_groups}
 use Rattle.lv_boxes.specs.Masks.{has_choice, only_group}
 use Rattle.lv_boxes.specs.Members.{ZoneValue, are_left, is_member, choices_cost}
 use Rattle.lv_boxes.specs.RankedMembers.{ranks_in, times_in}

@@ -7,4 +7,9 @@ pub mod MemberLemmas
 pub mod Among
 pub mod RankedMemberLemmas
 pub mod GroupTimesLemmas
-pub use Rattle.lv_search_walk.proofs as lv_search_walk
+pub mod RankedLemmas
+pub mod ReasonLemmas
+pub mod WalkLemmas
+pub mod PlainLemmas
+pub mod TurnLemmas
+pub mod KeptLemmas

@@ -5,7 +5,7 @@ use Rattle.std.specs.Int.{bit_at}
 use Rattle.std.proofs.lemmas.Nat.Bits.{bit_at_and, bit_at_xor, bit_at-pow_same, bit_at-pow_other, bit_at-lt, bit_at_above, and_pow}
 use Rattle.std.proofs.lemmas.Bool.{cases_eq, and_parts, eq-eqb, ne_eqb}
 use Rattle.lv_boxes.specs.Masks.{has_choice, only_choice, without_choice, without_others, only_group, without_group}
-use Rattle.lv_search_walk.specs.Groups.{group_of}
+use Rattle.lv_boxes.specs.Groups.{group_of}
 
 -- a word has no choice from 64 on
 pub has_choice-past : (mask choice : ℕ) → mask < 2 ^ 64 → 64 ≤ choice → has_choice mask choice ≡ false

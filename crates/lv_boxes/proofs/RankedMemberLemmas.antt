@@ -9,9 +9,9 @@ use Rattle.lv_base.specs.declared.rank.Rank.{Rank}
 use Rattle.lv_base.specs.declared.search.Candidate.{Candidate}
 use Rattle.lv_boxes.specs.Masks.{has_choice}
 use Rattle.lv_boxes.specs.Members.{ZoneValue, is_left, are_left, is_member, choices_cost, rank_in}
-use Rattle.lv_search_walk.specs.Ranked.{rises, is_rank, is_among}
-use Rattle.lv_search_walk.specs.Walk.{candidate_of, suit_all}
-use Rattle.lv_search_walk.proofs.RankedLemmas.{is_itself, same_rank, among_ranked, rises_ranked}
+use Rattle.lv_boxes.specs.Ranked.{rises, is_rank, is_among}
+use Rattle.lv_boxes.specs.Walk.{candidate_of, suit_all}
+use Rattle.lv_boxes.proofs.RankedLemmas.{is_itself, same_rank, among_ranked, rises_ranked}
 use Rattle.lv_boxes.specs.RankedMembers.{choices_left, lists_left, members_of, ranked_members, ranks_in, times_in, IsLeastRank}
 use Rattle.lv_boxes.specs.Least.{lacks_choice}
 use Rattle.lv_boxes.proofs.LeastLemmas.{lacks_choice-none}

@@ -3,7 +3,7 @@ use Rattle.std.specs.Prelude.{◌≡◌, Bool, true, false, not, nat_eq, ◌&&�
 use Rattle.std.specs.List.{list_any}
 use Rattle.lv_base.specs.declared.ids.Cost.{Cost}
 use Rattle.lv_base.specs.declared.search.Candidate.{Candidate}
-use Rattle.lv_search_walk.specs.Groups.{group_of, are_grouped, have_same_groups}
+use Rattle.lv_boxes.specs.Groups.{group_of, are_grouped, have_same_groups}
 use Rattle.lv_boxes.specs.Masks.{only_group, without_group}
 use Rattle.lv_boxes.specs.Members.{ZoneValue, is_member}
 use Rattle.lv_boxes.specs.Parts.{AreDisjoint, IsAlike}

@@ -5,4 +5,8 @@ pub mod Parts
 pub mod GroupParts
 pub mod Laws
 pub mod RankedMembers
-pub use Rattle.lv_search_walk.specs as lv_search_walk
+pub mod Ranked
+pub mod Walk
+pub mod Groups
+pub mod Reason
+pub mod WalkLaws

@@ -6,8 +6,8 @@ use Rattle.lv_base.specs.declared.rank.Rank.{Rank}
 use Rattle.lv_boxes.specs.Masks.{has_choice}
 use Rattle.lv_boxes.specs.Members.{ZoneValue, is_member, choices_cost, rank_in}
 use Rattle.lv_boxes.specs.Least.{IsLeastMember}
-use Rattle.lv_search_walk.specs.Ranked.{ranked}
-use Rattle.lv_search_walk.specs.Walk.{candidate_of}
+use Rattle.lv_boxes.specs.Ranked.{ranked}
+use Rattle.lv_boxes.specs.Walk.{candidate_of}
 
 -- the choices that the mask has, from n on, of which these are the costs
 abbrev pub choices_left : ℕ → List Cost → ℕ → List ℕ

@@ -4,7 +4,7 @@
 #![tactic(auto)]
 
 ghost use Rattle.std.specs.Prelude.{◌≡◌, ◌<◌, ◌≤◌, ◌∷◌, ◌++◌, [], length, All, IfOk, OnOk, OnErr};
-ghost use Rattle.lv_search_walk.specs.Groups.{group_of, have_same_groups};
+ghost use Rattle.lv_boxes.specs.Groups.{group_of, have_same_groups};
 ghost use Rattle.lv_boxes.specs.GroupParts.{HasGroups, have_shape, parts_by_groups, IsSplitByGroups};
 
 use super::grid::Grid;

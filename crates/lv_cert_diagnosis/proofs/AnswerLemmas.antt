@@ -12,12 +12,12 @@ use Rattle.lv_base.specs.Choices.{pairs_of, picks}
 use Rattle.lv_model.specs.declared.plant.Plant.{Plant}
 use Rattle.lv_model.specs.declared.state.TrackedState.{TrackedState}
 use Rattle.lv_model.specs.Lists.{move_counts}
-use Rattle.lv_meaning.specs.lv_search_walk.declared.outcome.Outcome.TheVariants.{Settled}
-use Rattle.lv_meaning.specs.lv_search_walk.Ranked.{rises, is_among}
-use Rattle.lv_meaning.specs.lv_search_walk.Walk.{Walked, candidate_of, walk_from, distinct_walk, first_of_each}
-use Rattle.lv_meaning.specs.lv_search_walk.Groups.{alike_by}
-use Rattle.lv_meaning.proofs.lv_search_walk.WalkLemmas.{turn, distinct_exact}
-use Rattle.lv_meaning.proofs.lv_search_walk.ReasonLemmas.{still_impossible, part_of_all}
+use Rattle.lv_meaning.specs.lv_boxes.declared.outcome.Outcome.TheVariants.{Settled}
+use Rattle.lv_meaning.specs.lv_boxes.Ranked.{rises, is_among}
+use Rattle.lv_meaning.specs.lv_boxes.Walk.{Walked, candidate_of, walk_from, distinct_walk, first_of_each}
+use Rattle.lv_meaning.specs.lv_boxes.Groups.{alike_by}
+use Rattle.lv_meaning.proofs.lv_boxes.WalkLemmas.{turn, distinct_exact}
+use Rattle.lv_meaning.proofs.lv_boxes.ReasonLemmas.{still_impossible, part_of_all}
 use Rattle.lv_meaning.specs.declared.facts.Facts.{Facts}
 use Rattle.lv_meaning.specs.Possible.{is_possible}
 use Rattle.lv_meaning.specs.Candidates.{candidates, is_possible_candidate, is_possible_rank}

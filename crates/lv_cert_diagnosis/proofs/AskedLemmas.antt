@@ -12,8 +12,8 @@ use Rattle.lv_model.specs.Lists.{sizes, controls, variable_count, part_moves}
 use Rattle.lv_model.specs.Ranges.{plant_ranges}
 use Rattle.lv_model.specs.WellFormed.{is_well_formed}
 use Rattle.lv_model.specs.declared.plant.Part.{Part}
-use Rattle.lv_model.specs.lv_formula.declared.range.Range.{Range}
-use Rattle.lv_model.specs.lv_formula.Fits.{has_value}
+use Rattle.lv_model.specs.lv_base.declared.range.Range.{Range}
+use Rattle.lv_model.specs.lv_base.Fits.{has_value}
 use Rattle.lv_base.specs.declared.ids.ValId.{ValId}
 use Rattle.std.proofs.lemmas.Bool.{and_parts}
 use Rattle.lv_meaning.specs.declared.facts.Facts.{Facts}

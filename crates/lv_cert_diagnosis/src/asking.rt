@@ -40,7 +40,7 @@ impl<'a> marker::Model for Asking<'a> {
     ghost use Rattle.lv_cert_diagnosis.specs.Showing.{Asked};
     ghost use Rattle.lv_cert_diagnosis.specs.Keeping.{IsAsking};
     ghost use Rattle.std.specs.Coded.{codes};
-    ghost use Rattle.lv_model.specs.lv_formula.contracts.Condition as condition;
+    ghost use Rattle.lv_model.specs.lv_base.contracts.formula.Condition as condition;
 
     ghost Value = { Asked };
 

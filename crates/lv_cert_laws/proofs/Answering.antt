@@ -4,10 +4,10 @@ use Rattle.lv_cert_meaning.specs.lv_base.declared.rank.Rank.{Rank}
 use Rattle.lv_cert_meaning.specs.lv_base.Rank.{rank_key, ranks_before}
 use Rattle.lv_cert_meaning.proofs.lv_base.OrderLemmas.{transitive}
 use Rattle.lv_cert_meaning.specs.lv_model.declared.plant.Plant.{Plant}
-use Rattle.lv_cert_meaning.specs.lv_search_walk.Ranked.{rises}
-use Rattle.lv_cert_meaning.specs.lv_search_walk.Walk.{first_of_each}
-use Rattle.lv_cert_meaning.proofs.lv_search_walk.RankedLemmas.{not_both_before}
-use Rattle.lv_cert_meaning.proofs.lv_search_walk.WalkLemmas.{each_is_first}
+use Rattle.lv_cert_meaning.specs.lv_boxes.Ranked.{rises}
+use Rattle.lv_cert_meaning.specs.lv_boxes.Walk.{first_of_each}
+use Rattle.lv_cert_meaning.proofs.lv_boxes.RankedLemmas.{not_both_before}
+use Rattle.lv_cert_meaning.proofs.lv_boxes.WalkLemmas.{each_is_first}
 use Rattle.lv_cert_meaning.specs.lv_meaning.Candidates.{candidates, is_possible_rank}
 use Rattle.lv_cert_meaning.specs.lv_meaning.Targets.{are_alike, answer}
 use Rattle.lv_cert_meaning.proofs.lv_meaning.Among.{Among, among, contained, all_among}

@@ -11,8 +11,8 @@ use Rattle.lv_cert_meaning.specs.lv_base.declared.ids.VarId.{VarId}
 use Rattle.lv_cert_meaning.specs.lv_base.declared.search.Pair.{Pair}
 use Rattle.lv_cert_meaning.specs.lv_text.Lexemes.{Reading, reads, has_bad_byte, is_too_long, line_reading}
 use Rattle.lv_cert_meaning.specs.lv_clauses.Literals.{same_truth, lit_holds, clause_holds}
-use Rattle.lv_cert_meaning.specs.lv_formula.Tree.{Tree, truth_of}
-use Rattle.lv_cert_meaning.specs.lv_formula.Fits.{fits}
+use Rattle.lv_cert_meaning.specs.lv_base.Tree.{Tree, truth_of}
+use Rattle.lv_cert_meaning.specs.lv_base.Fits.{fits}
 use Rattle.lv_cert_meaning.specs.lv_model.declared.plant.Plant.{Plant}
 use Rattle.lv_cert_meaning.specs.lv_model.declared.state.State.{State}
 use Rattle.lv_cert_meaning.specs.lv_model.Counts.{has_count, law_sizes}

@@ -10,7 +10,7 @@ use Rattle.lv_cert_meaning.specs.lv_base.declared.ids.ValId.{ValId}
 use Rattle.lv_cert_meaning.specs.lv_base.declared.limits.TheConstants.{TRACKED, TRACKED_COST}
 use Rattle.lv_cert_meaning.specs.lv_base.declared.rank.Rank.{Rank}
 use Rattle.lv_cert_meaning.specs.lv_base.declared.search.Pair.{Pair}
-use Rattle.lv_cert_meaning.specs.lv_formula.Tree.{Tree}
+use Rattle.lv_cert_meaning.specs.lv_base.Tree.{Tree}
 use Rattle.lv_cert_meaning.specs.lv_model.declared.plant.Plant.{Plant}
 use Rattle.lv_cert_meaning.specs.lv_model.declared.state.TrackedState.{TrackedState}
 use Rattle.lv_cert_meaning.specs.lv_model.Lists.{sizes, move_counts}

@@ -7,7 +7,7 @@ use Rattle.lv_cert_meaning.specs.lv_model.declared.plant.Plant.{Plant}
 use Rattle.lv_cert_meaning.specs.lv_model.WellFormed.{is_well_formed}
 use Rattle.lv_cert_meaning.specs.lv_meaning.Targets.{are_alike}
 use Rattle.lv_cert_meaning.proofs.lv_meaning.Among.{Among}
-use Rattle.lv_cert_meaning.specs.lv_search_walk.Ranked.{rises}
+use Rattle.lv_cert_meaning.specs.lv_boxes.Ranked.{rises}
 use Rattle.lv_cert_meaning.specs.lv_search_zones.Moves.{move_slots, zones_from}
 use Rattle.lv_cert_meaning.specs.lv_cert.declared.line.Question.TheVariants.{Diagnosis}
 use Rattle.lv_cert_meaning.specs.lv_cert.declared.line.Head.TheVariants as head

@@ -5,9 +5,9 @@ use Rattle.std.proofs.lemmas.Bool.{and_parts, and_from}
 use Rattle.std.proofs.lemmas.List.Folds.{list_any-append}
 use Rattle.lv_cert_meaning.specs.lv_base.declared.rank.Rank.{Rank}
 use Rattle.lv_cert_meaning.specs.lv_base.Rank.{ranks_before}
-use Rattle.lv_cert_meaning.specs.lv_search_walk.Ranked.{rises}
-use Rattle.lv_cert_meaning.specs.lv_search_walk.Walk.{first_of_each_behind, first_of_each}
-use Rattle.lv_cert_meaning.proofs.lv_search_walk.RankedLemmas.{not_before_itself, not_both_before}
+use Rattle.lv_cert_meaning.specs.lv_boxes.Ranked.{rises}
+use Rattle.lv_cert_meaning.specs.lv_boxes.Walk.{first_of_each_behind, first_of_each}
+use Rattle.lv_cert_meaning.proofs.lv_boxes.RankedLemmas.{not_before_itself, not_both_before}
 use Rattle.lv_cert_meaning.proofs.lv_meaning.Among.{Among, all_among}
 
 -- neither is true

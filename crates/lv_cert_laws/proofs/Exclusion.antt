@@ -18,9 +18,9 @@ use Rattle.lv_cert_meaning.specs.lv_boxes.Least.{cheapest_choices, lacks_choice}
 use Rattle.lv_cert_meaning.specs.lv_boxes.Parts.{masks_with, masks_without, parts_of}
 use Rattle.lv_cert_meaning.proofs.lv_boxes.PartsLemmas.{is_member-with, is_member-without}
 use Rattle.lv_cert_meaning.proofs.lv_boxes.LeastLemmas.{sum_none, written_is_least}
-use Rattle.lv_cert_meaning.specs.lv_search_walk.Walk.{candidate_of}
-use Rattle.lv_cert_meaning.specs.lv_search_walk.Ranked.{is_rank, is_among}
-use Rattle.lv_cert_meaning.proofs.lv_search_walk.RankedLemmas.{is_itself, neither_is_same}
+use Rattle.lv_cert_meaning.specs.lv_boxes.Walk.{candidate_of}
+use Rattle.lv_cert_meaning.specs.lv_boxes.Ranked.{is_rank, is_among}
+use Rattle.lv_cert_meaning.proofs.lv_boxes.RankedLemmas.{is_itself, neither_is_same}
 use Rattle.lv_cert_meaning.proofs.lv_meaning.Among.{Among}
 use Rattle.lv_cert_meaning.specs.lv_boxes.RankedMembers.{ranked_members, ranks_in}
 use Rattle.lv_cert_meaning.proofs.lv_boxes.RankedMemberLemmas.{lacking_has_none, rank_of_member, among_ranked_members_any}

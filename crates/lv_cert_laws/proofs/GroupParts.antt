@@ -7,8 +7,8 @@ use Rattle.lv_cert_meaning.specs.lv_base.declared.rank.Rank.{Rank}
 use Rattle.lv_cert_meaning.specs.lv_boxes.Members.{ZoneValue, are_left, is_member, choices_cost}
 use Rattle.lv_cert_meaning.specs.lv_boxes.GroupParts.{masks_of_group, masks_of_others, parts_from, parts_by_groups}
 use Rattle.lv_cert_meaning.specs.lv_boxes.RankedMembers.{ranks_in}
-use Rattle.lv_cert_meaning.specs.lv_search_walk.Walk.{candidate_of}
-use Rattle.lv_cert_meaning.specs.lv_search_walk.Groups.{group_of, are_grouped, have_same_groups}
+use Rattle.lv_cert_meaning.specs.lv_boxes.Walk.{candidate_of}
+use Rattle.lv_cert_meaning.specs.lv_boxes.Groups.{group_of, are_grouped, have_same_groups}
 use Rattle.lv_cert_meaning.proofs.lv_boxes.GroupPartsLemmas.{parts_are_split}
 use Rattle.lv_cert_meaning.proofs.lv_boxes.MemberLemmas.{length-are_left}
 

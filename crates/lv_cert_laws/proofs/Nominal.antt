@@ -12,7 +12,7 @@ use Rattle.lv_cert_meaning.specs.lv_base.declared.ids.MoveId.{MoveId}
 use Rattle.lv_cert_meaning.specs.lv_base.declared.ids.ValId.{ValId}
 use Rattle.lv_cert_meaning.specs.lv_base.declared.ids.VarId.{VarId}
 use Rattle.lv_cert_meaning.specs.lv_base.declared.search.Pair.{Pair}
-use Rattle.lv_cert_meaning.specs.lv_formula.Tree.{number_of}
+use Rattle.lv_cert_meaning.specs.lv_base.Tree.{number_of}
 use Rattle.lv_cert_meaning.specs.lv_model.declared.plant.Plant.{Plant}
 use Rattle.lv_cert_meaning.specs.lv_model.declared.plant.ComponentType.{ComponentType}
 use Rattle.lv_cert_meaning.specs.lv_model.declared.plant.Move.{Move}

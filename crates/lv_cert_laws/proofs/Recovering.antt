@@ -11,8 +11,8 @@ use Rattle.lv_cert_meaning.specs.lv_model.declared.plant.Plant.{Plant}
 use Rattle.lv_cert_meaning.specs.lv_model.declared.state.TrackedState.{TrackedState}
 use Rattle.lv_cert_meaning.specs.lv_model.Lists.{controls}
 use Rattle.lv_cert_meaning.specs.lv_model.WellFormed.{is_well_formed}
-use Rattle.lv_cert_meaning.specs.lv_search_walk.Ranked.{rises}
-use Rattle.lv_cert_meaning.proofs.lv_search_walk.RankedLemmas.{not_before_itself, not_both_before}
+use Rattle.lv_cert_meaning.specs.lv_boxes.Ranked.{rises}
+use Rattle.lv_cert_meaning.proofs.lv_boxes.RankedLemmas.{not_before_itself, not_both_before}
 use Rattle.lv_cert_meaning.proofs.lv_meaning.Among.{Among, all_among}
 use Rattle.lv_cert_meaning.proofs.lv_meaning.Answering.{among_passing, among_filtered, all_pass, rise_filtered}
 use Rattle.lv_cert_meaning.proofs.lv_meaning.Listing.{same_rank}

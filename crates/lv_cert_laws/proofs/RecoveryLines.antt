@@ -10,8 +10,8 @@ use Rattle.lv_cert_meaning.specs.lv_model.declared.plant.Plant.{Plant}
 use Rattle.lv_cert_meaning.specs.lv_model.declared.state.TrackedState.{TrackedState}
 use Rattle.lv_cert_meaning.specs.lv_model.Lists.{sizes}
 use Rattle.lv_cert_meaning.specs.lv_model.WellFormed.{is_well_formed}
-use Rattle.lv_cert_meaning.specs.lv_search_walk.Ranked.{rises}
-use Rattle.lv_cert_meaning.specs.lv_search_walk.Walk.{none_alike}
+use Rattle.lv_cert_meaning.specs.lv_boxes.Ranked.{rises}
+use Rattle.lv_cert_meaning.specs.lv_boxes.Walk.{none_alike}
 use Rattle.lv_cert_meaning.proofs.lv_meaning.Among.{Among}
 use Rattle.lv_cert_meaning.specs.lv_compile.Booleans.{bool_count}
 use Rattle.lv_cert_meaning.specs.lv_compile.ModelClauses.{model_clauses}

@@ -8,7 +8,7 @@ use Rattle.std.proofs.lemmas.Option.{cond_some}
 use Rattle.lv_cert_meaning.specs.lv_base.declared.ids.ValId.{ValId}
 use Rattle.lv_cert_meaning.specs.lv_base.declared.rank.Rank.{Rank}
 use Rattle.lv_cert_meaning.specs.lv_base.Choices.{pairs_of}
-use Rattle.lv_cert_meaning.specs.lv_formula.Tree.{Tree}
+use Rattle.lv_cert_meaning.specs.lv_base.Tree.{Tree}
 use Rattle.lv_cert_meaning.specs.lv_model.declared.plant.Plant.{Plant}
 use Rattle.lv_cert_meaning.specs.lv_model.declared.state.TrackedState.{TrackedState}
 use Rattle.lv_cert_meaning.specs.lv_model.Lists.{sizes}

@@ -4,8 +4,8 @@ use Rattle.std.specs.Cmp.Lexicographic.{pointwise}
 use Rattle.std.proofs.lemmas.Option.{cond_some}
 use Rattle.std.proofs.lemmas.List.{length-append}
 use Rattle.lv_cert_meaning.specs.lv_base.declared.limits.TheConstants.{TRACKED}
-use Rattle.lv_cert_meaning.specs.lv_formula.Tree.{Tree}
-use Rattle.lv_cert_meaning.specs.lv_formula.Fits.{fits}
+use Rattle.lv_cert_meaning.specs.lv_base.Tree.{Tree}
+use Rattle.lv_cert_meaning.specs.lv_base.Fits.{fits}
 use Rattle.lv_cert_meaning.specs.lv_model.declared.plant.Plant.{Plant}
 use Rattle.lv_cert_meaning.specs.lv_model.declared.state.TrackedState.{TrackedState}
 use Rattle.lv_cert_meaning.specs.lv_model.Ranges.{plant_ranges}

@@ -8,7 +8,7 @@ use Rattle.std.proofs.lemmas.List.Elements.{All-tail}
 use borrow.Author.Tests.{leb-true}
 use Rattle.lv_cert_meaning.specs.lv_base.declared.ids.ValId.{ValId}
 use Rattle.lv_cert_meaning.specs.lv_base.declared.ids.VarId.{VarId}
-use Rattle.lv_cert_meaning.specs.lv_formula.Tree.{number_of}
+use Rattle.lv_cert_meaning.specs.lv_base.Tree.{number_of}
 use Rattle.lv_cert_meaning.specs.lv_model.declared.plant.Plant.{Plant}
 use Rattle.lv_cert_meaning.specs.lv_model.Lists.{sizes, controls, IsVariable}
 use Rattle.lv_cert_meaning.specs.lv_model.WellFormed.{is_well_formed}

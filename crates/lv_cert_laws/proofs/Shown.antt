@@ -9,7 +9,7 @@ use Rattle.lv_cert_meaning.specs.lv_base.Choices.{picks, contains_all, pairs_of}
 use Rattle.lv_cert_meaning.specs.lv_model.declared.plant.Plant.{Plant}
 use Rattle.lv_cert_meaning.specs.lv_model.declared.state.TrackedState.{TrackedState}
 use Rattle.lv_cert_meaning.specs.lv_model.Lists.{sizes, move_counts}
-use Rattle.lv_cert_meaning.specs.lv_search_walk.Walk.{candidate_of}
+use Rattle.lv_cert_meaning.specs.lv_boxes.Walk.{candidate_of}
 use Rattle.lv_cert_meaning.specs.lv_meaning.declared.facts.Facts.{Facts}
 use Rattle.lv_cert_meaning.specs.lv_meaning.Possible.{move_number, gives, extends}
 use Rattle.lv_cert_meaning.specs.lv_meaning.Candidates.{candidates, is_possible_rank}

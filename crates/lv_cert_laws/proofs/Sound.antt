@@ -18,10 +18,10 @@ use Rattle.lv_cert_meaning.proofs.lv_base.OrderLemmas.{transitive}
 use Rattle.lv_cert_meaning.specs.lv_boxes.Members.{ZoneValue, are_left, is_member, choices_cost}
 use Rattle.lv_cert_meaning.specs.lv_boxes.Parts.{parts_of}
 use Rattle.lv_cert_meaning.specs.lv_boxes.GroupParts.{parts_by_groups}
-use Rattle.lv_cert_meaning.specs.lv_search_walk.Ranked.{rises}
-use Rattle.lv_cert_meaning.specs.lv_search_walk.Walk.{candidate_of}
-use Rattle.lv_cert_meaning.specs.lv_search_walk.Groups.{are_grouped, have_same_groups}
-use Rattle.lv_cert_meaning.proofs.lv_search_walk.RankedLemmas.{neither_is_same, not_both_before}
+use Rattle.lv_cert_meaning.specs.lv_boxes.Ranked.{rises}
+use Rattle.lv_cert_meaning.specs.lv_boxes.Walk.{candidate_of}
+use Rattle.lv_cert_meaning.specs.lv_boxes.Groups.{are_grouped, have_same_groups}
+use Rattle.lv_cert_meaning.proofs.lv_boxes.RankedLemmas.{neither_is_same, not_both_before}
 use Rattle.lv_cert_meaning.specs.lv_model.declared.plant.Plant.{Plant}
 use Rattle.lv_cert_meaning.specs.lv_meaning.Targets.{targets_of_moves}
 use Rattle.lv_cert_meaning.proofs.lv_meaning.Among.{Among, among_left, among_either, all_among}

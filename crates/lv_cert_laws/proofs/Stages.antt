@@ -4,7 +4,7 @@ use Rattle.std.specs.Prelude.{map}
 use Rattle.std.proofs.lemmas.Bool.{cases_lt}
 use Rattle.std.proofs.lemmas.Option.{slice_get_within}
 use Rattle.lv_cert_meaning.specs.lv_base.Choices.{pairs_of}
-use Rattle.lv_cert_meaning.specs.lv_formula.Tree.{Tree, truth_of}
+use Rattle.lv_cert_meaning.specs.lv_base.Tree.{Tree, truth_of}
 use Rattle.lv_cert_meaning.specs.lv_model.declared.plant.Plant.{Plant}
 use Rattle.lv_cert_meaning.specs.lv_model.declared.state.TrackedState.{TrackedState}
 use Rattle.lv_cert_meaning.specs.lv_meaning.Possible.{value}

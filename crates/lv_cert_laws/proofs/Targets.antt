@@ -9,7 +9,7 @@ use Rattle.lv_cert_meaning.specs.lv_model.declared.plant.ComponentType.{Componen
 use Rattle.lv_cert_meaning.specs.lv_model.declared.plant.Part.{Part}
 use Rattle.lv_cert_meaning.specs.lv_model.declared.plant.Move.{Move}
 use Rattle.lv_cert_meaning.specs.lv_model.Lists.{part_moves, move_counts}
-use Rattle.lv_cert_meaning.specs.lv_search_walk.Groups.{are_grouped}
+use Rattle.lv_cert_meaning.specs.lv_boxes.Groups.{are_grouped}
 use Rattle.lv_cert_meaning.specs.lv_meaning.PossibleLaws.{are_below}
 use Rattle.lv_cert_meaning.specs.lv_meaning.Targets.{move_targets, targets_of_moves}
 

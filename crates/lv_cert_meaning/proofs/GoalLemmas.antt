@@ -1,8 +1,8 @@
 -- What a line reads as, and what the names of a goal stand for.
 use Rattle.std.proofs.Common.{◌≡◌, List, Some, None, Ok, if◌then◌else◌, sym, ap, ◌∙◌}
 use Rattle.lv_text.specs.Lexemes.{Lexeme}
-use Rattle.lv_formula.specs.declared.range.Range.{Range}
-use Rattle.lv_formula.specs.Tree.{Tree}
+use Rattle.lv_base.specs.declared.range.Range.{Range}
+use Rattle.lv_base.specs.Tree.{Tree}
 use Rattle.lv_model.specs.declared.plant.Plant.{Plant}
 use Rattle.lv_model.specs.Ranges.{plant_ranges}
 use Rattle.lv_formula_text.specs.PhraseTree.{PhraseTree}

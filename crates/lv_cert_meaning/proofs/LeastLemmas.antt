@@ -6,7 +6,7 @@ use Rattle.lv_boxes.specs.Members.{ZoneValue, choices_cost, are_left, rank_in}
 use Rattle.lv_boxes.specs.Least.{lacks_choice, cheapest_choices, IsLeastMember}
 use Rattle.lv_boxes.proofs.LeastLemmas.{sum_none, sum_some, written_is_least, lacks_choice-none}
 use Rattle.lv_cert_meaning.specs.Space.{least_rank}
-use Rattle.lv_boxes.proofs.lv_search_walk.RankedLemmas.{same_rank}
+use Rattle.lv_boxes.proofs.RankedLemmas.{same_rank}
 
 false_not_true : true ≡ false → ⊥
 false_not_true h = cc h

@@ -17,6 +17,5 @@ pub use Rattle.lv_formula_text.proofs as lv_formula_text
 pub use Rattle.lv_meaning.proofs as lv_meaning
 pub use Rattle.lv_model.proofs as lv_model
 pub use Rattle.lv_model_names.proofs as lv_model_names
-pub use Rattle.lv_search_zones.proofs.lv_search_walk as lv_search_walk
 pub use Rattle.lv_search_zones.proofs as lv_search_zones
 pub use Rattle.lv_system.proofs as lv_system

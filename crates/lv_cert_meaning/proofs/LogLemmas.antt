@@ -9,10 +9,10 @@ use Rattle.lv_cert.specs.declared.line.Literal.{Literal}
 use Rattle.lv_clauses.specs.Literals.{clause_holds, distinct}
 use Rattle.lv_clauses.specs.ClauseMap.{ClauseMap, satisfies}
 use Rattle.lv_clauses.specs.Marks.{Marks, nothing}
-use Rattle.lv_refcheck.specs.lv_reflog.declared.log.Step.{Step}
-use Rattle.lv_refcheck.specs.lv_reflog.Following as Log
-use Rattle.lv_refcheck.specs.lv_reflog.Following.{goes_on_from, denied, follows_by_hints, first_bad_step, IsImplied}
-use Rattle.lv_refcheck.proofs.lv_reflog.SoundLemmas.{checked}
+use Rattle.lv_refcheck.specs.lv_clauses.declared.log.Step.{Step}
+use Rattle.lv_refcheck.specs.lv_clauses.Following as Log
+use Rattle.lv_refcheck.specs.lv_clauses.Following.{goes_on_from, denied, follows_by_hints, first_bad_step, IsImplied}
+use Rattle.lv_refcheck.proofs.lv_clauses.SoundLemmas.{checked}
 use Rattle.lv_cert_meaning.specs.Following.{names_boolean, literal_of, numbered, is_last, ends_well, follows}
 use Rattle.lv_cert_meaning.specs.FollowingLaws.{as_set, as_hint, as_step}
 use Rattle.lv_cert_meaning.proofs.RangeLemmas.{clause_if_distinct}

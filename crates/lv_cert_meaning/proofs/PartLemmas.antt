@@ -7,7 +7,7 @@ use Rattle.std.proofs.lemmas.List.{length-map}
 use Rattle.std.proofs.lemmas.Result.{IfOk-weaker}
 use Rattle.lv_base.specs.declared.rank.Rank.{Rank}
 use Rattle.lv_base.specs.declared.ids.ValId.{ValId}
-use Rattle.lv_formula.specs.Tree.{number_of}
+use Rattle.lv_base.specs.Tree.{number_of}
 use Rattle.lv_model.specs.declared.plant.ComponentType.{ComponentType}
 use Rattle.lv_model.specs.declared.plant.Part.{Part}
 use Rattle.lv_model.specs.declared.plant.Plant.{Plant}

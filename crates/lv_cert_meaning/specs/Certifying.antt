@@ -4,10 +4,10 @@ use Rattle.std.specs.List.{list_all}
 use Rattle.lv_model_names.specs.lv_base.declared.limits.TheConstants.{TRACKED, OBSERVATIONS, TRACKED_COST, GOALS}
 use Rattle.lv_model_names.specs.lv_base.declared.rank.Rank.{Rank}
 use Rattle.lv_model_names.specs.lv_base.declared.search.Pair.{Pair}
-use Rattle.lv_model_names.specs.lv_formula.Tree.{Tree}
+use Rattle.lv_model_names.specs.lv_base.Tree.{Tree}
 use Rattle.lv_model_names.specs.lv_model.declared.plant.Plant.{Plant}
 use Rattle.lv_model_names.specs.lv_model.declared.state.TrackedState.{TrackedState}
-use Rattle.lv_search_zones.specs.lv_search_walk.declared.outcome.Outcome.TheVariants.{Settled}
+use Rattle.lv_search_zones.specs.lv_boxes.declared.outcome.Outcome.TheVariants.{Settled}
 use Rattle.lv_search_zones.specs.lv_meaning.declared.facts.Observation.{Observation}
 use Rattle.lv_search_zones.specs.lv_meaning.declared.facts.Facts.{Facts}
 use Rattle.lv_search_zones.specs.lv_meaning.Facts.{FactsFit, FactsInRange}

@@ -4,7 +4,7 @@ use Rattle.std.specs.List.{flat_map}
 use Rattle.std.specs.Option.{option_map_or}
 use Rattle.lv_model_names.specs.lv_base.declared.ids.ValId.{ValId}
 use Rattle.lv_model_names.specs.lv_base.declared.rank.Rank.{Rank}
-use Rattle.lv_model_names.specs.lv_formula.Tree.{Tree}
+use Rattle.lv_model_names.specs.lv_base.Tree.{Tree}
 use Rattle.lv_model_names.specs.lv_model.declared.plant.Plant.{Plant}
 use Rattle.lv_model_names.specs.lv_model.declared.state.TrackedState.{TrackedState}
 use Rattle.lv_search_zones.specs.lv_meaning.declared.facts.Observation.{Observation}

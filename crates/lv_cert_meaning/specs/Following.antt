@@ -7,7 +7,7 @@ use Rattle.lv_base.specs.declared.ids.Lit.{Lit}
 use Rattle.lv_cert.specs.declared.line.Literal.{Literal}
 use Rattle.lv_clauses.specs.Literals.{distinct}
 use Rattle.lv_clauses.specs.Marks.{Marks, nothing}
-use Rattle.lv_refcheck.specs.lv_reflog.Following.{goes_on_from, denied}
+use Rattle.lv_refcheck.specs.lv_clauses.Following.{goes_on_from, denied}
 
 -- the number is that of one of so many booleans, which are numbered from 1
 abbrev pub names_boolean : ℕ → Literal → Bool

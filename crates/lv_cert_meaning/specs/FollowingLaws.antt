@@ -5,10 +5,10 @@ use Rattle.lv_base.specs.declared.ids.Lit.{Lit}
 use Rattle.lv_cert.specs.declared.line.Literal.{Literal}
 use Rattle.lv_clauses.specs.Literals.{clause_holds}
 use Rattle.lv_clauses.specs.ClauseMap.{ClauseMap}
-use Rattle.lv_refcheck.specs.lv_reflog.declared.log.Hint.{Hint}
-use Rattle.lv_refcheck.specs.lv_reflog.declared.log.Hint.TheVariants.{Given}
-use Rattle.lv_refcheck.specs.lv_reflog.declared.log.Step.{Step}
-use Rattle.lv_refcheck.specs.lv_reflog.Following.{follows_by_hints}
+use Rattle.lv_refcheck.specs.lv_clauses.declared.log.Hint.{Hint}
+use Rattle.lv_refcheck.specs.lv_clauses.declared.log.Hint.TheVariants.{Given}
+use Rattle.lv_refcheck.specs.lv_clauses.declared.log.Step.{Step}
+use Rattle.lv_refcheck.specs.lv_clauses.Following.{follows_by_hints}
 use Rattle.lv_system.specs.lv_model.declared.plant.Plant.{Plant}
 use Rattle.lv_system.specs.lv_compile.ModelClauses.{model_clauses}
 use Rattle.lv_system.specs.System.{SystemValue, IsSystemOf}

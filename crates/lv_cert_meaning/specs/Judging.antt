@@ -13,7 +13,7 @@ use Rattle.lv_search_zones.specs.lv_boxes.Members.{ZoneValue}
 use Rattle.lv_search_zones.specs.lv_boxes.Parts.{parts_of}
 use Rattle.lv_search_zones.specs.lv_boxes.GroupParts.{parts_by_groups}
 use Rattle.lv_clauses.specs.Literals.{same_truth}
-use Rattle.lv_model_names.specs.lv_formula.Tree.{Tree}
+use Rattle.lv_model_names.specs.lv_base.Tree.{Tree}
 use Rattle.lv_model_names.specs.lv_model.declared.plant.Plant.{Plant}
 use Rattle.lv_model_names.specs.lv_model.declared.plant.ComponentType.{ComponentType}
 use Rattle.lv_model_names.specs.lv_model.declared.plant.Part.{Part}

@@ -7,7 +7,7 @@ use Rattle.lv_model_names.specs.lv_base.declared.limits.TheConstants.{TRACKED_CO
 use Rattle.lv_model_names.specs.lv_base.declared.ids.Lit.{Lit}
 use Rattle.lv_model_names.specs.lv_base.declared.rank.Rank.{Rank}
 use Rattle.lv_model_names.specs.lv_text.Lexemes.{Reading, reads, has_bad_byte, is_too_long, line_reading}
-use Rattle.lv_model_names.specs.lv_formula.Tree.{Tree}
+use Rattle.lv_model_names.specs.lv_base.Tree.{Tree}
 use Rattle.lv_model_names.specs.lv_model.declared.plant.Plant.{Plant}
 use Rattle.lv_model_names.specs.lv_model.declared.state.TrackedState.{TrackedState}
 use Rattle.lv_model_names.specs.lv_model.Lists.{sizes, controls}

@@ -3,7 +3,7 @@ use Rattle.std.specs.Prelude.{ℕ, ◌+◌, Bool, true, false, List, [], ◌∷�
 use Rattle.lv_model_names.specs.lv_base.declared.ids.Lit.{Lit}
 use Rattle.lv_model_names.specs.lv_base.declared.ids.ValId.{ValId}
 use Rattle.lv_model_names.specs.lv_base.declared.search.Pair.{Pair}
-use Rattle.lv_model_names.specs.lv_formula.Tree.{Tree}
+use Rattle.lv_model_names.specs.lv_base.Tree.{Tree}
 use Rattle.lv_model_names.specs.lv_model.declared.plant.Plant.{Plant}
 use Rattle.lv_model_names.specs.lv_model.declared.plant.Part.{Part}
 use Rattle.lv_model_names.specs.lv_model.declared.plant.Move.{Move}

@@ -6,7 +6,7 @@ ghost use Rattle.std.specs.List.{list_all, list_any};
 ghost use Rattle.std.specs.Option.{option_and_then};
 ghost use Rattle.lv_base.specs.declared.limits.TheConstants.{FAULT_COST, PARTS};
 ghost use Rattle.lv_base.specs.declared.rank.Rank.{Rank as RankOf};
-ghost use Rattle.lv_meaning.specs.lv_search_walk.Groups.{have_same_groups};
+ghost use Rattle.lv_meaning.specs.lv_boxes.Groups.{have_same_groups};
 ghost use Rattle.lv_model.specs.WellFormed.{MoveIsCheap, TypeIsSmall};
 ghost use Rattle.lv_meaning.specs.Candidates.{IsTracked, move_cost};
 ghost use Rattle.lv_meaning.specs.CandidateLaws.{goes_from, are_moves, moves_cost};

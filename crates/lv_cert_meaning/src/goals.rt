@@ -14,7 +14,7 @@ ghost use Rattle.lv_model.specs.Counts.{has_count};
 ghost use Rattle.lv_meaning.specs.Ranges.{GoalFits};
 ghost use Rattle.lv_cert_meaning.specs.Stated as Stated;
 
-use lv_formula::Condition;
+use lv_base::Condition;
 use lv_formula_text::{Phrase, PhraseFault, ResolveFault, is_too_deep, print_phrase, read_phrase};
 use lv_model::{Model, Plant};
 use lv_model_names::{Lists, goal_formula};

@@ -5,7 +5,7 @@ ghost use Rattle.std.specs.Prelude.{◌≡◌, ◌&&◌, false, nat_eq, Some, le
 ghost use Rattle.std.specs.List.{list_all};
 ghost use Rattle.std.specs.Option.{option_map_or};
 ghost use Rattle.lv_base.specs.Choices.{pairs_of};
-ghost use Rattle.lv_formula.specs.Tree.{number_of};
+ghost use Rattle.lv_base.specs.Tree.{number_of};
 ghost use Rattle.lv_model.specs.Lists.{variable_count};
 ghost use Rattle.lv_model.specs.Meaning.{part_steps, part_is_nominal, target_of};
 ghost use Rattle.lv_meaning.specs.Recovers as Recovers;

@@ -16,8 +16,8 @@ use Rattle.lv_model.specs.Lists.{sizes, controls}
 use Rattle.lv_model.specs.WellFormed.{is_well_formed}
 use Rattle.lv_model.specs.Ranges.{plant_ranges}
 use Rattle.lv_model.proofs.Reading.{few_variables}
-use Rattle.lv_meaning.specs.lv_search_walk.declared.outcome.Outcome.TheVariants.{Settled}
-use Rattle.lv_meaning.specs.lv_search_walk.Walk.{walk}
+use Rattle.lv_meaning.specs.lv_boxes.declared.outcome.Outcome.TheVariants.{Settled}
+use Rattle.lv_meaning.specs.lv_boxes.Walk.{walk}
 use Rattle.lv_meaning.proofs.Among.{Among}
 use Rattle.lv_meaning.specs.declared.aim.Aim.{Aim}
 use Rattle.lv_meaning.specs.Recovers.{recovers}

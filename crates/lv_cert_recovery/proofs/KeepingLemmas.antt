@@ -9,10 +9,10 @@ use Rattle.lv_base.specs.declared.search.Pair.{Pair}
 use Rattle.lv_base.specs.Choices.{pairs_from, pairs_of}
 use Rattle.lv_model.specs.declared.plant.Plant.{Plant}
 use Rattle.lv_model.specs.declared.state.TrackedState.{TrackedState}
-use Rattle.lv_meaning.specs.lv_search_walk.declared.outcome.Outcome.TheVariants.{Settled}
-use Rattle.lv_meaning.specs.lv_search_walk.Walk.{Walked, none_alike, walk_from}
-use Rattle.lv_meaning.specs.lv_search_walk.Reason.{reduced}
-use Rattle.lv_meaning.proofs.lv_search_walk.WalkLemmas.{turn, at_most}
+use Rattle.lv_meaning.specs.lv_boxes.declared.outcome.Outcome.TheVariants.{Settled}
+use Rattle.lv_meaning.specs.lv_boxes.Walk.{Walked, none_alike, walk_from}
+use Rattle.lv_meaning.specs.lv_boxes.Reason.{reduced}
+use Rattle.lv_meaning.proofs.lv_boxes.WalkLemmas.{turn, at_most}
 use Rattle.lv_meaning.proofs.Among.{Among, contained}
 use Rattle.lv_meaning.proofs.Listing.{same_rank}
 use Rattle.lv_meaning.specs.declared.aim.Aim.{Aim}

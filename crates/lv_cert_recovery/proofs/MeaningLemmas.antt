@@ -13,8 +13,8 @@ use Rattle.lv_base.specs.declared.ids.ValId.{ValId}
 use Rattle.lv_base.specs.declared.ids.VarId.{VarId}
 use Rattle.lv_base.specs.declared.search.Pair.{Pair}
 use Rattle.lv_system.specs.lv_clauses.Literals.{in_range, is_clause}
-use Rattle.lv_formula.specs.Fits.{has_value}
-use Rattle.lv_formula.specs.Tree.{number_of}
+use Rattle.lv_base.specs.Fits.{has_value}
+use Rattle.lv_base.specs.Tree.{number_of}
 use Rattle.lv_model.specs.declared.plant.Plant.{Plant}
 use Rattle.lv_model.specs.declared.plant.ComponentType.{ComponentType}
 use Rattle.lv_model.specs.declared.plant.Move.{Move}

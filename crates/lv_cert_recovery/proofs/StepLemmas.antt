@@ -9,8 +9,8 @@ use Rattle.lv_base.specs.declared.ids.ValId.{ValId}
 use Rattle.lv_base.specs.declared.search.Pair.{Pair}
 use Rattle.lv_base.specs.Choices.{pairs_of}
 use Rattle.lv_system.specs.lv_clauses.Literals.{same_truth, lit_holds, clause_holds}
-use Rattle.lv_formula.specs.Tree.{Tree, truth_of}
-use Rattle.lv_formula.specs.Fits.{fits}
+use Rattle.lv_base.specs.Tree.{Tree, truth_of}
+use Rattle.lv_base.specs.Fits.{fits}
 use Rattle.lv_model.specs.declared.plant.Plant.{Plant}
 use Rattle.lv_model.specs.declared.plant.ComponentType.{ComponentType}
 use Rattle.lv_model.specs.declared.plant.Part.{Part}

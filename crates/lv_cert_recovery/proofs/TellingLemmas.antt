@@ -7,8 +7,8 @@ use Rattle.std.proofs.lemmas.List.Folds.{list_all_at}
 use Rattle.lv_base.specs.declared.ids.ValId.{ValId}
 use Rattle.lv_base.specs.declared.search.Pair.{Pair}
 use Rattle.lv_system.specs.lv_clauses.Literals.{clause_holds}
-use Rattle.lv_formula.specs.Tree.{Tree, truth_of}
-use Rattle.lv_formula.specs.Fits.{fits}
+use Rattle.lv_base.specs.Tree.{Tree, truth_of}
+use Rattle.lv_base.specs.Fits.{fits}
 use Rattle.lv_model.specs.declared.plant.Plant.{Plant}
 use Rattle.lv_model.specs.declared.state.State.{State}
 use Rattle.lv_model.specs.Ranges.{plant_ranges}

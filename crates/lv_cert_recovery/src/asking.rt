@@ -17,10 +17,9 @@ ghost use Rattle.lv_cert_recovery.specs.Telling.{IsTold, IsToldOf, TellsReached,
 ghost use Rattle.lv_cert_recovery.specs.declared.asking.Told.TheVariants.{Step, Lines};
 
 use crate::units::{push_controls, push_modes, push_no_faults, push_seen};
-use lv_base::{Lit, Pair, Seq, VarId};
+use lv_base::{Condition, Lit, Pair, Seq, VarId};
 use lv_cert_writing::asking::push_units;
 use lv_cert_writing::{Derivation, Refuted, Refuter};
-use lv_formula::Condition;
 use lv_meaning::Aim;
 use lv_model::{Model, State};
 use lv_system::{StepPair, StepSystem};
@@ -39,7 +38,7 @@ pub struct Asking<'a> {
 
 impl<'a> marker::Model for Asking<'a> {
     ghost use Rattle.std.specs.Coded.{codes};
-    ghost use Rattle.lv_formula.specs.contracts.Condition as condition;
+    ghost use Rattle.lv_base.specs.contracts.formula.Condition as condition;
     ghost use Rattle.lv_cert_recovery.specs.Asking.{Asked, IsAsking};
 
     ghost Value = { Asked };

@@ -10,12 +10,11 @@ ghost use Rattle.lv_cert_recovery.specs.Showing.{step_lines};
 ghost use Rattle.lv_cert_recovery.specs.Showing as Showing;
 
 use crate::asking::{Asking, lines_told, step_told};
-use lv_base::{Pair, Seq, ValId};
+use lv_base::{Condition, Pair, Seq, ValId};
 use lv_cert::{Head, Line};
 use lv_cert_writing::Refuter;
 use lv_cert_writing::asking::push_clauses;
 use lv_cert_writing::stating::values_line;
-use lv_formula::Condition;
 use lv_model::TrackedState;
 use std::alloc::{AllocError, Global};
 

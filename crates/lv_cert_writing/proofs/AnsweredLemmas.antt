@@ -1,10 +1,10 @@
 -- A refutation under assumptions refutes what states these.
 use Rattle.std.proofs.Common.{◌≡◌, ◌⊎◌, ◌-◌, ℕ, Bool, List, [], ◌∷◌, length, map, Some, option_map, slice_get, Contains, sym, ap, subst, ◌∙◌, inl, inr}
 use Rattle.lv_base.specs.declared.ids.Lit.{Lit}
-use Rattle.lv_reflog.specs.lv_clauses.ClauseMap.{ClauseMap}
-use Rattle.lv_reflog.specs.lv_clauses.Literals.{neg}
-use Rattle.lv_reflog.proofs.lv_clauses.LiteralLemmas.{neg_neg, Contains-nil, Contains-head, Contains-tail, Contains-cases}
-use Rattle.lv_reflog.specs.declared.log.Step.{Step}
+use Rattle.lv_clauses.specs.ClauseMap.{ClauseMap}
+use Rattle.lv_clauses.specs.Literals.{neg}
+use Rattle.lv_clauses.proofs.LiteralLemmas.{neg_neg, Contains-nil, Contains-head, Contains-tail, Contains-cases}
+use Rattle.lv_clauses.specs.declared.log.Step.{Step}
 use Rattle.lv_sat.specs.Answers.{IsSublist, nothing as no_literals, left_out, taken, IsRefutation}
 use Rattle.lv_cert_meaning.specs.Following.{numbered}
 use Rattle.lv_cert_writing.specs.BlockNumbers.{HaveNumbers, HaveUnits}

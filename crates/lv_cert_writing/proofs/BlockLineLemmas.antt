@@ -5,16 +5,16 @@ use Rattle.std.proofs.lemmas.Bool.{and_parts, and_from}
 use Rattle.std.proofs.lemmas.Bool.Decides.{nat_tests}
 use Rattle.std.proofs.lemmas.List.{get_or-set_other}
 use Rattle.lv_base.specs.declared.ids.Lit.{Lit}
-use Rattle.lv_reflog.specs.lv_clauses.declared.marks.Finding.{Finding}
-use Rattle.lv_reflog.specs.lv_clauses.declared.marks.Finding.TheVariants.{AllFalse, Unit, Open}
-use Rattle.lv_reflog.specs.lv_clauses.Literals.{neg, same_var, in_range, distinct, is_clause}
-use Rattle.lv_reflog.specs.lv_clauses.ClauseMap.{Slots}
-use Rattle.lv_reflog.specs.lv_clauses.Marks.{Marks, nothing, marked, is_free, look_at}
-use Rattle.lv_reflog.proofs.lv_clauses.LiteralLemmas.{lit_of, not_not, Contains-head, Contains-tail}
-use Rattle.lv_reflog.specs.declared.log.Hint.{Hint}
-use Rattle.lv_reflog.specs.declared.log.Step.{Step}
-use Rattle.lv_reflog.specs.Following as Log
-use Rattle.lv_reflog.specs.Following.{goes_on, goes_on_from, denied}
+use Rattle.lv_clauses.specs.declared.marks.Finding.{Finding}
+use Rattle.lv_clauses.specs.declared.marks.Finding.TheVariants.{AllFalse, Unit, Open}
+use Rattle.lv_clauses.specs.Literals.{neg, same_var, in_range, distinct, is_clause}
+use Rattle.lv_clauses.specs.ClauseMap.{Slots}
+use Rattle.lv_clauses.specs.Marks.{Marks, nothing, marked, is_free, look_at}
+use Rattle.lv_clauses.proofs.LiteralLemmas.{lit_of, not_not, Contains-head, Contains-tail}
+use Rattle.lv_clauses.specs.declared.log.Hint.{Hint}
+use Rattle.lv_clauses.specs.declared.log.Step.{Step}
+use Rattle.lv_clauses.specs.Following as Log
+use Rattle.lv_clauses.specs.Following.{goes_on, goes_on_from, denied}
 use Rattle.lv_cert_meaning.specs.Following.{names_boolean, literal_of, numbered, is_last, ends_well, follows}
 use Rattle.lv_cert_writing.specs.BlockLines.{literal_with, hint_number, unit_number}
 use Rattle.lv_cert_writing.specs.Needed.{has_named}

@@ -8,7 +8,7 @@ use Rattle.std.proofs.lemmas.List.Folds.{list_any_more}
 use Rattle.std.proofs.lemmas.Option.{slice_get-map, slice_get_within, get_or_from_slice_get}
 use Rattle.lv_base.specs.declared.ids.Lit.{Lit}
 use Rattle.lv_base.specs.declared.ids.ClauseId.{ClauseId}
-use Rattle.lv_reflog.specs.lv_clauses.ClauseMap.{ClauseMap, clause_at, Puts}
+use Rattle.lv_clauses.specs.ClauseMap.{ClauseMap, clause_at, Puts}
 use Rattle.lv_model.specs.declared.plant.Plant.{Plant}
 use Rattle.lv_system.specs.Numbering.{clause_of, has_number}
 use Rattle.lv_system.specs.System.{SystemValue, IsSystemOf}

@@ -6,11 +6,11 @@ use Rattle.std.proofs.lemmas.Bool.{and_parts, and_from, lt-ltb, leb-true}
 use Rattle.std.proofs.lemmas.Bool.Decides.{nat_tests}
 use Rattle.std.proofs.lemmas.List.{append_assoc, append-nil, length-append}
 use Rattle.lv_base.specs.declared.ids.Lit.{Lit}
-use Rattle.lv_reflog.specs.lv_clauses.declared.marks.Finding.{Finding}
-use Rattle.lv_reflog.specs.lv_clauses.declared.marks.Finding.TheVariants.{AllFalse, Unit, Open}
-use Rattle.lv_reflog.specs.lv_clauses.Marks.{Marks, look_at, marked, nothing}
-use Rattle.lv_reflog.specs.lv_clauses.Literals.{distinct}
-use Rattle.lv_reflog.specs.Following.{goes_on, goes_on_from, denied}
+use Rattle.lv_clauses.specs.declared.marks.Finding.{Finding}
+use Rattle.lv_clauses.specs.declared.marks.Finding.TheVariants.{AllFalse, Unit, Open}
+use Rattle.lv_clauses.specs.Marks.{Marks, look_at, marked, nothing}
+use Rattle.lv_clauses.specs.Literals.{distinct}
+use Rattle.lv_clauses.specs.Following.{goes_on, goes_on_from, denied}
 use Rattle.lv_model.specs.declared.plant.Plant.{Plant}
 use Rattle.lv_system.specs.lv_compile.Booleans.{bool_count}
 use Rattle.lv_system.specs.lv_compile.FormulaClauses.{Clauses}

@@ -14,10 +14,10 @@ use Rattle.lv_boxes.specs.Members.{ZoneValue}
 use Rattle.lv_boxes.specs.Parts.{parts_of}
 use Rattle.lv_boxes.specs.GroupParts.{parts_by_groups}
 use Rattle.lv_boxes.specs.RankedMembers.{ranks_in}
-use Rattle.lv_boxes.specs.lv_search_walk.Ranked.{is_rank, is_among}
-use Rattle.lv_boxes.specs.lv_search_walk.Walk.{candidate_of, is_ruled_out}
-use Rattle.lv_boxes.specs.lv_search_walk.Groups.{have_same_groups}
-use Rattle.lv_boxes.proofs.lv_search_walk.RankedLemmas.{same_rank, not_before_itself, not_both_before}
+use Rattle.lv_boxes.specs.Ranked.{is_rank, is_among}
+use Rattle.lv_boxes.specs.Walk.{candidate_of, is_ruled_out}
+use Rattle.lv_boxes.specs.Groups.{have_same_groups}
+use Rattle.lv_boxes.proofs.RankedLemmas.{same_rank, not_before_itself, not_both_before}
 use Rattle.lv_model.specs.declared.plant.Plant.{Plant}
 use Rattle.lv_meaning.specs.Targets.{targets_of_moves}
 use Rattle.lv_cert.specs.declared.line.Question.{Question}

@@ -13,8 +13,8 @@ use Rattle.lv_boxes.specs.Masks.{has_choice, without_choice, without_others, onl
 use Rattle.lv_boxes.specs.Members.{ZoneValue, is_left, are_left, is_member, choices_cost}
 use Rattle.lv_boxes.specs.GroupParts.{masks_of_group, masks_of_others, parts_from, parts_by_groups}
 use Rattle.lv_boxes.specs.RankedMembers.{ranks_in}
-use Rattle.lv_boxes.specs.lv_search_walk.Walk.{candidate_of}
-use Rattle.lv_boxes.specs.lv_search_walk.Groups.{group_of, groups_of, have_same_groups}
+use Rattle.lv_boxes.specs.Walk.{candidate_of}
+use Rattle.lv_boxes.specs.Groups.{group_of, groups_of, have_same_groups}
 use Rattle.lv_boxes.proofs.MaskLemmas.{has_choice-without, of_group_within, has_choice-of_others}
 use Rattle.lv_cert_writing.proofs.CountLemmas.{choices_count, members_count, some_member, weights, weights-append}
 

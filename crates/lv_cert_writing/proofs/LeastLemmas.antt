@@ -14,7 +14,7 @@ use Rattle.lv_boxes.specs.Parts.{masks_with, masks_without, parts_of}
 use Rattle.lv_boxes.proofs.PartsLemmas.{is_member-with, is_member-without}
 use Rattle.lv_boxes.proofs.MemberLemmas.{length-are_left}
 use Rattle.lv_boxes.proofs.LeastLemmas.{written_is_least}
-use Rattle.lv_boxes.specs.lv_search_walk.Walk.{candidate_of}
+use Rattle.lv_boxes.specs.Walk.{candidate_of}
 use Rattle.lv_boxes.specs.RankedMembers.{ranks_in}
 use Rattle.lv_boxes.proofs.RankedMemberLemmas.{has_least_rank}
 use Rattle.lv_cert_meaning.specs.Space.{least_rank}

@@ -4,8 +4,8 @@ use Rattle.std.specs.List.{list_all}
 use Rattle.std.proofs.lemmas.Bool.{and_parts, and_from, lt-ltb, ltb-true, le-leb, leb-true}
 use Rattle.std.proofs.lemmas.List.Elements.{All-tail, All-cons}
 use Rattle.lv_base.specs.declared.ids.ValId.{ValId}
-use Rattle.lv_model.specs.lv_formula.declared.range.Range.{Range}
-use Rattle.lv_model.specs.lv_formula.Fits.{has_value}
+use Rattle.lv_model.specs.lv_base.declared.range.Range.{Range}
+use Rattle.lv_model.specs.lv_base.Fits.{has_value}
 use Rattle.lv_model.specs.Lists.{IsFew}
 use Rattle.lv_cert.specs.Form.{is_within_limit}
 use Rattle.lv_cert_meaning.specs.Counting.{is_one_of, are_of, places_of, values_of}

@@ -7,8 +7,8 @@ use Rattle.std.proofs.lemmas.Cmp.{nat_list_eq_equiv}
 use Rattle.lv_base.specs.declared.rank.Rank.{Rank}
 use Rattle.lv_base.specs.Order.{comes_before}
 use Rattle.lv_base.specs.Rank.{rank_key, ranks_before}
-use Rattle.lv_boxes.specs.lv_search_walk.Ranked.{is_rank}
-use Rattle.lv_boxes.proofs.lv_search_walk.RankedLemmas.{not_before_itself, same_rank}
+use Rattle.lv_boxes.specs.Ranked.{is_rank}
+use Rattle.lv_boxes.proofs.RankedLemmas.{not_before_itself, same_rank}
 use Rattle.lv_boxes.proofs.RankedMemberLemmas.{one_test}
 
 pub same_key : (r s : Rank) → pointwise nat_eq (rank_key r) (rank_key s) ≡ is_rank r s

@@ -6,8 +6,8 @@ use Rattle.std.proofs.lemmas.Bool.Decides.{nat_tests}
 use Rattle.std.proofs.lemmas.List.Folds.{list_any-append}
 use Rattle.lv_base.specs.declared.ids.Lit.{Lit}
 use Rattle.lv_base.specs.declared.ids.ClauseId.{ClauseId}
-use Rattle.lv_reflog.specs.lv_clauses.ClauseMap.{ClauseMap, clause_at, Puts}
-use Rattle.lv_reflog.proofs.lv_clauses.LiteralLemmas.{present_holds}
+use Rattle.lv_clauses.specs.ClauseMap.{ClauseMap, clause_at, Puts}
+use Rattle.lv_clauses.proofs.LiteralLemmas.{present_holds}
 use Rattle.lv_model.specs.declared.plant.Plant.{Plant}
 use Rattle.lv_system.specs.Numbering.{has_number}
 use Rattle.lv_system.specs.System.{SystemValue, IsSystemOf}

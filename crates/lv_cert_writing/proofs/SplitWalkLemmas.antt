@@ -11,13 +11,13 @@ use Rattle.lv_base.specs.declared.search.Candidate.{Candidate}
 use Rattle.lv_base.specs.Choices.{contains_all}
 use Rattle.lv_base.specs.Rank.{ranks_before}
 use Rattle.lv_boxes.specs.Members.{ZoneValue, is_member}
-use Rattle.lv_boxes.specs.lv_search_walk.declared.outcome.Outcome.TheVariants.{Settled}
-use Rattle.lv_boxes.specs.lv_search_walk.Ranked.{rises, is_rank, is_among}
-use Rattle.lv_boxes.specs.lv_search_walk.Walk.{Walked, candidate_of, is_ruled_out, walk_from, distinct_walk}
-use Rattle.lv_boxes.specs.lv_search_walk.Groups.{alike_by}
-use Rattle.lv_boxes.proofs.lv_search_walk.RankedLemmas.{is_itself, same_rank, before_each}
-use Rattle.lv_boxes.proofs.lv_search_walk.WalkLemmas.{turn, not_settled, listed_in_front, kept_in_front}
-use Rattle.lv_boxes.proofs.lv_search_walk.TurnLemmas.{ruled_out_by_last}
+use Rattle.lv_boxes.specs.declared.outcome.Outcome.TheVariants.{Settled}
+use Rattle.lv_boxes.specs.Ranked.{rises, is_rank, is_among}
+use Rattle.lv_boxes.specs.Walk.{Walked, candidate_of, is_ruled_out, walk_from, distinct_walk}
+use Rattle.lv_boxes.specs.Groups.{alike_by}
+use Rattle.lv_boxes.proofs.RankedLemmas.{is_itself, same_rank, before_each}
+use Rattle.lv_boxes.proofs.WalkLemmas.{turn, not_settled, listed_in_front, kept_in_front}
+use Rattle.lv_boxes.proofs.TurnLemmas.{ruled_out_by_last}
 use Rattle.lv_boxes.specs.RankedMembers.{ranked_members}
 use Rattle.lv_boxes.proofs.RankedMemberLemmas.{ranked_members_rise, among_ranked_members_any, all_members_pass}
 use Rattle.lv_cert_meaning.specs.Space.{is_behind}

@@ -7,9 +7,9 @@ use Rattle.std.proofs.lemmas.List.{append_assoc, append-nil, length-append, leng
 use Rattle.std.proofs.lemmas.List.Elements.{Contains-push_cases}
 use Rattle.std.proofs.lemmas.List.Folds.{list_all-append}
 use Rattle.lv_base.specs.declared.ids.Lit.{Lit}
-use Rattle.lv_reflog.specs.lv_clauses.Literals.{same_var, in_range, distinct, is_clause, lit_holds, clause_holds}
-use Rattle.lv_reflog.specs.lv_clauses.ClauseMap.{ClauseMap, clause_at, satisfies}
-use Rattle.lv_reflog.proofs.lv_clauses.LiteralLemmas.{present_holds, Contains-nil, Contains-head, Contains-tail}
+use Rattle.lv_clauses.specs.Literals.{same_var, in_range, distinct, is_clause, lit_holds, clause_holds}
+use Rattle.lv_clauses.specs.ClauseMap.{ClauseMap, clause_at, satisfies}
+use Rattle.lv_clauses.proofs.LiteralLemmas.{present_holds, Contains-nil, Contains-head, Contains-tail}
 use Rattle.lv_system.specs.System.{SystemValue}
 use Rattle.lv_system.proofs.NumberingLemmas.{all_present_hold}
 use Rattle.lv_cert_meaning.specs.Blocks.{clauses_of}

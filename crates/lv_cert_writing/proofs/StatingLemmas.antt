@@ -6,8 +6,8 @@ use Rattle.std.proofs.lemmas.List.{append_assoc, append-nil}
 use Rattle.std.proofs.lemmas.List.Elements.{All-head, All-tail}
 use Rattle.lv_base.specs.declared.limits.TheConstants.{TRACKED, TRACKED_COST}
 use Rattle.lv_base.specs.declared.ids.ValId.{ValId}
-use Rattle.lv_model.specs.lv_formula.declared.range.Range.{Range}
-use Rattle.lv_model.specs.lv_formula.Fits.{has_value}
+use Rattle.lv_model.specs.lv_base.declared.range.Range.{Range}
+use Rattle.lv_model.specs.lv_base.Fits.{has_value}
 use Rattle.lv_model.specs.declared.plant.Plant.{Plant}
 use Rattle.lv_model.specs.declared.plant.Part.{Part}
 use Rattle.lv_model.specs.declared.state.TrackedState.{TrackedState}

@@ -6,13 +6,13 @@ use Rattle.std.proofs.lemmas.Bool.Decides.{nat_tests}
 use Rattle.std.proofs.lemmas.List.{append_assoc, append-nil, map-append, get_or_append_left, length-append, length-map}
 use Rattle.std.proofs.Math.Seq.{get_or-append_seam}
 use Rattle.lv_base.specs.declared.ids.Lit.{Lit}
-use Rattle.lv_reflog.specs.lv_clauses.ClauseMap.{ClauseMap}
-use Rattle.lv_reflog.specs.lv_clauses.Literals.{neg}
-use Rattle.lv_reflog.specs.declared.log.Hint.{Hint}
-use Rattle.lv_reflog.specs.declared.log.Hint.TheVariants.{Given, Earlier}
-use Rattle.lv_reflog.specs.declared.log.Step.{Step}
-use Rattle.lv_reflog.specs.Following.{first_bad_after, follows_by_hints}
-use Rattle.lv_reflog.proofs.SoundLemmas.{first_bad-next}
+use Rattle.lv_clauses.specs.ClauseMap.{ClauseMap}
+use Rattle.lv_clauses.specs.Literals.{neg}
+use Rattle.lv_clauses.specs.declared.log.Hint.{Hint}
+use Rattle.lv_clauses.specs.declared.log.Hint.TheVariants.{Given, Earlier}
+use Rattle.lv_clauses.specs.declared.log.Step.{Step}
+use Rattle.lv_clauses.specs.Following.{first_bad_after, follows_by_hints}
+use Rattle.lv_clauses.proofs.SoundLemmas.{first_bad-next}
 use Rattle.lv_cert.specs.declared.line.Literal.{Literal}
 use Rattle.lv_cert_meaning.specs.Following.{literal_of, numbered, follows}
 use Rattle.lv_cert_meaning.specs.Deriving.{Derived, clause_of_line, derives, ends_empty, refutes}

@@ -1,12 +1,12 @@
 -- The steps of a log as lines of a block.
 use Rattle.std.specs.Prelude.{◌≡◌, ◌+◌, ◌-◌, ◌++◌, ◌∷◌, ℕ, Bool, not, List, [], length, map, Some, None, Contains, slice_get, slice_index}
 use Rattle.lv_base.specs.declared.ids.Lit.{Lit}
-use Rattle.lv_reflog.specs.lv_clauses.ClauseMap.{ClauseMap}
-use Rattle.lv_reflog.specs.lv_clauses.Literals.{neg}
-use Rattle.lv_reflog.specs.declared.log.Hint.{Hint}
-use Rattle.lv_reflog.specs.declared.log.Hint.TheVariants.{Given, Earlier}
-use Rattle.lv_reflog.specs.declared.log.Step.{Step}
-use Rattle.lv_reflog.specs.Following.{first_bad_step}
+use Rattle.lv_clauses.specs.ClauseMap.{ClauseMap}
+use Rattle.lv_clauses.specs.Literals.{neg}
+use Rattle.lv_clauses.specs.declared.log.Hint.{Hint}
+use Rattle.lv_clauses.specs.declared.log.Hint.TheVariants.{Given, Earlier}
+use Rattle.lv_clauses.specs.declared.log.Step.{Step}
+use Rattle.lv_clauses.specs.Following.{first_bad_step}
 use Rattle.lv_cert.specs.declared.line.Literal.{Literal}
 use Rattle.lv_cert_meaning.specs.Following.{numbered}
 use Rattle.lv_cert_meaning.specs.Deriving.{Derived}

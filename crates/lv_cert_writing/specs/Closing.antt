@@ -11,7 +11,7 @@ use Rattle.lv_meaning.specs.Targets.{targets_of_moves}
 use Rattle.lv_boxes.specs.Members.{ZoneValue}
 use Rattle.lv_boxes.specs.Parts.{parts_of}
 use Rattle.lv_boxes.specs.GroupParts.{parts_by_groups}
-use Rattle.lv_boxes.specs.lv_search_walk.Ranked.{is_rank}
+use Rattle.lv_boxes.specs.Ranked.{is_rank}
 use Rattle.lv_cert.specs.declared.line.Question.{Question}
 use Rattle.lv_cert.specs.declared.line.Question.TheVariants.{Diagnosis, Recovery}
 use Rattle.lv_cert.specs.declared.line.Evidence.{Evidence}

@@ -6,9 +6,9 @@ use Rattle.lv_base.specs.declared.rank.Rank.{Rank}
 use Rattle.lv_base.specs.declared.search.Pair.{Pair}
 use Rattle.lv_boxes.specs.Members.{ZoneValue}
 use Rattle.lv_base.specs.Rank.{ranks_before}
-use Rattle.lv_boxes.specs.lv_search_walk.Ranked.{is_rank}
-use Rattle.lv_boxes.specs.lv_search_walk.Groups.{alike_by}
-use Rattle.lv_boxes.specs.lv_search_walk.Walk.{is_ruled_out}
+use Rattle.lv_boxes.specs.Ranked.{is_rank}
+use Rattle.lv_boxes.specs.Groups.{alike_by}
+use Rattle.lv_boxes.specs.Walk.{is_ruled_out}
 use Rattle.lv_boxes.specs.RankedMembers.{ranks_in}
 use Rattle.lv_cert_meaning.specs.Space.{is_behind}
 use Rattle.lv_cert_meaning.specs.Judging.{last_of}

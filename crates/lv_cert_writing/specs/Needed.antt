@@ -1,9 +1,9 @@
 -- Marks of the steps that the last step of a log rests on.
 use Rattle.std.specs.Prelude.{◌≡◌, ◌-◌, ◌≤◌, ℕ, Bool, true, false, not, ◌||◌, nat_lt, List, [], ◌∷◌, length, Some, slice_get, slice_set, slice_index_or, if◌then◌else◌}
 use Rattle.std.specs.List.{list_all}
-use Rattle.lv_reflog.specs.declared.log.Hint.{Hint}
-use Rattle.lv_reflog.specs.declared.log.Hint.TheVariants.{Given, Earlier}
-use Rattle.lv_reflog.specs.declared.log.Step.{Step}
+use Rattle.lv_clauses.specs.declared.log.Hint.{Hint}
+use Rattle.lv_clauses.specs.declared.log.Hint.TheVariants.{Given, Earlier}
+use Rattle.lv_clauses.specs.declared.log.Step.{Step}
 
 abbrev pub is_marked : List Bool → ℕ → Bool
 is_marked needed place = slice_index_or needed place false

@@ -2,8 +2,8 @@
 use Rattle.std.specs.Prelude.{◌≡◌, Bool, true, List, ◌++◌, length, map}
 use Rattle.std.specs.List.{list_all}
 use Rattle.lv_base.specs.declared.ids.Lit.{Lit}
-use Rattle.lv_reflog.specs.lv_clauses.Literals.{clause_holds}
-use Rattle.lv_reflog.specs.lv_clauses.ClauseMap.{ClauseMap, satisfies}
+use Rattle.lv_clauses.specs.Literals.{clause_holds}
+use Rattle.lv_clauses.specs.ClauseMap.{ClauseMap, satisfies}
 use Rattle.lv_sat.specs.Answers.{IsModel}
 use Rattle.lv_system.specs.System.{SystemValue}
 use Rattle.lv_cert_meaning.specs.Blocks.{clauses_of}

@@ -7,10 +7,10 @@ use Rattle.lv_base.specs.declared.search.Pair.{Pair}
 use Rattle.lv_base.specs.declared.search.Candidate.{Candidate}
 use Rattle.lv_base.specs.Choices.{contains_all}
 use Rattle.lv_boxes.specs.Members.{ZoneValue, is_member}
-use Rattle.lv_boxes.specs.lv_search_walk.declared.outcome.Outcome.TheVariants.{Settled}
-use Rattle.lv_boxes.specs.lv_search_walk.Ranked.{rises, is_among}
-use Rattle.lv_boxes.specs.lv_search_walk.Walk.{Walked, candidate_of, distinct_walk}
-use Rattle.lv_boxes.specs.lv_search_walk.Groups.{alike_by}
+use Rattle.lv_boxes.specs.declared.outcome.Outcome.TheVariants.{Settled}
+use Rattle.lv_boxes.specs.Ranked.{rises, is_among}
+use Rattle.lv_boxes.specs.Walk.{Walked, candidate_of, distinct_walk}
+use Rattle.lv_boxes.specs.Groups.{alike_by}
 use Rattle.lv_boxes.specs.RankedMembers.{ranked_members}
 use Rattle.lv_cert_writing.specs.Explained.{is_explained, last_if_full, AreExplained}
 

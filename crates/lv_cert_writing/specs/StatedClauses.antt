@@ -4,8 +4,8 @@ use Rattle.std.specs.Prelude.{◌≡◌, ◌≢◌, ℕ, Bool, true, false, List
 use Rattle.std.specs.List.{list_all, list_any}
 use Rattle.lv_base.specs.declared.ids.Lit.{Lit}
 use Rattle.lv_base.specs.declared.ids.ClauseId.{ClauseId}
-use Rattle.lv_reflog.specs.lv_clauses.Literals.{lit_holds, clause_holds, is_clause}
-use Rattle.lv_reflog.specs.lv_clauses.ClauseMap.{ClauseMap, clause_at, Puts, satisfies}
+use Rattle.lv_clauses.specs.Literals.{lit_holds, clause_holds, is_clause}
+use Rattle.lv_clauses.specs.ClauseMap.{ClauseMap, clause_at, Puts, satisfies}
 use Rattle.lv_system.specs.Numbering.{has_number}
 use Rattle.lv_system.specs.System.{SystemValue}
 use Rattle.lv_cert_writing.specs.BlockNumbers.{HaveNumbers, HaveUnits, AreSystemNumbers, Keeps}

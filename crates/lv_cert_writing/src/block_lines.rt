@@ -3,7 +3,7 @@
 
 ghost use Rattle.std.specs.Prelude.{◌≡◌, ◌<◌, ◌^◌, ℕ, true, List, IfOk, length, map};
 ghost use Rattle.lv_base.specs.declared.ids.Lit.{Lit};
-ghost use Rattle.lv_reflog.specs.lv_clauses.ClauseMap.{ClauseMap};
+ghost use Rattle.lv_clauses.specs.ClauseMap.{ClauseMap};
 ghost use Rattle.lv_cert_meaning.specs.Deriving.{refutes};
 ghost use Rattle.lv_cert_writing.specs.BlockLines as Lines;
 ghost use Rattle.lv_cert_writing.specs.BlockLines.{derived_of, IsRefuting};
@@ -12,7 +12,7 @@ use crate::block_numbers::number_at;
 use crate::derivation::Derivation;
 use lv_base::{Lit, Seq};
 use lv_cert::Literal;
-use lv_reflog::{Hint, Log, Step};
+use lv_clauses::{Hint, Log, Step};
 use std::alloc::{AllocError, Global};
 
 /// The literal by the number of its boolean, which is counted from 1.

@@ -4,7 +4,7 @@
 
 ghost use Rattle.std.specs.Prelude.{◌≡◌, ◌+◌, ◌++◌, ◌∷◌, [], ℕ, List, All, IfOk, OnOk, length};
 ghost use Rattle.lv_base.specs.declared.ids.Lit.{Lit};
-ghost use Rattle.lv_reflog.specs.lv_clauses.ClauseMap.{ClauseMap};
+ghost use Rattle.lv_clauses.specs.ClauseMap.{ClauseMap};
 ghost use Rattle.lv_system.specs.Numbering.{IsOver};
 ghost use Rattle.lv_system.specs.System.{SystemValue};
 ghost use Rattle.lv_cert_writing.specs.BlockNumbers.{AreSystemNumbers};

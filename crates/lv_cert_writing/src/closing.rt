@@ -6,7 +6,7 @@ ghost use Rattle.std.specs.Prelude.{◌≡◌, ◌≤◌, ◌^◌, true, length,
 ghost use Rattle.std.specs.Option.{option_copied};
 ghost use Rattle.lv_base.specs.Choices.{contains_all};
 ghost use Rattle.lv_boxes.specs.Members.{ZoneValue};
-ghost use Rattle.lv_boxes.specs.lv_search_walk.Ranked.{is_rank};
+ghost use Rattle.lv_boxes.specs.Ranked.{is_rank};
 ghost use Rattle.lv_cert_meaning.specs.Space as Spaces;
 ghost use Rattle.lv_cert_writing.specs.Explained.{stands_for, AreExplained};
 ghost use Rattle.lv_cert_writing.specs.Explained as explained;

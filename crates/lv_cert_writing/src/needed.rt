@@ -5,7 +5,7 @@ ghost use Rattle.std.specs.Prelude.{◌≡◌, ◌<◌, ◌≤◌, IfOk, length}
 ghost use Rattle.lv_cert_writing.specs.Needed as Needed;
 ghost use Rattle.lv_cert_writing.specs.Needed.{AreNeeded};
 
-use lv_reflog::{Hint, Log};
+use lv_clauses::{Hint, Log};
 use std::alloc::{AllocError, Global};
 
 /// Marks the steps before this place that hints name.

@@ -4,7 +4,7 @@
 ghost use Rattle.std.specs.Prelude.{◌≡◌, ◌<◌, ◌^◌, ℕ, List, All, IfOk, IsTrue, length};
 ghost use Rattle.lv_base.specs.declared.ids.Lit.{Lit};
 ghost use Rattle.lv_model.specs.declared.plant.Plant.{Plant};
-ghost use Rattle.lv_reflog.specs.lv_clauses.Literals.{is_clause};
+ghost use Rattle.lv_clauses.specs.Literals.{is_clause};
 ghost use Rattle.lv_system.specs.Numbering.{IsOver};
 ghost use Rattle.lv_system.specs.System.{IsSystemOf, SystemValue};
 ghost use Rattle.lv_cert_writing.specs.BlockNumbers.{HaveNumbers, HaveUnits};

@@ -12,8 +12,8 @@ use Rattle.lv_base.specs.declared.rank.Rank.{Rank}
 use Rattle.lv_base.specs.declared.search.Pair.{Pair}
 use Rattle.lv_base.specs.declared.limits.TheConstants.{TRACKED}
 use Rattle.lv_boxes.specs.Members.{ZoneValue}
-use Rattle.lv_formula.specs.declared.range.Range.{Range}
-use Rattle.lv_formula.specs.Fits.{has_value}
+use Rattle.lv_base.specs.declared.range.Range.{Range}
+use Rattle.lv_base.specs.Fits.{has_value}
 use Rattle.lv_model.specs.declared.plant.Plant.{Plant}
 use Rattle.lv_model.specs.declared.state.TrackedState.{TrackedState}
 use Rattle.lv_model.specs.Lists.{sizes, variable_count, move_counts}
@@ -24,15 +24,15 @@ use Rattle.lv_meaning.specs.declared.facts.Observation.{Observation}
 use Rattle.lv_meaning.specs.Facts.{IsInRange}
 use Rattle.lv_meaning.specs.Ranges.{ObservationFits, GoalFits}
 use Rattle.lv_meaning.specs.Targets.{are_alike, targets_of_moves}
-use Rattle.lv_meaning.specs.lv_search_walk.Walk.{none_alike}
-use Rattle.lv_meaning.specs.lv_search_walk.Groups.{have_same_groups}
+use Rattle.lv_meaning.specs.lv_boxes.Walk.{none_alike}
+use Rattle.lv_meaning.specs.lv_boxes.Groups.{have_same_groups}
 use Rattle.lv_meaning.proofs.TargetLemmas.{targets_are_groups}
 use Rattle.lv_system.specs.System.{SystemValue}
 use Rattle.lv_cert.specs.declared.line.Line.{Line}
 use Rattle.lv_cert.specs.declared.line.Evidence.{Evidence}
 use Rattle.lv_cert.specs.declared.line.Moment.{Moment}
 use Rattle.lv_cert.specs.declared.line.Moment.TheVariants.{Now, Next}
-use Rattle.lv_formula.specs.Tree.{Tree}
+use Rattle.lv_base.specs.Tree.{Tree}
 use Rattle.lv_base.specs.Choices.{pairs_of, pairs_from}
 use Rattle.lv_cert_laws.specs.lv_cert_meaning.Counting.{is_one_of, at_number, pairs_of_numbers}
 use Rattle.lv_cert_laws.specs.lv_cert_meaning.Judging as Judging

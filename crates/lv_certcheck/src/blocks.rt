@@ -17,9 +17,8 @@ ghost use Rattle.lv_cert_meaning.specs.Blocks.{with_clause};
 ghost use Rattle.lv_certcheck.specs.Giving.{with_clauses};
 
 use crate::setting::Setting;
-use lv_base::{Lit, MoveId, Pair, PartId, Seq, ValId, VarId};
+use lv_base::{Condition, Lit, MoveId, Pair, PartId, Seq, ValId, VarId};
 use lv_cert_meaning::Block;
-use lv_formula::Condition;
 use lv_meaning::moves::moves_of;
 use lv_model::{Move, MoveKind};
 use lv_system::Moment;

@@ -5,7 +5,7 @@ ghost use Rattle.std.specs.Prelude.{◌≡◌, true, false, nat_eq, length, slic
 ghost use Rattle.std.specs.Option.{option_map_or};
 ghost use Rattle.lv_base.specs.declared.ids.ValId.{ValId as Value};
 ghost use Rattle.lv_system.specs.lv_clauses.Literals.{same_truth};
-ghost use Rattle.lv_formula.specs.Tree.{number_of};
+ghost use Rattle.lv_base.specs.Tree.{number_of};
 ghost use Rattle.lv_model.specs.WellFormed.{Reads};
 ghost use Rattle.lv_meaning.specs.Facts as Facts;
 ghost use Rattle.lv_meaning.specs.Facts.{meets, commanded};
@@ -18,10 +18,9 @@ ghost use Rattle.lv_certcheck.specs.Verdicts.{judged_of};
 
 use crate::judged::{Aimed, Judged};
 use crate::setting::Setting;
-use lv_base::{MoveId, Rank, ValId, VarId};
+use lv_base::{Condition, MoveId, Rank, ValId, VarId};
 use lv_cert::Question;
 use lv_cert_meaning::{has_controls, has_modes, is_nominal_pair};
-use lv_formula::Condition;
 use lv_meaning::facts::meets_all;
 use lv_model::TrackedState;
 use std::alloc::{AllocError, Global};

@@ -5,9 +5,8 @@ ghost use Rattle.std.specs.Prelude.{◌≡◌, ◌++◌, OnOk};
 ghost use Rattle.lv_certcheck.specs.Stating.{observed};
 ghost use Rattle.lv_cert_laws.specs.lv_cert_meaning.Stated as Stating;
 
-use lv_base::{Lit, Seq, ValId};
+use lv_base::{Condition, Lit, Seq, ValId};
 use lv_cert::Moment;
-use lv_formula::Condition;
 use lv_meaning::{Facts, Observation};
 use lv_model::TrackedState;
 use std::alloc::{AllocError, Global};
@@ -28,7 +27,7 @@ pub struct Stated {
 impl Model for Stated {
     ghost use Rattle.lv_cert_laws.specs.lv_cert_meaning.Stated.{Stated};
     ghost use Rattle.std.specs.Coded.{codes};
-    ghost use Rattle.lv_formula.specs.contracts.Condition as condition;
+    ghost use Rattle.lv_base.specs.contracts.formula.Condition as condition;
 
     ghost Value = { Stated };
 

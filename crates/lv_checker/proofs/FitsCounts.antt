@@ -3,11 +3,11 @@ use Rattle.std.proofs.Common.{◌≡◌, ◌+◌, ◌<◌, ◌≤◌, ℕ, Bool,
 use Rattle.std.specs.Option.{option_map_or}
 use Rattle.std.proofs.lemmas.Bool.{and_parts, ltb-true}
 use Rattle.std.proofs.lemmas.List.{get_or_append_left}
-use Rattle.lv_formula.specs.declared.range.Range.{Range}
-use Rattle.lv_formula.specs.Tree.{Tree, always, never, is, same, negation, all, any, implies, iff, Trees, none, more}
-use Rattle.lv_formula.specs.Fits.{fits, each_fits}
-use Rattle.lv_formula.specs.Counts.{within, gathered, whole, size_at, clause_count, gathered_count}
-use Rattle.lv_formula.proofs.FitLemmas.{fits_reads}
+use Rattle.lv_base.specs.declared.range.Range.{Range}
+use Rattle.lv_base.specs.Tree.{Tree, always, never, is, same, negation, all, any, implies, iff, Trees, none, more}
+use Rattle.lv_base.specs.Fits.{fits, each_fits}
+use Rattle.lv_base.specs.Counts.{within, gathered, whole, size_at, clause_count, gathered_count}
+use Rattle.lv_base.proofs.FitLemmas.{fits_reads}
 use Rattle.lv_model.specs.Counts.{has_count, formula_count, law_count}
 
 module _ (ranges : List Range) (sizes behind : List ℕ) (few : length ranges ≤ length sizes) where

@@ -6,9 +6,9 @@ use Rattle.std.proofs.lemmas.Bool.{and_from, and_parts, lt-ltb, le-leb, ltb-true
 use Rattle.std.proofs.lemmas.List.Quantifiers.{position-Some}
 use Rattle.lv_base.specs.declared.limits.TheConstants.{MODES, MOVES, NAME_BYTES, LEAST_FAULT_COST, FAULT_COST}
 use Rattle.lv_base.specs.declared.ids.ValId.{ValId}
-use Rattle.lv_formula.specs.Tree.{Tree, is}
+use Rattle.lv_base.specs.Tree.{Tree, is}
 use Rattle.lv_formula_text.specs.declared.path.Path.TheVariants.{Own}
-use Rattle.lv_formula.specs.Fits.{fits}
+use Rattle.lv_base.specs.Fits.{fits}
 use Rattle.lv_model.specs.declared.plant.Domain.{Domain}
 use Rattle.lv_model.specs.declared.plant.Move.{Move}
 use Rattle.lv_model.specs.Names.{domain_named}

@@ -7,10 +7,10 @@ use Rattle.std.proofs.lemmas.List.Folds.{list_any-append}
 use Rattle.std.proofs.lemmas.List.Sums.{sum_by-cons, sum_by_push}
 use Rattle.lv_base.specs.declared.limits.TheConstants.{PARTS, VARIABLES, MODEL_CLAUSES}
 use Rattle.lv_base.specs.declared.ids.VarId.{VarId}
-use Rattle.lv_formula.specs.Tree.{Tree, is}
-use Rattle.lv_formula.specs.declared.range.Range.{Range}
-use Rattle.lv_formula.specs.Fits.{fits, has_value}
-use Rattle.lv_formula.proofs.WidenLemmas.{fits_wider, further}
+use Rattle.lv_base.specs.Tree.{Tree, is}
+use Rattle.lv_base.specs.declared.range.Range.{Range}
+use Rattle.lv_base.specs.Fits.{fits, has_value}
+use Rattle.lv_base.proofs.WidenLemmas.{fits_wider, further}
 use Rattle.lv_model.specs.declared.plant.Plant.{Plant}
 use Rattle.lv_model.specs.declared.plant.ComponentType.{ComponentType}
 use Rattle.lv_model.specs.declared.plant.Part.{Part}

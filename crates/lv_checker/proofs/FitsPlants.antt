@@ -6,8 +6,8 @@ use Rattle.std.proofs.lemmas.Bool.{and_parts, and_from, lt-ltb, le-leb, ltb-true
 use Rattle.std.proofs.lemmas.List.{length_push}
 use Rattle.lv_base.specs.declared.limits.TheConstants.{PARTS, VARIABLES, MODES, MODEL_CLAUSES}
 use Rattle.lv_base.specs.declared.ids.VarId.{VarId}
-use Rattle.lv_formula.specs.declared.range.Range.{Range}
-use Rattle.lv_formula.specs.Fits.{fits}
+use Rattle.lv_base.specs.declared.range.Range.{Range}
+use Rattle.lv_base.specs.Fits.{fits}
 use Rattle.lv_model.specs.declared.plant.Plant.{Plant}
 use Rattle.lv_model.specs.declared.plant.Domain.{Domain}
 use Rattle.lv_model.specs.declared.plant.ComponentType.{ComponentType}

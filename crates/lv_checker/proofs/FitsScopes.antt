@@ -9,11 +9,11 @@ use Rattle.std.proofs.lemmas.Option.{slice_get-map}
 use Rattle.lv_base.specs.Names.{is_named}
 use Rattle.lv_base.specs.declared.ids.ValId.{ValId}
 use Rattle.lv_base.specs.declared.ids.VarId.{VarId}
-use Rattle.lv_formula.specs.Tree.{Tree}
-use Rattle.lv_formula.specs.declared.range.Range.{Range}
-use Rattle.lv_formula.specs.declared.range.Sort.{Sort}
-use Rattle.lv_formula.specs.declared.range.Sort.TheVariants.{Modes, Values}
-use Rattle.lv_formula.specs.Fits.{is_same_sort, has_value, are_alike, fits}
+use Rattle.lv_base.specs.Tree.{Tree}
+use Rattle.lv_base.specs.declared.range.Range.{Range}
+use Rattle.lv_base.specs.declared.range.Sort.{Sort}
+use Rattle.lv_base.specs.declared.range.Sort.TheVariants.{Modes, Values}
+use Rattle.lv_base.specs.Fits.{is_same_sort, has_value, are_alike, fits}
 use Rattle.lv_model.specs.declared.plant.Domain.{Domain}
 use Rattle.lv_model.specs.declared.plant.ComponentType.{ComponentType}
 use Rattle.lv_model.specs.declared.plant.Part.{Part}

@@ -5,12 +5,12 @@ use Rattle.std.specs.Option.{option_map_or}
 use Rattle.std.proofs.lemmas.Bool.{and_parts, and_from, and_left, lt-ltb, le-leb, eq-eqb, ltb-true, not-true}
 use Rattle.std.proofs.lemmas.List.{length-map, map_push, length_push}
 use Rattle.lv_base.specs.declared.limits.TheConstants.{MODES, MOVES}
-use Rattle.lv_formula.specs.Tree.{Tree, Trees, always, never, is, same, negation, all, any, implies, iff, none, more}
-use Rattle.lv_formula.specs.declared.range.Range.{Range}
-use Rattle.lv_formula.specs.declared.range.Sort.TheVariants.{Modes}
-use Rattle.lv_formula.specs.Fits.{is_same_sort, has_value, are_alike, fits, each_fits}
-use Rattle.lv_formula.specs.Laws.{AllWiden}
-use Rattle.lv_formula.proofs.WidenLemmas.{fits_wider, further, all_themselves}
+use Rattle.lv_base.specs.Tree.{Tree, Trees, always, never, is, same, negation, all, any, implies, iff, none, more}
+use Rattle.lv_base.specs.declared.range.Range.{Range}
+use Rattle.lv_base.specs.declared.range.Sort.TheVariants.{Modes}
+use Rattle.lv_base.specs.Fits.{is_same_sort, has_value, are_alike, fits, each_fits}
+use Rattle.lv_base.specs.Laws.{AllWiden}
+use Rattle.lv_base.proofs.WidenLemmas.{fits_wider, further, all_themselves}
 use Rattle.lv_model.specs.declared.plant.Domain.{Domain}
 use Rattle.lv_model.specs.declared.plant.ComponentType.{ComponentType}
 use Rattle.lv_model.specs.declared.plant.ModeFormula.{ModeFormula}

@@ -13,8 +13,7 @@ ghost use Rattle.lv_checker.specs.Checking.{fine, one_added, ending_code, Finds}
 
 use crate::faults::{judged, share_of};
 use crate::types::{add_inside, begun};
-use lv_base::{Name, Seq};
-use lv_formula::{Condition, Range};
+use lv_base::{Condition, Name, Range, Seq};
 use lv_model::counts::{law_count, type_count};
 use lv_model::ranges::push_part;
 use lv_model::totals::{limited, with};

@@ -7,15 +7,14 @@ ghost use Rattle.std.specs.Prelude.{◌≡◌, ◌+◌, ◌||◌, nat_lt, length
 ghost use Rattle.std.specs.List.{list_all, list_any};
 ghost use Rattle.std.specs.Option.{option_map_or};
 ghost use Rattle.lv_reader.specs.declared.code.ModelCode.{ModelCode};
-ghost use Rattle.lv_formula.specs.Tree.{Tree};
+ghost use Rattle.lv_base.specs.Tree.{Tree};
 ghost use Rattle.lv_model.specs.Counts.{has_count, mode_formula_has_count, guard_has_counts};
 ghost use Rattle.lv_model.specs.Lists.{part_width};
 ghost use Rattle.lv_checker.specs.Faults.{are_distinct, is_law_in, are_of_distinct_modes, in_use_inside, is_too_long_inside, is_long_name, passes_inside, share_of, passes_outside, first_of, fault_where, fault_of_entry, unless_faulty, judged};
 ghost use Rattle.lv_model_entries.specs.Entries.{TellsEntry};
 ghost use Rattle.lv_model_entries.specs.declared.draft.Entry.TheVariants.{NewPart, SystemLaw};
 
-use lv_base::{Name, ValId, find_name, limits};
-use lv_formula::Condition;
+use lv_base::{Condition, Name, ValId, find_name, limits};
 use lv_model::lookup::type_of;
 use lv_model::{ComponentType, Domain, ModeFormula, Move, MoveKind, Part};
 use lv_model_entries::{CheckFault, Draft, Entry, TypeDraft, entry_of};

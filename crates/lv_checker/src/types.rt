@@ -5,8 +5,7 @@ ghost use Rattle.std.specs.Prelude.{◌≡◌, ◌<◌, ◌≤◌, ◌++◌, OnO
 ghost use Rattle.lv_model.specs.WellFormed.{kind_place};
 ghost use Rattle.lv_checker.specs.Drafts.{begun, stay_in, stands_before, place_among, with_move_in_place, with_moves_in_place, with_variable, with_mode, with_type_law, with_mode_laws, with_moves, type_with};
 
-use lv_base::{Cost, Name, Seq, ValId, limits};
-use lv_formula::Condition;
+use lv_base::{Condition, Cost, Name, Seq, ValId, limits};
 use lv_model::counts::variable_size;
 use lv_model::{Domain, ModeFormula, Move, MoveKind, Variable};
 use lv_model_draft::NamedType;

@@ -4,3 +4,4 @@ pub mod ClosureLemmas
 pub mod MarkLemmas
 pub mod BoundLemmas
 pub mod TakenLemmas
+pub mod SoundLemmas

@@ -4,3 +4,4 @@ pub mod Closure
 pub mod Marks
 pub mod Laws
 pub mod Noted
+pub mod Following

@@ -7,9 +7,9 @@ use Rattle.std.proofs.lemmas.List.Folds.{list_all-append, list_any-append, list_
 use Rattle.lv_base.specs.declared.ids.Lit.{Lit}
 use Rattle.lv_base.specs.declared.ids.ValId.{ValId}
 use Rattle.lv_clauses.specs.Literals.{same_truth}
-use Rattle.lv_formula.specs.declared.range.Range.{Range}
-use Rattle.lv_formula.specs.Tree.{Tree, always, never, is, same, negation, all, any, implies, iff, Trees, none, more, truth_of, all_true, some_true, number_of, both_or_neither}
-use Rattle.lv_formula.specs.Fits.{is_same_sort, fits, each_fits}
+use Rattle.lv_base.specs.declared.range.Range.{Range}
+use Rattle.lv_base.specs.Tree.{Tree, always, never, is, same, negation, all, any, implies, iff, Trees, none, more, truth_of, all_true, some_true, number_of, both_or_neither}
+use Rattle.lv_base.specs.Fits.{is_same_sort, fits, each_fits}
 use Rattle.lv_compile.specs.Booleans.{Booleans, value_bool, value_literal}
 use Rattle.lv_compile.specs.FormulaClauses.{Clauses, each_after, size_of, equality_clause, product, formula_clauses, gathered_clauses}
 use Rattle.lv_compile.specs.Laws.{literal_is_true, clause_is_true, are_true, Encode, HaveBooleans}

@@ -8,10 +8,10 @@ use Rattle.std.proofs.lemmas.Nat.{mul-le}
 use Rattle.std.proofs.Math.Nat.{suc-mul}
 use Rattle.lv_base.specs.declared.limits.TheConstants.{FORMULA_CLAUSES}
 use Rattle.lv_base.specs.declared.ids.Lit.{Lit}
-use Rattle.lv_formula.specs.declared.range.Range.{Range}
-use Rattle.lv_formula.specs.Tree.{Tree, always, never, is, same, negation, all, any, implies, iff, Trees, none, more}
-use Rattle.lv_formula.specs.Fits.{fits, each_fits}
-use Rattle.lv_formula.specs.Counts.{within, joined, gathered, whole, size_at, clause_count, gathered_count}
+use Rattle.lv_base.specs.declared.range.Range.{Range}
+use Rattle.lv_base.specs.Tree.{Tree, always, never, is, same, negation, all, any, implies, iff, Trees, none, more}
+use Rattle.lv_base.specs.Fits.{fits, each_fits}
+use Rattle.lv_base.specs.Counts.{within, joined, gathered, whole, size_at, clause_count, gathered_count}
 use Rattle.lv_model.specs.Counts.{has_count, formula_count}
 use Rattle.lv_compile.specs.Booleans.{Booleans}
 use Rattle.lv_compile.specs.FormulaClauses.{Clauses, each_after, product, gather, size_of, equality_clause, formula_clauses, gathered_clauses}

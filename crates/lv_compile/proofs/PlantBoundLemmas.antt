@@ -8,10 +8,10 @@ use Rattle.std.proofs.lemmas.List.Sums.{sum_by-cons, sum_by-append}
 use Rattle.std.proofs.lemmas.List.Elements.{All-cons, All-append}
 use borrow.Author.Tests.{leb-true}
 use Rattle.lv_base.specs.declared.limits.TheConstants.{MODES, MOVES, VALUES, MODEL_CLAUSES}
-use Rattle.lv_formula.specs.declared.range.Range.{Range}
-use Rattle.lv_formula.specs.declared.range.Sort.TheVariants.{Modes}
-use Rattle.lv_formula.specs.Tree.{Tree}
-use Rattle.lv_formula.specs.Counts.{size_at}
+use Rattle.lv_base.specs.declared.range.Range.{Range}
+use Rattle.lv_base.specs.declared.range.Sort.TheVariants.{Modes}
+use Rattle.lv_base.specs.Tree.{Tree}
+use Rattle.lv_base.specs.Counts.{size_at}
 use Rattle.lv_model.specs.declared.plant.Plant.{Plant}
 use Rattle.lv_model.specs.declared.plant.Domain.{Domain}
 use Rattle.lv_model.specs.declared.plant.ComponentType.{ComponentType}

@@ -7,10 +7,10 @@ use Rattle.std.proofs.lemmas.Option.{slice_get_within}
 use Rattle.std.proofs.lemmas.List.{length-map}
 use Rattle.std.proofs.lemmas.List.Elements.{All-cons, All-append}
 use borrow.Author.Tests.{eqb-true}
-use Rattle.lv_formula.specs.declared.range.Range.{Range}
-use Rattle.lv_formula.specs.declared.range.Sort.{Sort}
-use Rattle.lv_formula.specs.declared.range.Sort.TheVariants.{Modes, Values}
-use Rattle.lv_formula.specs.Fits.{is_same_sort}
+use Rattle.lv_base.specs.declared.range.Range.{Range}
+use Rattle.lv_base.specs.declared.range.Sort.{Sort}
+use Rattle.lv_base.specs.declared.range.Sort.TheVariants.{Modes, Values}
+use Rattle.lv_base.specs.Fits.{is_same_sort}
 use Rattle.lv_model.specs.declared.plant.Plant.{Plant}
 use Rattle.lv_model.specs.declared.plant.Domain.{Domain}
 use Rattle.lv_model.specs.declared.plant.ComponentType.{ComponentType}

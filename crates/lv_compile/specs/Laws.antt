@@ -6,10 +6,10 @@ use Rattle.lv_base.specs.declared.ids.Lit.{Lit}
 use Rattle.lv_base.specs.declared.ids.ValId.{ValId}
 use Rattle.lv_base.specs.declared.ids.MoveId.{MoveId}
 use Rattle.lv_clauses.specs.Literals.{same_truth, is_clause}
-use Rattle.lv_formula.specs.declared.range.Range.{Range}
-use Rattle.lv_formula.specs.Tree.{Tree, truth_of, number_of}
-use Rattle.lv_formula.specs.Fits.{fits, is_same_sort}
-use Rattle.lv_formula.specs.Counts.{size_at}
+use Rattle.lv_base.specs.declared.range.Range.{Range}
+use Rattle.lv_base.specs.Tree.{Tree, truth_of, number_of}
+use Rattle.lv_base.specs.Fits.{fits, is_same_sort}
+use Rattle.lv_base.specs.Counts.{size_at}
 use Rattle.lv_model.specs.Counts.{has_count, formula_count, plant_count}
 use Rattle.lv_model.specs.declared.plant.Plant.{Plant}
 use Rattle.lv_model.specs.Lists.{sizes, move_counts}

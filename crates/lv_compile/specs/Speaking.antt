@@ -1,7 +1,7 @@
 -- The formulas of a plant speak of values that have booleans, as the code hands this on.
 use Rattle.std.specs.Prelude.{◌≡◌, ◌<◌, ℕ, Bool, true, IsTrue, All, List, Some, slice_get}
 use Rattle.std.specs.Option.{option_map_or}
-use Rattle.lv_formula.specs.Tree.{Tree}
+use Rattle.lv_base.specs.Tree.{Tree}
 use Rattle.lv_model.specs.declared.plant.ComponentType.{ComponentType}
 use Rattle.lv_model.specs.declared.plant.ModeFormula.{ModeFormula}
 use Rattle.lv_model.specs.declared.plant.Move.{Move}

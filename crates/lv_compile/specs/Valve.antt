@@ -1,7 +1,7 @@
 -- Two small plants: a valve that opens and closes at commands and may get stuck, and a part with two steps that are always
 -- open.
 use Rattle.std.specs.Prelude.{ℕ, List, [], ◌∷◌, Some, None, codes}
-use Rattle.lv_formula.specs.Tree.{Tree, always, is, same}
+use Rattle.lv_base.specs.Tree.{Tree, always, is, same}
 use Rattle.lv_model.specs.declared.plant.Plant.{Plant}
 use Rattle.lv_base.specs.declared.names.Class.TheVariants.{Control, Dependent, Observable}
 use Rattle.lv_model.specs.declared.plant.ComponentType.{ComponentType}

@@ -4,16 +4,15 @@
 #![tactic(auto)]
 
 ghost use Rattle.std.specs.Prelude.{◌≡◌, true, false, not, ◌++◌, IfOk, OnOk, IsTrue, [], ◌∷◌, ◌<◌, ◌≤◌, ◌+◌, map, length};
-ghost use Rattle.lv_formula.specs.Tree.{tree_of, trees_of};
+ghost use Rattle.lv_base.specs.Tree.{tree_of, trees_of};
 ghost use Rattle.lv_clauses.specs.Literals.{neg};
 ghost use Rattle.lv_compile.specs.Booleans.{value_literal};
 ghost use Rattle.lv_compile.specs.FormulaClauses.{asked, when_true, product, gather, formula_clauses, gathered_clauses, equality_clause, equality_clauses, speaks_of, each_speaks_of, size_of};
 
 use crate::clause_lists::{both_lists, gather, gather_literal, product, when_true};
 use crate::value_bools::ValueBools;
-use lv_base::{Lit, Seq};
+use lv_base::{Formula, Lit, Seq};
 use lv_clauses::negation;
-use lv_formula::Formula;
 use std::alloc::{AllocError, Global};
 
 /// In which signs clauses are asked for.

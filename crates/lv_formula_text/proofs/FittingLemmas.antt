@@ -4,9 +4,9 @@ use Rattle.lv_base.specs.declared.ids.VarId.{VarId}
 use Rattle.lv_base.specs.declared.ids.ValId.{ValId}
 use Rattle.lv_formula_text.specs.declared.path.Path.{Path}
 use Rattle.lv_formula_text.specs.declared.path.Path.TheVariants.{Own, OfPart}
-use Rattle.lv_formula.specs.declared.range.Range.{Range}
-use Rattle.lv_formula.specs.Tree.{Tree, Trees, same, negation, all, any, implies, iff, more}
-use Rattle.lv_formula.specs.Fits.{has_value, fits, each_fits}
+use Rattle.lv_base.specs.declared.range.Range.{Range}
+use Rattle.lv_base.specs.Tree.{Tree, Trees, same, negation, all, any, implies, iff, more}
+use Rattle.lv_base.specs.Fits.{has_value, fits, each_fits}
 use Rattle.lv_formula_text.specs.declared.resolver.NameFault.{NameFault}
 use Rattle.lv_formula_text.specs.declared.resolver.NameFault.TheVariants.{NoFit}
 use Rattle.lv_formula_text.specs.PhraseTree as phrase

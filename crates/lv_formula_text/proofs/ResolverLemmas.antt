@@ -1,6 +1,6 @@
 -- Resolving operand by operand.
 use Rattle.std.proofs.Common.{◌≡◌, List, [], ◌∷◌, ◌++◌, Result, Ok, Err, refl, sym, ap, ◌∙◌}
-use Rattle.lv_formula.specs.Tree as formula
+use Rattle.lv_base.specs.Tree as formula
 use Rattle.lv_formula_text.specs.declared.resolver.NameFault.{NameFault}
 use Rattle.lv_formula_text.specs.PhraseTree.{PhraseTree, PhraseTrees, more}
 use Rattle.lv_formula_text.specs.Resolving.{Names, on_ok, resolved, resolved_all}

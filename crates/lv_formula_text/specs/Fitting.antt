@@ -3,9 +3,9 @@ use Rattle.std.specs.Prelude.{◌≡◌, ℕ, true, List, Some, Ok}
 use Rattle.lv_base.specs.declared.ids.VarId.{VarId}
 use Rattle.lv_base.specs.declared.ids.ValId.{ValId}
 use Rattle.lv_formula_text.specs.declared.path.Path.{Path}
-use Rattle.lv_formula.specs.declared.range.Range.{Range}
-use Rattle.lv_formula.specs.Tree.{Tree}
-use Rattle.lv_formula.specs.Fits.{has_value, are_alike, fits}
+use Rattle.lv_base.specs.declared.range.Range.{Range}
+use Rattle.lv_base.specs.Tree.{Tree}
+use Rattle.lv_base.specs.Fits.{has_value, are_alike, fits}
 use Rattle.lv_formula_text.specs.PhraseTree.{PhraseTree}
 use Rattle.lv_formula_text.specs.Resolving.{Names, resolved}
 

@@ -1,6 +1,6 @@
 -- What a fault of resolving says.
 use Rattle.std.specs.Prelude.{◌≡◌, Result, Err}
-use Rattle.lv_formula.specs.Tree.{Tree}
+use Rattle.lv_base.specs.Tree.{Tree}
 use Rattle.lv_formula_text.specs.declared.resolver.NameFault.{NameFault}
 use Rattle.lv_formula_text.specs.declared.resolver.NameFault.TheVariants as name_fault
 use Rattle.lv_formula_text.specs.declared.resolver.ResolveFault.{ResolveFault}

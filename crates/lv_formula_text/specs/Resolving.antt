@@ -3,8 +3,8 @@ use Rattle.std.specs.Prelude.{ℕ, Bool, List, Option, Some, None, Result, Ok, E
 use Rattle.std.specs.declared.alloc.Global.{Global}
 use Rattle.lv_base.specs.declared.ids.VarId.{VarId}
 use Rattle.lv_base.specs.declared.ids.ValId.{ValId}
-use Rattle.lv_formula.specs.declared.Formula.{Formula}
-use Rattle.lv_formula.specs.Tree.{Tree, Trees, tree_of, trees_of, always, never, is, same, negation, all, any, implies, iff, none, more}
+use Rattle.lv_base.specs.declared.formula.Formula.{Formula}
+use Rattle.lv_base.specs.Tree.{Tree, Trees, tree_of, trees_of, always, never, is, same, negation, all, any, implies, iff, none, more}
 use Rattle.lv_formula_text.specs.declared.path.Path.{Path}
 use Rattle.lv_formula_text.specs.declared.path.Path.TheVariants.{Own, OfPart}
 use Rattle.lv_formula_text.specs.declared.resolver.NameFault.{NameFault}

@@ -7,7 +7,7 @@ ghost use Rattle.lv_formula_text.specs.Connectives.{sign_of, level, joined};
 ghost use Rattle.lv_formula_text.specs.declared.connective.Connective.TheVariants.{Equivalence, Implication};
 
 use crate::phrase::PhraseNode;
-use lv_formula::boxed::{boxed, push_unboxed};
+use lv_base::boxed::{boxed, push_unboxed};
 use lv_text::TokenKind;
 use std::alloc::{AllocError, Global};
 

@@ -18,7 +18,7 @@ use crate::atom::atom;
 use crate::connective::Connective;
 use crate::cursor::Cursor;
 use crate::phrase::PhraseNode;
-use lv_formula::boxed::{boxed, push_unboxed};
+use lv_base::boxed::{boxed, push_unboxed};
 use lv_text::TokenKind;
 use std::alloc::{AllocError, Global};
 

@@ -4,16 +4,15 @@
 
 ghost use Rattle.std.specs.Prelude.{◌≡◌, IfOk, IfErr, map, if◌then◌else◌};
 ghost use Rattle.lv_formula_text.specs.PhraseTree.{tree_of, trees_of, all, any};
-ghost use Rattle.lv_formula.specs.Tree.{tree_of as formula_of, always, never, implies, iff};
+ghost use Rattle.lv_base.specs.Tree.{tree_of as formula_of, always, never, implies, iff};
 ghost use Rattle.lv_formula_text.specs.Resolving.{names_of, equation_of, value_named, on_ok, resolved, resolved_all, tree_result, boxed_result, trees_result};
 ghost use Rattle.lv_formula_text.specs.ResolveFaults.{Tells};
 
 use crate::path::Path;
 use crate::phrase::{Phrase, PhraseNode};
 use crate::scope::Scope;
-use lv_base::{ValId, VarId};
-use lv_formula::Formula;
-use lv_formula::boxed::{boxed, push_unboxed};
+use lv_base::boxed::{boxed, push_unboxed};
+use lv_base::{Formula, ValId, VarId};
 use std::alloc::{AllocError, Global};
 use thiserror::Error;
 

@@ -15,10 +15,10 @@ use Rattle.lv_boxes.proofs.GroupPartsLemmas.{one_length}
 use Rattle.lv_boxes.proofs.GroupTimesLemmas.{group_times}
 use Rattle.lv_boxes.proofs.MemberLemmas.{length-are_left}
 use Rattle.lv_boxes.proofs.RankedMemberLemmas.{some_by_first}
-use Rattle.lv_search_walk.specs.Ranked.{is_among}
-use Rattle.lv_search_walk.specs.Groups.{have_same_groups}
-use Rattle.lv_search_walk.specs.Walk.{candidate_of}
-use Rattle.lv_search_walk.proofs.RankedLemmas.{one_list}
+use Rattle.lv_boxes.specs.Ranked.{is_among}
+use Rattle.lv_boxes.specs.Groups.{have_same_groups}
+use Rattle.lv_boxes.specs.Walk.{candidate_of}
+use Rattle.lv_boxes.proofs.RankedLemmas.{one_list}
 use Rattle.lv_search.specs.Frontier.{LeavesFirst, IsLikeFirst, ThinsAlike, LeavesOut}
 use Rattle.lv_search.proofs.NextLemmas.{first_and_rest}
 use Rattle.lv_search.proofs.GroupLemmas.{has_own_groups}

@@ -15,7 +15,7 @@ use Rattle.lv_boxes.specs.Least.{lacks_choice, IsLeastMember}
 use Rattle.lv_boxes.specs.Members.{ZoneValue, are_left, is_member, choices_cost, rank_in}
 use Rattle.lv_boxes.proofs.LeastLemmas.{lacks_choice-none}
 use Rattle.lv_boxes.proofs.MemberLemmas.{length-are_left}
-use Rattle.lv_search_walk.specs.Walk.{is_ruled_out}
+use Rattle.lv_boxes.specs.Walk.{is_ruled_out}
 use Rattle.lv_search_parts.specs.Slots.{only, put_in, is_marked, pair_in, is_inside}
 use Rattle.lv_search_parts.specs.Parts.{is_whole, inner_of, IsPart, IsPartWith}
 use Rattle.lv_search_guide.specs.declared.look.Member.{Member}

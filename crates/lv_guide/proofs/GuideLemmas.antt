@@ -26,9 +26,9 @@ use Rattle.lv_boxes.specs.RankedMembers.{ranked_members, ranks_in, times_in, IsL
 use Rattle.lv_boxes.proofs.PartsLemmas.{parts_are_split}
 use Rattle.lv_boxes.proofs.MemberLemmas.{loses_one}
 use Rattle.lv_boxes.proofs.RankedMemberLemmas.{among_ranked_members, ranked_members_rise, rank_of_member, some_by_first, has_least_rank, lacking_has_none}
-use Rattle.lv_search_walk.specs.Ranked.{rises, is_rank, is_among}
-use Rattle.lv_search_walk.specs.Walk.{candidate_of, is_ruled_out}
-use Rattle.lv_search_walk.proofs.RankedLemmas.{not_before_itself, not_both_before, same_rank, is_itself, one_list, equal_by_cmp}
+use Rattle.lv_boxes.specs.Ranked.{rises, is_rank, is_among}
+use Rattle.lv_boxes.specs.Walk.{candidate_of, is_ruled_out}
+use Rattle.lv_boxes.proofs.RankedLemmas.{not_before_itself, not_both_before, same_rank, is_itself, one_list, equal_by_cmp}
 use Rattle.lv_search_guide.specs.Free.{is_free_member, IsLeastFree, HasNoFree}
 use Rattle.lv_guide.specs.Narrowed.{IsNarrowed}
 use Rattle.lv_guide.specs.Near.{AreAmong, IsFirstNear}

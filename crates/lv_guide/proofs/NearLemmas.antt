@@ -16,7 +16,7 @@ use Rattle.lv_boxes.specs.Laws.{pairs_from, pairs_of}
 use Rattle.lv_boxes.specs.Masks.{has_choice}
 use Rattle.lv_boxes.proofs.MemberLemmas.{length-are_left}
 use Rattle.lv_boxes.specs.Members.{ZoneValue, is_left, are_left, choice_cost, choices_cost, rank_in}
-use Rattle.lv_search_walk.specs.Walk.{candidate_of, is_ruled_out}
+use Rattle.lv_boxes.specs.Walk.{candidate_of, is_ruled_out}
 use Rattle.lv_search_parts.specs.Slots.{only, put_in, is_marked, is_inside}
 use Rattle.lv_search_parts.specs.Parts.{is_there, is_whole, inner_of, IsPartWith}
 use Rattle.lv_search_guide.specs.declared.look.Member.{Member}

@@ -10,7 +10,7 @@ use Rattle.lv_base.specs.declared.ids.Cost.{Cost}
 use Rattle.lv_base.specs.declared.search.Pair.{Pair}
 use Rattle.lv_base.specs.Choices.{contains_all}
 use Rattle.lv_boxes.specs.Members.{are_left}
-use Rattle.lv_search_walk.specs.Walk.{is_ruled_out}
+use Rattle.lv_boxes.specs.Walk.{is_ruled_out}
 use Rattle.lv_search_parts.specs.Slots.{is_inside, pair_in}
 use Rattle.lv_search_parts.specs.Parts.{inner_of}
 use Rattle.lv_search_guide.specs.declared.look.Member.{Member}

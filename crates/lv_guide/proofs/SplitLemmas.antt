@@ -19,7 +19,7 @@ use Rattle.lv_boxes.proofs.GroupPartsLemmas as group_parts
 use Rattle.lv_boxes.proofs.PartsLemmas.{parts_are_split}
 use Rattle.lv_boxes.proofs.MemberLemmas.{length-are_left, loses_one}
 use Rattle.lv_boxes.proofs.RankedMemberLemmas.{rank_of_member}
-use Rattle.lv_search_walk.specs.Walk.{candidate_of, is_ruled_out}
+use Rattle.lv_boxes.specs.Walk.{candidate_of, is_ruled_out}
 use Rattle.lv_search_guide.specs.Free.{IsLeastFree}
 use Rattle.lv_guide.specs.Near.{IsFirstNear}
 use Rattle.lv_search_bans.proofs.BoxLemmas.{some_pass, found_itself, none_pass}

@@ -2,7 +2,7 @@
 use Rattle.std.specs.Prelude.{◌≡◌, ◌≤◌, true, false, List, length, take, All, Option, IfSome}
 use Rattle.lv_base.specs.declared.search.Pair.{Pair}
 use Rattle.lv_boxes.specs.Members.{are_left}
-use Rattle.lv_search_walk.specs.Walk.{is_ruled_out}
+use Rattle.lv_boxes.specs.Walk.{is_ruled_out}
 use Rattle.lv_search_parts.specs.Parts.{inner_of}
 use Rattle.lv_search_guide.specs.Lowest.{LowestTells}
 use Rattle.lv_search_guide.specs.declared.look.Member.{Member}

@@ -4,7 +4,7 @@
 #![tactic(auto)]
 
 ghost use Rattle.std.specs.Prelude.{◌≡◌, ◌≤◌, false, length, IfOk, if◌then◌else◌};
-ghost use Rattle.lv_search_walk.specs.Walk.{is_ruled_out};
+ghost use Rattle.lv_boxes.specs.Walk.{is_ruled_out};
 ghost use Rattle.lv_guide.specs.Narrowed.{NarrowedTells};
 ghost use Rattle.lv_guide.specs.Near.{IsFirstNear};
 ghost use Rattle.lv_guide.specs.Beside.{mixed, LeastInsideTells, FirstBySomeTells, BesideTells};

@@ -14,7 +14,7 @@ ghost use Rattle.lv_boxes.specs.GroupParts.{have_shape};
 ghost use Rattle.lv_boxes.specs.Laws.{pairs_of};
 ghost use Rattle.lv_boxes.specs.Least.{lacks_choice};
 ghost use Rattle.lv_boxes.specs.RankedMembers.{IsLeastRank, ranked_members, sources_differ};
-ghost use Rattle.lv_search_walk.specs.Walk.{is_ruled_out};
+ghost use Rattle.lv_boxes.specs.Walk.{is_ruled_out};
 ghost use Rattle.lv_search.specs.Free.{is_free_rank, free_of};
 ghost use Rattle.lv_guide.specs.Near.{IsFirstNear};
 ghost use Rattle.lv_guide.specs.Guide.{AreKeptBy, AreNear, IsReady, HasMore, HasMoreBy, HasRoomBy, HasSameFree, LooksAgain, DropsFirst, DropsAlike, WholeTells, front_is_free};

@@ -7,7 +7,7 @@ ghost use Rattle.std.specs.Prelude.{◌≡◌, ◌≤◌, ◌<◌, ◌^◌, List
 ghost use Rattle.std.specs.List.{list_all};
 ghost use Rattle.lv_base.specs.declared.search.Pair.{Pair};
 ghost use Rattle.lv_boxes.specs.Members.{are_left};
-ghost use Rattle.lv_search_walk.specs.Walk.{is_ruled_out};
+ghost use Rattle.lv_boxes.specs.Walk.{is_ruled_out};
 ghost use Rattle.lv_search_parts.specs.Parts.{inner_of};
 ghost use Rattle.lv_search_guide.specs.Lowest.{LowestTells};
 ghost use Rattle.lv_guide.specs.Remembered.{IsTrueBy, AreTrueBy, IsFoundOf, HoldsBy};

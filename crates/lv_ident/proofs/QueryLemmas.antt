@@ -14,7 +14,7 @@ use Rattle.lv_meaning.specs.Candidates.{candidates, is_possible_candidate}
 use Rattle.lv_meaning.specs.Diagnosis.{reason_of}
 use Rattle.lv_meaning.specs.Targets.{are_alike, targets_of_moves}
 use Rattle.lv_meaning.proofs.TargetLemmas.{targets_are_groups}
-use Rattle.lv_search_walk.specs.Groups.{alike_by}
+use Rattle.lv_boxes.specs.Groups.{alike_by}
 use Rattle.lv_search.specs.lv_boxes.RankedMembers.{ranked_members}
 use Rattle.lv_search.specs.Standing.{Standing, IsUnderWay}
 use Rattle.lv_search_zones.specs.Moves.{move_slots, zones_from, is_full_choice}

@@ -5,7 +5,7 @@ use Rattle.lv_base.specs.declared.rank.Rank.{Rank}
 use Rattle.lv_base.specs.Choices.{pairs_of}
 use Rattle.lv_model.specs.declared.plant.Plant.{Plant}
 use Rattle.lv_model.specs.Lists.{move_counts}
-use Rattle.lv_search_walk.specs.Laws.{each_is_needed, none_in_another}
+use Rattle.lv_boxes.specs.WalkLaws.{each_is_needed, none_in_another}
 use Rattle.lv_search.proofs.DeletedReasons as deleted
 use Rattle.lv_meaning.specs.declared.facts.Facts.{Facts}
 use Rattle.lv_meaning.specs.Possible.{is_possible}

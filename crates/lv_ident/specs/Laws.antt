@@ -3,7 +3,7 @@ use Rattle.std.specs.Prelude.{◌≡◌, ℕ, Bool, true, not, [], List}
 use Rattle.std.specs.List.{list_all}
 use Rattle.lv_base.specs.declared.rank.Rank.{Rank}
 use Rattle.lv_model.specs.declared.plant.Plant.{Plant}
-use Rattle.lv_search_walk.specs.Laws.{each_is_needed, none_in_another}
+use Rattle.lv_boxes.specs.WalkLaws.{each_is_needed, none_in_another}
 use Rattle.lv_meaning.specs.declared.facts.Facts.{Facts}
 use Rattle.lv_meaning.specs.Possible.{is_possible}
 use Rattle.lv_meaning.specs.Diagnosis.{diagnosis_walk}

@@ -50,7 +50,7 @@ pub struct Query<'a> {
 
 impl<'a> marker::Model for Query<'a> {
     ghost use Rattle.std.specs.Coded.{codes};
-    ghost use Rattle.lv_model.specs.lv_formula.contracts.Condition as condition;
+    ghost use Rattle.lv_model.specs.lv_base.contracts.formula.Condition as condition;
     ghost use Rattle.lv_ident.specs.Query.{QueryValue};
 
     ghost Value = { QueryValue };

@@ -43,7 +43,7 @@ pub struct IdentTrial<'a> {
 impl<'a> marker::Model for IdentTrial<'a> {
     ghost use Rattle.lv_ident.specs.Trial.{TrialValue, IsTrial};
     ghost use Rattle.std.specs.Coded.{codes};
-    ghost use Rattle.lv_model.specs.lv_formula.contracts.Condition as condition;
+    ghost use Rattle.lv_model.specs.lv_base.contracts.formula.Condition as condition;
 
     ghost Value = { TrialValue };
 
@@ -184,7 +184,7 @@ impl<'a> IdentTrial<'a> {
 impl Trial for IdentTrial<'_> {
     ghost use Rattle.std.proofs.Common.{refl};
     ghost use Rattle.lv_base.specs.Choices.{picks};
-    ghost use Rattle.lv_search_walk.proofs.ReasonLemmas.{part_of_all};
+    ghost use Rattle.lv_boxes.proofs.ReasonLemmas.{part_of_all};
     ghost use Rattle.lv_meaning.proofs.Reasons.{own_pairs, reason_apart};
 
     ghost suits = { λ t c. is_full_choice t.plant c };

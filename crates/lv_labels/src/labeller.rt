@@ -35,7 +35,7 @@ pub struct Labeller<'a> {
 
 impl<'a> marker::Model for Labeller<'a> {
     ghost use Rattle.std.specs.Coded.{codes};
-    ghost use Rattle.lv_model.specs.lv_formula.contracts.Condition as condition;
+    ghost use Rattle.lv_model.specs.lv_base.contracts.formula.Condition as condition;
     ghost use Rattle.lv_model.specs.declared.plant.Plant.{Plant};
     ghost use Rattle.lv_labels.specs.Holding.{IsHolding};
 

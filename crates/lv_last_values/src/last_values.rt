@@ -45,10 +45,10 @@ impl LastValues {
         }
     }
 
-    /// The value of a boolean, where there are values.
-    pub fn sign(&self, var: BoolId) -> Option<bool> {
+    /// The values themselves, one for each boolean, where there are any.
+    pub fn as_slice(&self) -> Option<&[bool]> {
         match &self.values {
-            Some(values) => values.as_slice().get(var.0 as usize).copied(),
+            Some(values) => Some(values.as_slice()),
             None => None,
         }
     }

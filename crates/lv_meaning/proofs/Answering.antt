@@ -8,7 +8,7 @@ use Rattle.lv_model.specs.declared.plant.Plant.{Plant}
 use Rattle.lv_meaning.specs.declared.facts.Facts.{Facts}
 use Rattle.lv_model.specs.declared.state.TrackedState.{TrackedState}
 use Rattle.lv_meaning.specs.Candidates.{candidates, is_possible_rank, first_possible}
-use Rattle.lv_search_walk.specs.Ranked.{rises}
+use Rattle.lv_boxes.specs.Ranked.{rises}
 use Rattle.lv_meaning.specs.CandidateLaws.{IsAnswer}
 use Rattle.lv_meaning.proofs.Rising.{candidates_rise_law}
 use Rattle.lv_meaning.proofs.Among.{Among, among, contained, all_among}

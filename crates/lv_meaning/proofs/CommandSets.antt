@@ -5,8 +5,8 @@ use Rattle.std.specs.Cmp.Lexicographic.{pointwise}
 use Rattle.lv_base.specs.declared.rank.Rank.{Rank}
 use Rattle.lv_model.specs.declared.plant.Plant.{Plant}
 use Rattle.lv_model.specs.Lists.{controls}
-use Rattle.lv_search_walk.specs.Ranked.{rises}
-use Rattle.lv_search_walk.proofs.RankedLemmas.{rises_ranked}
+use Rattle.lv_boxes.specs.Ranked.{rises}
+use Rattle.lv_boxes.proofs.RankedLemmas.{rises_ranked}
 use Rattle.lv_meaning.proofs.Among.{Among, among, contained, FromNumber, from_number, among_flat}
 use Rattle.lv_meaning.proofs.Listing.{same_rank, put_has, put_adds}
 use Rattle.lv_meaning.specs.Commands.{control_sizes, is_command_set, numbers_below, lists_below, commands_cost, command_rank, command_sets}

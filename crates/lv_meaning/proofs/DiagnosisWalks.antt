@@ -5,9 +5,9 @@ use Rattle.lv_base.specs.declared.rank.Rank.{Rank}
 use Rattle.lv_base.specs.declared.search.Candidate.{Candidate}
 use Rattle.lv_model.specs.declared.plant.Plant.{Plant}
 use Rattle.lv_model.specs.declared.state.TrackedState.{TrackedState}
-use Rattle.lv_search_walk.specs.Walk.{first_of_each}
-use Rattle.lv_search_walk.specs.declared.outcome.Outcome.TheVariants.{Settled}
-use Rattle.lv_search_walk.proofs.WalkLemmas.{plain_exact, distinct_exact, with_ample}
+use Rattle.lv_boxes.specs.Walk.{first_of_each}
+use Rattle.lv_boxes.specs.declared.outcome.Outcome.TheVariants.{Settled}
+use Rattle.lv_boxes.proofs.WalkLemmas.{plain_exact, distinct_exact, with_ample}
 use Rattle.lv_meaning.specs.declared.facts.Facts.{Facts}
 use Rattle.lv_meaning.specs.Candidates.{candidates, is_possible_candidate, is_possible_rank}
 use Rattle.lv_meaning.specs.Targets.{have_one_target, are_alike, answer}

@@ -13,4 +13,4 @@ pub mod NominalSteps
 pub mod CommandSets
 pub mod CommandReasons
 pub mod RecoveryWalks
-pub use Rattle.lv_search_walk.proofs as lv_search_walk
+pub use Rattle.lv_boxes.proofs as lv_boxes

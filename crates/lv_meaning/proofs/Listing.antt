@@ -15,7 +15,7 @@ use Rattle.lv_model.specs.declared.plant.ComponentType.{ComponentType}
 use Rattle.lv_model.specs.declared.plant.Part.{Part}
 use Rattle.lv_model.specs.declared.plant.Move.{Move}
 use Rattle.lv_model.specs.declared.state.TrackedState.{TrackedState}
-use Rattle.lv_search_walk.specs.Ranked.{put_in_order}
+use Rattle.lv_boxes.specs.Ranked.{put_in_order}
 use Rattle.lv_meaning.specs.Candidates.{numbers_from, type_moves, move_cost, ranks_from, ranks_of, candidates}
 use Rattle.lv_meaning.specs.CandidateLaws.{goes_from, are_moves, moves_cost, IsCandidate}
 use Rattle.lv_meaning.proofs.Among.{Among, among, contained, among_left, among_right, among_either, FromNumber, from_number, among_flat}

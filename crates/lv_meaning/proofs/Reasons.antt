@@ -8,8 +8,8 @@ use Rattle.lv_base.specs.declared.search.Candidate.{Candidate}
 use Rattle.lv_base.specs.declared.search.Pair.{Pair}
 use Rattle.lv_base.specs.Choices.{picks, contains_all, pairs_from, pairs_of}
 use Rattle.lv_model.specs.declared.plant.Plant.{Plant}
-use Rattle.lv_search_walk.specs.Laws.{IsMonotone, IsSound}
-use Rattle.lv_search_walk.proofs.ReasonLemmas.{still_impossible}
+use Rattle.lv_boxes.specs.WalkLaws.{IsMonotone, IsSound}
+use Rattle.lv_boxes.proofs.ReasonLemmas.{still_impossible}
 use Rattle.lv_meaning.specs.declared.facts.Facts.{Facts}
 use Rattle.lv_meaning.specs.Possible.{gives, is_possible}
 use Rattle.lv_meaning.specs.Candidates.{is_possible_candidate}

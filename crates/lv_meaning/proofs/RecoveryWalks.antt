@@ -6,11 +6,11 @@ use Rattle.lv_base.specs.declared.rank.Rank.{Rank}
 use Rattle.lv_base.specs.declared.search.Candidate.{Candidate}
 use Rattle.lv_base.specs.Rank.{ranks_before}
 use Rattle.lv_model.specs.declared.plant.Plant.{Plant}
-use Rattle.lv_search_walk.specs.declared.outcome.Outcome.TheVariants.{Settled}
-use Rattle.lv_search_walk.specs.Ranked.{rises}
-use Rattle.lv_search_walk.specs.Walk.{none_alike}
-use Rattle.lv_search_walk.proofs.RankedLemmas.{not_before_itself, not_both_before}
-use Rattle.lv_search_walk.proofs.WalkLemmas.{plain_exact, with_ample}
+use Rattle.lv_boxes.specs.declared.outcome.Outcome.TheVariants.{Settled}
+use Rattle.lv_boxes.specs.Ranked.{rises}
+use Rattle.lv_boxes.specs.Walk.{none_alike}
+use Rattle.lv_boxes.proofs.RankedLemmas.{not_before_itself, not_both_before}
+use Rattle.lv_boxes.proofs.WalkLemmas.{plain_exact, with_ample}
 use Rattle.lv_meaning.proofs.Among.{Among, among, all_among}
 use Rattle.lv_meaning.specs.declared.aim.Aim.{Aim}
 use Rattle.lv_meaning.specs.Recovers.{recovers}

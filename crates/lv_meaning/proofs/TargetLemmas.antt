@@ -10,8 +10,8 @@ use Rattle.lv_model.specs.declared.plant.Plant.{Plant}
 use Rattle.lv_model.specs.declared.plant.ComponentType.{ComponentType}
 use Rattle.lv_model.specs.declared.plant.Move.{Move}
 use Rattle.lv_model.specs.declared.plant.Part.{Part}
-use Rattle.lv_search_walk.specs.Laws.{IsTransitive}
-use Rattle.lv_search_walk.specs.Groups.{group_of, groups_of, have_same_groups}
+use Rattle.lv_boxes.specs.WalkLaws.{IsTransitive}
+use Rattle.lv_boxes.specs.Groups.{group_of, groups_of, have_same_groups}
 use Rattle.lv_meaning.specs.Candidates.{type_moves}
 use Rattle.lv_meaning.specs.Targets.{target_mode, target_modes, have_one_target, are_alike, move_targets, targets_of_moves}
 

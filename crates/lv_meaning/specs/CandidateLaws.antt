@@ -8,7 +8,7 @@ use Rattle.lv_model.specs.declared.plant.Plant.{Plant}
 use Rattle.lv_model.specs.declared.plant.ComponentType.{ComponentType}
 use Rattle.lv_model.specs.declared.plant.Part.{Part}
 use Rattle.lv_model.specs.declared.plant.Move.{Move}
-use Rattle.lv_search_walk.specs.Ranked.{rises}
+use Rattle.lv_boxes.specs.Ranked.{rises}
 use Rattle.lv_meaning.specs.declared.facts.Facts.{Facts}
 use Rattle.lv_model.specs.declared.state.TrackedState.{TrackedState}
 use Rattle.lv_meaning.specs.Candidates.{type_moves, move_cost, candidates, is_possible_rank, first_possible}

@@ -12,8 +12,8 @@ use Rattle.lv_model.specs.declared.plant.ComponentType.{ComponentType}
 use Rattle.lv_model.specs.declared.plant.Move.{Move}
 use Rattle.lv_model.specs.declared.plant.Part.{Part}
 use Rattle.lv_model.specs.declared.state.TrackedState.{TrackedState}
-use Rattle.lv_search_walk.specs.Ranked.{ranked}
-use Rattle.lv_search_walk.specs.Walk.{candidate_of}
+use Rattle.lv_boxes.specs.Ranked.{ranked}
+use Rattle.lv_boxes.specs.Walk.{candidate_of}
 use Rattle.lv_meaning.specs.declared.facts.Facts.{Facts}
 use Rattle.lv_meaning.specs.Possible.{is_possible}
 

@@ -7,7 +7,7 @@ use Rattle.lv_base.specs.declared.rank.Rank.{Rank}
 use Rattle.lv_model.specs.declared.plant.Plant.{Plant}
 use Rattle.lv_model.specs.Lists.{sizes, controls}
 use Rattle.lv_model.specs.Prices.{price_of}
-use Rattle.lv_search_walk.specs.Ranked.{ranked}
+use Rattle.lv_boxes.specs.Ranked.{ranked}
 
 -- how many values each control has
 abbrev pub control_sizes : Plant → List ℕ

@@ -5,8 +5,8 @@ use Rattle.lv_base.specs.declared.search.Pair.{Pair}
 use Rattle.lv_base.specs.declared.search.Candidate.{Candidate}
 use Rattle.lv_base.specs.Choices.{pairs_of}
 use Rattle.lv_model.specs.declared.plant.Plant.{Plant}
-use Rattle.lv_search_walk.specs.Walk.{Walked, distinct_walk}
-use Rattle.lv_search_walk.specs.Reason.{reduced}
+use Rattle.lv_boxes.specs.Walk.{Walked, distinct_walk}
+use Rattle.lv_boxes.specs.Reason.{reduced}
 use Rattle.lv_meaning.specs.declared.facts.Facts.{Facts}
 use Rattle.lv_meaning.specs.Possible.{is_possible}
 use Rattle.lv_meaning.specs.Candidates.{is_possible_candidate}

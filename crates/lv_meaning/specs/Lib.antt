@@ -14,4 +14,4 @@ pub mod Recovery
 pub mod Ranges
 pub mod RecoveryLaws
 pub mod WorkedRecovery
-pub use Rattle.lv_search_walk.specs as lv_search_walk
+pub use Rattle.lv_boxes.specs as lv_boxes

@@ -1,9 +1,9 @@
 -- What is asked of the numbers of an aim: that they are of the plant.
 use Rattle.std.specs.Prelude.{Bool, true, false, ◌&&◌, List, [], ◌∷◌, All, IsTrue}
 use Rattle.lv_base.specs.declared.ids.ValId.{ValId}
-use Rattle.lv_formula.specs.declared.range.Range.{Range}
-use Rattle.lv_formula.specs.Tree.{Tree}
-use Rattle.lv_formula.specs.Fits.{fits, has_value}
+use Rattle.lv_base.specs.declared.range.Range.{Range}
+use Rattle.lv_base.specs.Tree.{Tree}
+use Rattle.lv_base.specs.Fits.{fits, has_value}
 use Rattle.lv_model.specs.declared.plant.Plant.{Plant}
 use Rattle.lv_model.specs.declared.plant.Part.{Part}
 use Rattle.lv_model.specs.declared.state.TrackedState.{TrackedState}

@@ -9,8 +9,8 @@ use Rattle.lv_base.specs.Choices.{pairs_of}
 use Rattle.lv_model.specs.declared.plant.Plant.{Plant}
 use Rattle.lv_model.specs.declared.state.State.{State}
 use Rattle.lv_model.specs.declared.state.TrackedState.{TrackedState}
-use Rattle.lv_search_walk.specs.Walk.{Walked, candidate_of, walk}
-use Rattle.lv_search_walk.specs.Reason.{reduced}
+use Rattle.lv_boxes.specs.Walk.{Walked, candidate_of, walk}
+use Rattle.lv_boxes.specs.Reason.{reduced}
 use Rattle.lv_meaning.specs.declared.aim.Aim.{Aim}
 use Rattle.lv_meaning.specs.Recovers.{reaches, is_sure_from, recovers}
 use Rattle.lv_meaning.specs.Commands.{command_sets}

@@ -9,9 +9,9 @@ use Rattle.lv_model.specs.declared.state.State.{State}
 use Rattle.lv_model.specs.declared.state.TrackedState.{TrackedState}
 use Rattle.lv_model.specs.Lists.{sizes, move_counts, controls}
 use Rattle.lv_model.specs.Meaning.{is_step, is_nominal}
-use Rattle.lv_search_walk.specs.declared.outcome.Outcome.TheVariants.{Settled}
-use Rattle.lv_search_walk.specs.Ranked.{rises}
-use Rattle.lv_search_walk.specs.Laws.{each_is_needed}
+use Rattle.lv_boxes.specs.declared.outcome.Outcome.TheVariants.{Settled}
+use Rattle.lv_boxes.specs.Ranked.{rises}
+use Rattle.lv_boxes.specs.WalkLaws.{each_is_needed}
 use Rattle.lv_meaning.specs.declared.facts.Observation.{Observation}
 use Rattle.lv_meaning.specs.Facts.{meets}
 use Rattle.lv_meaning.specs.Possible.{value, move_number}

@@ -10,7 +10,7 @@ use Rattle.lv_model.specs.declared.plant.Move.{Move}
 use Rattle.lv_model.specs.declared.plant.Part.{Part}
 use Rattle.lv_model.specs.declared.state.TrackedState.{TrackedState}
 use Rattle.lv_model.specs.Meaning.{target_of}
-use Rattle.lv_search_walk.specs.Walk.{none_alike, first_of_each}
+use Rattle.lv_boxes.specs.Walk.{none_alike, first_of_each}
 use Rattle.lv_meaning.specs.declared.facts.Facts.{Facts}
 use Rattle.lv_meaning.specs.Candidates.{type_moves, candidates, is_possible_rank, first_possible}
 

@@ -1,7 +1,7 @@
 -- A worked example: one valve, which is closed, and what follows from commands and a look at its flow.
 use Rattle.std.specs.Prelude.{◌≡◌, ℕ, List, [], ◌∷◌, Some, None, codes}
 use Rattle.lv_base.specs.declared.rank.Rank.{Rank}
-use Rattle.lv_formula.specs.Tree.{is}
+use Rattle.lv_base.specs.Tree.{is}
 use Rattle.lv_model.specs.declared.plant.Plant.{Plant}
 use Rattle.lv_base.specs.declared.names.Class.TheVariants.{Control, Observable}
 use Rattle.lv_model.specs.declared.plant.ComponentType.{ComponentType}

@@ -2,8 +2,7 @@
 #![tactic(auto)]
 
 use crate::Observation;
-use lv_base::Seq;
-use lv_formula::Condition;
+use lv_base::{Condition, Seq};
 use lv_model::TrackedState;
 
 /// The states that the plant may be in, what is observed before the step, and the formulas that are to be true after it.

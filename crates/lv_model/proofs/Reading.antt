@@ -8,10 +8,10 @@ use Rattle.std.specs.Option.{option_map_or}
 use Rattle.std.specs.List.{list_all, flat_map}
 use Rattle.std.proofs.lemmas.List.{length-append, length-map}
 use Rattle.lv_base.specs.declared.limits.TheConstants.{PARTS, VARIABLES}
-use Rattle.lv_formula.specs.declared.range.Range.{Range}
-use Rattle.lv_formula.specs.Tree.{Tree, reads_below}
-use Rattle.lv_formula.specs.Fits.{fits}
-use Rattle.lv_formula.proofs.FitLemmas.{fits_reads}
+use Rattle.lv_base.specs.declared.range.Range.{Range}
+use Rattle.lv_base.specs.Tree.{Tree, reads_below}
+use Rattle.lv_base.specs.Fits.{fits}
+use Rattle.lv_base.proofs.FitLemmas.{fits_reads}
 use Rattle.lv_model.specs.declared.plant.Plant.{Plant}
 use Rattle.lv_model.specs.declared.plant.ComponentType.{ComponentType}
 use Rattle.lv_model.specs.declared.plant.Part.{Part}

@@ -7,7 +7,7 @@ use Rattle.std.proofs.lemmas.List.{length-map}
 use Rattle.std.proofs.lemmas.List.Elements.{All-cons, All-tail, All-append}
 use borrow.Author.Tests.{leb-true, eqb-true}
 use Rattle.lv_base.specs.declared.limits.TheConstants.{MODES, MOVES, VALUES, LEAST_FAULT_COST, FAULT_COST}
-use Rattle.lv_formula.specs.declared.range.Range.{Range}
+use Rattle.lv_base.specs.declared.range.Range.{Range}
 use Rattle.lv_model.specs.declared.plant.Plant.{Plant}
 use Rattle.lv_model.specs.declared.plant.Domain.{Domain}
 use Rattle.lv_model.specs.declared.plant.ComponentType.{ComponentType}

@@ -8,4 +8,4 @@ pub mod Counts
 pub mod Denials
 pub mod WellFormed
 pub mod Laws
-pub use Rattle.lv_formula.specs as lv_formula
+pub use Rattle.lv_base.specs as lv_base

@@ -9,7 +9,7 @@ use Rattle.lv_model.specs.declared.plant.Variable.{Variable}
 use Rattle.lv_base.specs.declared.names.Class.{Class}
 use Rattle.lv_base.specs.declared.names.Class.TheVariants.{Control, Dependent, Observable}
 use Rattle.lv_base.specs.declared.ids.VarId.{VarId}
-use Rattle.lv_formula.specs.declared.range.Range.{Range}
+use Rattle.lv_base.specs.declared.range.Range.{Range}
 use Rattle.lv_model.specs.Ranges.{plant_ranges}
 
 -- how many values each variable of the plant has, part by part

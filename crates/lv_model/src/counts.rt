@@ -5,7 +5,7 @@
 ghost use Rattle.std.specs.Prelude.{◌≡◌, true, false, ◌+◌, ◌≤◌, ◌<◌, ◌++◌, ◌∷◌, [], min, IfOk, length, map, take, sum_by, slice_get};
 ghost use Rattle.std.specs.Option.{option_map_or};
 ghost use Rattle.std.specs.List.{list_all};
-ghost use Rattle.lv_formula.specs.Counts.{truth_count};
+ghost use Rattle.lv_base.specs.Counts.{truth_count};
 ghost use Rattle.lv_model.specs.Ranges.{domain_size};
 ghost use Rattle.lv_model.specs.Counts.{held, one_of_count, limited, variable_size, formula_sizes, law_sizes, formula_count, mode_formula_count, guard_count, closed_count, goes_count, moves_count, choice_count, values_count, holds_count, copy_count, type_count, law_count};
 ghost use Rattle.lv_model.specs.Denials.{denial, denied, goes_of};
@@ -14,8 +14,7 @@ use crate::plant::{ComponentType, Domain, ModeFormula, Move, MoveKind, Plant, Va
 use crate::ranges::size_of_domain;
 use crate::totals::{limited, with};
 use crate::variables::all_sizes;
-use lv_base::{ValId, limits};
-use lv_formula::Condition;
+use lv_base::{Condition, ValId, limits};
 use std::alloc::{AllocError, Global};
 
 /// What it takes to say that a move's guard is false, where the move is a step of the mode; nothing of another move.

@@ -5,7 +5,7 @@
 ghost use Rattle.std.specs.Prelude.{◌≡◌, ◌+◌, ◌<◌, ◌&&◌, IsTrue, true, false, length, slice_get, Some, None, OnSome, take, All, ◌≤◌};
 ghost use Rattle.std.specs.List.{list_all, list_any};
 ghost use Rattle.std.specs.Option.{option_map, option_copied};
-ghost use Rattle.lv_formula.specs.Tree.{truth_of, reads_below, number_of};
+ghost use Rattle.lv_base.specs.Tree.{truth_of, reads_below, number_of};
 ghost use Rattle.lv_base.specs.declared.ids.ValId.{ValId};
 ghost use Rattle.lv_base.specs.declared.limits.TheConstants.{MOVES};
 ghost use Rattle.lv_model.specs.Lists.{variable_count};
@@ -16,8 +16,7 @@ ghost use Rattle.lv_model.specs.Meaning.{mode_formula_holds, part_is_feasible, i
 use crate::lookup::{move_of, move_of_part, part_of, type_of};
 use crate::model::Model;
 use crate::plant::{ComponentType, ModeFormula, Move, MoveKind, Part, Plant};
-use lv_base::{MoveId, PartId, ValId, VarId};
-use lv_formula::Condition;
+use lv_base::{Condition, MoveId, PartId, ValId, VarId};
 
 /// Whether each of the conditions is true.
 fn all_hold(conditions: &[Condition], a: &[ValId], base: VarId) -> bool

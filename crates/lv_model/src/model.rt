@@ -20,7 +20,7 @@ impl marker::Model for Model {
     ghost use Rattle.lv_model.specs.declared.plant.Plant.{Plant};
     ghost use Rattle.lv_model.specs.WellFormed.{is_well_formed};
     ghost use Rattle.std.specs.Coded.{codes};
-    ghost use Rattle.lv_formula.specs.contracts.Condition as condition;
+    ghost use Rattle.lv_base.specs.contracts.formula.Condition as condition;
 
     ghost Value = { Plant };
 

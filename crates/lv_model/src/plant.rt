@@ -1,8 +1,7 @@
 //! The plain lists of a plant, in written order.
 #![tactic(auto)]
 
-use lv_base::{Class, Cost, Name, Seq, ValId, VarId};
-use lv_formula::Condition;
+use lv_base::{Class, Condition, Cost, Name, Seq, ValId, VarId};
 
 /// A finite domain: its values in written order.
 #[derive(Debug, Drop)]

@@ -7,7 +7,7 @@ ghost use Rattle.lv_model.specs.Ranges.{domain_size, variable_range, type_ranges
 
 use crate::lookup::type_of;
 use crate::plant::{ComponentType, Domain, Part, Plant, Variable};
-use lv_formula::{Range, Sort};
+use lv_base::{Range, Sort};
 use std::alloc::{AllocError, Global};
 
 /// How many values the domain of this place has; none where there is no such domain.

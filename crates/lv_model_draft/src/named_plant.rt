@@ -11,8 +11,7 @@ ghost use Rattle.lv_model_draft.specs.Priced.{with_pair};
 
 use crate::directory::Directory;
 use crate::named_type::NamedType;
-use lv_base::{Name, Seq, ValId, VarId};
-use lv_formula::Condition;
+use lv_base::{Condition, Name, Seq, ValId, VarId};
 use lv_model::{Domain, Part, Plant, Price};
 use std::alloc::{AllocError, Global};
 use std::marker::Model;
@@ -29,7 +28,7 @@ impl Model for NamedPlant {
     ghost use Rattle.lv_model.specs.declared.plant.Plant.{Plant as Lists};
     ghost use Rattle.lv_model_draft.specs.Names.{names_of};
     ghost use Rattle.std.specs.Coded.{codes};
-    ghost use Rattle.lv_formula.specs.contracts.Condition as condition;
+    ghost use Rattle.lv_base.specs.contracts.formula.Condition as condition;
 
     ghost Value = { Lists };
 

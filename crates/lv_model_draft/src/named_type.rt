@@ -7,8 +7,7 @@ ghost use Rattle.lv_model_draft.specs.Places.{noted};
 ghost use Rattle.lv_model_draft.specs.Names.{variable_places};
 
 use crate::FirstPlaces;
-use lv_base::{Name, Seq};
-use lv_formula::Condition;
+use lv_base::{Condition, Name, Seq};
 use lv_model::{ComponentType, ModeFormula, Move, Variable};
 use std::alloc::{AllocError, Global};
 use std::marker::Model;
@@ -26,7 +25,7 @@ impl Model for NamedType {
     ghost use Rattle.lv_model.specs.declared.plant.ComponentType.{ComponentType as Lists};
     ghost use Rattle.lv_model_draft.specs.Names.{variable_places};
     ghost use Rattle.std.specs.Coded.{codes};
-    ghost use Rattle.lv_formula.specs.contracts.Condition as condition;
+    ghost use Rattle.lv_base.specs.contracts.formula.Condition as condition;
 
     ghost Value = { Lists };
 

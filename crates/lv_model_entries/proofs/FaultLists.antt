@@ -2,7 +2,7 @@
 use Rattle.std.proofs.Common.{◌≡◌, ◌+◌, ℕ, suc, Bool, true, false, nat_eq, [], ◌∷◌, ◌++◌, Option, if◌then◌else◌, ap, ◌∙◌, arith}
 use Rattle.std.proofs.lemmas.List.{append-nil}
 use Rattle.lv_base.specs.declared.ids.ValId.{ValId}
-use Rattle.lv_formula.specs.Tree.{Tree}
+use Rattle.lv_base.specs.Tree.{Tree}
 use Rattle.lv_model_entries.specs.Entries.{fault_of, faults_to}
 
 one_further : (target : ValId) (cost : ℕ) (guard : Option Tree) (line n : ℕ)

@@ -5,7 +5,7 @@ use Rattle.std.specs.Option.{option_and_then, option_map_or}
 use Rattle.lv_base.specs.declared.ids.VarId.{VarId}
 use Rattle.lv_base.specs.declared.ids.ValId.{ValId}
 use Rattle.lv_base.specs.declared.names.Class.{Class}
-use Rattle.lv_formula.specs.Tree.{Tree, is}
+use Rattle.lv_base.specs.Tree.{Tree, is}
 use Rattle.lv_formula_text.specs.declared.path.Path.TheVariants.{Own}
 use Rattle.lv_model.specs.declared.plant.Domain.{Domain}
 use Rattle.lv_model.specs.declared.plant.ComponentType.{ComponentType}

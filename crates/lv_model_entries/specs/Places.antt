@@ -4,8 +4,8 @@ use Rattle.std.specs.Option.{option_and_then}
 use Rattle.lv_base.specs.Names.{is_named}
 use Rattle.lv_base.specs.declared.ids.ValId.{ValId}
 use Rattle.lv_base.specs.declared.ids.VarId.{VarId}
-use Rattle.lv_formula.specs.declared.range.Sort.{Sort}
-use Rattle.lv_formula.specs.declared.range.Sort.TheVariants.{Modes, Values}
+use Rattle.lv_base.specs.declared.range.Sort.{Sort}
+use Rattle.lv_base.specs.declared.range.Sort.TheVariants.{Modes, Values}
 use Rattle.lv_model.specs.declared.plant.Domain.{Domain}
 use Rattle.lv_model.specs.declared.plant.ComponentType.{ComponentType}
 use Rattle.lv_model.specs.declared.plant.Variable.{Variable}

@@ -3,7 +3,7 @@
 
 ghost use Rattle.std.specs.Prelude.{◌≡◌, IfOk};
 
-use lv_formula::Condition;
+use lv_base::Condition;
 use std::alloc::{AllocError, Global};
 
 /// A copy of a condition, if there is one.

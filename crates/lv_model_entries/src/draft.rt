@@ -3,8 +3,7 @@
 
 ghost use Rattle.std.specs.Prelude.{◌≡◌};
 
-use lv_base::{Name, Seq};
-use lv_formula::{Condition, Range};
+use lv_base::{Condition, Name, Range, Seq};
 use lv_model::{Domain, ModeFormula, Move, Part, Price, Variable};
 use lv_model_draft::{NamedPlant, NamedType};
 use lv_reader::ModelCode;

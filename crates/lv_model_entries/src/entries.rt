@@ -21,8 +21,7 @@ use crate::places::{
 use crate::scope::{
     own_value, own_variable_named, system_formula, type_formula, value_of_system, variable_of_part,
 };
-use lv_base::{Class, Cost, Name, Seq, ValId, VarId};
-use lv_formula::{Condition, Formula};
+use lv_base::{Class, Condition, Cost, Formula, Name, Seq, ValId, VarId};
 use lv_formula_text::Phrase;
 use lv_model::{ComponentType, Domain, ModeFormula, Move, MoveKind, Part, Price, Variable};
 use lv_model_draft::{NamedPlant, NamedType};

@@ -6,8 +6,7 @@ ghost use Rattle.std.specs.Option.{option_and_then, option_copied};
 ghost use Rattle.lv_model.specs.declared.plant.ComponentType.{ComponentType};
 ghost use Rattle.lv_model_entries.specs.Places.{placed, domain_place, type_place, value_place, mode_place, variable_numbered, variable_place, part_of_name, value_of_domain, mode_of_type, value_of_sort};
 
-use lv_base::{Name, ValId, VarId, find_name};
-use lv_formula::Sort;
+use lv_base::{Name, Sort, ValId, VarId, find_name};
 use lv_model::{ComponentType, Domain, Part};
 use lv_model_draft::{NamedPlant, NamedType};
 

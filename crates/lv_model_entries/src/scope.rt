@@ -12,9 +12,8 @@ use crate::places::{
     mode_place, part_of_name, value_of_domain, value_of_sort, variable_numbered, variable_of_kind,
     variable_place,
 };
-use lv_base::{ValId, VarId};
-use lv_formula::range::is_same_sort;
-use lv_formula::{Condition, Sort};
+use lv_base::range::is_same_sort;
+use lv_base::{Condition, Sort, ValId, VarId};
 use lv_formula_text::{Path, Phrase, ResolveFault, Scope, resolve};
 use lv_model::{ComponentType, Domain, Part};
 use lv_model_draft::{NamedPlant, NamedType};

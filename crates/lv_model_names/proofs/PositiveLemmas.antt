@@ -5,7 +5,7 @@ use Rattle.std.specs.Option.{option_map_or}
 use Rattle.std.proofs.lemmas.Bool.{and_from, and_parts, lt-ltb}
 use Rattle.std.proofs.lemmas.List.Folds.{list_all-append}
 use Rattle.lv_base.specs.declared.limits.TheConstants.{MODES, MOVES, VALUES}
-use Rattle.lv_formula.specs.declared.range.Range.{Range}
+use Rattle.lv_base.specs.declared.range.Range.{Range}
 use Rattle.lv_model.specs.declared.plant.Plant.{Plant}
 use Rattle.lv_model.specs.declared.plant.Domain.{Domain}
 use Rattle.lv_model.specs.declared.plant.ComponentType.{ComponentType}

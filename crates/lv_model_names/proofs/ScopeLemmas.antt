@@ -8,10 +8,10 @@ use Rattle.std.proofs.lemmas.List.Quantifiers.{position-Some}
 use Rattle.lv_base.specs.Names.{is_named}
 use Rattle.lv_base.specs.declared.ids.ValId.{ValId}
 use Rattle.lv_base.specs.declared.ids.VarId.{VarId}
-use Rattle.lv_formula.specs.declared.range.Range.{Range}
-use Rattle.lv_formula.specs.declared.range.Sort.{Sort}
-use Rattle.lv_formula.specs.declared.range.Sort.TheVariants.{Modes, Values}
-use Rattle.lv_formula.specs.Fits.{is_same_sort, has_value, are_alike}
+use Rattle.lv_base.specs.declared.range.Range.{Range}
+use Rattle.lv_base.specs.declared.range.Sort.{Sort}
+use Rattle.lv_base.specs.declared.range.Sort.TheVariants.{Modes, Values}
+use Rattle.lv_base.specs.Fits.{is_same_sort, has_value, are_alike}
 use Rattle.lv_model.specs.declared.plant.Plant.{Plant}
 use Rattle.lv_model.specs.declared.plant.Domain.{Domain}
 use Rattle.lv_model.specs.declared.plant.ComponentType.{ComponentType}

@@ -2,8 +2,8 @@
 use Rattle.std.specs.Prelude.{◌≡◌, ◌<◌, ℕ, true, List, Some, Ok, slice_index_or}
 use Rattle.lv_base.specs.declared.ids.ValId.{ValId}
 use Rattle.lv_base.specs.declared.ids.VarId.{VarId}
-use Rattle.lv_formula.specs.Tree.{Tree}
-use Rattle.lv_formula.specs.Fits.{fits, has_value}
+use Rattle.lv_base.specs.Tree.{Tree}
+use Rattle.lv_base.specs.Fits.{fits, has_value}
 use Rattle.lv_model.specs.declared.plant.Plant.{Plant}
 use Rattle.lv_model.specs.Lists.{sizes, variable_count}
 use Rattle.lv_model.specs.WellFormed.{is_well_formed}

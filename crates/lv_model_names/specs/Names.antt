@@ -9,10 +9,10 @@ use Rattle.lv_base.specs.declared.ids.ValId.{ValId}
 use Rattle.lv_base.specs.declared.ids.VarId.{VarId}
 use Rattle.lv_formula_text.specs.declared.path.Path.{Path}
 use Rattle.lv_formula_text.specs.declared.path.Path.TheVariants.{Own, OfPart}
-use Rattle.lv_formula.specs.declared.range.Range.{Range}
-use Rattle.lv_formula.specs.declared.range.Sort.{Sort}
-use Rattle.lv_formula.specs.declared.range.Sort.TheVariants.{Modes, Values}
-use Rattle.lv_formula.specs.Fits.{is_same_sort}
+use Rattle.lv_base.specs.declared.range.Range.{Range}
+use Rattle.lv_base.specs.declared.range.Sort.{Sort}
+use Rattle.lv_base.specs.declared.range.Sort.TheVariants.{Modes, Values}
+use Rattle.lv_base.specs.Fits.{is_same_sort}
 use Rattle.lv_model.specs.declared.plant.Plant.{Plant}
 use Rattle.lv_model.specs.declared.plant.Domain.{Domain}
 use Rattle.lv_model.specs.declared.plant.ComponentType.{ComponentType}

@@ -7,8 +7,7 @@ ghost use Rattle.lv_formula_text.specs.ResolveFaults.{Tells};
 ghost use Rattle.lv_model_names.specs.Names.{names_over};
 
 use crate::names::{share_domain, value_of, variable_of};
-use lv_base::{ValId, VarId};
-use lv_formula::{Condition, Range};
+use lv_base::{Condition, Range, ValId, VarId};
 use lv_formula_text::{Path, Phrase, ResolveFault, Scope, resolve};
 use lv_model::Plant;
 use std::alloc::Global;

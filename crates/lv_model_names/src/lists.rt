@@ -8,8 +8,7 @@ ghost use Rattle.lv_model.specs.declared.plant.Variable.{Variable as VariableOf}
 ghost use Rattle.lv_model_names.specs.Names.{type_classes, part_classes, classes};
 ghost use Rattle.lv_model_names.specs.Lists.{lists_of};
 
-use lv_base::{Class, Seq, VarId};
-use lv_formula::Range;
+use lv_base::{Class, Range, Seq, VarId};
 use lv_model::counts::law_sizes;
 use lv_model::lookup::type_of;
 use lv_model::ranges::plant_ranges;

@@ -6,9 +6,8 @@ ghost use Rattle.std.specs.Prelude.{◌≡◌};
 ghost use Rattle.std.specs.Option.{option_copied};
 ghost use Rattle.lv_model_names.specs.Names.{numbered, place_in_type, variable_at, variable_of_part, variable_of as variable_named_by, value_among, value_of_sort, sort_of, value_of, are_one_sort, share_domain, is_observable_class, is_observable as is_observable_in};
 
-use lv_base::{Class, Name, ValId, VarId, find_name};
-use lv_formula::range::is_same_sort;
-use lv_formula::{Range, Sort};
+use lv_base::range::is_same_sort;
+use lv_base::{Class, Name, Range, Sort, ValId, VarId, find_name};
 use lv_model::names::{find_part, find_variable};
 use lv_model::{ComponentType, Part, Plant, Variable};
 

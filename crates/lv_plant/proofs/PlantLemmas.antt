@@ -9,8 +9,8 @@ use Rattle.std.proofs.lemmas.List.Quantifiers.{position-Some}
 use Rattle.std.proofs.lemmas.List.Elements.{All-cons, All-nil, All-head, All-tail}
 use Rattle.lv_base.specs.declared.ids.ValId.{ValId}
 use Rattle.lv_base.specs.declared.ids.MoveId.{MoveId}
-use Rattle.lv_formula.specs.declared.range.Range.{Range}
-use Rattle.lv_formula.proofs.FitLemmas.{fits_reads}
+use Rattle.lv_base.specs.declared.range.Range.{Range}
+use Rattle.lv_base.proofs.FitLemmas.{fits_reads}
 use Rattle.lv_model.specs.declared.plant.Plant.{Plant}
 use Rattle.lv_model.specs.declared.plant.ComponentType.{ComponentType}
 use Rattle.lv_model.specs.declared.plant.Part.{Part}

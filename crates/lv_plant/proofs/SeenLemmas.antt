@@ -9,7 +9,7 @@ use Rattle.std.proofs.lemmas.Fmt.{decimal_injective, length-decimal-le}
 use Rattle.lv_base.specs.declared.ids.ValId.{ValId}
 use Rattle.lv_base.specs.declared.ids.VarId.{VarId}
 use Rattle.lv_base.specs.declared.limits.TheConstants.{OBSERVATIONS, NAME_BYTES, COMMITS}
-use Rattle.lv_formula.specs.Tree.{value_of}
+use Rattle.lv_base.specs.Tree.{value_of}
 use Rattle.lv_model.specs.declared.plant.Plant.{Plant}
 use Rattle.lv_reply.specs.declared.reply.Refusal.TheVariants.{NameHeld, TooManyHeld}
 use Rattle.lv_reply.specs.declared.reply.Reply.TheVariants.{Refused as RefusedReply}

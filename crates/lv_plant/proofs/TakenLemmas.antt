@@ -8,9 +8,9 @@ use Rattle.lv_model.specs.declared.plant.Plant.{Plant}
 use Rattle.lv_model.specs.declared.state.TrackedState.{TrackedState}
 use Rattle.lv_model.specs.Lists.{controls}
 use Rattle.lv_model.specs.Meaning.{is_feasible, parts_step}
-use Rattle.lv_search_walk.specs.declared.outcome.Outcome.{Outcome}
-use Rattle.lv_search_walk.specs.declared.outcome.Outcome.TheVariants.{Settled, Unsettled}
-use Rattle.lv_search_walk.specs.Walk.{Walked, first_of_each}
+use Rattle.lv_boxes.specs.declared.outcome.Outcome.{Outcome}
+use Rattle.lv_boxes.specs.declared.outcome.Outcome.TheVariants.{Settled, Unsettled}
+use Rattle.lv_boxes.specs.Walk.{Walked, first_of_each}
 use Rattle.lv_meaning.specs.Facts.{meets, commanded, now_facts, meets_facts}
 use Rattle.lv_meaning.specs.Candidates.{candidates, is_possible_rank, first_possible}
 use Rattle.lv_meaning.specs.CandidateLaws.{moves_cost, IsCandidate}

@@ -2,7 +2,7 @@
 use Rattle.std.specs.Prelude.{ℕ, Bool, nat_eq, if◌then◌else◌, List, length, IsTrue}
 use Rattle.std.specs.List.{list_all, list_any}
 use Rattle.lv_base.specs.declared.ids.ValId.{ValId}
-use Rattle.lv_formula.specs.Tree.{truth_of, reads_below}
+use Rattle.lv_base.specs.Tree.{truth_of, reads_below}
 use Rattle.lv_model.specs.declared.state.TrackedState.{TrackedState}
 use Rattle.lv_session.specs.lv_tracker.Distinct.{has_modes}
 use Rattle.lv_session.specs.lv_session_request.declared.goals.Goal.{Goal}

@@ -8,7 +8,7 @@ use Rattle.lv_model.specs.declared.plant.Plant.{Plant}
 use Rattle.lv_model.specs.declared.plant.ComponentType.{ComponentType}
 use Rattle.lv_model.specs.declared.plant.Part.{Part}
 use Rattle.lv_model.specs.declared.plant.Variable.{Variable}
-use Rattle.lv_formula.specs.Tree.{value_of}
+use Rattle.lv_base.specs.Tree.{value_of}
 use Rattle.lv_session.specs.lv_model_names.Names.{is_observable_class}
 use Rattle.lv_session.specs.lv_session_request.declared.request.Sighting.{Sighting}
 use Rattle.lv_plant.specs.declared.seeing.TheConstants.{SEEN}

@@ -77,7 +77,7 @@ impl<'a> marker::Model for Plant<'a> {
     ghost use Rattle.lv_plant.specs.Standing.{Standing};
     ghost use Rattle.lv_plant.specs.Plants.{IsPlant};
     ghost use Rattle.std.specs.Coded.{codes};
-    ghost use Rattle.lv_model.specs.lv_formula.contracts.Condition as condition;
+    ghost use Rattle.lv_model.specs.lv_base.contracts.formula.Condition as condition;
 
     ghost Value = { Standing };
 

@@ -3,7 +3,7 @@
 #![tactic(auto)]
 
 ghost use Rattle.std.specs.Prelude.{◌≡◌, ◌+◌, ◌++◌, ◌∷◌, [], ◌<◌, ◌^◌, IfOk, All, length, take, decimal};
-ghost use Rattle.lv_formula.specs.Tree.{value_of};
+ghost use Rattle.lv_base.specs.Tree.{value_of};
 ghost use Rattle.lv_model.specs.Lists.{sizes};
 ghost use Rattle.lv_model.specs.WellFormed.{PartEnds};
 ghost use Rattle.lv_session.specs.lv_model_names.Names.{is_observable_class};

@@ -10,8 +10,8 @@ use Rattle.lv_base.specs.declared.ids.MoveId.{MoveId}
 use Rattle.lv_clauses.specs.Literals.{lit_holds}
 use Rattle.lv_model.specs.declared.plant.Plant.{Plant}
 use Rattle.lv_model.specs.declared.plant.Part.{Part}
-use Rattle.lv_model.specs.lv_formula.declared.range.Range.{Range}
-use Rattle.lv_model.specs.lv_formula.Fits.{has_value}
+use Rattle.lv_model.specs.lv_base.declared.range.Range.{Range}
+use Rattle.lv_model.specs.lv_base.Fits.{has_value}
 use Rattle.lv_model.specs.Ranges.{plant_ranges}
 use Rattle.lv_model.specs.Lists.{sizes}
 use Rattle.lv_meaning.specs.declared.facts.Observation.{Observation}

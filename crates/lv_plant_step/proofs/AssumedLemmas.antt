@@ -14,7 +14,7 @@ use Rattle.lv_clauses.proofs.LiteralLemmas.{lit_of}
 use Rattle.lv_sat.specs.declared.answer.Answer.{Answer}
 use Rattle.lv_sat.specs.declared.answer.Answer.TheVariants.{Sat, Unsat}
 use Rattle.lv_sat.specs.Answers.{Answers, IsRefutation, IsSatisfied}
-use Rattle.lv_sat.specs.lv_reflog.declared.log.Step.{Step}
+use Rattle.lv_sat.specs.lv_clauses.declared.log.Step.{Step}
 use Rattle.lv_ident.proofs.OnceLemmas.{IsNotedOnce, none_noted, distinct_more}
 use Rattle.lv_plant_step.specs.Assuming.{Assumption, holds, AreMarked, SaysMore, Tells}
 

@@ -7,7 +7,7 @@ use Rattle.lv_base.specs.declared.ids.ValId.{ValId}
 use Rattle.lv_base.specs.declared.ids.MoveId.{MoveId}
 use Rattle.lv_clauses.specs.Literals.{in_range, lit_holds}
 use Rattle.lv_model.specs.declared.plant.Plant.{Plant}
-use Rattle.lv_model.specs.lv_formula.Tree.{number_of}
+use Rattle.lv_model.specs.lv_base.Tree.{number_of}
 use Rattle.lv_model.specs.Lists.{sizes}
 use Rattle.lv_meaning.specs.Possible.{value}
 use Rattle.lv_system.specs.lv_compile.Booleans.{booleans_now, booleans_next, bool_count, value_literal}

@@ -13,7 +13,7 @@ use Rattle.lv_model.specs.declared.plant.Plant.{Plant}
 use Rattle.lv_model.specs.declared.plant.ComponentType.{ComponentType}
 use Rattle.lv_model.specs.declared.plant.Part.{Part}
 use Rattle.lv_model.specs.declared.state.TrackedState.{TrackedState}
-use Rattle.lv_model.specs.lv_formula.Tree.{number_of}
+use Rattle.lv_model.specs.lv_base.Tree.{number_of}
 use Rattle.lv_model.specs.Lists.{sizes, move_counts, controls, part_moves}
 use Rattle.lv_model.specs.Meaning.{is_step, is_nominal, parts_are_nominal, part_is_nominal}
 use Rattle.lv_meaning.specs.Facts.{agrees, meets, commanded, now_facts}

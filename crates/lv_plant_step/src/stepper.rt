@@ -35,7 +35,7 @@ pub struct PlantStepper<'a> {
 impl<'a> marker::Model for PlantStepper<'a> {
     ghost use Rattle.lv_model.specs.declared.plant.Plant.{Plant};
     ghost use Rattle.std.specs.Coded.{codes};
-    ghost use Rattle.lv_model.specs.lv_formula.contracts.Condition as condition;
+    ghost use Rattle.lv_model.specs.lv_base.contracts.formula.Condition as condition;
     ghost use Rattle.lv_plant_step.specs.Finding.{IsStepper};
 
     ghost Value = { Plant };

@@ -16,8 +16,8 @@ use Rattle.lv_model.specs.Meaning.{is_step}
 use Rattle.lv_meaning.specs.declared.facts.Observation.{Observation}
 use Rattle.lv_meaning.specs.declared.facts.Facts.{Facts}
 use Rattle.lv_meaning.specs.Facts.{agrees, meets, now_facts, meets_facts}
-use Rattle.lv_meaning.specs.lv_search_walk.declared.outcome.Outcome.TheVariants.{Settled}
-use Rattle.lv_meaning.specs.lv_search_walk.Walk.{candidate_of}
+use Rattle.lv_meaning.specs.lv_boxes.declared.outcome.Outcome.TheVariants.{Settled}
+use Rattle.lv_meaning.specs.lv_boxes.Walk.{candidate_of}
 use Rattle.lv_meaning.specs.Possible.{value, move_number, extends, is_possible}
 use Rattle.lv_meaning.specs.PossibleLaws.{Witness}
 use Rattle.lv_meaning.specs.Candidates.{candidates, is_possible_rank}

@@ -4,8 +4,8 @@ use Rattle.lv_model.specs.declared.plant.Plant.{Plant}
 use Rattle.lv_model.specs.declared.state.TrackedState.{TrackedState}
 use Rattle.lv_meaning.specs.declared.facts.Observation.{Observation}
 use Rattle.lv_meaning.specs.declared.facts.Facts.{Facts}
-use Rattle.lv_meaning.specs.lv_search_walk.declared.outcome.Outcome.TheVariants.{Settled}
-use Rattle.lv_meaning.specs.lv_search_walk.Walk.{candidate_of}
+use Rattle.lv_meaning.specs.lv_boxes.declared.outcome.Outcome.TheVariants.{Settled}
+use Rattle.lv_meaning.specs.lv_boxes.Walk.{candidate_of}
 use Rattle.lv_meaning.specs.Candidates.{candidates}
 use Rattle.lv_meaning.specs.Diagnosis.{diagnosis_walk}
 use Rattle.lv_ident.specs.Probing.{with_next}

@@ -11,7 +11,7 @@ use Rattle.lv_model.specs.Lists.{sizes, IsFew}
 use Rattle.lv_model_names.specs.Names.{classes, is_observable}
 use Rattle.lv_meaning.specs.declared.facts.Observation.{Observation}
 use Rattle.lv_meaning.specs.declared.facts.Facts.{Facts}
-use Rattle.lv_meaning.specs.lv_search_walk.Walk.{candidate_of}
+use Rattle.lv_meaning.specs.lv_boxes.Walk.{candidate_of}
 use Rattle.lv_ident.specs.Probing.{is_allowed}
 use Rattle.lv_search_zones.specs.Moves.{is_full_choice}
 use Rattle.lv_reply.specs.declared.probes.Probed.{Probed}

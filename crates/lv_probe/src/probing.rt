@@ -5,7 +5,7 @@ ghost use Rattle.std.specs.Prelude.{◌≡◌, ◌+◌, ◌<◌, ◌^◌, ◌++�
 ghost use Rattle.lv_model.specs.Lists.{sizes, IsFew, IsVariable};
 ghost use Rattle.lv_model_names.specs.Names.{classes};
 ghost use Rattle.lv_meaning.specs.Facts.{FactsFit, FactsInRange, HasValue};
-ghost use Rattle.lv_meaning.specs.lv_search_walk.Walk.{candidate_of};
+ghost use Rattle.lv_meaning.specs.lv_boxes.Walk.{candidate_of};
 ghost use Rattle.lv_system.specs.System.{IsSystemOf};
 ghost use Rattle.lv_ident.specs.Probing.{is_allowed};
 ghost use Rattle.lv_reply.specs.declared.probes.Probed.{Probed as ProbedOf};

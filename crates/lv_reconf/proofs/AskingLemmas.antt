@@ -13,8 +13,8 @@ use Rattle.lv_clauses.specs.Marks.{Marks, is_marked}
 use Rattle.lv_sat.specs.declared.answer.Answer.{Answer}
 use Rattle.lv_sat.specs.declared.answer.Answer.TheVariants.{Sat, Unsat}
 use Rattle.lv_sat.specs.Answers.{Answers, IsModel, IsRefutation, IsSatisfied}
-use Rattle.lv_sat.specs.lv_reflog.declared.log.Step.{Step}
-use Rattle.lv_formula.specs.Tree.{number_of}
+use Rattle.lv_sat.specs.lv_clauses.declared.log.Step.{Step}
+use Rattle.lv_base.specs.Tree.{number_of}
 use Rattle.lv_model.specs.declared.plant.Plant.{Plant}
 use Rattle.lv_model.specs.declared.state.State.{State}
 use Rattle.lv_model.specs.Lists.{sizes, move_counts, controls}

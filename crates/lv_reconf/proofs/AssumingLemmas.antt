@@ -10,9 +10,9 @@ use Rattle.lv_base.specs.declared.ids.ValId.{ValId}
 use Rattle.lv_base.specs.declared.ids.VarId.{VarId}
 use Rattle.lv_base.specs.declared.search.Pair.{Pair}
 use Rattle.lv_clauses.specs.Literals.{is_clause, in_range, same_var, distinct, lit_holds}
-use Rattle.lv_formula.specs.declared.range.Range.{Range}
-use Rattle.lv_formula.specs.Fits.{has_value}
-use Rattle.lv_formula.specs.Tree.{number_of}
+use Rattle.lv_base.specs.declared.range.Range.{Range}
+use Rattle.lv_base.specs.Fits.{has_value}
+use Rattle.lv_base.specs.Tree.{number_of}
 use Rattle.lv_model.specs.declared.plant.Plant.{Plant}
 use Rattle.lv_model.specs.declared.plant.Part.{Part}
 use Rattle.lv_model.specs.Ranges.{plant_ranges}

@@ -9,8 +9,8 @@ use Rattle.lv_base.specs.declared.ids.MoveId.{MoveId}
 use Rattle.lv_clauses.specs.Literals.{same_truth, is_clause, clause_holds}
 use Rattle.lv_clauses.specs.ClauseMap.{ClauseMap, satisfies}
 use Rattle.lv_clauses.proofs.LiteralLemmas.{all_member}
-use Rattle.lv_formula.specs.Tree.{Tree, truth_of}
-use Rattle.lv_formula.specs.Fits.{fits}
+use Rattle.lv_base.specs.Tree.{Tree, truth_of}
+use Rattle.lv_base.specs.Fits.{fits}
 use Rattle.lv_model.specs.declared.plant.Plant.{Plant}
 use Rattle.lv_model.specs.Ranges.{plant_ranges}
 use Rattle.lv_model.specs.Meaning.{is_step, is_nominal}

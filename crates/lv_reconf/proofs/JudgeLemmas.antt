@@ -12,7 +12,7 @@ use Rattle.lv_base.specs.Choices.{pairs_from, pairs_of}
 use Rattle.lv_model.specs.declared.plant.Plant.{Plant}
 use Rattle.lv_model.specs.declared.state.TrackedState.{TrackedState}
 use Rattle.lv_model.specs.Lists.{sizes, controls}
-use Rattle.lv_meaning.specs.lv_search_walk.Reason.{reduced}
+use Rattle.lv_meaning.specs.lv_boxes.Reason.{reduced}
 use Rattle.lv_meaning.specs.declared.aim.Aim.{Aim}
 use Rattle.lv_meaning.specs.Recovers.{reaches, can_miss}
 use Rattle.lv_meaning.specs.Commands.{control_sizes, is_command_set}

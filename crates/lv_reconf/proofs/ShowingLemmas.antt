@@ -12,7 +12,7 @@ use Rattle.lv_clauses.specs.ClauseMap.{ClauseMap, slot_holds, satisfies}
 use Rattle.lv_sat.specs.declared.answer.Answer.{Answer}
 use Rattle.lv_sat.specs.declared.answer.Answer.TheVariants.{Sat, Unsat}
 use Rattle.lv_sat.specs.Answers.{Answers, IsModel, IsRefutation, IsSatisfied}
-use Rattle.lv_sat.specs.lv_reflog.declared.log.Step.{Step}
+use Rattle.lv_sat.specs.lv_clauses.declared.log.Step.{Step}
 use Rattle.lv_model.specs.declared.plant.Plant.{Plant}
 use Rattle.lv_model.specs.declared.state.State.{State}
 use Rattle.lv_model.specs.Lists.{controls}

@@ -5,7 +5,7 @@ use Rattle.lv_base.specs.declared.ids.Lit.{Lit}
 use Rattle.lv_base.specs.declared.ids.ValId.{ValId}
 use Rattle.lv_base.specs.declared.ids.VarId.{VarId}
 use Rattle.lv_clauses.specs.Literals.{same_truth, clause_holds}
-use Rattle.lv_formula.specs.Tree.{Tree, truth_of}
+use Rattle.lv_base.specs.Tree.{Tree, truth_of}
 use Rattle.lv_model.specs.declared.plant.Plant.{Plant}
 use Rattle.lv_model.specs.Lists.{controls}
 use Rattle.lv_compile.specs.Booleans.{Booleans, booleans_now, booleans_next, bool_count}

@@ -3,7 +3,7 @@ use Rattle.std.specs.Prelude.{◌≡◌, ℕ, Bool, true, false, List, []}
 use Rattle.lv_base.specs.declared.search.Candidate.{Candidate}
 use Rattle.lv_base.specs.Choices.{pairs_of}
 use Rattle.lv_model.specs.declared.plant.Plant.{Plant}
-use Rattle.lv_meaning.specs.lv_search_walk.Reason.{reduced}
+use Rattle.lv_meaning.specs.lv_boxes.Reason.{reduced}
 use Rattle.lv_meaning.specs.declared.aim.Aim.{Aim}
 use Rattle.lv_meaning.specs.Recovers.{recovers}
 use Rattle.lv_meaning.specs.Commands.{is_command_set}

@@ -13,8 +13,8 @@ use Rattle.lv_base.specs.Choices.{picks, contains_all, pairs_from, pairs_of, slo
 use Rattle.lv_model.specs.declared.plant.Plant.{Plant}
 use Rattle.lv_model.specs.declared.state.TrackedState.{TrackedState}
 use Rattle.lv_model.specs.Lists.{controls}
-use Rattle.lv_search_walk.specs.Reason.{reduced}
-use Rattle.lv_search_walk.proofs.ReasonLemmas.{still_impossible, part_of_all, still_rising}
+use Rattle.lv_boxes.specs.Reason.{reduced}
+use Rattle.lv_boxes.proofs.ReasonLemmas.{still_impossible, part_of_all, still_rising}
 use Rattle.lv_meaning.proofs.Among.{Among, all_among}
 use Rattle.lv_meaning.proofs.Reasons.{own_pairs, at_pairs, apart_by}
 use Rattle.lv_meaning.proofs.CommandReasons.{same_choices, same_length}

@@ -4,7 +4,7 @@ use Rattle.lv_base.specs.declared.ids.VarId.{VarId}
 use Rattle.lv_base.specs.Choices.{pairs_of}
 use Rattle.lv_model.specs.declared.plant.Plant.{Plant}
 use Rattle.lv_model.specs.Lists.{sizes}
-use Rattle.lv_meaning.specs.lv_search_walk.Reason.{reduced}
+use Rattle.lv_meaning.specs.lv_boxes.Reason.{reduced}
 use Rattle.lv_meaning.specs.declared.aim.Aim.{Aim}
 use Rattle.lv_meaning.specs.Commands.{command_sets}
 use Rattle.lv_search.specs.Standing.{Standing, all_suit, IsUnderWay}

@@ -6,7 +6,7 @@ ghost use Rattle.std.specs.List.{list_any};
 ghost use Rattle.lv_clauses.specs.Literals.{in_range, same_var};
 ghost use Rattle.lv_compile.specs.Booleans.{booleans_now, bool_count};
 ghost use Rattle.lv_compile.specs.FormulaClauses.{size_of};
-ghost use Rattle.lv_formula.specs.Tree.{number_of};
+ghost use Rattle.lv_base.specs.Tree.{number_of};
 ghost use Rattle.lv_model.specs.Lists.{controls};
 ghost use Rattle.lv_model.specs.Ranges.{plant_ranges};
 ghost use Rattle.lv_meaning.specs.Ranges.{modes_fit};

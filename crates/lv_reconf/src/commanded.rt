@@ -25,9 +25,8 @@ use super::compiled::Compiled;
 use super::goals::missing_solver;
 use super::setting::Setting;
 use lv_asking::refutation::refute_once;
-use lv_base::{Lit, Pair, ValId};
+use lv_base::{Condition, Lit, Pair, ValId};
 use lv_clauses::Marks;
-use lv_formula::Condition;
 use lv_meaning::Observation;
 use lv_model::{State, TrackedState};
 use lv_sat::{Answer, Solver};
@@ -45,7 +44,7 @@ pub struct Commanded<'c, 'a> {
 impl<'c, 'a> Model for Commanded<'c, 'a> {
     ghost use Rattle.std.specs.Coded.{codes};
     ghost use Rattle.std.specs.Prelude.{◌≡◌, true};
-    ghost use Rattle.lv_formula.specs.contracts.Condition as condition;
+    ghost use Rattle.lv_base.specs.contracts.formula.Condition as condition;
     ghost use Rattle.lv_reconf.specs.Assuming.{CommandedValue, pairs_fit};
 
     ghost Value = { CommandedValue };

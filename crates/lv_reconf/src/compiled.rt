@@ -12,11 +12,10 @@ ghost use Rattle.lv_reconf.specs.Assuming.{control_literal, pair_fits};
 ghost use Rattle.lv_reconf.specs.Compiling.{SayGoal};
 ghost use Rattle.lv_reconf.specs.Narrowing.{choices_of_plant};
 
-use lv_base::{Lit, MoveId, Pair, PartId, Seq, ValId, VarId};
+use lv_base::{Condition, Lit, MoveId, Pair, PartId, Seq, ValId, VarId};
 use lv_compile::cleaning::cleaned;
 use lv_compile::formula::formula_clauses;
 use lv_compile::value_bools::ValueBools;
-use lv_formula::Condition;
 use lv_model::Model;
 use lv_system::{ChoiceBools, Moment, StepSystem};
 use std::alloc::{AllocError, Global};
@@ -35,7 +34,7 @@ pub struct Compiled<'a> {
 impl<'a> marker::Model for Compiled<'a> {
     ghost use Rattle.lv_model.specs.declared.plant.Plant.{Plant};
     ghost use Rattle.std.specs.Coded.{codes};
-    ghost use Rattle.lv_formula.specs.contracts.Condition as condition;
+    ghost use Rattle.lv_base.specs.contracts.formula.Condition as condition;
     ghost use Rattle.lv_reconf.specs.Compiling.{IsCompiled};
 
     ghost Value = { Plant };

@@ -5,7 +5,7 @@
 ghost use Rattle.std.specs.Prelude.{◌≡◌, Bool, true, not, List, All, IfOk};
 ghost use Rattle.lv_clauses.specs.Literals.{same_truth};
 ghost use Rattle.lv_compile.specs.Booleans.{bool_count};
-ghost use Rattle.lv_formula.specs.Tree.{truth_of};
+ghost use Rattle.lv_base.specs.Tree.{truth_of};
 ghost use Rattle.lv_meaning.specs.declared.facts.Observation.{Observation};
 ghost use Rattle.lv_meaning.specs.Ranges.{ObservationFits, GoalFits};
 ghost use Rattle.lv_meaning.specs.Recovers.{meets_goals};
@@ -14,7 +14,7 @@ ghost use Rattle.lv_reconf.specs.Narrowing.{Narrows, Asks};
 
 use super::clauses::{add_all, exclude_faults, observe};
 use super::compiled::Compiled;
-use lv_formula::Condition;
+use lv_base::Condition;
 use lv_meaning::Observation;
 use lv_sat::Solver;
 use lv_system::StepSystem;

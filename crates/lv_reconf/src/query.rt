@@ -31,7 +31,7 @@ pub struct Query<'a> {
 
 impl<'a> marker::Model for Query<'a> {
     ghost use Rattle.std.specs.Coded.{codes};
-    ghost use Rattle.lv_formula.specs.contracts.Condition as condition;
+    ghost use Rattle.lv_base.specs.contracts.formula.Condition as condition;
     ghost use Rattle.lv_reconf.specs.Query.{QueryValue};
 
     ghost Value = { QueryValue };

@@ -5,7 +5,7 @@ ghost use Rattle.std.specs.Prelude.{◌≡◌, ◌<◌, [], true, slice_index_or
 ghost use Rattle.std.specs.List.{prefix_len};
 ghost use Rattle.lv_model.specs.declared.state.TrackedState.{TrackedState};
 ghost use Rattle.lv_meaning.specs.Recovers.{reaches};
-ghost use Rattle.lv_meaning.specs.lv_search_walk.Reason.{reduced};
+ghost use Rattle.lv_meaning.specs.lv_boxes.Reason.{reduced};
 ghost use Rattle.lv_model.specs.Lists.{sizes};
 ghost use Rattle.lv_base.specs.Choices.{pairs_of};
 ghost use Rattle.lv_reconf.specs.Assuming.{pairs_fit};
@@ -35,7 +35,7 @@ pub struct Reaching<'s, 'a> {
 
 impl<'s, 'a> Model for Reaching<'s, 'a> {
     ghost use Rattle.std.specs.Coded.{codes};
-    ghost use Rattle.lv_formula.specs.contracts.Condition as condition;
+    ghost use Rattle.lv_base.specs.contracts.formula.Condition as condition;
     ghost use Rattle.lv_meaning.specs.Recovers.{meets_goals};
     ghost use Rattle.lv_reconf.specs.Narrowing.{Asks};
     ghost use Rattle.lv_reconf.specs.Trying.{ReachingValue};

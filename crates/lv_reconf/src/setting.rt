@@ -26,7 +26,7 @@ pub struct Setting<'a> {
 
 impl<'a> marker::Model for Setting<'a> {
     ghost use Rattle.std.specs.Coded.{codes};
-    ghost use Rattle.lv_formula.specs.contracts.Condition as condition;
+    ghost use Rattle.lv_base.specs.contracts.formula.Condition as condition;
     ghost use Rattle.lv_reconf.specs.Trying.{Question, IsSetting};
 
     ghost Value = { Question };

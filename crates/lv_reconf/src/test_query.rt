@@ -36,7 +36,7 @@ pub struct TestQuery<'a> {
 
 impl<'a> marker::Model for TestQuery<'a> {
     ghost use Rattle.std.specs.Coded.{codes};
-    ghost use Rattle.lv_formula.specs.contracts.Condition as condition;
+    ghost use Rattle.lv_base.specs.contracts.formula.Condition as condition;
     ghost use Rattle.lv_reconf.specs.Testing.{TestValue, IsTesting};
 
     ghost Value = { TestValue };

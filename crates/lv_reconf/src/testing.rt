@@ -28,7 +28,7 @@ pub struct TestTrial<'s, 'a> {
 
 impl<'s, 'a> marker::Model for TestTrial<'s, 'a> {
     ghost use Rattle.std.specs.Coded.{codes};
-    ghost use Rattle.lv_formula.specs.contracts.Condition as condition;
+    ghost use Rattle.lv_base.specs.contracts.formula.Condition as condition;
     ghost use Rattle.lv_reconf.specs.Testing.{TestQuestion, IsTesting};
 
     ghost Value = { TestQuestion };

@@ -27,7 +27,7 @@ pub struct ReconfTrial<'s, 'a> {
 
 impl<'s, 'a> marker::Model for ReconfTrial<'s, 'a> {
     ghost use Rattle.std.specs.Coded.{codes};
-    ghost use Rattle.lv_formula.specs.contracts.Condition as condition;
+    ghost use Rattle.lv_base.specs.contracts.formula.Condition as condition;
     ghost use Rattle.lv_reconf.specs.Trying.{Question};
 
     ghost Value = { Question };

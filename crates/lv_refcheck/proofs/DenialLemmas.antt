@@ -9,7 +9,7 @@ use Rattle.lv_base.specs.declared.ids.Lit.{Lit}
 use Rattle.lv_clauses.specs.Literals.{neg, same_var, in_range, distinct, is_clause}
 use Rattle.lv_clauses.specs.Marks.{Marks, nothing, marked, is_free}
 use Rattle.lv_clauses.proofs.LiteralLemmas.{and_left}
-use Rattle.lv_reflog.specs.Following.{denied}
+use Rattle.lv_clauses.specs.Following.{denied}
 use Rattle.lv_clauses.specs.Noted.{is_open}
 
 -- the literals are of distinct booleans, in range and unmarked

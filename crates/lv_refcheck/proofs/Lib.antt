@@ -1,2 +1,2 @@
 pub mod DenialLemmas
-pub use Rattle.lv_reflog.proofs as lv_reflog
+pub use Rattle.lv_clauses.proofs as lv_clauses

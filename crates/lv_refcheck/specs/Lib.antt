@@ -1,1 +1,1 @@
-pub use Rattle.lv_reflog.specs as lv_reflog
+pub use Rattle.lv_clauses.specs as lv_clauses

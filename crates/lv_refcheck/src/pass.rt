@@ -4,12 +4,11 @@
 ghost use Rattle.std.specs.Prelude.{◌≡◌, ◌<◌, length, take, true, All, IfOk, IfSome, slice_get, option_map, unwrap_or};
 ghost use Rattle.lv_clauses.specs.Literals.{is_clause};
 ghost use Rattle.lv_clauses.specs.Marks.{nothing, look_at};
-ghost use Rattle.lv_reflog.specs.Following as Following;
-ghost use Rattle.lv_reflog.specs.Following.{IsImplied, denied, first_bad_step, follows_by_hints};
+ghost use Rattle.lv_clauses.specs.Following as Following;
+ghost use Rattle.lv_clauses.specs.Following.{IsImplied, denied, first_bad_step, follows_by_hints};
 
 use lv_base::Lit;
-use lv_clauses::{ClauseSet, Finding, Marks, look, negation};
-use lv_reflog::{Hint, Log, Step};
+use lv_clauses::{ClauseSet, Finding, Hint, Log, Marks, Step, look, negation};
 use std::alloc::{AllocError, Global};
 
 /// The first step, from 0, that doesn't follow by its hints; None exactly where all do. The clause of each step before

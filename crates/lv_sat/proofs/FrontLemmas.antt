@@ -10,10 +10,10 @@ use Rattle.lv_clauses.specs.Literals.{neg, in_range, is_clause}
 use Rattle.lv_clauses.specs.ClauseMap.{ClauseMap, Puts, clause_at}
 use Rattle.lv_clauses.specs.Marks.{Marks, is_marked, is_free, mark_is}
 use Rattle.lv_clauses.proofs.LiteralLemmas.{neg_neg, and_both, all_member, or_right, Contains-nil, Contains-cases}
-use Rattle.lv_reflog.specs.declared.log.Hint.{Hint}
-use Rattle.lv_reflog.specs.declared.log.Step.{Step}
-use Rattle.lv_reflog.specs.declared.log.Hint.TheVariants.{Given, Earlier}
-use Rattle.lv_reflog.specs.Following.{clause_of, first_bad_step}
+use Rattle.lv_clauses.specs.declared.log.Hint.{Hint}
+use Rattle.lv_clauses.specs.declared.log.Step.{Step}
+use Rattle.lv_clauses.specs.declared.log.Hint.TheVariants.{Given, Earlier}
+use Rattle.lv_clauses.specs.Following.{clause_of, first_bad_step}
 use Rattle.lv_trail.specs.declared.trail.Entry.{Entry}
 use Rattle.lv_sat.specs.declared.front.Level.{Level}
 use Rattle.lv_sat.specs.Answers.{IsSublist}

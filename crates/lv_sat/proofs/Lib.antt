@@ -2,4 +2,4 @@ mod MeasureLemmas
 mod SearchLemmas
 mod FrontLemmas
 mod RefutedLemmas
-pub use Rattle.lv_reflog.proofs as lv_reflog
+pub use Rattle.lv_clauses.proofs as lv_clauses

@@ -1,6 +1,6 @@
 -- A longer trail leaves no more above, and a turned choice leaves less.
 use Rattle.std.proofs.Common.{◌≡◌, ℕ, suc, zero, ◌+◌, ◌*◌, ◌<◌, ◌≤◌, List, [], ◌∷◌, ◌++◌, length, take, get_or, Option, Some, None, refl, ap, arith}
-use Rattle.lv_reflog.specs.declared.log.Hint.{Hint}
+use Rattle.lv_clauses.specs.declared.log.Hint.{Hint}
 use Rattle.lv_trail.specs.declared.trail.Entry.{Entry}
 use Rattle.std.proofs.Math.Nat.{add-mul}
 use Rattle.lv_sat.specs.Measure.{all_above, left_by, above, trails_left}

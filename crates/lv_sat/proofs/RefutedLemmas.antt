@@ -10,10 +10,10 @@ use Rattle.lv_clauses.specs.Literals.{neg, lit_holds, is_clause}
 use Rattle.lv_clauses.specs.ClauseMap.{ClauseMap, Puts, clause_at}
 use Rattle.lv_clauses.specs.Marks.{Marks, nothing, marked, look_at}
 use Rattle.lv_clauses.proofs.LiteralLemmas.{and_left, and_right, and_both, any_member, all_member, lit_or_neg}
-use Rattle.lv_reflog.specs.declared.log.Hint.{Hint}
-use Rattle.lv_reflog.specs.declared.log.Step.{Step}
-use Rattle.lv_reflog.specs.Following.{clause_of, denied, ends_well, goes_on, goes_on_from, is_last, follows_by_hints, first_bad_after, first_bad_step, IsImplied}
-use Rattle.lv_reflog.proofs.SoundLemmas.{checked}
+use Rattle.lv_clauses.specs.declared.log.Hint.{Hint}
+use Rattle.lv_clauses.specs.declared.log.Step.{Step}
+use Rattle.lv_clauses.specs.Following.{clause_of, denied, ends_well, goes_on, goes_on_from, is_last, follows_by_hints, first_bad_after, first_bad_step, IsImplied}
+use Rattle.lv_clauses.proofs.SoundLemmas.{checked}
 use Rattle.lv_sat.specs.declared.answer.Answer.{Answer}
 use Rattle.lv_sat.specs.declared.answer.Answer.TheVariants.{Unsat}
 use Rattle.lv_sat.specs.declared.answer.Refutation.{Refutation}

@@ -8,11 +8,11 @@ use Rattle.lv_clauses.specs.Literals.{neg, lit_holds, is_clause}
 use Rattle.lv_clauses.specs.ClauseMap.{ClauseMap, Slots, satisfies}
 use Rattle.lv_clauses.specs.Marks.{Marks, marked}
 use Rattle.lv_clauses.proofs.LiteralLemmas.{neg_neg, any_member, all_member, lit_or_neg}
-use Rattle.lv_reflog.specs.declared.log.Hint.{Hint}
-use Rattle.lv_reflog.specs.declared.log.Hint.TheVariants.{Given, Earlier}
-use Rattle.lv_reflog.specs.declared.log.Step.{Step}
-use Rattle.lv_reflog.specs.Following.{clause_of, follows_by_hints, first_bad_after, first_bad_step, IsImplied}
-use Rattle.lv_reflog.proofs.SoundLemmas.{checked}
+use Rattle.lv_clauses.specs.declared.log.Hint.{Hint}
+use Rattle.lv_clauses.specs.declared.log.Hint.TheVariants.{Given, Earlier}
+use Rattle.lv_clauses.specs.declared.log.Step.{Step}
+use Rattle.lv_clauses.specs.Following.{clause_of, follows_by_hints, first_bad_after, first_bad_step, IsImplied}
+use Rattle.lv_clauses.proofs.SoundLemmas.{checked}
 use Rattle.lv_trail.specs.declared.trail.Entry.{Entry}
 use Rattle.lv_sat.specs.Answers.{IsModel, IsSatisfied, IsSublist, IsRefutation, last_clause, nothing as no_literals, left_out, taken}
 use Rattle.lv_sat.specs.Front.{AreFound, AreValues, IsFront, IsRefuted}

@@ -3,8 +3,8 @@ use Rattle.std.specs.Prelude.{◌≡◌, ◌-◌, Bool, List, length, map, Optio
 use Rattle.lv_base.specs.declared.ids.Lit.{Lit}
 use Rattle.lv_clauses.specs.Literals.{neg}
 use Rattle.lv_clauses.specs.ClauseMap.{ClauseMap}
-use Rattle.lv_reflog.specs.declared.log.Step.{Step}
-use Rattle.lv_reflog.specs.Following.{first_bad_step}
+use Rattle.lv_clauses.specs.declared.log.Step.{Step}
+use Rattle.lv_clauses.specs.Following.{first_bad_step}
 pub use Rattle.lv_last_values.specs.Values.{IsModel}
 pub use Rattle.lv_trail.specs.Part.{IsSublist, nothing, left_out, taken}
 use Rattle.lv_sat.specs.declared.answer.Answer.{Answer}

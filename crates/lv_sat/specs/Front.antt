@@ -5,8 +5,8 @@ use Rattle.lv_base.specs.declared.ids.Lit.{Lit}
 use Rattle.lv_clauses.specs.Literals.{lit_holds}
 use Rattle.lv_clauses.specs.ClauseMap.{ClauseMap, satisfies}
 use Rattle.lv_clauses.specs.Marks.{Marks}
-use Rattle.lv_reflog.specs.declared.log.Step.{Step}
-use Rattle.lv_reflog.specs.Following.{first_bad_step}
+use Rattle.lv_clauses.specs.declared.log.Step.{Step}
+use Rattle.lv_clauses.specs.Following.{first_bad_step}
 use Rattle.lv_trail.specs.declared.trail.Entry.{Entry}
 use Rattle.lv_sat.specs.declared.front.Level.{Level}
 use Rattle.lv_sat.specs.Answers.{IsSublist}

@@ -4,4 +4,4 @@ pub mod Front
 pub mod Search
 pub mod Solver
 pub mod Fronts
-pub use Rattle.lv_reflog.specs as lv_reflog
+pub use Rattle.lv_clauses.specs as lv_clauses

@@ -2,7 +2,7 @@
 -- rise; what is left below the greatest falls. Only where all choices are taken back it rises again, and that so many
 -- times at most.
 use Rattle.std.specs.Prelude.{ℕ, suc, zero, ◌+◌, ◌*◌, List, [], ◌∷◌, Option, Some, None}
-use Rattle.lv_reflog.specs.declared.log.Hint.{Hint}
+use Rattle.lv_clauses.specs.declared.log.Hint.{Hint}
 use Rattle.lv_trail.specs.declared.trail.Entry.{Entry}
 
 -- the numbers above that of the empty trail

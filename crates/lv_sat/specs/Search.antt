@@ -2,8 +2,8 @@
 use Rattle.std.specs.Prelude.{◌≡◌, ◌++◌, true, List, length, take, drop, None}
 use Rattle.lv_clauses.specs.ClauseMap.{ClauseMap, satisfies}
 use Rattle.lv_clauses.specs.Marks.{Marks}
-use Rattle.lv_reflog.specs.declared.log.Step.{Step}
-use Rattle.lv_reflog.specs.Following.{first_bad_step}
+use Rattle.lv_clauses.specs.declared.log.Step.{Step}
+use Rattle.lv_clauses.specs.Following.{first_bad_step}
 use Rattle.lv_last_values.specs.Values.{KeepMarks}
 use Rattle.lv_trail.specs.declared.trail.Entry.{Entry}
 use Rattle.lv_trail.specs.Trail.{lits_of, IsFalse, IsTrail}

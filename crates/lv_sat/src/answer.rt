@@ -6,7 +6,7 @@ ghost use Rattle.lv_sat.specs.declared.answer.Answer.TheVariants.{Unsat};
 
 use super::copying::copy_log;
 use lv_base::{Lit, Seq};
-use lv_reflog::Log;
+use lv_clauses::Log;
 use std::alloc::{AllocError, Global};
 
 /// Values that satisfy clauses and assumptions, or a refutation of the two.

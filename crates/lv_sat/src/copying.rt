@@ -3,7 +3,7 @@
 
 ghost use Rattle.std.specs.Prelude.{◌≡◌, IfOk};
 
-use lv_reflog::Log;
+use lv_clauses::Log;
 use std::alloc::{AllocError, Global};
 
 /// A log of copies of all steps.

@@ -11,8 +11,7 @@ use super::front::Front;
 use super::propagation::{propagate, visit_all};
 use super::search::Search;
 use lv_base::{ClauseId, Lit};
-use lv_clauses::{ClauseSet, Finding, is_marked, look, negation};
-use lv_reflog::{Hint, Log};
+use lv_clauses::{ClauseSet, Finding, Hint, Log, is_marked, look, negation};
 use lv_trail::{Reasons, Trail};
 use std::alloc::{AllocError, Global};
 

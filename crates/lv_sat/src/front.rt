@@ -15,9 +15,8 @@ use super::answer::Answer;
 use super::propagation::{propagate, visit_all};
 use super::search::Search;
 use lv_base::{Lit, Seq};
-use lv_clauses::{ClauseSet, is_marked, negation};
+use lv_clauses::{ClauseSet, Hint, Log, is_marked, negation};
 use lv_last_values::{LastValues, near_values};
-use lv_reflog::{Hint, Log};
 use lv_trail::{Conflict, Entry, Reasons};
 use std::alloc::{AllocError, Global};
 

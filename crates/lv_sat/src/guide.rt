@@ -134,7 +134,7 @@ impl Guide {
         {
             return Some(lit);
         }
-        if let Some(lit) = self.order.next(trail.marks(), last)
+        if let Some(lit) = self.order.next(trail.marks(), last.as_slice())
             && trail.is_open(lit)
         {
             return Some(lit);

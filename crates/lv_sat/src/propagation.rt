@@ -6,8 +6,7 @@ ghost use Rattle.std.specs.Prelude.{◌-◌, ◌<◌, IfOk};
 ghost use Rattle.lv_trail.specs.Trail.{IsTrail, IsPropagated};
 
 use lv_base::Lit;
-use lv_clauses::{Finding, look, negation};
-use lv_reflog::Hint;
+use lv_clauses::{Finding, Hint, look, negation};
 use lv_sat_guide::{Fate, Watch, Watches};
 use lv_trail::{Reasons, Trail};
 use std::alloc::AllocError;

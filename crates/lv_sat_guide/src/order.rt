@@ -7,7 +7,6 @@
 use super::queue::Queue;
 use super::scores::Scores;
 use lv_base::{BoolId, Lit};
-use lv_last_values::LastValues;
 use std::alloc::{AllocError, Global};
 
 /// The booleans in both orders. The heap of scores is kept only while a question is hard.
@@ -44,11 +43,15 @@ impl Order {
         }
     }
 
-    /// The first boolean that isn't marked, with its sign; None where none is free.
-    pub fn next(&mut self, marks: &[Option<bool>], last: &LastValues) -> Option<Lit> {
+    /// The first boolean that isn't marked, with its sign; None where none is free. `last` has the last values, where
+    /// there are any.
+    pub fn next(&mut self, marks: &[Option<bool>], last: Option<&[bool]>) -> Option<Lit> {
         if !self.is_hard {
             let var = self.queue.next(marks)?;
-            let sign = last.sign(var).unwrap_or(self.queue.sign(var));
+            let sign = match last.and_then(|values| values.get(var.0 as usize)) {
+                Some(value) => *value,
+                None => self.queue.sign(var),
+            };
             return Some(Lit { var, sign });
         }
         let var = match self.scores.next(marks) {

@@ -5,8 +5,7 @@
 
 use super::arena::{Arena, Turn};
 use lv_base::{BoolId, ClauseId, Lit};
-use lv_clauses::{ClauseSet, is_marked};
-use lv_reflog::Hint;
+use lv_clauses::{ClauseSet, Hint, is_marked};
 use std::alloc::{AllocError, Global};
 use std::mem;
 

@@ -9,12 +9,12 @@ use Rattle.lv_base.specs.declared.rank.Rank.{Rank}
 use Rattle.lv_base.specs.declared.search.Pair.{Pair}
 use Rattle.lv_base.specs.declared.search.Candidate.{Candidate}
 use Rattle.lv_base.specs.Choices.{picks, pairs_of}
-use Rattle.lv_search_walk.specs.Reason.{reduced}
-use Rattle.lv_search_walk.specs.Walk.{candidate_of, walk_from, distinct_walk}
-use Rattle.lv_search_walk.specs.Laws.{IsMonotone, each_is_needed, is_pair, has_pairs, none_in_another, AreMinimal}
-use Rattle.lv_search_walk.proofs.WalkLemmas.{turn}
-use Rattle.lv_search_walk.proofs.KeptLemmas.{walk_kept_apart}
-use Rattle.lv_search_walk.proofs.ReasonLemmas.{still_impossible, part_of_all, all_needed}
+use Rattle.lv_boxes.specs.Reason.{reduced}
+use Rattle.lv_boxes.specs.Walk.{candidate_of, walk_from, distinct_walk}
+use Rattle.lv_boxes.specs.WalkLaws.{IsMonotone, each_is_needed, is_pair, has_pairs, none_in_another, AreMinimal}
+use Rattle.lv_boxes.proofs.WalkLemmas.{turn}
+use Rattle.lv_boxes.proofs.KeptLemmas.{walk_kept_apart}
+use Rattle.lv_boxes.proofs.ReasonLemmas.{still_impossible, part_of_all, all_needed}
 
 none_in : (p : Pair) → Contains [] p → ⊥
 none_in p h = absurd (omega (arith, h.1))

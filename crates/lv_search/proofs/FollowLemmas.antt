@@ -9,10 +9,10 @@ use Rattle.lv_base.specs.declared.rank.Rank.{Rank}
 use Rattle.lv_base.specs.declared.search.Pair.{Pair}
 use Rattle.lv_base.specs.declared.search.Candidate.{Candidate}
 use Rattle.lv_base.specs.Choices.{contains_all}
-use Rattle.lv_search_walk.specs.declared.outcome.Outcome.{Outcome}
-use Rattle.lv_search_walk.specs.Walk.{candidate_of, is_ruled_out, suit_all, walk_from}
-use Rattle.lv_search_walk.specs.Groups.{have_same_groups, alike_by}
-use Rattle.lv_search_walk.proofs.TurnLemmas.{walk_full, walk_repeated, walk_thinned, walk_listed, walk_refused}
+use Rattle.lv_boxes.specs.declared.outcome.Outcome.{Outcome}
+use Rattle.lv_boxes.specs.Walk.{candidate_of, is_ruled_out, suit_all, walk_from}
+use Rattle.lv_boxes.specs.Groups.{have_same_groups, alike_by}
+use Rattle.lv_boxes.proofs.TurnLemmas.{walk_full, walk_repeated, walk_thinned, walk_listed, walk_refused}
 use Rattle.lv_search.specs.Frontier.{Thins, ThinsAlike, IsLikeFirst, LeftAfter}
 use Rattle.lv_search.specs.Standing.{Standing, trials_of, walk_on, conflict_at, all_suit, Follows}
 use Rattle.lv_search.specs.Turn.{PassesOver, IsRepeated, IsTrial, IsListed, GoesOnTo, EndsAt}

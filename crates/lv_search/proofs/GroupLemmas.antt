@@ -6,9 +6,9 @@ use Rattle.std.specs.Cmp.Lexicographic.{pointwise}
 use Rattle.std.proofs.lemmas.Bool.{and_from, and_parts, or_left, or_right, or_cases, eqb-true, eq-eqb}
 use Rattle.std.proofs.lemmas.List.Folds.{list_any-append}
 use Rattle.lv_base.specs.declared.rank.Rank.{Rank}
-use Rattle.lv_search_walk.specs.Laws.{IsTransitive}
-use Rattle.lv_search_walk.specs.Walk.{none_alike}
-use Rattle.lv_search_walk.specs.Groups.{groups_of, have_same_groups, alike_by}
+use Rattle.lv_boxes.specs.WalkLaws.{IsTransitive}
+use Rattle.lv_boxes.specs.Walk.{none_alike}
+use Rattle.lv_boxes.specs.Groups.{groups_of, have_same_groups, alike_by}
 
 same_numbers : (xs : List ℕ) → pointwise nat_eq xs xs ≡ true
 same_numbers [] = refl

@@ -13,9 +13,9 @@ use Rattle.lv_base.proofs.OrderLemmas.{transitive}
 use Rattle.lv_boxes.specs.Members.{ZoneValue, are_left, is_member, choices_cost}
 use Rattle.lv_boxes.specs.Parts.{masks_with, masks_without, parts_of}
 use Rattle.lv_boxes.proofs.PartsLemmas.{is_member-with, is_member-without}
-use Rattle.lv_search_walk.specs.Ranked.{rises, is_rank, is_among}
-use Rattle.lv_search_walk.specs.Walk.{candidate_of}
-use Rattle.lv_search_walk.proofs.RankedLemmas.{neither_is_same, same_rank, is_itself, before_each, not_among_later}
+use Rattle.lv_boxes.specs.Ranked.{rises, is_rank, is_among}
+use Rattle.lv_boxes.specs.Walk.{candidate_of}
+use Rattle.lv_boxes.proofs.RankedLemmas.{neither_is_same, same_rank, is_itself, before_each, not_among_later}
 use Rattle.lv_boxes.specs.RankedMembers.{ranks_in, times_in, sources_differ}
 use Rattle.lv_boxes.proofs.RankedMemberLemmas.{rank_of_member}
 

@@ -9,10 +9,10 @@ use Rattle.lv_base.specs.declared.rank.Rank.{Rank}
 use Rattle.lv_base.specs.declared.search.Pair.{Pair}
 use Rattle.lv_base.specs.declared.search.Candidate.{Candidate}
 use Rattle.lv_base.specs.Choices.{contains_all}
-use Rattle.lv_search_walk.specs.declared.outcome.Outcome.TheVariants.{Settled, Unsettled}
-use Rattle.lv_search_walk.specs.Walk.{candidate_of, is_ruled_out}
-use Rattle.lv_search_walk.specs.Groups.{alike_by}
-use Rattle.lv_search_walk.proofs.TurnLemmas.{walk_full, walk_used_up}
+use Rattle.lv_boxes.specs.declared.outcome.Outcome.TheVariants.{Settled, Unsettled}
+use Rattle.lv_boxes.specs.Walk.{candidate_of, is_ruled_out}
+use Rattle.lv_boxes.specs.Groups.{alike_by}
+use Rattle.lv_boxes.proofs.TurnLemmas.{walk_full, walk_used_up}
 use Rattle.lv_search.specs.Frontier.{FirstContains, LeavesFirst}
 use Rattle.lv_search.specs.Standing.{Standing, trials_of, walk_on, conflict_at}
 use Rattle.lv_search.specs.Turn.{EndsHere, PassesOver, IsRepeated, IsTrial}

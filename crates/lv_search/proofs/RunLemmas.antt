@@ -4,12 +4,12 @@ use Rattle.std.specs.Prelude.{Option, Some, None}
 use Rattle.lv_base.specs.declared.rank.Rank.{Rank}
 use Rattle.lv_base.specs.declared.search.Pair.{Pair}
 use Rattle.lv_base.specs.declared.search.Candidate.{Candidate}
-use Rattle.lv_search_walk.specs.declared.outcome.Outcome.{Outcome}
-use Rattle.lv_search_walk.specs.declared.outcome.Outcome.TheVariants.{Settled}
-use Rattle.lv_search_walk.specs.Walk.{Walked, distinct_walk, suit_all}
-use Rattle.lv_search_walk.specs.Groups.{alike_by}
-use Rattle.lv_search_walk.specs.Laws.{IsSound}
-use Rattle.lv_search_walk.proofs.WalkLemmas.{plain_exact, distinct_exact}
+use Rattle.lv_boxes.specs.declared.outcome.Outcome.{Outcome}
+use Rattle.lv_boxes.specs.declared.outcome.Outcome.TheVariants.{Settled}
+use Rattle.lv_boxes.specs.Walk.{Walked, distinct_walk, suit_all}
+use Rattle.lv_boxes.specs.Groups.{alike_by}
+use Rattle.lv_boxes.specs.WalkLaws.{IsSound}
+use Rattle.lv_boxes.proofs.WalkLemmas.{plain_exact, distinct_exact}
 use Rattle.lv_search.specs.Standing.{Standing, trials_of, first_fitting, IsUnderWay}
 use Rattle.lv_search.specs.Turn.{EndsAt}
 use Rattle.lv_search.proofs.GroupLemmas.{groups_join}

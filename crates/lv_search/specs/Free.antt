@@ -2,7 +2,7 @@
 use Rattle.std.specs.Prelude.{Bool, not, List, filter}
 use Rattle.lv_base.specs.declared.rank.Rank.{Rank}
 use Rattle.lv_base.specs.declared.search.Pair.{Pair}
-use Rattle.lv_search_walk.specs.Walk.{is_ruled_out}
+use Rattle.lv_boxes.specs.Walk.{is_ruled_out}
 
 -- its choices contain no known conflict
 abbrev pub is_free_rank : List (List Pair) → Rank → Bool

@@ -3,7 +3,7 @@ use Rattle.std.specs.Prelude.{◌≡◌, ◌⊎◌, ℕ, Bool, true, false, List
 use Rattle.lv_base.specs.declared.rank.Rank.{Rank}
 use Rattle.lv_base.specs.declared.search.Pair.{Pair}
 use Rattle.lv_base.specs.Choices.{contains_all}
-use Rattle.lv_search_walk.specs.Groups.{have_same_groups}
+use Rattle.lv_boxes.specs.Groups.{have_same_groups}
 
 -- there is a first, and it contains the conflict
 abbrev pub FirstContains : List Pair → List Rank → Type 0

@@ -6,10 +6,10 @@ use Rattle.lv_base.specs.declared.rank.Rank.{Rank}
 use Rattle.lv_base.specs.declared.search.Pair.{Pair}
 use Rattle.lv_base.specs.declared.search.Candidate.{Candidate}
 use Rattle.lv_boxes.specs.Members.{ZoneValue, is_member}
-use Rattle.lv_search_walk.specs.Ranked.{rises, is_among}
+use Rattle.lv_boxes.specs.Ranked.{rises, is_among}
 use Rattle.lv_boxes.specs.RankedMembers.{ranked_members, ranks_in}
 use Rattle.lv_search.specs.Standing.{IsUnderWay}
-use Rattle.lv_search_walk.specs.Walk.{suit_all}
+use Rattle.lv_boxes.specs.Walk.{suit_all}
 
 -- they rise; the ranks of the zones' members stand in them and no others; what all members pass they pass
 pub record RankedMembersAreMembers : Type 0 where

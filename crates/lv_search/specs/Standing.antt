@@ -3,8 +3,8 @@ use Rattle.std.specs.Prelude.{◌≡◌, ℕ, ◌+◌, ◌≤◌, Bool, true, Li
 use Rattle.lv_base.specs.declared.rank.Rank.{Rank}
 use Rattle.lv_base.specs.declared.search.Pair.{Pair}
 use Rattle.lv_base.specs.declared.search.Candidate.{Candidate}
-use Rattle.lv_search_walk.specs.Walk.{Walked, candidate_of, walk_from, suit_all, first_of_each}
-use Rattle.lv_search_walk.specs.Groups.{alike_by}
+use Rattle.lv_boxes.specs.Walk.{Walked, candidate_of, walk_from, suit_all, first_of_each}
+use Rattle.lv_boxes.specs.Groups.{alike_by}
 
 -- what a search holds: how many it is to list; where it lists no two of one target, the groups that tell targets; what is listed and
 -- kept, and the candidates left in the order of their ranks

@@ -4,9 +4,9 @@ use Rattle.std.specs.List.{list_any}
 use Rattle.lv_base.specs.declared.rank.Rank.{Rank}
 use Rattle.lv_base.specs.declared.search.Pair.{Pair}
 use Rattle.lv_base.specs.declared.search.Candidate.{Candidate}
-use Rattle.lv_search_walk.specs.declared.outcome.Outcome.{Outcome}
-use Rattle.lv_search_walk.specs.Walk.{candidate_of, is_ruled_out}
-use Rattle.lv_search_walk.specs.Groups.{alike_by}
+use Rattle.lv_boxes.specs.declared.outcome.Outcome.{Outcome}
+use Rattle.lv_boxes.specs.Walk.{candidate_of, is_ruled_out}
+use Rattle.lv_boxes.specs.Groups.{alike_by}
 use Rattle.lv_search.specs.declared.turn.Held.{Held}
 use Rattle.lv_search.specs.declared.turn.Next.{Next}
 use Rattle.lv_search.specs.declared.turn.Next.TheVariants.{Ends, PassOver, Repeat, Try}

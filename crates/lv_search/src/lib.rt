@@ -18,6 +18,6 @@ pub mod trial;
 pub mod turn;
 
 pub use frontier::Frontier;
-pub use lv_search_walk::Outcome;
+pub use lv_boxes::Outcome;
 pub use search::Search;
 pub use trial::{Trial, Tried};

@@ -3,18 +3,17 @@
 
 ghost use Rattle.std.specs.Prelude.{◌≡◌, ◌+◌, ◌<◌, ◌≤◌, ◌^◌, [], true, List, IfOk, Some, None};
 ghost use Rattle.lv_base.specs.declared.rank.Rank.{Rank};
-ghost use Rattle.lv_search_walk.specs.declared.outcome.Outcome.TheVariants.{Settled};
-ghost use Rattle.lv_search_walk.specs.Walk.{distinct_walk, suit_all};
-ghost use Rattle.lv_search_walk.specs.Groups.{alike_by};
+ghost use Rattle.lv_boxes.specs.declared.outcome.Outcome.TheVariants.{Settled};
+ghost use Rattle.lv_boxes.specs.Walk.{distinct_walk, suit_all};
+ghost use Rattle.lv_boxes.specs.Groups.{alike_by};
 ghost use Rattle.lv_search.specs.Standing.{trials_of, all_suit, first_fitting, IsUnderWay};
 
 use super::frontier::Frontier;
 use super::trial::Trial;
 use super::turn::{Held, take_turns};
 use lv_base::{Conflict, Rank, Seq};
-use lv_boxes::Groups;
-use lv_conflicts::Store;
-use lv_search_walk::Outcome;
+use lv_boxes::conflicts::Store;
+use lv_boxes::{Groups, Outcome};
 use std::alloc::{AllocError, Global};
 use std::marker::Model;
 

@@ -5,8 +5,8 @@
 ghost use Rattle.std.specs.Prelude.{◌≡◌, ◌≢◌, ◌==◌, ◌+◌, ◌-◌, ◌<◌, ◌≤◌, ◌^◌, ◌++◌, ◌∷◌, [], List, true, false, length, slice_get, drop, IfOk, OnOk, IsTrue, Some};
 ghost use Rattle.lv_base.specs.declared.rank.Rank.{Rank};
 ghost use Rattle.std.specs.List.{list_any};
-ghost use Rattle.lv_search_walk.specs.Walk.{candidate_of, is_ruled_out};
-ghost use Rattle.lv_search_walk.specs.Groups.{have_same_groups, alike_by};
+ghost use Rattle.lv_boxes.specs.Walk.{candidate_of, is_ruled_out};
+ghost use Rattle.lv_boxes.specs.Groups.{have_same_groups, alike_by};
 ghost use Rattle.lv_search.specs.Frontier.{Thins, LeftAfter};
 ghost use Rattle.lv_search.specs.Standing.{Standing, trials_of, all_suit, walk_on, Follows, conflict_at};
 ghost use Rattle.lv_search.specs.Turn.{standing, PassesOver, IsListed, NextTells, EndsAt, TurnTells};
@@ -14,9 +14,8 @@ ghost use Rattle.lv_search.specs.Turn.{standing, PassesOver, IsListed, NextTells
 use super::frontier::Frontier;
 use super::trial::{Trial, Tried};
 use lv_base::{Candidate, Rank, Seq};
-use lv_boxes::Groups;
-use lv_conflicts::Store;
-use lv_search_walk::Outcome;
+use lv_boxes::conflicts::Store;
+use lv_boxes::{Groups, Outcome};
 use std::alloc::{AllocError, Global};
 
 /// What a search holds beside the candidates left. Where it has groups, it lists no two candidates of one target.

@@ -9,7 +9,7 @@ use Rattle.lv_base.specs.declared.search.Pair.{Pair}
 use Rattle.lv_base.specs.Choices.{picks, contains_all, slots_rise_from}
 use Rattle.lv_boxes.specs.Masks.{has_choice, only_choice}
 use Rattle.lv_boxes.proofs.MaskLemmas.{has_choice-only}
-use Rattle.lv_search_walk.specs.Walk.{is_ruled_out}
+use Rattle.lv_boxes.specs.Walk.{is_ruled_out}
 use Rattle.lv_search_bans.specs.declared.bans.Choices.{Choices}
 use Rattle.lv_search_bans.specs.Bans.{without_these, has_some, meets, is_banned, sets_rise_from, set_of, AreBans, IsAlikeBut, TakesIn, HasOneMore}
 

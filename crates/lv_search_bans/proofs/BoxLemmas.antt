@@ -17,7 +17,7 @@ use Rattle.lv_boxes.specs.Members.{ZoneValue, are_left}
 use Rattle.lv_boxes.specs.Parts.{masks_with, masks_without}
 use Rattle.lv_boxes.proofs.PartsLemmas.{is_member-with, is_member-without}
 use Rattle.lv_boxes.proofs.MemberLemmas.{length-are_left}
-use Rattle.lv_search_walk.specs.Walk.{is_ruled_out}
+use Rattle.lv_boxes.specs.Walk.{is_ruled_out}
 use Rattle.lv_search_bans.specs.Boxes.{is_free, is_open}
 
 -- a box as the zone of a tracked state that costs nothing, and choices as its candidate

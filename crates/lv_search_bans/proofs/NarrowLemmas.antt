@@ -10,7 +10,7 @@ use Rattle.lv_base.specs.declared.ids.Cost.{Cost}
 use Rattle.lv_base.specs.declared.search.Pair.{Pair}
 use Rattle.lv_boxes.specs.Masks.{has_choice}
 use Rattle.lv_boxes.specs.Members.{is_left, are_left}
-use Rattle.lv_search_walk.specs.Walk.{is_ruled_out}
+use Rattle.lv_boxes.specs.Walk.{is_ruled_out}
 use Rattle.lv_search_bans.specs.declared.bans.Choices.{Choices}
 use Rattle.lv_search_bans.specs.Bans.{without_these, masks_less, has_some, meets, AreBans}
 use Rattle.lv_search_bans.specs.Boxes.{is_free}

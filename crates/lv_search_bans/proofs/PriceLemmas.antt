@@ -10,7 +10,7 @@ use Rattle.lv_base.specs.declared.ids.Cost.{Cost}
 use Rattle.lv_base.specs.declared.search.Pair.{Pair}
 use Rattle.lv_boxes.specs.Masks.{has_choice}
 use Rattle.lv_boxes.specs.Members.{is_left, are_left, choice_cost, choices_cost}
-use Rattle.lv_search_walk.specs.Walk.{is_ruled_out}
+use Rattle.lv_boxes.specs.Walk.{is_ruled_out}
 use Rattle.lv_search_bans.specs.Boxes.{is_free, CostsAtLeast}
 use Rattle.lv_search_bans.proofs.BoxLemmas.{free_is_left, none_of_zero}
 use Rattle.lv_search_bans.proofs.BanLemmas.{has_choice-beside}

@@ -4,7 +4,7 @@ use Rattle.lv_base.specs.declared.ids.Cost.{Cost}
 use Rattle.lv_base.specs.declared.search.Pair.{Pair}
 use Rattle.lv_boxes.specs.Masks.{has_choice, only_choice}
 use Rattle.lv_boxes.specs.Members.{are_left, choices_cost}
-use Rattle.lv_search_walk.specs.Walk.{is_ruled_out}
+use Rattle.lv_boxes.specs.Walk.{is_ruled_out}
 
 -- choices that are left and contain none of the conflicts: a free member of the box
 abbrev pub is_free : List (List Cost) → List (List Pair) → List ℕ → List ℕ → Bool

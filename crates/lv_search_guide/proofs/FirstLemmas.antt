@@ -10,7 +10,7 @@ use Rattle.lv_base.proofs.OrderLemmas.{irreflexive, transitive, connected}
 use Rattle.lv_boxes.specs.Masks.{has_choice, without_choice}
 use Rattle.lv_boxes.specs.Members.{is_left, are_left, choice_cost, choices_cost}
 use Rattle.lv_boxes.proofs.MaskLemmas.{has_choice-without}
-use Rattle.lv_search_walk.specs.Walk.{is_ruled_out}
+use Rattle.lv_boxes.specs.Walk.{is_ruled_out}
 use Rattle.lv_search_guide.specs.declared.look.Member.{Member}
 use Rattle.lv_search_bans.specs.Boxes.{is_free, has_left}
 use Rattle.lv_search_guide.specs.Lowest.{LowestTells}

@@ -11,8 +11,8 @@ use Rattle.lv_base.specs.declared.search.Candidate.{Candidate}
 use Rattle.lv_base.specs.Order.{comes_before}
 use Rattle.lv_base.specs.Rank.{ranks_before}
 use Rattle.lv_boxes.specs.Members.{IsSlot, ZoneValue, are_left, is_member, choice_cost, choices_cost, rank_in}
-use Rattle.lv_search_walk.specs.Walk.{candidate_of, is_ruled_out}
-use Rattle.lv_search_walk.proofs.RankedLemmas.{neither_is_same}
+use Rattle.lv_boxes.specs.Walk.{candidate_of, is_ruled_out}
+use Rattle.lv_boxes.proofs.RankedLemmas.{neither_is_same}
 use Rattle.lv_search_guide.specs.declared.look.Member.{Member}
 use Rattle.lv_search_guide.specs.Free.{is_free_member, IsLeastFree, HasNoFree, LeastFreeTells}
 use Rattle.lv_search_bans.specs.Boxes.{is_free, CostsAtLeast, HasNone}

@@ -14,7 +14,7 @@ use Rattle.lv_boxes.specs.Members.{is_left, are_left}
 use Rattle.lv_boxes.specs.Parts.{masks_without}
 use Rattle.lv_boxes.proofs.MaskLemmas.{has_choice-without}
 use Rattle.lv_boxes.proofs.MemberLemmas.{length-are_left}
-use Rattle.lv_search_walk.specs.Walk.{is_ruled_out}
+use Rattle.lv_boxes.specs.Walk.{is_ruled_out}
 use Rattle.lv_search_bans.specs.Boxes.{has_left}
 use Rattle.lv_search_guide.specs.First.{AreLoose, are_apart, TakesOut}
 use Rattle.lv_search_bans.proofs.BoxLemmas.{length-left, slot_within, choice_is}

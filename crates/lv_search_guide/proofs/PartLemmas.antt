@@ -10,7 +10,7 @@ use Rattle.lv_base.specs.Order.{comes_before}
 use Rattle.lv_boxes.specs.Masks.{has_choice, only_choice}
 use Rattle.lv_boxes.specs.Members.{IsSlot, is_left, are_left, choices_cost}
 use Rattle.lv_boxes.proofs.MaskLemmas.{has_choice-only}
-use Rattle.lv_search_walk.specs.Walk.{is_ruled_out}
+use Rattle.lv_boxes.specs.Walk.{is_ruled_out}
 use Rattle.lv_search_parts.specs.Slots.{only, put_in, pair_in, is_inside, is_outside}
 use Rattle.lv_search_parts.specs.Parts.{is_whole, inner_of, fixed, IsPart, IsLiveOf}
 use Rattle.lv_search_guide.specs.declared.look.Member.{Member}

@@ -17,7 +17,7 @@ use Rattle.lv_boxes.specs.Members.{are_left, choices_cost, rank_in}
 use Rattle.lv_boxes.specs.Least.{cheapest_choices, IsLeastMember}
 use Rattle.lv_boxes.specs.Parts.{masks_with, masks_without}
 use Rattle.lv_boxes.proofs.LeastLemmas.{sum_none, lacks_choice-none, written_is_least, written_costs}
-use Rattle.lv_search_walk.specs.Walk.{is_ruled_out}
+use Rattle.lv_boxes.specs.Walk.{is_ruled_out}
 use Rattle.lv_search_guide.specs.declared.look.Member.{Member}
 use Rattle.lv_search_guide.specs.declared.look.Looked.{Looked}
 use Rattle.lv_search_guide.specs.declared.look.Looked.TheVariants.{Nothing, Found, Splits}

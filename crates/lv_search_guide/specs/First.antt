@@ -5,7 +5,7 @@ use Rattle.lv_base.specs.declared.ids.Cost.{Cost}
 use Rattle.lv_base.specs.declared.search.Pair.{Pair}
 use Rattle.lv_boxes.specs.Masks.{has_choice}
 use Rattle.lv_boxes.specs.Members.{are_left, choice_cost}
-use Rattle.lv_search_walk.specs.Walk.{is_ruled_out}
+use Rattle.lv_boxes.specs.Walk.{is_ruled_out}
 use Rattle.lv_search_bans.specs.Boxes.{has_left, HasNone}
 use Rattle.lv_search_guide.specs.Lowest.{LowestTells}
 use Rattle.lv_search_guide.specs.declared.look.Member.{Member}

@@ -6,7 +6,7 @@ use Rattle.lv_base.specs.declared.search.Pair.{Pair}
 use Rattle.lv_base.specs.declared.search.Candidate.{Candidate}
 use Rattle.lv_base.specs.Rank.{ranks_before}
 use Rattle.lv_boxes.specs.Members.{ZoneValue, is_member, rank_in}
-use Rattle.lv_search_walk.specs.Walk.{candidate_of, is_ruled_out}
+use Rattle.lv_boxes.specs.Walk.{candidate_of, is_ruled_out}
 
 -- a member that contains none of the conflicts
 abbrev pub is_free_member : List (List Cost) → ZoneValue → List (List Pair) → Candidate → Bool

@@ -14,7 +14,7 @@ use Rattle.lv_boxes.specs.Members.{is_left, are_left}
 use Rattle.lv_boxes.specs.Parts.{masks_with}
 use Rattle.lv_boxes.proofs.PartsLemmas.{is_member-with}
 use Rattle.lv_boxes.proofs.MemberLemmas.{length-are_left}
-use Rattle.lv_search_walk.specs.Walk.{is_ruled_out}
+use Rattle.lv_boxes.specs.Walk.{is_ruled_out}
 use Rattle.lv_search_parts.specs.Parts.{is_there, is_forced, IsOpenOf, IsLiveOf}
 
 clash : (b : Bool) → b ≡ true → b ≡ false → ⊥

@@ -6,7 +6,7 @@ use Rattle.lv_base.specs.declared.search.Pair.{Pair}
 use Rattle.lv_base.specs.Choices.{contains_all, slots_rise}
 use Rattle.lv_boxes.specs.Masks.{has_choice, only_choice}
 use Rattle.lv_boxes.specs.Members.{are_left}
-use Rattle.lv_search_walk.specs.Walk.{is_ruled_out}
+use Rattle.lv_boxes.specs.Walk.{is_ruled_out}
 use Rattle.lv_search_parts.specs.Slots.{is_marked, is_inside, is_outside, pair_in, place_of}
 
 -- the box has the pair's choice

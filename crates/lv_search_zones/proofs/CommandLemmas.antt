@@ -14,11 +14,11 @@ use Rattle.lv_model.specs.declared.plant.Plant.{Plant}
 use Rattle.lv_model.specs.Lists.{sizes, controls}
 use Rattle.lv_model.specs.Prices.{price_of}
 use Rattle.lv_model.specs.WellFormed.{is_well_formed}
-use Rattle.lv_boxes.specs.lv_search_walk.Ranked.{is_rank, is_among}
-use Rattle.lv_boxes.proofs.lv_search_walk.RankedLemmas.{is_itself, same_rank, one_list}
+use Rattle.lv_boxes.specs.Ranked.{is_rank, is_among}
+use Rattle.lv_boxes.proofs.RankedLemmas.{is_itself, same_rank, one_list}
 use Rattle.lv_meaning.proofs.Among.{Among}
 use Rattle.lv_boxes.specs.RankedMembers.{ranked_members, ranks_in}
-use Rattle.lv_boxes.specs.lv_search_walk.Walk.{suit_all}
+use Rattle.lv_boxes.specs.Walk.{suit_all}
 use Rattle.lv_boxes.proofs.RankedMemberLemmas.{one_test, ranked_members_rise, among_ranked_members_any}
 use Rattle.lv_meaning.specs.Commands.{is_command_set, commands_cost, command_sets}
 use Rattle.lv_meaning.specs.RecoveryLaws.{IsCommandSet}

@@ -10,8 +10,8 @@ use borrow.Author.Tests.{leb-true}
 use Rattle.lv_base.specs.declared.limits.TheConstants.{MODES, VALUES, PRICE, VARIABLES}
 use Rattle.lv_base.specs.declared.ids.VarId.{VarId}
 use Rattle.lv_base.specs.declared.ids.Cost.{Cost}
-use Rattle.lv_model.specs.lv_formula.declared.range.Range.{Range}
-use Rattle.lv_model.specs.lv_formula.Fits.{has_value}
+use Rattle.lv_model.specs.lv_base.declared.range.Range.{Range}
+use Rattle.lv_model.specs.lv_base.Fits.{has_value}
 use Rattle.lv_model.specs.declared.plant.Plant.{Plant}
 use Rattle.lv_model.specs.declared.plant.Domain.{Domain}
 use Rattle.lv_model.specs.declared.plant.ComponentType.{ComponentType}

@@ -6,4 +6,3 @@ pub mod CommandLemmas
 pub use Rattle.lv_boxes.proofs as lv_boxes
 pub use Rattle.lv_compile.proofs as lv_compile
 pub use Rattle.lv_meaning.proofs as lv_meaning
-pub use Rattle.lv_boxes.proofs.lv_search_walk as lv_search_walk

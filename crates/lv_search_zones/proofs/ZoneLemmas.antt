@@ -16,14 +16,14 @@ use Rattle.lv_model.specs.declared.plant.Part.{Part}
 use Rattle.lv_model.specs.declared.plant.Move.{Move}
 use Rattle.lv_model.specs.declared.state.TrackedState.{TrackedState}
 use Rattle.lv_model.specs.Lists.{part_moves}
-use Rattle.lv_boxes.specs.lv_search_walk.Ranked.{is_among}
-use Rattle.lv_boxes.proofs.lv_search_walk.RankedLemmas.{one_list}
+use Rattle.lv_boxes.specs.Ranked.{is_among}
+use Rattle.lv_boxes.proofs.RankedLemmas.{one_list}
 use Rattle.lv_meaning.specs.Candidates.{type_moves, move_cost, candidates}
 use Rattle.lv_meaning.specs.CandidateLaws.{goes_from, are_moves, moves_cost, IsCandidate}
 use Rattle.lv_meaning.proofs.Rising.{candidates_rise_law}
 use Rattle.lv_meaning.proofs.Listing.{FromState, is_listed, is_candidate}
 use Rattle.lv_boxes.specs.RankedMembers.{ranked_members, ranks_in, sources_differ}
-use Rattle.lv_boxes.specs.lv_search_walk.Walk.{suit_all}
+use Rattle.lv_boxes.specs.Walk.{suit_all}
 use Rattle.lv_boxes.proofs.Among.{Among}
 use Rattle.lv_boxes.proofs.RankedMemberLemmas.{one_test, among_by_test, test_by_among, ranked_members_rise, among_ranked_members_any, all_members_pass}
 use Rattle.lv_search_zones.specs.Moves.{costs_of, part_costs, move_slots, mask_of, masks_of, state_zone, zones_from, is_full_choice}

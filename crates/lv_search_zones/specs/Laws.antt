@@ -6,7 +6,7 @@ use Rattle.lv_model.specs.declared.state.TrackedState.{TrackedState}
 use Rattle.lv_model.specs.WellFormed.{is_well_formed}
 use Rattle.lv_meaning.specs.Candidates.{candidates}
 use Rattle.lv_boxes.specs.RankedMembers.{ranked_members, sources_differ}
-use Rattle.lv_boxes.specs.lv_search_walk.Walk.{suit_all}
+use Rattle.lv_boxes.specs.Walk.{suit_all}
 use Rattle.lv_meaning.specs.Commands.{is_command_set, command_sets}
 use Rattle.lv_search_zones.specs.Moves.{move_slots, zones_from, is_full_choice}
 use Rattle.lv_search_zones.specs.Commands.{control_slots, command_zone}

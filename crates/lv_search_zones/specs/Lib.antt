@@ -6,4 +6,3 @@ pub mod Laws
 pub use Rattle.lv_boxes.specs as lv_boxes
 pub use Rattle.lv_compile.specs as lv_compile
 pub use Rattle.lv_meaning.specs as lv_meaning
-pub use Rattle.lv_boxes.specs.lv_search_walk as lv_search_walk

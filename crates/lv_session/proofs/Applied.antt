@@ -7,9 +7,9 @@ use Rattle.lv_base.specs.declared.ids.VarId.{VarId}
 use Rattle.lv_base.specs.declared.rank.Rank.{Rank}
 use Rattle.lv_model.specs.declared.plant.Plant.{Plant}
 use Rattle.lv_model.specs.Lists.{sizes, controls}
-use Rattle.lv_search_walk.specs.declared.outcome.Outcome.{Outcome}
-use Rattle.lv_search_walk.specs.declared.outcome.Outcome.TheVariants.{Settled, Unsettled}
-use Rattle.lv_search_walk.specs.Walk.{none_alike}
+use Rattle.lv_boxes.specs.declared.outcome.Outcome.{Outcome}
+use Rattle.lv_boxes.specs.declared.outcome.Outcome.TheVariants.{Settled, Unsettled}
+use Rattle.lv_boxes.specs.Walk.{none_alike}
 use Rattle.lv_session_state.specs.lv_meaning.Facts.{commanded, HasValue}
 use Rattle.lv_session_state.specs.lv_meaning.Possible.{value}
 use Rattle.lv_session_state.specs.lv_meaning.Commands.{is_command_set, command_sets}

@@ -8,16 +8,16 @@ use Rattle.std.proofs.lemmas.List.{length-map}
 use Rattle.std.proofs.lemmas.List.Elements.{All-cons, All-head, All-tail, All-nil}
 use Rattle.lv_base.specs.declared.limits.TheConstants.{TRACKED}
 use Rattle.lv_text.proofs.ReadBack.{lexemes_have}
-use Rattle.lv_formula.specs.Tree.{Tree}
+use Rattle.lv_base.specs.Tree.{Tree}
 use Rattle.lv_model.specs.declared.plant.Plant.{Plant}
 use Rattle.lv_model.specs.declared.state.TrackedState.{TrackedState}
 use Rattle.lv_session_state.specs.lv_model_names.lv_formula_text.Canonical.{tokens_of, canonical_text}
 use Rattle.lv_session_state.specs.lv_model_names.lv_formula_text.Resolving.{resolved}
 use Rattle.lv_session_state.specs.lv_model_names.lv_formula_text.Descent.{phrase_of}
 use Rattle.lv_session_state.specs.lv_model_names.Names.{plant_names}
-use Rattle.lv_search_walk.specs.declared.outcome.Outcome.{Outcome}
-use Rattle.lv_search_walk.specs.declared.outcome.Outcome.TheVariants.{Settled, Unsettled}
-use Rattle.lv_search_walk.specs.Walk.{Walked}
+use Rattle.lv_boxes.specs.declared.outcome.Outcome.{Outcome}
+use Rattle.lv_boxes.specs.declared.outcome.Outcome.TheVariants.{Settled, Unsettled}
+use Rattle.lv_boxes.specs.Walk.{Walked}
 use Rattle.lv_session_state.specs.lv_meaning.Ranges.{StateFits}
 use Rattle.lv_session_state.specs.lv_tracker.Tracked.{IsWithinCost}
 use Rattle.lv_cert.specs.Words.{is_word}

@@ -19,8 +19,8 @@ use Rattle.lv_session_state.proofs.lv_model_names.ScopeLemmas.{below_size}
 use Rattle.lv_session_state.proofs.lv_model_names.PositiveLemmas.{variable_has_value}
 use Rattle.lv_model.specs.Ranges.{plant_ranges}
 use Rattle.lv_model.specs.WellFormed.{is_well_formed}
-use Rattle.lv_search_walk.specs.declared.outcome.Outcome.{Outcome}
-use Rattle.lv_search_walk.specs.declared.outcome.Outcome.TheVariants.{Settled, Unsettled}
+use Rattle.lv_boxes.specs.declared.outcome.Outcome.{Outcome}
+use Rattle.lv_boxes.specs.declared.outcome.Outcome.TheVariants.{Settled, Unsettled}
 use Rattle.lv_session_state.specs.lv_tracker.Targets.{target_state}
 use Rattle.lv_session_state.specs.lv_tracker.Tracked.{start_state, advanced, HasModes}
 use Rattle.lv_session_state.proofs.lv_tracker.ListLemmas.{first_all, targets_have_modes}

@@ -14,7 +14,7 @@ use Rattle.lv_model.proofs.Reading.{All-at, few_variables}
 use Rattle.lv_model.specs.Lists.{sizes, controls}
 use Rattle.lv_model.specs.WellFormed.{is_well_formed}
 use Rattle.lv_model.specs.Ranges.{plant_ranges}
-use Rattle.lv_formula.specs.Fits.{has_value}
+use Rattle.lv_base.specs.Fits.{has_value}
 use Rattle.lv_session_state.specs.lv_meaning.declared.facts.Observation.{Observation}
 use Rattle.lv_session_state.specs.lv_meaning.Facts.{commanded, now_facts, HasValue}
 use Rattle.lv_session_state.specs.lv_system.lv_compile.Booleans.{booleans_now}

@@ -5,8 +5,8 @@ use Rattle.std.proofs.lemmas.List.{map-append}
 use Rattle.std.proofs.lemmas.List.Elements.{All-cons, All-nil, All-head, All-tail}
 use Rattle.lv_base.specs.declared.rank.Rank.{Rank}
 use Rattle.lv_model.specs.declared.plant.Plant.{Plant}
-use Rattle.lv_search_walk.specs.declared.outcome.Outcome.TheVariants.{Settled}
-use Rattle.lv_search_walk.specs.Walk.{Walked, candidate_of, suit_all}
+use Rattle.lv_boxes.specs.declared.outcome.Outcome.TheVariants.{Settled}
+use Rattle.lv_boxes.specs.Walk.{Walked, candidate_of, suit_all}
 use Rattle.lv_session_state.specs.lv_meaning.Candidates.{candidates, is_possible_candidate}
 use Rattle.lv_session_state.specs.lv_meaning.Diagnosis.{reason_of, diagnosis_walk}
 use Rattle.lv_session_state.specs.lv_meaning.Targets.{are_alike}

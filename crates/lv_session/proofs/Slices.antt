@@ -4,8 +4,8 @@ use Rattle.std.specs.List.{sum}
 use Rattle.std.proofs.lemmas.List.Sums.{sum_by-cons}
 use Rattle.lv_base.specs.declared.ids.VarId.{VarId}
 use Rattle.lv_model.specs.declared.plant.Plant.{Plant}
-use Rattle.lv_search_walk.specs.declared.outcome.Outcome.{Outcome}
-use Rattle.lv_search_walk.specs.declared.outcome.Outcome.TheVariants.{Unsettled}
+use Rattle.lv_boxes.specs.declared.outcome.Outcome.{Outcome}
+use Rattle.lv_boxes.specs.declared.outcome.Outcome.TheVariants.{Unsettled}
 use Rattle.lv_session_state.specs.declared.query.Query.{Query}
 use Rattle.lv_session_state.specs.declared.query.Query.TheVariants.{Diagnosis, Recovery, Test, Window}
 use Rattle.lv_session_state.specs.State.{SessionState, walked, recovery, testing, tracing, more, more_by, more_recovery_by, more_test_by, more_window_by}

@@ -7,8 +7,8 @@ use Rattle.lv_base.specs.declared.rank.Rank.{Rank}
 use Rattle.lv_model.specs.declared.plant.Plant.{Plant}
 use Rattle.lv_model.specs.declared.state.State.{State}
 use Rattle.lv_model.specs.declared.state.TrackedState.{TrackedState}
-use Rattle.lv_search_walk.specs.declared.outcome.Outcome.{Outcome}
-use Rattle.lv_search_walk.specs.declared.outcome.Outcome.TheVariants.{Settled, Unsettled}
+use Rattle.lv_boxes.specs.declared.outcome.Outcome.{Outcome}
+use Rattle.lv_boxes.specs.declared.outcome.Outcome.TheVariants.{Settled, Unsettled}
 use Rattle.lv_session_state.proofs.lv_meaning.DiagnosisWalks.{answers}
 use Rattle.lv_session_state.proofs.lv_meaning.RecoveryWalks.{walk_found, walk_none}
 use Rattle.lv_session_state.specs.lv_tracker.Tracked.{advanced}

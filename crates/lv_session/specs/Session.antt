@@ -5,8 +5,8 @@ use Rattle.lv_base.specs.declared.rank.Rank.{Rank}
 use Rattle.lv_model.specs.declared.plant.Plant.{Plant}
 use Rattle.lv_model.specs.declared.state.State.{State}
 use Rattle.lv_model.specs.declared.state.TrackedState.{TrackedState}
-use Rattle.lv_search_walk.specs.declared.outcome.Outcome.{Outcome}
-use Rattle.lv_search_walk.specs.declared.outcome.Outcome.TheVariants.{Settled, Unsettled}
+use Rattle.lv_boxes.specs.declared.outcome.Outcome.{Outcome}
+use Rattle.lv_boxes.specs.declared.outcome.Outcome.TheVariants.{Settled, Unsettled}
 use Rattle.lv_labels.specs.declared.labelling.Labelling.{Labelling}
 use Rattle.lv_labels.specs.declared.labelling.Labelling.TheVariants as labelling
 use Rattle.lv_labels.specs.Literals.{fact_literals, state_literals}

@@ -23,7 +23,7 @@ impl<'a> marker::Model for CompiledModel<'a> {
     ghost use Rattle.lv_model.specs.declared.plant.Plant.{Plant};
     ghost use Rattle.lv_session.specs.Compiled.{IsCompiled};
     ghost use Rattle.std.specs.Coded.{codes};
-    ghost use Rattle.lv_formula.specs.contracts.Condition as condition;
+    ghost use Rattle.lv_base.specs.contracts.formula.Condition as condition;
 
     ghost Value = { Plant };
 

@@ -2,7 +2,7 @@
 #![tactic(auto)]
 
 ghost use Rattle.std.specs.Prelude.{◌≡◌, IfOk, All, map};
-ghost use Rattle.lv_search_walk.specs.Walk.{candidate_of};
+ghost use Rattle.lv_boxes.specs.Walk.{candidate_of};
 ghost use Rattle.lv_probe.specs.Probing.{IsFull};
 ghost use Rattle.lv_session.specs.Session.{probed, probe};
 ghost use Rattle.lv_session_state.specs.States.{IsStateOf};
@@ -10,9 +10,9 @@ ghost use Rattle.lv_session_state.specs.Current.{IsCurrent};
 
 use crate::compiled::CompiledModel;
 use lv_base::{Rank, Seq};
+use lv_boxes::Outcome;
 use lv_probe::{Probing, best};
 use lv_reply::{Refusal, Reply};
-use lv_search_walk::Outcome;
 use lv_session_state::{Query, Running, State};
 use std::alloc::{AllocError, Global};
 

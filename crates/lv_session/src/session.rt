@@ -41,7 +41,7 @@ impl<'a> marker::Model for Session<'a> {
     ghost use Rattle.lv_session.specs.Session.{RunningSession};
     ghost use Rattle.lv_session.specs.Kept.{IsSession};
     ghost use Rattle.std.specs.Coded.{codes};
-    ghost use Rattle.lv_formula.specs.contracts.Condition as condition;
+    ghost use Rattle.lv_base.specs.contracts.formula.Condition as condition;
 
     ghost Value = { RunningSession };
 

@@ -9,8 +9,8 @@ use Rattle.lv_text.specs.Tokens.{long_line, all_tokens}
 use Rattle.lv_text.specs.Lexemes.{Lexeme, reads, reading_by, line_reading}
 use Rattle.lv_text.specs.Laws.{IsLexeme}
 use Rattle.lv_text.proofs.ReadBack.{lexemes_have}
-use Rattle.lv_formula.specs.Fits.{fits}
-use Rattle.lv_formula.specs.Tree.{Tree}
+use Rattle.lv_base.specs.Fits.{fits}
+use Rattle.lv_base.specs.Tree.{Tree}
 use Rattle.lv_model.specs.declared.plant.Plant.{Plant}
 use Rattle.lv_model.specs.Ranges.{plant_ranges}
 use Rattle.lv_formula_text.specs.PhraseTree.{PhraseTree}

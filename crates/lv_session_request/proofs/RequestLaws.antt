@@ -7,7 +7,7 @@ use Rattle.std.proofs.lemmas.List.Quantifiers.{position-Some}
 use Rattle.std.proofs.lemmas.Option.{get_or_from_slice_get}
 use Rattle.lv_base.specs.declared.ids.ValId.{ValId}
 use Rattle.lv_base.specs.declared.ids.VarId.{VarId}
-use Rattle.lv_formula.specs.Fits.{has_value}
+use Rattle.lv_base.specs.Fits.{has_value}
 use Rattle.lv_model.specs.declared.plant.Plant.{Plant}
 use Rattle.lv_model.specs.Lists.{controls, is_variable}
 use Rattle.lv_model.specs.Ranges.{plant_ranges}

@@ -2,8 +2,8 @@
 use Rattle.std.specs.Prelude.{◌≡◌, ℕ, Bool, true, false, ◌&&◌, List, drop, if◌then◌else◌, Some, Result, Ok, Err}
 use Rattle.std.specs.Option.{ok_or}
 use Rattle.lv_text.specs.Lexemes.{Lexeme, reads, line_reading}
-use Rattle.lv_formula.specs.Tree.{Tree}
-use Rattle.lv_formula.specs.Fits.{fits}
+use Rattle.lv_base.specs.Tree.{Tree}
+use Rattle.lv_base.specs.Fits.{fits}
 use Rattle.lv_model.specs.declared.plant.Plant.{Plant}
 use Rattle.lv_model.specs.Counts.{has_count}
 use Rattle.lv_model.specs.Ranges.{plant_ranges}

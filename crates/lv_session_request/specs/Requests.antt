@@ -5,7 +5,7 @@ use Rattle.lv_base.specs.declared.ids.ValId.{ValId}
 use Rattle.lv_base.specs.declared.ids.VarId.{VarId}
 use Rattle.lv_base.specs.declared.limits.TheConstants.{TRACKED, BUDGET}
 use Rattle.lv_text.specs.Lexemes.{Lexeme, Reading, reads, has_bad_byte, is_too_long, line_reading, word_at, number_at}
-use Rattle.lv_formula.specs.Fits.{has_value}
+use Rattle.lv_base.specs.Fits.{has_value}
 use Rattle.lv_model.specs.declared.plant.Plant.{Plant}
 use Rattle.lv_model.specs.Lists.{controls}
 use Rattle.lv_model.specs.Ranges.{plant_ranges}

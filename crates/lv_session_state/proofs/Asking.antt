@@ -5,14 +5,14 @@ use Rattle.lv_system.specs.lv_clauses.ClauseMap.{ClauseMap}
 use Rattle.lv_base.specs.declared.limits.TheConstants.{COMMITS}
 use Rattle.lv_model.specs.declared.plant.Plant.{Plant}
 use Rattle.lv_model.specs.declared.state.TrackedState.{TrackedState}
-use Rattle.lv_formula.specs.declared.range.Range.{Range}
-use Rattle.lv_formula.specs.Fits.{has_value}
+use Rattle.lv_base.specs.declared.range.Range.{Range}
+use Rattle.lv_base.specs.Fits.{has_value}
 use Rattle.lv_model.specs.Lists.{sizes, controls, variable_count}
 use Rattle.lv_model.specs.Ranges.{plant_ranges}
 use Rattle.lv_model.proofs.Reading.{length-plant_ranges}
 use Rattle.lv_meaning.specs.Facts.{HasValue, FactsInRange, commanded, IsInRange, FactsFit}
 use Rattle.lv_model_names.proofs.ScopeLemmas.{below_size}
-use Rattle.lv_search_walk.specs.declared.outcome.Outcome.{Outcome}
+use Rattle.lv_boxes.specs.declared.outcome.Outcome.{Outcome}
 use Rattle.lv_meaning.specs.declared.facts.Facts.{Facts}
 use Rattle.lv_meaning.specs.Candidates.{IsTracked, candidates}
 use Rattle.lv_meaning.specs.Diagnosis.{diagnosis_walk}

@@ -15,9 +15,9 @@ use Rattle.lv_model.specs.declared.plant.Move.{Move}
 use Rattle.lv_model.specs.WellFormed.{is_well_formed, MoveIsCheap, TypeIsSmall}
 use Rattle.lv_model.proofs.Reading.{All-at, few-parts}
 use Rattle.lv_model.proofs.Sizes.{small-types}
-use Rattle.lv_search_walk.specs.declared.outcome.Outcome.TheVariants.{Unsettled}
-use Rattle.lv_search_walk.specs.Walk.{candidate_of, walk_from}
-use Rattle.lv_search_walk.proofs.WalkLemmas.{turn, at_most, used_up_unsettled}
+use Rattle.lv_boxes.specs.declared.outcome.Outcome.TheVariants.{Unsettled}
+use Rattle.lv_boxes.specs.Walk.{candidate_of, walk_from}
+use Rattle.lv_boxes.proofs.WalkLemmas.{turn, at_most, used_up_unsettled}
 use Rattle.lv_meaning.specs.Candidates.{type_moves, move_cost, candidates, is_possible_candidate}
 use Rattle.lv_meaning.specs.Diagnosis.{reason_of}
 use Rattle.lv_meaning.specs.Targets.{are_alike}

@@ -3,10 +3,10 @@ use Rattle.std.proofs.Common.{◌≡◌, ℕ, ◌+◌, ◌≤◌, List, [], ◌�
 use Rattle.std.proofs.lemmas.List.Elements.{All-cons, All-head, All-tail, All-nil}
 use Rattle.lv_system.specs.lv_clauses.ClauseMap.{ClauseMap}
 use Rattle.lv_model.specs.declared.plant.Plant.{Plant}
-use Rattle.lv_search_walk.specs.declared.outcome.Outcome.{Outcome}
-use Rattle.lv_search_walk.specs.declared.outcome.Outcome.TheVariants.{Unsettled}
-use Rattle.lv_search_walk.specs.Walk.{none_alike}
-use Rattle.lv_search_walk.proofs.WalkLemmas.{at_most, used_up_unsettled}
+use Rattle.lv_boxes.specs.declared.outcome.Outcome.{Outcome}
+use Rattle.lv_boxes.specs.declared.outcome.Outcome.TheVariants.{Unsettled}
+use Rattle.lv_boxes.specs.Walk.{none_alike}
+use Rattle.lv_boxes.proofs.WalkLemmas.{at_most, used_up_unsettled}
 use Rattle.lv_ident.specs.lv_search.Standing.{trials_of}
 use Rattle.lv_meaning.specs.declared.aim.Aim.{Aim}
 use Rattle.lv_meaning.specs.Commands.{command_sets}

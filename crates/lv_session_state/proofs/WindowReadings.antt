@@ -6,9 +6,9 @@ use Rattle.lv_base.specs.declared.search.Candidate.{Candidate}
 use Rattle.lv_base.specs.declared.search.Pair.{Pair}
 use Rattle.lv_base.specs.Choices.{pairs_of}
 use Rattle.lv_model.specs.declared.plant.Plant.{Plant}
-use Rattle.lv_search_walk.specs.declared.outcome.Outcome.TheVariants.{Settled}
-use Rattle.lv_search_walk.specs.Reason.{reduced}
-use Rattle.lv_search_walk.specs.Walk.{walk}
+use Rattle.lv_boxes.specs.declared.outcome.Outcome.TheVariants.{Settled}
+use Rattle.lv_boxes.specs.Reason.{reduced}
+use Rattle.lv_boxes.specs.Walk.{walk}
 use Rattle.lv_meaning.specs.declared.facts.Facts.{Facts}
 use Rattle.lv_meaning.specs.Candidates.{candidates}
 use Rattle.lv_meaning.specs.Diagnosis.{diagnosis_walk}

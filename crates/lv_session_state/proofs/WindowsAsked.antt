@@ -12,10 +12,10 @@ use Rattle.lv_model.specs.Lists.{sizes, controls}
 use Rattle.lv_model.specs.WellFormed.{is_well_formed}
 use Rattle.lv_model.proofs.Reading.{All-at, few-parts}
 use Rattle.lv_model.proofs.Sizes.{small-types}
-use Rattle.lv_search_walk.specs.declared.outcome.Outcome.{Outcome}
-use Rattle.lv_search_walk.specs.declared.outcome.Outcome.TheVariants.{Unsettled}
-use Rattle.lv_search_walk.specs.Walk.{none_alike}
-use Rattle.lv_search_walk.proofs.WalkLemmas.{at_most, used_up_unsettled}
+use Rattle.lv_boxes.specs.declared.outcome.Outcome.{Outcome}
+use Rattle.lv_boxes.specs.declared.outcome.Outcome.TheVariants.{Unsettled}
+use Rattle.lv_boxes.specs.Walk.{none_alike}
+use Rattle.lv_boxes.proofs.WalkLemmas.{at_most, used_up_unsettled}
 use Rattle.lv_ident.specs.lv_search.Standing.{trials_of}
 use Rattle.lv_meaning.specs.declared.facts.Facts.{Facts}
 use Rattle.lv_meaning.specs.Candidates.{IsTracked}

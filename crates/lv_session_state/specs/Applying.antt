@@ -2,9 +2,9 @@
 use Rattle.std.specs.Prelude.{ℕ, List, [], ◌∷◌, map, Option, Some, None}
 use Rattle.lv_base.specs.declared.rank.Rank.{Rank}
 use Rattle.lv_model.specs.declared.plant.Plant.{Plant}
-use Rattle.lv_search_walk.specs.declared.outcome.Outcome.{Outcome}
-use Rattle.lv_search_walk.specs.declared.outcome.Outcome.TheVariants.{Settled, Unsettled}
-use Rattle.lv_search_walk.specs.Walk.{Walked}
+use Rattle.lv_boxes.specs.declared.outcome.Outcome.{Outcome}
+use Rattle.lv_boxes.specs.declared.outcome.Outcome.TheVariants.{Settled, Unsettled}
+use Rattle.lv_boxes.specs.Walk.{Walked}
 use Rattle.lv_meaning.specs.Possible.{value}
 use Rattle.lv_session_state.specs.declared.query.Query.{Query}
 use Rattle.lv_session_state.specs.declared.query.Query.TheVariants.{Absent, Diagnosis, Recovery, Test, Window}

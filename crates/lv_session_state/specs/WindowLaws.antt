@@ -1,7 +1,7 @@
 -- What a settled window of a session's last steps is, and how long windows are.
 use Rattle.std.specs.Prelude.{◌≡◌, ℕ, ◌+◌, false}
 use Rattle.lv_model.specs.declared.plant.Plant.{Plant}
-use Rattle.lv_search_walk.specs.declared.outcome.Outcome.TheVariants.{Settled}
+use Rattle.lv_boxes.specs.declared.outcome.Outcome.TheVariants.{Settled}
 use Rattle.lv_session_request.specs.declared.request.TheConstants.{WINDOW}
 use Rattle.lv_session_history.specs.declared.history.TheConstants.{HISTORY}
 use Rattle.lv_window.specs.Walk.{first_trajectories}

@@ -12,8 +12,8 @@ use crate::query::Query;
 use crate::running::Running;
 use crate::state::State;
 use lv_base::{Rank, ValId};
+use lv_boxes::Outcome;
 use lv_model::Model;
-use lv_search_walk::Outcome;
 use std::alloc::{AllocError, Global};
 
 /// The values of the first command set listed, if there is one.

@@ -7,8 +7,7 @@ ghost use Rattle.lv_session_state.specs.State.{formula_of, text_of_goal, has_goa
 
 use crate::state::State;
 use lv_base::limits::{GOALS, NAME_BYTES};
-use lv_base::{Seq, has_name};
-use lv_formula::Condition;
+use lv_base::{Condition, Seq, has_name};
 use lv_reply::{Refusal, Reply};
 use lv_session_request::Goal;
 use std::alloc::{AllocError, Global};

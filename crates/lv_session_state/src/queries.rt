@@ -15,9 +15,9 @@ use crate::query::Query;
 use crate::replies::{conflicts, reply_to};
 use crate::running::Running;
 use crate::state::State;
+use lv_boxes::Outcome;
 use lv_model::Model;
 use lv_reply::{Refusal, Reply};
-use lv_search_walk::Outcome;
 use std::alloc::{AllocError, Global};
 
 /// Whether a query with this outcome is settled.

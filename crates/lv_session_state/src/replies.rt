@@ -2,15 +2,15 @@
 #![tactic(auto)]
 
 ghost use Rattle.std.specs.Prelude.{◌≡◌, IfOk};
-ghost use Rattle.lv_search_walk.specs.declared.outcome.Outcome.TheVariants.{Settled as IsSettled, Unsettled as IsUnsettled};
+ghost use Rattle.lv_boxes.specs.declared.outcome.Outcome.TheVariants.{Settled as IsSettled, Unsettled as IsUnsettled};
 ghost use Rattle.lv_session_state.specs.State.{found, found_test, reply_to};
 ghost use Rattle.lv_session_state.specs.Current.{kept_walk};
 
 use crate::query::Query;
 use crate::running::Running;
 use lv_base::{Conflict, Pair, Rank, Seq};
+use lv_boxes::Outcome;
 use lv_reply::{Refusal, Reply};
-use lv_search_walk::Outcome;
 use std::alloc::{AllocError, Global};
 
 /// Copies of ranks.

@@ -4,15 +4,15 @@
 ghost use Rattle.std.specs.Prelude.{◌≡◌, ◌≤◌, ◌+◌, ◌<◌, ◌^◌, IfOk, IfSome, length};
 ghost use Rattle.lv_base.specs.declared.limits.TheConstants.{TRACKED, BUDGET};
 ghost use Rattle.lv_model.specs.declared.plant.Plant.{Plant};
-ghost use Rattle.lv_search_walk.specs.declared.outcome.Outcome.TheVariants.{Unsettled};
+ghost use Rattle.lv_boxes.specs.declared.outcome.Outcome.TheVariants.{Unsettled};
 ghost use Rattle.lv_session_state.specs.State.{trials};
 ghost use Rattle.lv_session_state.specs.Current.{kept_walk, KeepsSolverOf};
 ghost use Rattle.lv_ident.specs.Trial.{IsSolverOf};
 
 use lv_base::{Conflict, Rank};
+use lv_boxes::Outcome;
 use lv_ident::{LemmaSolver, Query, QueryEffort};
 use lv_reconf::{Query as RecoveryQuery, TestQuery};
-use lv_search_walk::Outcome;
 use lv_window::WindowQuery;
 use std::alloc::{AllocError, Global};
 use std::mem;

@@ -39,7 +39,7 @@ pub struct State {
 impl marker::Model for State {
     ghost use Rattle.lv_session_state.specs.State.{SessionState};
     ghost use Rattle.std.specs.Coded.{codes};
-    ghost use Rattle.lv_formula.specs.contracts.Condition as condition;
+    ghost use Rattle.lv_base.specs.contracts.formula.Condition as condition;
 
     ghost Value = { SessionState };
 

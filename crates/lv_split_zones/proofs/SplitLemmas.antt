@@ -9,7 +9,7 @@ use Rattle.lv_base.specs.declared.search.Pair.{Pair}
 use Rattle.lv_boxes.specs.Members.{ZoneValue}
 use Rattle.lv_boxes.specs.Parts.{masks_with, parts_of}
 use Rattle.lv_boxes.specs.GroupParts.{masks_of_group, parts_from}
-use Rattle.lv_boxes.specs.lv_search_walk.Groups.{group_of}
+use Rattle.lv_boxes.specs.Groups.{group_of}
 use Rattle.lv_split_zones.specs.declared.split.By.{By}
 use Rattle.lv_split_zones.specs.declared.split.By.TheVariants as by
 use Rattle.lv_split_zones.specs.declared.split.Split.{Split}

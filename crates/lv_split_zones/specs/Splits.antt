@@ -5,7 +5,7 @@ use Rattle.lv_base.specs.declared.search.Pair.{Pair}
 use Rattle.lv_boxes.specs.Members.{ZoneValue}
 use Rattle.lv_boxes.specs.Parts.{masks_with, masks_without, parts_of}
 use Rattle.lv_boxes.specs.GroupParts.{masks_of_group, masks_of_others, parts_by_groups}
-use Rattle.lv_boxes.specs.lv_search_walk.Groups.{group_of}
+use Rattle.lv_boxes.specs.Groups.{group_of}
 use Rattle.lv_split_zones.specs.declared.split.By.{By}
 use Rattle.lv_split_zones.specs.declared.split.By.TheVariants as by
 use Rattle.lv_split_zones.specs.declared.split.Split.{Split}

@@ -5,7 +5,7 @@ ghost use Rattle.std.specs.Prelude.{◌≡◌, ◌≤◌, ◌<◌, true, Some, I
 ghost use Rattle.lv_boxes.specs.Masks.{only_choice, without_choice};
 ghost use Rattle.lv_boxes.specs.Parts.{masks_with, masks_without};
 ghost use Rattle.lv_boxes.specs.GroupParts.{HasGroups, masks_of_group, masks_of_others};
-ghost use Rattle.lv_boxes.specs.lv_search_walk.Groups.{group_of};
+ghost use Rattle.lv_boxes.specs.Groups.{group_of};
 ghost use Rattle.lv_split_zones.specs.declared.split.By.TheVariants as by;
 ghost use Rattle.lv_split_zones.specs.Splits.{IsKept, IsConflict, IsTarget, masks_of_part, masks_of_target_part, masks_by};
 

@@ -8,7 +8,7 @@ use Rattle.lv_base.specs.declared.ids.ValId.{ValId}
 use Rattle.lv_base.specs.declared.ids.MoveId.{MoveId}
 use Rattle.lv_clauses.specs.Literals.{same_truth}
 use Rattle.lv_clauses.specs.ClauseMap.{satisfies}
-use Rattle.lv_formula.specs.Tree.{number_of}
+use Rattle.lv_base.specs.Tree.{number_of}
 use Rattle.lv_model.specs.declared.plant.Plant.{Plant}
 use Rattle.lv_model.specs.Lists.{move_counts}
 use Rattle.lv_model.specs.WellFormed.{is_well_formed}

@@ -3,8 +3,8 @@ use Rattle.std.proofs.Common.{◌≡◌, ℕ, Bool, true, List, refl, ap, ◌∙
 use Rattle.std.specs.List.{list_all}
 use Rattle.lv_base.specs.declared.ids.ValId.{ValId}
 use Rattle.lv_clauses.specs.Literals.{same_truth, is_clause}
-use Rattle.lv_formula.specs.Tree.{Tree, truth_of}
-use Rattle.lv_formula.specs.Fits.{fits}
+use Rattle.lv_base.specs.Tree.{Tree, truth_of}
+use Rattle.lv_base.specs.Fits.{fits}
 use Rattle.lv_model.specs.declared.plant.Plant.{Plant}
 use Rattle.lv_model.specs.Ranges.{plant_ranges}
 use Rattle.lv_compile.specs.Booleans.{Booleans, booleans_next, bool_count}

@@ -4,7 +4,7 @@ use Rattle.std.specs.Cmp.Lexicographic.{pointwise}
 use Rattle.std.proofs.lemmas.Bool.{and_parts}
 use Rattle.lv_base.specs.declared.ids.ValId.{ValId}
 use Rattle.lv_base.specs.declared.ids.MoveId.{MoveId}
-use Rattle.lv_formula.specs.Tree.{number_of}
+use Rattle.lv_base.specs.Tree.{number_of}
 use Rattle.lv_compile.specs.Laws.{move_number}
 use Rattle.lv_system.specs.Encoding.{value_numbered, move_numbered}
 use Rattle.lv_system.specs.Laws.{IsAssignment, IsFullChoice}

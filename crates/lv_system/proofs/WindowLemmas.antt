@@ -10,7 +10,7 @@ use Rattle.lv_base.specs.declared.ids.ClauseId.{ClauseId}
 use Rattle.lv_clauses.specs.Literals.{clause_holds, is_clause}
 use Rattle.lv_clauses.specs.ClauseMap.{satisfies}
 use Rattle.lv_clauses.proofs.LiteralLemmas.{all_member}
-use Rattle.lv_formula.specs.Tree.{number_of}
+use Rattle.lv_base.specs.Tree.{number_of}
 use Rattle.lv_model.specs.declared.plant.Plant.{Plant}
 use Rattle.lv_model.specs.Lists.{sizes, move_counts}
 use Rattle.lv_model.specs.WellFormed.{is_well_formed}

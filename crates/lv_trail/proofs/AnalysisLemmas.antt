@@ -9,9 +9,9 @@ use Rattle.lv_clauses.specs.ClauseMap.{ClauseMap}
 use Rattle.lv_clauses.specs.Marks.{Marks, nothing, is_marked, marked, finding_of}
 use Rattle.lv_clauses.proofs.LiteralLemmas.{neg_neg, and_right, and_both, or_right}
 use Rattle.lv_clauses.proofs.MarkLemmas.{is_marked-nothing, is_marked-marked_cases}
-use Rattle.lv_reflog.specs.declared.log.Hint.{Hint}
-use Rattle.lv_reflog.specs.declared.log.Step.{Step}
-use Rattle.lv_reflog.specs.Following.{clause_of, is_last, goes_on, goes_on_from, ends_well, denied, follows_by_hints}
+use Rattle.lv_clauses.specs.declared.log.Hint.{Hint}
+use Rattle.lv_clauses.specs.declared.log.Step.{Step}
+use Rattle.lv_clauses.specs.Following.{clause_of, is_last, goes_on, goes_on_from, ends_well, denied, follows_by_hints}
 use Rattle.lv_trail.specs.declared.trail.Entry.{Entry}
 use Rattle.lv_trail.specs.declared.analysis.Flip.{Flip}
 use Rattle.lv_trail.specs.Trail.{same_lit, among, lits_of, unforced, IsForced, IsFalse, IsChain}

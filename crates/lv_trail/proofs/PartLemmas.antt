@@ -6,7 +6,7 @@ use Rattle.std.proofs.lemmas.List.Elements.{filter-append}
 use Rattle.lv_base.specs.declared.ids.Lit.{Lit}
 use Rattle.lv_clauses.specs.Literals.{same_var, in_range, distinct, is_clause}
 use Rattle.lv_clauses.proofs.LiteralLemmas.{and_left, and_right, and_both, Contains-head, Contains-tail, Contains-cases}
-use Rattle.lv_reflog.specs.declared.log.Hint.{Hint}
+use Rattle.lv_clauses.specs.declared.log.Hint.{Hint}
 use Rattle.lv_trail.specs.Part.{IsSublist, nothing as no_literals, left_out, taken}
 use Rattle.lv_trail.specs.declared.trail.Entry.{Entry}
 use Rattle.lv_trail.specs.Trail.{lits_of, unforced}

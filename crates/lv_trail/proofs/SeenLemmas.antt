@@ -8,7 +8,7 @@ use Rattle.lv_clauses.specs.Literals.{neg, same_var, in_range, distinct, is_clau
 use Rattle.lv_clauses.specs.Marks.{Marks, is_marked, marked, mark_is}
 use Rattle.lv_clauses.proofs.LiteralLemmas.{neg_neg, and_left, and_right, and_both, Contains-head, Contains-tail, Contains-cases}
 use Rattle.lv_clauses.proofs.MarkLemmas.{is_marked-marked_cases, same_truth-self}
-use Rattle.lv_reflog.specs.Following.{denied}
+use Rattle.lv_clauses.specs.Following.{denied}
 use Rattle.lv_trail.specs.Analysis.{sees, seen_all}
 use Rattle.lv_trail.proofs.ListLemmas.{eq_is, not_true}
 

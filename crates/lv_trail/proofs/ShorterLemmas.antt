@@ -5,8 +5,8 @@ use Rattle.lv_base.specs.declared.ids.Lit.{Lit}
 use Rattle.lv_clauses.specs.Literals.{neg}
 use Rattle.lv_clauses.specs.ClauseMap.{ClauseMap}
 use Rattle.lv_clauses.proofs.LiteralLemmas.{Contains-cases}
-use Rattle.lv_reflog.specs.declared.log.Hint.{Hint}
-use Rattle.lv_reflog.specs.declared.log.Step.{Step}
+use Rattle.lv_clauses.specs.declared.log.Hint.{Hint}
+use Rattle.lv_clauses.specs.declared.log.Step.{Step}
 use Rattle.lv_trail.specs.declared.trail.Entry.{Entry}
 use Rattle.lv_trail.specs.Trail.{same_lit, among, lits_of, IsChain}
 use Rattle.lv_trail.specs.Analysis.{sees, seen_by, IsPending, Replaces}

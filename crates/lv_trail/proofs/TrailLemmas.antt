@@ -14,9 +14,9 @@ use Rattle.lv_clauses.specs.Marks.{Marks, nothing, is_marked, marked, mark_is, i
 use Rattle.lv_clauses.specs.declared.marks.Finding.TheVariants.{AllFalse, Unit}
 use Rattle.lv_clauses.proofs.LiteralLemmas.{and_left, and_right, and_both, Contains-nil, or_right}
 use Rattle.lv_clauses.proofs.MarkLemmas.{is_marked-nothing, is_marked-marked_free}
-use Rattle.lv_reflog.specs.declared.log.Hint.{Hint}
-use Rattle.lv_reflog.specs.declared.log.Step.{Step}
-use Rattle.lv_reflog.specs.Following.{clause_of}
+use Rattle.lv_clauses.specs.declared.log.Hint.{Hint}
+use Rattle.lv_clauses.specs.declared.log.Step.{Step}
+use Rattle.lv_clauses.specs.Following.{clause_of}
 use Rattle.lv_trail.specs.declared.trail.Entry.{Entry}
 use Rattle.lv_trail.specs.Trail.{same_lit, among, lits_of, is_open, IsForced, IsFalse, IsChain, IsTrail, IsTurned, IsExtended, IsPropagated, turned}
 use Rattle.lv_trail.specs.declared.analysis.Flip.{Flip}

@@ -4,9 +4,9 @@ use Rattle.lv_base.specs.declared.ids.Lit.{Lit}
 use Rattle.lv_clauses.specs.Literals.{neg}
 use Rattle.lv_clauses.specs.ClauseMap.{ClauseMap, Slots}
 use Rattle.lv_clauses.specs.Marks.{Marks, is_marked}
-use Rattle.lv_reflog.specs.declared.log.Hint.{Hint}
-use Rattle.lv_reflog.specs.declared.log.Step.{Step}
-use Rattle.lv_reflog.specs.Following.{clause_of, ends_well, follows_by_hints}
+use Rattle.lv_clauses.specs.declared.log.Hint.{Hint}
+use Rattle.lv_clauses.specs.declared.log.Step.{Step}
+use Rattle.lv_clauses.specs.Following.{clause_of, ends_well, follows_by_hints}
 use Rattle.lv_trail.specs.declared.trail.Entry.{Entry}
 use Rattle.lv_trail.specs.declared.analysis.Flip.{Flip}
 use Rattle.lv_trail.specs.Trail.{lits_of, among, unforced}

@@ -1,4 +1,4 @@
 pub mod Part
 pub mod Trail
 pub mod Analysis
-pub use Rattle.lv_reflog.specs as lv_reflog
+pub use Rattle.lv_clauses.specs as lv_clauses

@@ -6,9 +6,9 @@ use Rattle.lv_base.specs.declared.ids.Lit.{Lit}
 use Rattle.lv_clauses.specs.Literals.{neg, same_truth, same_var, in_range, is_clause}
 use Rattle.lv_clauses.specs.ClauseMap.{ClauseMap, Slots}
 use Rattle.lv_clauses.specs.Marks.{Marks, is_marked, is_free}
-use Rattle.lv_reflog.specs.declared.log.Hint.{Hint}
-use Rattle.lv_reflog.specs.declared.log.Step.{Step}
-use Rattle.lv_reflog.specs.Following.{clause_of}
+use Rattle.lv_clauses.specs.declared.log.Hint.{Hint}
+use Rattle.lv_clauses.specs.declared.log.Step.{Step}
+use Rattle.lv_clauses.specs.Following.{clause_of}
 use Rattle.lv_trail.specs.declared.trail.Entry.{Entry}
 use Rattle.lv_trail.specs.declared.analysis.Flip.{Flip}
 

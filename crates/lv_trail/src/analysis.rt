@@ -13,8 +13,7 @@ use super::reasons::Reasons;
 use super::seen::Seen;
 use super::trail::{Entry, count_base};
 use lv_base::Lit;
-use lv_clauses::ClauseSet;
-use lv_reflog::{Hint, Log};
+use lv_clauses::{ClauseSet, Hint, Log};
 use std::alloc::{AllocError, Global};
 
 /// An entry whose negation is to be taken as true, and the choice at or before it in whose place. None of the entries

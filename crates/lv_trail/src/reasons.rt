@@ -2,11 +2,10 @@
 #![tactic(auto)]
 
 ghost use Rattle.std.specs.Prelude.{◌≡◌, option_map};
-ghost use Rattle.lv_reflog.specs.Following.{clause_of};
+ghost use Rattle.lv_clauses.specs.Following.{clause_of};
 
 use lv_base::Lit;
-use lv_clauses::ClauseSet;
-use lv_reflog::{Hint, Log};
+use lv_clauses::{ClauseSet, Hint, Log};
 
 /// Clauses given, and those that the steps of a log derive from them.
 #[derive(Clone, Copy)]

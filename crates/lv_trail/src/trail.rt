@@ -6,14 +6,13 @@ ghost use Rattle.std.specs.Prelude.{◌≡◌, ◌<◌, ◌≤◌, ◌-◌, ◌+
 ghost use Rattle.std.specs.List.{list_all};
 ghost use Rattle.lv_clauses.specs.ClauseMap.{ClauseMap};
 ghost use Rattle.lv_clauses.specs.Marks.{nothing, marked};
-ghost use Rattle.lv_reflog.specs.declared.log.Step.{Step};
+ghost use Rattle.lv_clauses.specs.declared.log.Step.{Step};
 ghost use Rattle.lv_trail.specs.Trail as Trails;
 ghost use Rattle.lv_trail.specs.Trail.{IsTrail, IsForced, IsTurned, lits_of, turned, unforced};
 
 use super::analysis::Flip;
 use lv_base::{BoolId, Lit};
-use lv_clauses::negation;
-use lv_reflog::Hint;
+use lv_clauses::{Hint, negation};
 use std::alloc::{AllocError, Global};
 
 /// A literal taken as true, with the clause that forces it; none where it was assumed or chosen.

@@ -9,7 +9,7 @@ use Rattle.lv_model.specs.declared.plant.ComponentType.{ComponentType}
 use Rattle.lv_model.specs.declared.plant.Part.{Part}
 use Rattle.lv_model.specs.declared.plant.Move.{Move}
 use Rattle.lv_model.specs.Lists.{part_moves}
-use Rattle.lv_search_walk.specs.Walk.{is_ruled_out}
+use Rattle.lv_boxes.specs.Walk.{is_ruled_out}
 use Rattle.lv_meaning.specs.Candidates.{type_moves}
 use Rattle.lv_meaning.specs.CandidateLaws.{goes_from, are_moves}
 use Rattle.lv_meaning.specs.PossibleLaws.{are_below}

@@ -3,8 +3,8 @@ use Rattle.std.proofs.Common.{◌≡◌, ℕ, true, not, List, []}
 use Rattle.std.specs.List.{list_all}
 use Rattle.lv_base.specs.declared.rank.Rank.{Rank}
 use Rattle.lv_model.specs.declared.plant.Plant.{Plant}
-use Rattle.lv_search_walk.specs.Walk.{none_alike}
-use Rattle.lv_search_walk.specs.Laws.{each_is_needed, none_in_another}
+use Rattle.lv_boxes.specs.Walk.{none_alike}
+use Rattle.lv_boxes.specs.WalkLaws.{each_is_needed, none_in_another}
 use Rattle.lv_search.proofs.DeletedReasons as deleted
 use Rattle.lv_meaning.specs.declared.facts.Facts.{Facts}
 use Rattle.lv_meaning.proofs.Reasons.{own_pairs}

@@ -12,9 +12,9 @@ use Rattle.lv_model.specs.declared.plant.Plant.{Plant}
 use Rattle.lv_model.specs.Lists.{sizes, part_moves, move_counts}
 use Rattle.lv_model.specs.Meaning.{is_step}
 use Rattle.lv_compile.specs.WindowLaws.{counts_of}
-use Rattle.lv_search_walk.specs.declared.outcome.Outcome.TheVariants.{Settled}
-use Rattle.lv_search_walk.specs.Laws.{IsSound}
-use Rattle.lv_search_walk.proofs.WalkLemmas.{plain_exact}
+use Rattle.lv_boxes.specs.declared.outcome.Outcome.TheVariants.{Settled}
+use Rattle.lv_boxes.specs.WalkLaws.{IsSound}
+use Rattle.lv_boxes.proofs.WalkLemmas.{plain_exact}
 use Rattle.lv_boxes.proofs.RankedMemberLemmas.{one_test}
 use Rattle.lv_meaning.specs.declared.facts.Facts.{Facts}
 use Rattle.lv_meaning.specs.Facts.{meets_facts}

@@ -5,8 +5,8 @@ use Rattle.lv_base.specs.declared.ids.ValId.{ValId}
 use Rattle.lv_base.specs.declared.rank.Rank.{Rank}
 use Rattle.lv_model.specs.declared.plant.Plant.{Plant}
 use Rattle.lv_model.specs.declared.state.TrackedState.{TrackedState}
-use Rattle.lv_search_walk.specs.Ranked.{rises, put_in_order}
-use Rattle.lv_search_walk.proofs.RankedLemmas.{rises_ranked}
+use Rattle.lv_boxes.specs.Ranked.{rises, put_in_order}
+use Rattle.lv_boxes.proofs.RankedLemmas.{rises_ranked}
 use Rattle.lv_meaning.specs.Candidates.{ranks_from, ranks_of, candidates}
 use Rattle.lv_meaning.specs.CandidateLaws.{moves_cost}
 use Rattle.lv_meaning.specs.Targets.{target_modes, target_of_rank}

@@ -20,9 +20,9 @@ use Rattle.lv_model.specs.declared.state.TrackedState.{TrackedState}
 use Rattle.lv_model.specs.Lists.{part_moves, move_counts}
 use Rattle.lv_model.specs.WellFormed.{is_well_formed}
 use Rattle.lv_compile.specs.WindowLaws.{counts_of}
-use Rattle.lv_search_walk.specs.Ranked.{is_rank, is_among}
-use Rattle.lv_search_walk.specs.Walk.{is_ruled_out, suit_all}
-use Rattle.lv_search_walk.proofs.RankedLemmas.{is_itself, same_rank, one_list}
+use Rattle.lv_boxes.specs.Ranked.{is_rank, is_among}
+use Rattle.lv_boxes.specs.Walk.{is_ruled_out, suit_all}
+use Rattle.lv_boxes.proofs.RankedLemmas.{is_itself, same_rank, one_list}
 use Rattle.lv_meaning.proofs.Among.{Among, among, contained}
 use Rattle.lv_meaning.specs.CandidateLaws.{are_moves}
 use Rattle.lv_meaning.specs.PossibleLaws.{are_below}

@@ -10,8 +10,8 @@ use Rattle.lv_base.specs.Choices.{contains_all, pairs_of}
 use Rattle.lv_model.specs.declared.plant.Plant.{Plant}
 use Rattle.lv_model.specs.Lists.{sizes}
 use Rattle.lv_compile.specs.WindowLaws.{counts_of}
-use Rattle.lv_search_walk.specs.Laws.{IsMonotone}
-use Rattle.lv_search_walk.proofs.ReasonLemmas.{still_impossible}
+use Rattle.lv_boxes.specs.WalkLaws.{IsMonotone}
+use Rattle.lv_boxes.proofs.ReasonLemmas.{still_impossible}
 use Rattle.lv_meaning.specs.declared.facts.Facts.{Facts}
 use Rattle.lv_meaning.specs.Possible.{value, move_number, gives, extends}
 use Rattle.lv_meaning.specs.PossibleLaws.{are_below}

@@ -7,10 +7,10 @@ use Rattle.lv_base.specs.declared.search.Pair.{Pair}
 use Rattle.lv_model.specs.declared.plant.Plant.{Plant}
 use Rattle.lv_model.specs.declared.state.TrackedState.{TrackedState}
 use Rattle.lv_model.specs.WellFormed.{is_well_formed}
-use Rattle.lv_search_walk.specs.declared.outcome.Outcome.TheVariants.{Settled}
-use Rattle.lv_search_walk.specs.Ranked.{rises}
-use Rattle.lv_search_walk.specs.Walk.{suit_all}
-use Rattle.lv_search_walk.specs.Laws.{each_is_needed, none_in_another}
+use Rattle.lv_boxes.specs.declared.outcome.Outcome.TheVariants.{Settled}
+use Rattle.lv_boxes.specs.Ranked.{rises}
+use Rattle.lv_boxes.specs.Walk.{suit_all}
+use Rattle.lv_boxes.specs.WalkLaws.{each_is_needed, none_in_another}
 use Rattle.lv_boxes.specs.RankedMembers.{ranked_members, sources_differ}
 use Rattle.lv_search.specs.Free.{free_of}
 use Rattle.lv_meaning.specs.declared.facts.Facts.{Facts}

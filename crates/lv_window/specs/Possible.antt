@@ -11,7 +11,7 @@ use Rattle.lv_model.specs.declared.plant.Plant.{Plant}
 use Rattle.lv_model.specs.Lists.{sizes}
 use Rattle.lv_model.specs.Meaning.{is_step}
 use Rattle.lv_compile.specs.WindowLaws.{counts_of}
-use Rattle.lv_search_walk.specs.Walk.{candidate_of}
+use Rattle.lv_boxes.specs.Walk.{candidate_of}
 use Rattle.lv_meaning.specs.declared.facts.Facts.{Facts}
 use Rattle.lv_meaning.specs.Facts.{meets_facts}
 use Rattle.lv_meaning.specs.Possible.{value, move_number, extends}

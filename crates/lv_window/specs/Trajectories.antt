@@ -6,7 +6,7 @@ use Rattle.lv_base.specs.declared.ids.ValId.{ValId}
 use Rattle.lv_base.specs.declared.rank.Rank.{Rank}
 use Rattle.lv_model.specs.declared.plant.Plant.{Plant}
 use Rattle.lv_model.specs.declared.state.TrackedState.{TrackedState}
-use Rattle.lv_search_walk.specs.Ranked.{ranked}
+use Rattle.lv_boxes.specs.Ranked.{ranked}
 use Rattle.lv_meaning.specs.Candidates.{ranks_from}
 use Rattle.lv_meaning.specs.Targets.{target_of_rank}
 

@@ -6,8 +6,8 @@ use Rattle.lv_base.specs.declared.search.Candidate.{Candidate}
 use Rattle.lv_base.specs.Choices.{pairs_of}
 use Rattle.lv_model.specs.declared.plant.Plant.{Plant}
 use Rattle.lv_model.specs.declared.state.TrackedState.{TrackedState}
-use Rattle.lv_search_walk.specs.Walk.{Walked, walk}
-use Rattle.lv_search_walk.specs.Reason.{reduced}
+use Rattle.lv_boxes.specs.Walk.{Walked, walk}
+use Rattle.lv_boxes.specs.Reason.{reduced}
 use Rattle.lv_meaning.specs.declared.facts.Facts.{Facts}
 use Rattle.lv_window.specs.Trajectories.{trajectories}
 use Rattle.lv_window.specs.Possible.{is_possible_over, is_possible_trajectory, is_possible_window_rank}

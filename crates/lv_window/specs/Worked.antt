@@ -5,7 +5,7 @@ use Rattle.lv_base.specs.declared.rank.Rank.{Rank}
 use Rattle.lv_base.specs.declared.search.Pair.{Pair}
 use Rattle.lv_model.specs.declared.state.TrackedState.{TrackedState}
 use Rattle.lv_compile.specs.Valve.{valve}
-use Rattle.lv_search_walk.specs.declared.outcome.Outcome.TheVariants.{Settled}
+use Rattle.lv_boxes.specs.declared.outcome.Outcome.TheVariants.{Settled}
 use Rattle.lv_meaning.specs.declared.facts.Facts.{Facts}
 use Rattle.lv_window.specs.Trajectories.{trajectories}
 use Rattle.lv_window.specs.Walk.{window_walk}

@@ -5,7 +5,7 @@ ghost use Rattle.std.specs.Prelude.{◌≡◌, ◌+◌, ◌<◌, ◌≤◌, ◌^
 ghost use Rattle.lv_base.specs.declared.limits.TheConstants.{TRACKED};
 ghost use Rattle.lv_compile.specs.declared.windows.TheConstants.{WINDOW};
 ghost use Rattle.lv_model.specs.declared.state.TrackedState.{TrackedState};
-ghost use Rattle.lv_search_walk.specs.declared.outcome.Outcome.TheVariants.{Settled};
+ghost use Rattle.lv_boxes.specs.declared.outcome.Outcome.TheVariants.{Settled};
 ghost use Rattle.lv_meaning.specs.Candidates.{IsTracked};
 ghost use Rattle.lv_search.specs.Standing.{trials_of, all_suit};
 ghost use Rattle.lv_window.specs.Trajectories.{trajectories};
@@ -35,7 +35,7 @@ pub struct WindowQuery<'a> {
 
 impl<'a> marker::Model for WindowQuery<'a> {
     ghost use Rattle.std.specs.Coded.{codes};
-    ghost use Rattle.lv_model.specs.lv_formula.contracts.Condition as condition;
+    ghost use Rattle.lv_model.specs.lv_base.contracts.formula.Condition as condition;
     ghost use Rattle.lv_window.specs.Query.{WindowQueryValue};
 
     ghost Value = { WindowQueryValue };

@@ -41,7 +41,7 @@ impl<'a> marker::Model for WindowTrial<'a> {
     ghost use Rattle.lv_compile.specs.declared.windows.TheConstants.{WINDOW};
     ghost use Rattle.lv_window.specs.Trial.{WindowTrialValue, TellsWindow};
     ghost use Rattle.std.specs.Coded.{codes};
-    ghost use Rattle.lv_model.specs.lv_formula.contracts.Condition as condition;
+    ghost use Rattle.lv_model.specs.lv_base.contracts.formula.Condition as condition;
 
     ghost Value = { WindowTrialValue };
 
@@ -122,7 +122,7 @@ impl<'a> WindowTrial<'a> {
 impl Trial for WindowTrial<'_> {
     ghost use Rattle.std.proofs.Common.{refl};
     ghost use Rattle.lv_base.specs.Choices.{picks};
-    ghost use Rattle.lv_search_walk.proofs.ReasonLemmas.{part_of_all};
+    ghost use Rattle.lv_boxes.proofs.ReasonLemmas.{part_of_all};
     ghost use Rattle.lv_meaning.proofs.Reasons.{own_pairs};
     ghost use Rattle.lv_window.specs.Lawful.{apart_over};
 

@@ -6,7 +6,7 @@ ghost use Rattle.std.specs.Prelude.{IsTrue};
 ghost use Rattle.lv_base.specs.Choices.{slots_rise};
 
 use lv_base::{Candidate, Conflict, Pair};
-use lv_conflicts::Store;
+use lv_boxes::conflicts::Store;
 use std::alloc::{AllocError, Global};
 use std::test::Fail;
 

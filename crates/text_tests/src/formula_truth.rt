@@ -1,7 +1,6 @@
 //! A formula of many kinds, and what its variables may range over.
 
-use lv_base::{ValId, VarId};
-use lv_formula::{Condition, Formula, Range, Sort};
+use lv_base::{Condition, Formula, Range, Sort, ValId, VarId};
 use std::alloc::{AllocError, Global};
 
 fn is(var: u32, val: u32) -> Formula {

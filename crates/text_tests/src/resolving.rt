@@ -1,7 +1,6 @@
 //! Names given what they stand for, in scopes of a few names.
 
-use lv_base::{ValId, VarId};
-use lv_formula::Formula;
+use lv_base::{Formula, ValId, VarId};
 use lv_formula_text::{Path, ResolveFault, Scope, read_phrase, resolve};
 use lv_text::TokenLine;
 use std::alloc::Global;

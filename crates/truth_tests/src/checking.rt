@@ -3,9 +3,8 @@ ghost use Rattle.std.specs.Prelude.{◌≡◌};
 
 use crate::literals::{A, B, NOT_A, NOT_B};
 use lv_base::{ClauseId, Lit};
-use lv_clauses::{ClauseSet, Marks};
+use lv_clauses::{ClauseSet, Hint, Log, Marks};
 use lv_refcheck::check;
-use lv_reflog::{Hint, Log};
 use std::alloc::{AllocError, Global};
 use std::process::Abort;
 

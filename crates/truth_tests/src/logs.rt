@@ -1,7 +1,7 @@
 //! Each public call once, with ample memory.
 
 use lv_base::{BoolId, ClauseId, Lit};
-use lv_reflog::{Hint, Log};
+use lv_clauses::{Hint, Log};
 use std::alloc::AllocError;
 use std::process::Abort;
 

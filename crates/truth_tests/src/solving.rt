@@ -4,9 +4,8 @@ ghost use Rattle.std.specs.Prelude.{◌≡◌};
 
 use crate::literals::{A, B, C, D, NOT_A, NOT_B, NOT_D};
 use lv_base::{BoolId, ClauseId, Lit};
-use lv_clauses::{ClauseSet, is_clause, lit_holds, negation};
+use lv_clauses::{ClauseSet, Log, is_clause, lit_holds, negation};
 use lv_refcheck::check;
-use lv_reflog::Log;
 use lv_sat::{Answer, Solver};
 use std::alloc::{AllocError, Global};
 

@@ -5,8 +5,8 @@ ghost use Rattle.std.specs.Prelude.{◌≡◌, ◌+◌, ◌≤◌, ◌<◌, leng
 
 use crate::numbers::Numbers;
 use lv_base::{Candidate, Conflict, Cost, Pair};
+use lv_boxes::conflicts::Store;
 use lv_boxes::{Grid, Zone};
-use lv_conflicts::Store;
 use std::alloc::{AllocError, Global};
 
 /// Slots of the grid.

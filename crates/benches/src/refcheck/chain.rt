@@ -5,8 +5,7 @@
 ghost use Rattle.std.specs.Prelude.{◌≡◌, ◌+◌, ◌<◌, ◌^◌, ◌∷◌, [], true, false};
 
 use lv_base::{BoolId, ClauseId, Lit};
-use lv_clauses::{ClauseSet, is_clause};
-use lv_reflog::{Hint, Log};
+use lv_clauses::{ClauseSet, Hint, Log, is_clause};
 use std::alloc::{AllocError, Global};
 
 /// Hints of a step at most.

@@ -2,9 +2,8 @@
 #![tactic(auto)]
 
 use super::chain::Chain;
-use lv_clauses::ClauseSet;
+use lv_clauses::{ClauseSet, Hint, Log};
 use lv_refcheck::check;
-use lv_reflog::{Hint, Log};
 use std::alloc::{AllocError, Global};
 
 /// What the hints of a log add up to.

@@ -2,9 +2,8 @@
 #![tactic(auto)]
 
 use lv_base::Lit;
-use lv_clauses::is_clause;
+use lv_clauses::{Log, is_clause};
 use lv_refcheck::check;
-use lv_reflog::Log;
 use lv_sat::{Answer, Effort, Solver};
 use std::alloc::{AllocError, Global};
 use std::fmt::{self, Formatter, Write};

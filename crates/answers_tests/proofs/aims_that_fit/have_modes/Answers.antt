@@ -3,7 +3,7 @@ use Rattle.std.proofs.Common.{◌≡◌, suc, true, nat_le, List, [], ◌∷◌,
 use Rattle.std.proofs.Math.Dec.{leb-suc-zero, leb-suc-suc}
 use Rattle.std.proofs.lemmas.Bool.{le-leb}
 use Rattle.lv_base.specs.declared.ids.ValId.{ValId}
-use Rattle.lv_formula.specs.declared.range.Range.{Range}
+use Rattle.lv_base.specs.declared.range.Range.{Range}
 use Rattle.lv_model.specs.declared.plant.Part.{Part}
 use Rattle.lv_meaning.specs.Ranges.{modes_fit}
 use Rattle.answers_tests.proofs.aims_that_fit.have_modes.Goals as goal

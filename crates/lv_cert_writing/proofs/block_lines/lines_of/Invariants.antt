@@ -1,7 +1,7 @@
 -- what the steps before this place came to
 use Rattle.std.proofs.Common.{◌≡◌, List, length}
 use Rattle.lv_base.specs.declared.ids.Lit.{Lit}
-use Rattle.lv_reflog.specs.lv_clauses.ClauseMap.{ClauseMap}
+use Rattle.lv_clauses.specs.ClauseMap.{ClauseMap}
 use Rattle.lv_cert_writing.specs.BlockLines.{IsRefuting}
 use Rattle.lv_cert_writing.proofs.WalkLemmas.{IsSoFar}
 use Rattle.lv_cert_writing.proofs.block_lines.lines_of.Given as goal

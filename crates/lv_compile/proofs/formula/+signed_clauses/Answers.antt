@@ -2,8 +2,8 @@
 use Rattle.std.proofs.Common.{ℕ, ◌+◌, ◌<◌, ◌≤◌, Bool, true, false, not, List, ◌∷◌, map, drop, length, refl, sym, ap, ◌∙◌, arith}
 use Rattle.std.proofs.lemmas.Bool.{and_parts}
 use Rattle.std.proofs.lemmas.List.{drop_more, drop_all}
-use Rattle.lv_formula.specs.declared.Formula.{Formula}
-use Rattle.lv_formula.specs.Tree.{tree_of, trees_of}
+use Rattle.lv_base.specs.declared.formula.Formula.{Formula}
+use Rattle.lv_base.specs.Tree.{tree_of, trees_of}
 use Rattle.lv_compile.specs.Booleans.{Booleans}
 use Rattle.lv_compile.specs.FormulaClauses.{Clauses, asked, formula_clauses, gathered_clauses, speaks_of, each_speaks_of}
 use Rattle.lv_compile.proofs.GatherLemmas.{gathered_start, gathered_more, gathered_all}

@@ -1,7 +1,7 @@
 -- each call is for a smaller formula; in either sign what was gathered and the clauses of the operands that are left give the
 -- whole
 use Rattle.std.proofs.Common.{◌≡◌, ◌+◌, ◌*◌, true, false, not, map, drop}
-use Rattle.lv_formula.specs.Tree.{tree_of, trees_of}
+use Rattle.lv_base.specs.Tree.{tree_of, trees_of}
 use Rattle.lv_compile.specs.FormulaClauses.{gathered_clauses, each_speaks_of}
 use Rattle.lv_compile.proofs.GatherLemmas.{IsGathered}
 use Rattle.lv_compile.proofs.formula.+signed_clauses.Given as goal

@@ -1,7 +1,7 @@
 -- operand by operand
 use Rattle.std.proofs.Common.{◌≡◌, ◌+◌, ◌<◌, ◌≤◌, ◌∷◌, [], Ok, map, drop, length, sym, ap, ap₂, ◌∙◌, arith}
 use Rattle.std.proofs.lemmas.List.{drop_more, drop_all, map-append}
-use Rattle.lv_formula.specs.Tree as formula
+use Rattle.lv_base.specs.Tree as formula
 use Rattle.lv_formula_text.specs.PhraseTree.{tree_of, trees_of, equals}
 use Rattle.lv_formula_text.specs.Resolving.{names_of, equation_of, resolved}
 use Rattle.lv_formula_text.proofs.TreeLemmas.{tree_of-Equals}

@@ -1,6 +1,6 @@
 -- each call is for a smaller formula; what is left, behind what was found, makes the whole
 use Rattle.std.proofs.Common.{◌≡◌, ◌+◌, ◌*◌, map, drop}
-use Rattle.lv_formula.specs.Tree as formula
+use Rattle.lv_base.specs.Tree as formula
 use Rattle.lv_formula_text.specs.declared.phrase.PhraseNode.{size-PhraseNode}
 use Rattle.lv_formula_text.specs.PhraseTree.{tree_of, trees_of}
 use Rattle.lv_formula_text.specs.Resolving.{names_of, resolved_all}

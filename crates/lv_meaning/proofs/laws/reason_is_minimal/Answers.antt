@@ -1,7 +1,7 @@
 -- the laws of what is left, for the test of a diagnosis
 use Rattle.std.proofs.Common.{[], refl}
 use Rattle.lv_base.specs.Choices.{picks, pairs_of}
-use Rattle.lv_search_walk.proofs.ReasonLemmas.{still_impossible, part_of_all, all_needed}
+use Rattle.lv_boxes.proofs.ReasonLemmas.{still_impossible, part_of_all, all_needed}
 use Rattle.lv_meaning.specs.Possible.{is_possible}
 use Rattle.lv_meaning.proofs.Reasons.{is_monotone, own_pairs, reason_apart}
 use Rattle.lv_meaning.proofs.laws.reason_is_minimal.Goals as goal

@@ -1,6 +1,6 @@
 -- what was added, with the candidates of the ranks that are left, is all
 use Rattle.std.proofs.Common.{◌≡◌, ◌++◌, drop, map}
-use Rattle.lv_meaning.specs.lv_search_walk.Walk.{candidate_of}
+use Rattle.lv_meaning.specs.lv_boxes.Walk.{candidate_of}
 use Rattle.lv_probe.proofs.probing.candidates_of.Given as goal
 
 abbrev pub invariant-loop-rank : goal.invariant-loop-rank

@@ -1,7 +1,7 @@
 -- one goal more
 use Rattle.std.proofs.Common.{◌+◌, ◌∷◌, List, drop, sym, ap, ◌∙◌}
 use Rattle.std.proofs.lemmas.List.{drop_more, drop_all}
-use Rattle.lv_formula.specs.Tree.{Tree}
+use Rattle.lv_base.specs.Tree.{Tree}
 use Rattle.lv_meaning.specs.Recovers.{meets_goals}
 use Rattle.lv_reconf.proofs.NarrowingLemmas.{narrows_end}
 use Rattle.lv_reconf.proofs.GoalLemmas.{goal_more}

@@ -2,7 +2,7 @@
 use Rattle.std.proofs.Common.{◌≡◌, Bool, true, false, Option, Some, None, sym, ap, ◌∙◌, arith, if◌then◌else◌, length}
 use Rattle.std.proofs.lemmas.List.{length-replicate}
 use Rattle.lv_clauses.specs.Marks.{Marks, nothing}
-use Rattle.lv_reflog.proofs.SoundLemmas.{step_at, checked, none_left}
+use Rattle.lv_clauses.proofs.SoundLemmas.{step_at, checked, none_left}
 use Rattle.lv_refcheck.proofs.pass.check.Goals as goal
 
 if_not : {X : Type 0} (b : Bool) (x y : X) → b ≡ false → (if b then x else y) ≡ y

@@ -1,7 +1,7 @@
 -- what is left fits the marks exactly where the clause is one over the booleans, and denying it leads to the same
 use Rattle.std.proofs.Common.{◌≡◌, length, drop}
 use Rattle.lv_clauses.specs.Literals.{is_clause}
-use Rattle.lv_reflog.specs.Following.{denied}
+use Rattle.lv_clauses.specs.Following.{denied}
 use Rattle.lv_refcheck.proofs.DenialLemmas.{fits}
 use Rattle.lv_refcheck.proofs.pass.deny.Given as goal
 

@@ -1,6 +1,6 @@
 -- the hints left end well from the marks now exactly where all do from the first marks
 use Rattle.std.proofs.Common.{◌≡◌, length, drop, take}
-use Rattle.lv_reflog.specs.Following as Following
+use Rattle.lv_clauses.specs.Following as Following
 use Rattle.lv_refcheck.proofs.pass.ends_well.Given as goal
 
 abbrev pub invariant-loop-at : goal.invariant-loop-at

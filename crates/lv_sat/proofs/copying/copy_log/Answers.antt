@@ -1,8 +1,8 @@
 -- one step more is copied
 use Rattle.std.proofs.Common.{◌≡◌, ◌+◌, ◌++◌, ◌∷◌, [], List, drop, ap, ap₂, ◌∙◌}
 use Rattle.lv_base.specs.declared.ids.Lit.{Lit}
-use Rattle.lv_reflog.specs.declared.log.Hint.{Hint}
-use Rattle.lv_reflog.specs.declared.log.Step.{Step}
+use Rattle.lv_clauses.specs.declared.log.Hint.{Hint}
+use Rattle.lv_clauses.specs.declared.log.Step.{Step}
 use Rattle.lv_sat.proofs.RefutedLemmas.{copied_more}
 use Rattle.lv_sat.proofs.copying.copy_log.Goals as goal
 

@@ -1,7 +1,7 @@
 -- what is asked is what a session asks, and the texts are those of the goals
 use Rattle.std.proofs.Common.{◌≡◌, ◌≤◌, ℕ, List, length, map, All, sym, ap, subst, ◌∙◌}
 use Rattle.lv_base.specs.declared.limits.TheConstants.{TRACKED}
-use Rattle.lv_formula.specs.Tree.{Tree}
+use Rattle.lv_base.specs.Tree.{Tree}
 use Rattle.lv_model.specs.declared.state.TrackedState.{TrackedState}
 use Rattle.lv_session_state.specs.lv_tracker.Tracked.{IsWithinCost}
 use Rattle.lv_session_state.specs.lv_meaning.declared.aim.Aim.{Aim}

@@ -1,7 +1,7 @@
 -- what is kept of the diagnosis lists candidates that have a move for each part
 use Rattle.std.proofs.Common.{List, All, map, sym, subst, ◌∙◌}
 use Rattle.lv_base.specs.declared.rank.Rank.{Rank}
-use Rattle.lv_search_walk.specs.Walk.{candidate_of}
+use Rattle.lv_boxes.specs.Walk.{candidate_of}
 use Rattle.lv_probe.specs.Probing.{IsFull}
 use Rattle.lv_session.proofs.Probing.{listed_full}
 use Rattle.lv_session.proofs.probes.probe.Goals as goal

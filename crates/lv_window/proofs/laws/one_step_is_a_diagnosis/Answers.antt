@@ -2,8 +2,8 @@ use Rattle.std.proofs.Common.{List, []}
 use Rattle.lv_base.specs.declared.search.Candidate.{Candidate}
 use Rattle.lv_base.specs.declared.search.Pair.{Pair}
 use Rattle.lv_base.specs.Choices.{pairs_of}
-use Rattle.lv_search_walk.specs.Walk.{walk}
-use Rattle.lv_search_walk.specs.Reason.{reduced}
+use Rattle.lv_boxes.specs.Walk.{walk}
+use Rattle.lv_boxes.specs.Reason.{reduced}
 use Rattle.lv_window.proofs.PossibleLemmas.{one_step_possible}
 use Rattle.lv_window.proofs.TrajectoryLemmas.{one_step_entries}
 use Rattle.lv_window.proofs.laws.one_step_is_a_diagnosis.Goals as goal

@@ -1,6 +1,6 @@
 -- the slots that are left tell
 use Rattle.std.proofs.Common.{◌≡◌, drop}
-use Rattle.lv_search_walk.specs.Groups.{have_same_groups}
+use Rattle.lv_boxes.specs.Groups.{have_same_groups}
 use Rattle.lv_boxes.proofs.groups.Groups.are_one.Given as goal
 
 abbrev pub invariant-loop-slot : goal.invariant-loop-slot

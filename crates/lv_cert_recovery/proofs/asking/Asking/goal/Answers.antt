@@ -1,7 +1,7 @@
 -- the goal speaks of values of the system
 use Rattle.std.proofs.Common.{◌∙◌, subst, sym, ap}
 use Rattle.std.proofs.lemmas.Result.{IfOk-weaker}
-use Rattle.lv_formula.specs.Tree.{tree_of}
+use Rattle.lv_base.specs.Tree.{tree_of}
 use Rattle.lv_meaning.specs.Ranges.{GoalFits}
 use Rattle.lv_system.specs.Goals as goals
 use Rattle.lv_cert_laws.specs.lv_cert_meaning.Units as units

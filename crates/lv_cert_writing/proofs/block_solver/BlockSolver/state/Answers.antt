@@ -3,7 +3,7 @@ use Rattle.std.proofs.Common.{◌≡◌, length, true, false, nat_eq, slice_inde
 use Rattle.std.proofs.lemmas.Bool.Decides.{nat_tests}
 use Rattle.std.proofs.lemmas.Result.{on_ok_weaker}
 use Rattle.lv_base.specs.declared.ids.Lit.{Lit}
-use Rattle.lv_reflog.specs.lv_clauses.Literals.{in_range}
+use Rattle.lv_clauses.specs.Literals.{in_range}
 use Rattle.lv_cert_writing.proofs.StatedClauseLemmas.{single, single_within, one_added, one_assumed}
 use Rattle.lv_cert_writing.proofs.block_solver.BlockSolver.state.Goals as goal
 

@@ -1,7 +1,7 @@
 -- a goal that fits reads variables of the plant alone
 use Rattle.std.proofs.Common.{◌≡◌, ◌∙◌, ◌+◌, ◌≤◌, All, length, arith, sym, ap, subst}
 use Rattle.std.proofs.lemmas.List.Elements.{All-weaker}
-use Rattle.lv_formula.proofs.FitLemmas.{fits_reads}
+use Rattle.lv_base.proofs.FitLemmas.{fits_reads}
 use Rattle.lv_model.specs.Ranges.{plant_ranges}
 use Rattle.lv_model.specs.WellFormed.{Reads}
 use Rattle.lv_model.proofs.Reading.{length-plant_ranges}

@@ -2,8 +2,8 @@
 use Rattle.std.proofs.Common.{◌≡◌, ◌+◌, Bool, true, List, subst, sym, ap, ◌∙◌}
 use Rattle.std.specs.Result.{IfOk}
 use Rattle.lv_base.specs.declared.rank.Rank.{Rank}
-use Rattle.lv_search_walk.specs.Walk.{distinct_walk}
-use Rattle.lv_search_walk.specs.Groups.{alike_by}
+use Rattle.lv_boxes.specs.Walk.{distinct_walk}
+use Rattle.lv_boxes.specs.Groups.{alike_by}
 use Rattle.lv_meaning.specs.Candidates.{candidates, is_possible_candidate}
 use Rattle.lv_meaning.specs.Diagnosis.{reason_of, diagnosis_walk}
 use Rattle.lv_search.specs.Standing.{trials_of, all_suit, IsUnderWay}

@@ -4,7 +4,7 @@ use Rattle.std.proofs.lemmas.Result.{IfOk-weaker}
 use Rattle.lv_base.specs.declared.ids.VarId.{VarId}
 use Rattle.lv_base.specs.declared.search.Candidate.{Candidate}
 use Rattle.lv_model.specs.Lists.{sizes, IsVariable}
-use Rattle.lv_meaning.specs.lv_search_walk.Walk.{candidate_of}
+use Rattle.lv_meaning.specs.lv_boxes.Walk.{candidate_of}
 use Rattle.lv_probe.specs.Probing.{IsFull, probed, all_probed, observables, observables_among}
 use Rattle.lv_probe.proofs.probing.Probing.probe.Goals as goal
 

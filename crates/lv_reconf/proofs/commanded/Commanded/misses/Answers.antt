@@ -1,6 +1,6 @@
 -- the solver asks for steps that end with the goal false
 use Rattle.std.proofs.Common.{true, not, sym, subst}
-use Rattle.lv_formula.specs.Tree.{truth_of}
+use Rattle.lv_base.specs.Tree.{truth_of}
 use Rattle.lv_reconf.specs.Assuming.{CommandedValue}
 use Rattle.lv_reconf.specs.Narrowing.{Asks}
 use Rattle.lv_reconf.proofs.commanded.Commanded.misses.Goals as goal

@@ -1,8 +1,8 @@
 -- a goal that fits speaks of values that have booleans
 use Rattle.std.proofs.Common.{◌≡◌, true, subst, sym, ap, ◌∙◌}
 use Rattle.std.proofs.lemmas.Result.{IfOk-weaker}
-use Rattle.lv_formula.specs.Fits.{fits}
-use Rattle.lv_formula.specs.Tree.{tree_of}
+use Rattle.lv_base.specs.Fits.{fits}
+use Rattle.lv_base.specs.Tree.{tree_of}
 use Rattle.lv_model.specs.declared.plant.Plant.{Plant}
 use Rattle.lv_model.specs.Ranges.{plant_ranges}
 use Rattle.lv_compile.specs.Cleaning.{cleaned}

@@ -2,8 +2,8 @@
 use Rattle.std.proofs.Common.{◌≡◌, ◌+◌, ◌≤◌, ℕ, List, true, subst, sym, ◌∙◌}
 use Rattle.std.specs.Prelude.{Option}
 use Rattle.std.specs.Result.{IfOk}
-use Rattle.lv_meaning.specs.lv_search_walk.Walk.{distinct_walk}
-use Rattle.lv_meaning.specs.lv_search_walk.Groups.{alike_by}
+use Rattle.lv_meaning.specs.lv_boxes.Walk.{distinct_walk}
+use Rattle.lv_meaning.specs.lv_boxes.Groups.{alike_by}
 use Rattle.lv_meaning.specs.Commands.{command_sets}
 use Rattle.lv_meaning.specs.Recovery.{candidate_recovers, candidate_reason, recovery_walk}
 use Rattle.lv_search.specs.Standing.{trials_of, all_suit, IsUnderWay}

@@ -2,7 +2,7 @@
 use Rattle.std.proofs.Common.{[], ap, ◌∙◌}
 use Rattle.lv_base.specs.Choices.{slots_rise}
 use Rattle.lv_search.proofs.lv_boxes.MemberLemmas.{pairs_rise}
-use Rattle.lv_meaning.proofs.lv_search_walk.ReasonLemmas.{still_rising}
+use Rattle.lv_meaning.proofs.lv_boxes.ReasonLemmas.{still_rising}
 use Rattle.lv_reconf.specs.Trying.{looking_at, reaches_at}
 use Rattle.lv_reconf.proofs.testing.TestTrialTrial.attempt.Goals as goal
 

@@ -1,7 +1,7 @@
 -- the assumption is true already, or put on; where what it forces makes a clause false, it is taken back
 use Rattle.std.proofs.Common.{◌∙◌, ◌++◌, ◌∷◌, [], List, None, length, take, sym, ap, subst}
 use Rattle.lv_clauses.specs.Marks.{is_marked}
-use Rattle.lv_reflog.specs.declared.log.Step.{Step}
+use Rattle.lv_clauses.specs.declared.log.Step.{Step}
 use Rattle.lv_trail.specs.declared.trail.Entry.{Entry}
 use Rattle.lv_sat.specs.declared.front.Level.{Level}
 use Rattle.lv_trail.specs.Trail.{IsPropagated}

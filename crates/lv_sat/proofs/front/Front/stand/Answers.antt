@@ -1,6 +1,6 @@
 -- what clauses force without any assumption comes first
 use Rattle.std.proofs.Common.{List, subst, sym}
-use Rattle.lv_reflog.specs.declared.log.Step.{Step}
+use Rattle.lv_clauses.specs.declared.log.Step.{Step}
 use Rattle.lv_sat.specs.Front.{IsKept}
 use Rattle.lv_trail.specs.Trail.{IsTrail}
 use Rattle.lv_sat.proofs.FrontLemmas.{begun_refuted, begun_stands}

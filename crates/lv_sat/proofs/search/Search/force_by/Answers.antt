@@ -1,8 +1,8 @@
 -- what is forced first, and what follows from that
 use Rattle.std.proofs.Common.{List, Option, None, subst}
 use Rattle.std.proofs.lemmas.Result.{IfOk-weaker}
-use Rattle.lv_reflog.specs.declared.log.Hint.{Hint}
-use Rattle.lv_reflog.specs.declared.log.Step.{Step}
+use Rattle.lv_clauses.specs.declared.log.Hint.{Hint}
+use Rattle.lv_clauses.specs.declared.log.Step.{Step}
 use Rattle.lv_trail.specs.Trail.{IsPropagated}
 use Rattle.lv_sat.proofs.FrontLemmas.{kept_grown}
 use Rattle.lv_trail.proofs.TrailLemmas.{propagated_then}

@@ -1,7 +1,7 @@
 -- values are found, assumptions are refuted, or a choice is turned
 use Rattle.std.proofs.Common.{List, length, None, [], ◌∷◌, ◌++◌, ◌-◌, take, get_or, false, sym, ap, subst, ◌∙◌, arith}
 use Rattle.lv_trail.specs.declared.trail.Entry.{Entry}
-use Rattle.lv_reflog.specs.declared.log.Hint.TheVariants.{Earlier}
+use Rattle.lv_clauses.specs.declared.log.Hint.TheVariants.{Earlier}
 use Rattle.lv_trail.specs.Trail.{IsTurned, turned}
 use Rattle.lv_sat.specs.Search.{IsSearch}
 use Rattle.lv_trail.specs.Analysis.{Derives}

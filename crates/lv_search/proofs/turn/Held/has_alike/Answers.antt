@@ -1,7 +1,7 @@
 -- without groups none is found
 use Rattle.std.proofs.Common.{sym, ◌∙◌, ap}
 use Rattle.std.specs.List.{list_any}
-use Rattle.lv_search_walk.specs.Groups.{alike_by}
+use Rattle.lv_boxes.specs.Groups.{alike_by}
 use Rattle.lv_search.proofs.GroupLemmas.{none_listed}
 use Rattle.lv_search.proofs.turn.Held.has_alike.Goals as goal
 

@@ -1,6 +1,6 @@
 -- what is kept has run to the end of the query's walk; and which query is current plays no part in what one comes to
 use Rattle.std.proofs.Common.{sym, subst, ap, ap₂, ◌∙◌}
-use Rattle.lv_search_walk.specs.Walk.{Walked}
+use Rattle.lv_boxes.specs.Walk.{Walked}
 use Rattle.lv_reply.specs.declared.reply.Reply.{Reply}
 use Rattle.lv_session_state.specs.State.{SessionState, reply_to}
 use Rattle.lv_session_state.specs.Current.{IsKeptOf}

@@ -2,7 +2,7 @@
 use Rattle.std.proofs.Common.{◌≡◌, ◌+◌, ◌<◌, ◌^◌, true, false, sym, ap, subst, ◌∙◌, rules}
 use Rattle.lv_model.specs.declared.plant.Plant.{Plant}
 use Rattle.lv_model.specs.WellFormed.{is_well_formed}
-use Rattle.lv_search_walk.specs.declared.outcome.Outcome.TheVariants.{Unsettled}
+use Rattle.lv_boxes.specs.declared.outcome.Outcome.TheVariants.{Unsettled}
 use Rattle.std.proofs.lemmas.Result.{IfOk-weaker}
 use Rattle.lv_session_state.specs.declared.query.Query.{Query}
 use Rattle.lv_session_state.specs.State.{SessionState, trials, sum_of, with_more, is_asked, is_settled, asked}

@@ -1,7 +1,7 @@
 -- what is cut so far is a front that is a trail
 use Rattle.std.proofs.Common.{◌≡◌, ◌≤◌, List, length, take}
 use Rattle.lv_clauses.specs.ClauseMap.{ClauseMap}
-use Rattle.lv_reflog.specs.declared.log.Step.{Step}
+use Rattle.lv_clauses.specs.declared.log.Step.{Step}
 use Rattle.lv_trail.specs.Trail.{IsTrail}
 use Rattle.lv_trail.proofs.trail.Trail.cut.Given as goal
 

@@ -2,9 +2,9 @@
 use Rattle.std.proofs.Common.{◌≡◌, ℕ, ◌+◌, true, Bool, List, Option, length, subst, sym, ap, ◌∙◌}
 use Rattle.std.specs.Result.{IfOk}
 use Rattle.lv_base.specs.declared.rank.Rank.{Rank}
-use Rattle.lv_search_walk.specs.declared.outcome.Outcome.TheVariants.{Settled}
-use Rattle.lv_search_walk.specs.Walk.{distinct_walk}
-use Rattle.lv_search_walk.specs.Groups.{alike_by}
+use Rattle.lv_boxes.specs.declared.outcome.Outcome.TheVariants.{Settled}
+use Rattle.lv_boxes.specs.Walk.{distinct_walk}
+use Rattle.lv_boxes.specs.Groups.{alike_by}
 use Rattle.lv_search.specs.Standing.{trials_of, all_suit, first_fitting, IsUnderWay}
 use Rattle.lv_window.specs.Trajectories.{trajectories}
 use Rattle.lv_window.specs.Possible.{is_possible_trajectory}

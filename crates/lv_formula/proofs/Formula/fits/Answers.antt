@@ -1,7 +1,0 @@
--- whether the fold fits is whether the tree does
-use Rattle.std.proofs.Common.{sym, ◌∙◌}
-use Rattle.lv_formula.proofs.FoldLemmas.{fits-tree_of}
-use Rattle.lv_formula.proofs.Formula.fits.Goals as goal
-
-pub returns : goal.returns
-returns c = c.fits_from.ensures ∙ sym (fits-tree_of c.args.ranges.now c.args.self.now)

@@ -1,4 +1,0 @@
-pub mod FoldLemmas
-pub mod FitLemmas
-pub mod WidenLemmas
-pub mod CountLemmas

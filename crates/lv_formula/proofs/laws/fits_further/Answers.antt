@@ -1,5 +1,0 @@
-use Rattle.lv_formula.proofs.WidenLemmas.{fits_wider, further}
-use Rattle.lv_formula.proofs.laws.fits_further.Goals as goal
-
-pub returns : goal.returns
-returns c = λ ranges behind f h. fits_wider ranges _ (further ranges behind) f h

@@ -1,5 +1,0 @@
-use Rattle.lv_formula.proofs.FitLemmas.{fits_reads}
-use Rattle.lv_formula.proofs.laws.fits_reads.Goals as goal
-
-pub returns : goal.returns
-returns c = λ ranges bound base ends f h. fits_reads ranges bound base ends f h

@@ -1,5 +1,0 @@
-use Rattle.lv_formula.proofs.WidenLemmas.{fits_wider}
-use Rattle.lv_formula.proofs.laws.fits_wider.Goals as goal
-
-pub returns : goal.returns
-returns c = λ old new wide f h. fits_wider old new wide f h

@@ -1,2 +1,0 @@
-pub mod SoundLemmas
-pub use Rattle.lv_clauses.proofs as lv_clauses

@@ -1,2 +1,0 @@
-pub mod Following
-pub use Rattle.lv_clauses.specs as lv_clauses

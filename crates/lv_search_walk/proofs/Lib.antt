@@ -1,6 +1,0 @@
-pub mod RankedLemmas
-pub mod ReasonLemmas
-pub mod WalkLemmas
-pub mod PlainLemmas
-pub mod TurnLemmas
-pub mod KeptLemmas

@@ -1,6 +1,0 @@
--- what is refused contains no kept conflict, and so its reason has none
-use Rattle.lv_search_walk.proofs.KeptLemmas.{walk_kept_apart}
-use Rattle.lv_search_walk.proofs.laws.kept_are_apart.Goals as goal
-
-pub returns : goal.returns
-returns c = walk_kept_apart

@@ -1,6 +1,0 @@
--- both begin with the same rank, and go on likewise
-use Rattle.lv_search_walk.proofs.RankedLemmas.{one_list}
-use Rattle.lv_search_walk.proofs.laws.ranked_list_is_one.Goals as goal
-
-pub returns : goal.returns
-returns c = one_list
