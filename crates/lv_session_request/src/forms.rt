@@ -7,6 +7,7 @@ ghost use Rattle.lv_base.specs.Names.{is_named};
 ghost use Rattle.lv_text.specs.Lexemes.{is_number};
 ghost use Rattle.lv_session_request.specs.Forms.{is_dot, is_equals, has_kind, has_number_form, has_distinct_form, has_at_form, has_command_signs, has_release_signs, has_observe_signs, is_reserved, name_at, IsUpTo, from_1_to, limited, number_to};
 
+use lv_base::is_same_text;
 use lv_reply::Refusal;
 use lv_text::{TokenKind, TokenLine};
 
@@ -50,26 +51,11 @@ pub fn has_observe_signs(line: &TokenLine<'_>) -> bool
     line.len() == 7 && is_dot_at(line, 3) && is_equals_at(line, 5)
 }
 
-/// Whether a word is this one. Words are so short that going along them is faster than comparing slices.
-pub fn is_text(word: &[u8], text: &[u8]) -> bool
-    ensures { result ≡ is_named text.now word.now }
-{
-    if word.len() != text.len() {
-        return false;
-    }
-    for at in 0..word.len() {
-        if word[at] != text[at] {
-            return false;
-        }
-    }
-    true
-}
-
 /// Whether a word stands for something else wherever it is.
 fn is_reserved(word: &[u8]) -> bool
     ensures { result ≡ is_reserved word.now }
 {
-    is_text(word, b"true") || is_text(word, b"false") || is_text(word, b"mode")
+    is_same_text(word, b"true") || is_same_text(word, b"false") || is_same_text(word, b"mode")
 }
 
 /// The word at this place, as the name of an observation.

@@ -1,7 +1,0 @@
--- what is left is the same exactly where all is
-use Rattle.std.proofs.Common.{◌≡◌, nat_eq, drop}
-use Rattle.std.specs.Cmp.Lexicographic.{pointwise}
-use Rattle.lv_session_request.proofs.forms.is_text.Given as goal
-
-abbrev pub invariant-loop-at : goal.invariant-loop-at
-invariant-loop-at l = pointwise nat_eq (drop l.at l.word) (drop l.at l.text) ≡ pointwise nat_eq l.word l.text
