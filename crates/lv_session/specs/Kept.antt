@@ -22,6 +22,13 @@ IsCaredFor request plant next before after = after ≡ before
 abbrev pub IsLabellerOf : Plant → Option Plant → Type 0
 IsLabellerOf plant held = IfSome held (λ (of : Plant). of ≡ plant)
 
+-- what a line finds: a state of the plant, with what is kept of its current query, a solver and a labeller of the plant
+pub record IsReady (plant : Plant) (now : SessionState) (w : Workings) : Type 0 where
+  pub state : IsStateOf plant now
+  pub running : IsCurrent plant now w.running
+  pub solver : KeepsSolverOf plant w.running
+  pub labeller : IsLabellerOf plant w.labeller
+
 -- the state is one of the plant; as long as memory sufficed, its current query is kept, and a solver that is kept is of the plant
 pub record IsSession (plant : Plant) (w : Workings) (now : SessionState) (is_out_of_memory : Bool) : Type 0 where
   pub labeller_is : IsLabellerOf plant w.labeller

@@ -4,9 +4,7 @@
 ghost use Rattle.std.specs.Prelude.{◌≡◌, IfOk, OnOk, OnErr};
 ghost use Rattle.lv_session_state.specs.lv_session_request.Requests.{IsRequestOf};
 ghost use Rattle.lv_session.specs.Session.{carried_out};
-ghost use Rattle.lv_session.specs.Kept.{IsCaredFor, IsLabellerOf};
-ghost use Rattle.lv_session_state.specs.Current.{IsCurrent, KeepsSolverOf};
-ghost use Rattle.lv_session_state.specs.States.{IsStateOf};
+ghost use Rattle.lv_session.specs.Kept.{IsCaredFor, IsLabellerOf, IsReady};
 
 use crate::certificates::certificate;
 use crate::compiled::CompiledModel;
@@ -25,11 +23,8 @@ pub(crate) fn carry_out<'a>(
     state: &mut State,
     request: Request,
 ) -> Result<Reply, AllocError>
-    requires state { IsStateOf compiled.now state.old }
+    requires ready { IsReady compiled.now state.old workings.old }
     requires request { IsRequestOf compiled.now request }
-    requires running { IsCurrent compiled.now state.old workings.old.running }
-    requires solver { KeepsSolverOf compiled.now workings.old.running }
-    requires labeller { IsLabellerOf compiled.now workings.old.labeller }
     ensures ok { IfOk result (λ reply. record { state = state.new; reply = reply } ≡ carried_out compiled.now state.old request) }
     ensures err { OnErr result (state.new ≡ state.old) }
     ensures running { OnOk result (IsCaredFor request compiled.now state.new workings.old.running workings.new.running) }

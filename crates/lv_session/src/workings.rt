@@ -7,8 +7,8 @@ ghost use Rattle.lv_session.specs.Session.{stepped};
 ghost use Rattle.lv_session.specs.Applying.{performed};
 ghost use Rattle.lv_session_state.specs.States.{IsStateOf};
 ghost use Rattle.lv_session_state.specs.declared.running.Running.TheVariants.{Nothing};
-ghost use Rattle.lv_session_state.specs.Current.{IsCurrent, KeepsSolverOf, IsWorking};
-ghost use Rattle.lv_session.specs.Kept.{IsLabellerOf};
+ghost use Rattle.lv_session_state.specs.Current.{IsWorking};
+ghost use Rattle.lv_session.specs.Kept.{IsLabellerOf, IsReady};
 
 use crate::compiled::CompiledModel;
 use crate::requests::carry_out;
@@ -58,10 +58,7 @@ pub(crate) fn answer<'a>(
     state: &mut State,
     line: &[u8],
 ) -> Result<Reply, AllocError>
-    requires state { IsStateOf compiled.now state.old }
-    requires running { IsCurrent compiled.now state.old workings.old.running }
-    requires solver { KeepsSolverOf compiled.now workings.old.running }
-    requires labeller { IsLabellerOf compiled.now workings.old.labeller }
+    requires { IsReady compiled.now state.old workings.old }
     ensures ok { IfOk result (λ reply. record { state = state.new; reply = reply } ≡ stepped compiled.now state.old line.now) }
     ensures err { OnErr result (state.new ≡ state.old) }
     ensures kept { IsStateOf compiled.now state.new }
@@ -91,11 +88,8 @@ pub(crate) fn perform<'a>(
     state: &mut State,
     request: Request,
 ) -> Result<Reply, AllocError>
-    requires state { IsStateOf compiled.now state.old }
+    requires ready { IsReady compiled.now state.old workings.old }
     requires request { IsRequestOf compiled.now request }
-    requires running { IsCurrent compiled.now state.old workings.old.running }
-    requires solver { KeepsSolverOf compiled.now workings.old.running }
-    requires labeller { IsLabellerOf compiled.now workings.old.labeller }
     ensures ok { IfOk result (λ reply. record { state = state.new; reply = reply } ≡ performed compiled.now state.old request) }
     ensures err { OnErr result (state.new ≡ state.old) }
     ensures kept { IsStateOf compiled.now state.new }
