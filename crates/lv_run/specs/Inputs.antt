@@ -1,11 +1,14 @@
 -- What the program reads and makes: the model that a command speaks of, what becomes of its text, and which opens a call makes.
-use Rattle.std.specs.Prelude.{◌≡◌, ℕ, List, [], ◌∷◌, ◌++◌, take, Option, None, Some}
+use Rattle.std.specs.Prelude.{◌≡◌, ◌≢◌, ℕ, List, [], ◌∷◌, ◌++◌, take, Option, None, Some, Result, Err}
 use Rattle.std.specs.Option.{option_map_or}
-use Rattle.lv_io.specs.Outside.{Opened}
+use Rattle.lv_io.specs.Outside.{Opened, Rose}
+use Rattle.lv_io.specs.declared.Role.{Role}
 use Rattle.lv_io.specs.declared.Role.TheVariants.{Model as OfModel, Second as OfSecond}
 use Rattle.lv_model.specs.declared.plant.Plant.{Plant}
 use Rattle.lv_checker.specs.Verdicts.{IsVerdict, accepted}
 use Rattle.lv_run.specs.Drives.{drive_text}
+use Rattle.lv_run.specs.declared.fault.RunFault.{RunFault}
+use Rattle.lv_run.specs.declared.fault.RunFault.TheVariants.{ModelUnread, OutOfMemory}
 use Rattle.lv_gen.specs.Series.{model_text}
 use Rattle.lv_gen.specs.Session.{session_text}
 use Rattle.lv_run_words.specs.Words.{Said, runs, checks, prints, generates, drives}
@@ -48,6 +51,13 @@ opens_of said = option_map_or command_opens said []
 pub record AddsOpens (old listed new : List Opened) : Type 0 where
   pub count : ℕ
   pub added : new ≡ old ++ take count listed
+
+-- the model's file is opened, unless memory is wanting before; it counts a fault more exactly where it couldn't be read
+pub record OpensModel {A : Type 0} (name : List ℕ) (result : Result A RunFault) (old new : List Opened) (before after : Role → ℕ) : Type 0 where
+  pub front : AddsOpens old (model_open name ∷ []) new
+  pub whole : result ≢ Err OutOfMemory → new ≡ old ++ model_open name ∷ []
+  pub unread : result ≡ Err ModelUnread → Rose (before OfModel) (after OfModel)
+  pub as_before : result ≢ Err ModelUnread → (r : Role) → after r ≡ before r
 
 -- the text made for a number gives a model, and the summary of the number's session over it is this
 pub record IsDriven (n : ℕ) (summary : List ℕ) : Type 0 where

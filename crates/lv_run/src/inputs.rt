@@ -1,15 +1,12 @@
 //! What the program reads and makes: the model's text, the model that it gives or its canonical text, and what is made
 //! for a number.
 
-ghost use Rattle.std.specs.Prelude.{◌≡◌, ◌≢◌, ◌++◌, ◌∷◌, [], Some, IfOk, IfErr, IfSome};
-ghost use Rattle.lv_io.specs.Outside.{Rose};
-ghost use Rattle.lv_io.specs.declared.Role.{Role};
-ghost use Rattle.lv_io.specs.declared.Role.TheVariants.{Model as OfModel};
+ghost use Rattle.std.specs.Prelude.{◌≡◌, ◌≢◌, Some, IfOk, IfErr, IfSome};
 ghost use Rattle.lv_checker.specs.Verdicts.{IsVerdict, accepted};
 ghost use Rattle.lv_gen.specs.Series.{model_text};
 ghost use Rattle.lv_run.specs.Inputs as Inputs;
 ghost use Rattle.lv_checker.specs.Standing.{IsPrinted};
-ghost use Rattle.lv_run.specs.Inputs.{IsDriven, model_open, AddsOpens};
+ghost use Rattle.lv_run.specs.Inputs.{IsDriven, OpensModel};
 ghost use Rattle.lv_run.specs.Faults.{EndsModel, RefusesBy};
 
 use crate::fault::RunFault;
@@ -30,14 +27,9 @@ fn load_text<F: Shelf>(alloc: Global, shelf: &mut F, name: &str) -> Result<Vec<u
     ensures refused { IfErr result (λ fault. RefusesBy fault (F.file shelf.old name.now)) }
     ensures ends { IfErr result EndsModel }
 
-    // What is recorded, and what stays.
-    ensures opens { AddsOpens (F.opens shelf.old) (model_open name.now ∷ []) (F.opens shelf.new) }
-    ensures opened { result ≢ Err RunFault.OutOfMemory → F.opens shelf.new ≡ F.opens shelf.old ++ model_open name.now ∷ [] }
+    // What is recorded, whose fault it was, and what stays.
+    ensures opens { OpensModel name.now result (F.opens shelf.old) (F.opens shelf.new) (F.faults shelf.old) (F.faults shelf.new) }
     ensures files { F.file shelf.new ≡ F.file shelf.old }
-
-    // Whose fault it was.
-    ensures failed { result ≡ Err RunFault.ModelUnread → Rose (F.faults shelf.old OfModel) (F.faults shelf.new OfModel) }
-    ensures as_before { result ≢ Err RunFault.ModelUnread → (r : Role) → F.faults shelf.new r ≡ F.faults shelf.old r }
 {
     match read_file(alloc, shelf, Role::Model, name, MODEL_BYTES) {
         Ok(text) => Ok(text),
@@ -77,14 +69,9 @@ pub fn load_model<F: Shelf>(alloc: Global, shelf: &mut F, name: &str) -> Result<
     ensures refused { IfErr result (λ fault. RefusesBy fault (F.file shelf.old name.now)) }
     ensures ends { IfErr result EndsModel }
 
-    // What is recorded, and what stays.
-    ensures opens { AddsOpens (F.opens shelf.old) (model_open name.now ∷ []) (F.opens shelf.new) }
-    ensures opened { result ≢ Err RunFault.OutOfMemory → F.opens shelf.new ≡ F.opens shelf.old ++ model_open name.now ∷ [] }
+    // What is recorded, whose fault it was, and what stays.
+    ensures opens { OpensModel name.now result (F.opens shelf.old) (F.opens shelf.new) (F.faults shelf.old) (F.faults shelf.new) }
     ensures files { F.file shelf.new ≡ F.file shelf.old }
-
-    // Whose fault it was.
-    ensures failed { result ≡ Err RunFault.ModelUnread → Rose (F.faults shelf.old OfModel) (F.faults shelf.new OfModel) }
-    ensures as_before { result ≢ Err RunFault.ModelUnread → (r : Role) → F.faults shelf.new r ≡ F.faults shelf.old r }
 {
     let text = load_text(alloc, shelf, name)?;
     accepted_model(alloc, text.as_slice())
@@ -101,13 +88,8 @@ pub fn load_canonical<F: Shelf>(
     ensures refused { IfErr result (λ fault. RefusesBy fault (F.file shelf.old name.now)) }
     ensures ends { IfErr result EndsModel }
 
-    // What is recorded.
-    ensures opens { AddsOpens (F.opens shelf.old) (model_open name.now ∷ []) (F.opens shelf.new) }
-    ensures opened { result ≢ Err RunFault.OutOfMemory → F.opens shelf.new ≡ F.opens shelf.old ++ model_open name.now ∷ [] }
-
-    // Whose fault it was.
-    ensures failed { result ≡ Err RunFault.ModelUnread → Rose (F.faults shelf.old OfModel) (F.faults shelf.new OfModel) }
-    ensures as_before { result ≢ Err RunFault.ModelUnread → (r : Role) → F.faults shelf.new r ≡ F.faults shelf.old r }
+    // What is recorded, and whose fault it was.
+    ensures opens { OpensModel name.now result (F.opens shelf.old) (F.opens shelf.new) (F.faults shelf.old) (F.faults shelf.new) }
 {
     let text = load_text(alloc, shelf, name)?;
     canonical_text(alloc, text.as_slice())

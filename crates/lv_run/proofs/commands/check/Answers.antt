@@ -22,8 +22,8 @@ returns-in_err-plant-clause-follows g c =
 pub returns-in_err-plant-clause-opens : goal.returns-in_err-plant-clause-opens
 returns-in_err-plant-clause-opens g c =
     opened_at_model _ _ _ _ c.in_err-plant.field-0.0 _
-    c.in_err-plant.ensures.ends c.from_residual.ensures.1 c.in_err-plant.ensures.opens
-    (λ other. c.in_err-plant.ensures.opened (λ e. other (cc)))
+    c.in_err-plant.ensures.ends c.from_residual.ensures.1 c.in_err-plant.ensures.opens.front
+    (λ other. c.in_err-plant.ensures.opens.whole (λ e. other (cc)))
 
 pub returns-clause-meets : goal.returns-clause-meets
 returns-clause-meets g c =
@@ -48,12 +48,12 @@ returns-clause-silent g c =
 pub returns-clause-opens : goal.returns-clause-opens
 returns-clause-opens g c =
     opened_at_second _ _ _ _ _ c.judge_certificate.result (check_ends c.judge_certificate.result c.judge_certificate.ensures.ends)
-    (c.in_ok-plant.ensures.opened (λ e. cc)) c.judge_certificate.ensures.opens c.judge_certificate.ensures.opened
+    (c.in_ok-plant.ensures.opens.whole (λ e. cc)) c.judge_certificate.ensures.opens c.judge_certificate.ensures.opened
 
 pub returns-clause-shelf : goal.returns-clause-shelf
 returns-clause-shelf g c =
     record {
       model_unread = λ e. absurd (second_no_model c.judge_certificate.result (check_ends c.judge_certificate.result c.judge_certificate.ensures.ends) e);
-      second_unread = λ e. subst (λ (n : ℕ). Rose n (g.F.Shelf.faults c.judge_certificate.new.shelf Second)) (c.in_ok-plant.ensures.as_before (λ f. cc) Second) (c.judge_certificate.ensures.failed e);
-      as_before = λ model session r. c.judge_certificate.ensures.as_before session r ∙ c.in_ok-plant.ensures.as_before (λ f. cc) r;
+      second_unread = λ e. subst (λ (n : ℕ). Rose n (g.F.Shelf.faults c.judge_certificate.new.shelf Second)) (c.in_ok-plant.ensures.opens.as_before (λ f. cc) Second) (c.judge_certificate.ensures.failed e);
+      as_before = λ model session r. c.judge_certificate.ensures.as_before session r ∙ c.in_ok-plant.ensures.opens.as_before (λ f. cc) r;
     }

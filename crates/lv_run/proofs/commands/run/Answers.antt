@@ -21,8 +21,8 @@ returns-in_err-model-clause-follows g c =
 pub returns-in_err-model-clause-opens : goal.returns-in_err-model-clause-opens
 returns-in_err-model-clause-opens g c =
     opened_at_model _ _ _ _ c.in_err-model.field-0.0 _
-    c.in_err-model.ensures.ends c.from_residual.ensures.1 c.in_err-model.ensures.opens
-    (λ other. c.in_err-model.ensures.opened (λ e. other (cc)))
+    c.in_err-model.ensures.ends c.from_residual.ensures.1 c.in_err-model.ensures.opens.front
+    (λ other. c.in_err-model.ensures.opens.whole (λ e. other (cc)))
 
 pub returns-clause-meets : goal.returns-clause-meets
 returns-clause-meets g c =
@@ -44,12 +44,12 @@ returns-clause-silent g c =
 pub returns-clause-opens : goal.returns-clause-opens
 returns-clause-opens g c =
     opened_at_second _ _ _ _ _ c.serve_session.result (session_ends c.serve_session.result c.serve_session.ensures.ends)
-    (c.in_ok-model.ensures.opened (λ e. cc)) c.serve_session.ensures.opens c.serve_session.ensures.opened
+    (c.in_ok-model.ensures.opens.whole (λ e. cc)) c.serve_session.ensures.opens c.serve_session.ensures.opened
 
 pub returns-clause-shelf : goal.returns-clause-shelf
 returns-clause-shelf g c =
     record {
       model_unread = λ e. absurd (second_no_model c.serve_session.result (session_ends c.serve_session.result c.serve_session.ensures.ends) e);
-      second_unread = λ e. subst (λ (n : ℕ). Rose n (g.F.Shelf.faults c.serve_session.new.shelf Second)) (c.in_ok-model.ensures.as_before (λ f. cc) Second) (c.serve_session.ensures.failed e);
-      as_before = λ model session r. c.serve_session.ensures.as_before session r ∙ c.in_ok-model.ensures.as_before (λ f. cc) r;
+      second_unread = λ e. subst (λ (n : ℕ). Rose n (g.F.Shelf.faults c.serve_session.new.shelf Second)) (c.in_ok-model.ensures.opens.as_before (λ f. cc) Second) (c.serve_session.ensures.failed e);
+      as_before = λ model session r. c.serve_session.ensures.as_before session r ∙ c.in_ok-model.ensures.opens.as_before (λ f. cc) r;
     }
