@@ -5,7 +5,7 @@ use Rattle.std.specs.Option.{option_map_or}
 use Rattle.lv_base.specs.declared.range.Range.{Range}
 use Rattle.lv_base.specs.Tree.{Tree, always, never, is, same, negation, all, any, implies, iff, Trees, none, more}
 use Rattle.lv_base.specs.Fits.{is_same_sort, has_value, are_alike, fits, each_fits}
-use Rattle.lv_base.specs.Laws.{Widens, AllWiden}
+use Rattle.lv_base.specs.FitLaws.{Widens, AllWiden}
 
 -- a range is as wide as itself
 itself : (r : Range) → Widens r r

@@ -7,4 +7,4 @@ pub mod TreeCode
 pub mod Fits
 pub mod Fold
 pub mod Counts
-pub mod Laws
+pub mod FitLaws

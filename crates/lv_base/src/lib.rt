@@ -9,7 +9,7 @@
 //! | lists | `Seq` |
 //! | formulas over variables with finite domains | `Formula`, `Condition`, `boxed` |
 //! | what their variables range over | `Range`, `Sort`, `range` |
-//! | laws of formulas that fit | `laws` |
+//! | laws of formulas that fit | `fit_laws` |
 //! | a search's values | `Pair`, `Conflict`, `Candidate`, `contains`, `pairs_of` |
 //! | their order | `Rank` |
 //! | limits | `limits` |
@@ -18,9 +18,9 @@
 pub mod boxed;
 mod copies;
 pub mod counts;
+pub mod fit_laws;
 pub mod formula;
 pub mod ids;
-pub mod laws;
 pub mod limits;
 pub mod names;
 pub mod range;

@@ -9,7 +9,7 @@ use Rattle.lv_base.specs.Tree.{Tree, Trees, always, never, is, same, negation, a
 use Rattle.lv_base.specs.declared.range.Range.{Range}
 use Rattle.lv_base.specs.declared.range.Sort.TheVariants.{Modes}
 use Rattle.lv_base.specs.Fits.{is_same_sort, has_value, are_alike, fits, each_fits}
-use Rattle.lv_base.specs.Laws.{AllWiden}
+use Rattle.lv_base.specs.FitLaws.{AllWiden}
 use Rattle.lv_base.proofs.WidenLemmas.{fits_wider, further, all_themselves}
 use Rattle.lv_model.specs.declared.plant.Domain.{Domain}
 use Rattle.lv_model.specs.declared.plant.ComponentType.{ComponentType}

@@ -2,7 +2,7 @@
 //! judged: each clause that holds a literal that was true and is false.
 #![tactic(auto)]
 
-ghost use Rattle.std.specs.Prelude.{◌≡◌, ℕ, [], true, false, length, not, None, Some, IfOk, OnOk, IfSome, IfNone};
+ghost use Rattle.std.specs.Prelude.{◌≡◌, ℕ, [], true, false, length, not, None, Some, IfOk, OnOk, IfSome, IfNone, option_map};
 ghost use Rattle.lv_clauses.specs.ClauseMap.{ClauseMap, Puts, satisfies};
 ghost use Rattle.lv_last_values.specs.Values.{IsModel};
 ghost use Rattle.lv_last_values.specs.Occurrences as Occurring;
@@ -46,7 +46,9 @@ impl LastValues {
     }
 
     /// The values themselves, one for each boolean, where there are any.
-    pub fn as_slice(&self) -> Option<&[bool]> {
+    pub fn as_slice(&self) -> Option<&[bool]>
+        ensures { option_map (λ bools. bools.now) result ≡ self.now.values }
+    {
         match &self.values {
             Some(values) => Some(values.as_slice()),
             None => None,

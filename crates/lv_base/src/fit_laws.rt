@@ -1,7 +1,7 @@
 //! What holds of formulas that fit. The functions do nothing; their clauses are the laws.
 #![tactic(auto)]
 
-ghost use Rattle.lv_base.specs.Laws.{FitsReads, FitsWider, FitsFurther, FitsGrown};
+ghost use Rattle.lv_base.specs.FitLaws.{FitsReads, FitsWider, FitsFurther, FitsGrown};
 
 /// A formula that fits ranges reads their variables alone, wherever these are counted from.
 pub fn fits_reads()
