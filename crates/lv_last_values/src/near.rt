@@ -1,6 +1,7 @@
 //! Values near the last ones. The assumptions that these make false are turned, and where a clause is false by that, one of
-//! its literals, as far as a few looks go; where none is left, another one is turned of a clause before. So a question that
-//! differs little from one that was answered costs what it touches.
+//! its literals, as far as a few looks go; where none is left, another one is turned of a clause before. What turned last
+//! is looked at first, so that what it leads to is settled before anything beside it, and a wrong turn is seen where
+//! it was taken. So a question that differs little from one that was answered costs what it touches.
 //! What comes of it is judged: by the assumptions, and by all clauses that hold a literal that turned.
 #![tactic(auto)]
 
@@ -59,14 +60,22 @@ fn turned_near(
         marks: vec![in alloc; None; set.bools() as usize]?,
         marked: Vec::with_capacity(alloc, MOST_LOOKS)?,
         turned: Vec::with_capacity(alloc, MOST_LOOKS)?,
-        at: 0,
+        at: None,
         choices: Vec::with_capacity(alloc, MOST_LOOKS)?,
     };
     if turning.assume(assumptions)? && turning.follow()? {
-        Ok(Some(turning.turned))
+        let turned = turning.turned.iter().map(|turned| turned.lit);
+        Ok(Some(turned.collect(alloc)?))
     } else {
         Ok(None)
     }
+}
+
+/// A literal that was true by the last values and is false, and the place of the one to look at behind it.
+#[derive(Clone, Copy, Debug)]
+struct Turned {
+    lit: Lit,
+    behind: Option<usize>,
 }
 
 /// A literal that was turned for a clause.
@@ -75,14 +84,14 @@ struct Choice {
     clause: ClauseId,
     /// So many of the clause's literals were tried before it.
     tried: usize,
-    /// How far all had come before.
-    at: usize,
+    /// The place that was looked at.
+    at: Option<usize>,
     marked: usize,
     turned: usize,
 }
 
-/// What turns: the values so far, which of them are marked, and the literals that were true by the last ones and are false,
-/// in the order in which they turned. The clauses of those before a place are true.
+/// What turns: the values so far, which of them are marked, and the literals that turned, in that order. The one at a place
+/// is looked at next, and then those behind it; the clauses of all others are true.
 #[derive(Drop)]
 struct Turning<'a> {
     set: &'a ClauseSet,
@@ -91,8 +100,8 @@ struct Turning<'a> {
     values: Vec<bool>,
     marks: Vec<Option<bool>>,
     marked: Vec<Lit>,
-    turned: Vec<Lit>,
-    at: usize,
+    turned: Vec<Turned>,
+    at: Option<usize>,
     choices: Vec<Choice>,
 }
 
@@ -113,11 +122,16 @@ impl Turning<'_> {
     fn follow(&mut self) -> Result<bool, AllocError> {
         let mut returns: usize = 0;
         for _look in 0..MOST_LOOKS {
-            let Some(turned) = self.turned.get(self.at).copied() else {
+            let Some(turned) = self.next_turned() else {
                 return Ok(true);
             };
-            match first_in(self.set, self.occurrences, turned, self.values.as_slice()) {
-                None => self.at = self.at.saturating_add(1),
+            match first_in(
+                self.set,
+                self.occurrences,
+                turned.lit,
+                self.values.as_slice(),
+            ) {
+                None => self.at = turned.behind,
                 Some(clause) => {
                     if !self.mend(clause, 0)? {
                         if returns >= MOST_RETURNS || !self.go_back()? {
@@ -129,6 +143,11 @@ impl Turning<'_> {
             }
         }
         Ok(false)
+    }
+
+    /// The literal to look at next.
+    fn next_turned(&self) -> Option<Turned> {
+        self.turned.get(self.at?).copied()
     }
 
     /// Turns a literal of the clause that isn't marked, behind so many that were tried, if there is one.
@@ -190,7 +209,12 @@ impl Turning<'_> {
             && *value != lit.sign
         {
             *value = lit.sign;
-            self.turned.push(negation(lit))?;
+            let place = self.turned.len();
+            self.turned.push(Turned {
+                lit: negation(lit),
+                behind: self.at,
+            })?;
+            self.at = Some(place);
         }
         Ok(())
     }
