@@ -36,7 +36,7 @@ use Rattle.lv_reader.specs.Texts.{ReadsAs}
 use Rattle.lv_model_entries.specs.declared.draft.Draft.{Draft}
 use Rattle.lv_model_entries.specs.declared.draft.TypeDraft.{TypeDraft}
 use Rattle.lv_model_entries.specs.declared.draft.Entry.{Entry}
-use Rattle.lv_model_entries.specs.declared.draft.Entry.TheVariants.{Named, NewDomain, TypeBegins, NewVariable, NewMode, TypeLaw, ModeLaws, NewMoves, TypeEnds, NewPart, SystemLaw, NewPrice}
+use Rattle.lv_model_entries.specs.declared.draft.Entry.TheVariants.{Named, NewDomain, TypeBegins, NewVariable, NewMode, TypeLaw, ModeLaws, NewMove, NewMoves, TypeEnds, NewPart, SystemLaw, NewPrice}
 use Rattle.lv_model_entries.specs.Places.{placed, variable_numbered, variable_place, part_of_name, type_place, mode_of_type, mode_place}
 use Rattle.lv_model_entries.specs.Scopes.{variable_of_part, value_of_system}
 use Rattle.lv_model_entries.specs.Entries.{system_formula, own_variable, is_control_of, has_control, priced_entry, outside_entry, entry_where}
@@ -242,6 +242,7 @@ module _ (d : Draft) (fact : DraftFits d) where
   outside_kept (NewMode name n) none h = fact
   outside_kept (TypeLaw f) none h = fact
   outside_kept (ModeLaws fs) none h = fact
+  outside_kept (NewMove line m) none h = fact
   outside_kept (NewMoves line ms) none h = fact
   outside_kept TypeEnds none h = fact
 
@@ -254,6 +255,7 @@ module _ (d : Draft) (fact : DraftFits d) where
   inside_kept t own (NewMode name n) h = going (type_with d.plant.domains t (NewMode name n)) (type_kept d.plant.domains t own (NewMode name n) h)
   inside_kept t own (TypeLaw f) h = going (type_with d.plant.domains t (TypeLaw f)) (type_kept d.plant.domains t own (TypeLaw f) h)
   inside_kept t own (ModeLaws fs) h = going (type_with d.plant.domains t (ModeLaws fs)) (type_kept d.plant.domains t own (ModeLaws fs) h)
+  inside_kept t own (NewMove line m) h = going (type_with d.plant.domains t (NewMove line m)) (type_kept d.plant.domains t own (NewMove line m) h)
   inside_kept t own (NewMoves line ms) h = going (type_with d.plant.domains t (NewMoves line ms)) (type_kept d.plant.domains t own (NewMoves line ms) h)
   inside_kept t own (NewPart p) h = going t own
   inside_kept t own (SystemLaw f) h = going t own
@@ -396,6 +398,7 @@ module _ (d : Draft) (fact : DraftFits d) where
       same_facts (NewMode name n) h = h
       same_facts (TypeLaw f) h = h
       same_facts (ModeLaws fs) h = h
+      same_facts (NewMove line m) h = h
       same_facts (NewMoves line ms) h = h
       same_facts TypeEnds h = h
   where_kept (Some t) is s e h none named number =

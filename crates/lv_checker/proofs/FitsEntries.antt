@@ -24,7 +24,7 @@ use Rattle.lv_reader.specs.Statements.{number_fits}
 use Rattle.lv_model_entries.specs.declared.draft.Draft.{Draft}
 use Rattle.lv_model_entries.specs.declared.draft.TypeDraft.{TypeDraft}
 use Rattle.lv_model_entries.specs.declared.draft.Entry.{Entry}
-use Rattle.lv_model_entries.specs.declared.draft.Entry.TheVariants.{NewMode, TypeLaw, ModeLaws, NewMoves, TypeEnds}
+use Rattle.lv_model_entries.specs.declared.draft.Entry.TheVariants.{NewMode, TypeLaw, ModeLaws, NewMove, NewMoves, TypeEnds}
 use Rattle.lv_model_entries.specs.Places.{placed, domain_place, mode_place}
 use Rattle.lv_model_entries.specs.Scopes.{variable_of_type, value_of_type}
 use Rattle.lv_model_entries.specs.Entries.{known, on_ok, type_formula, mode_places, law_in, step_of, fault_of, faults_to, is_short, line_number, guard_in, is_control_of, repair_in, inside_entry, entry_of}
@@ -187,29 +187,29 @@ module _ (domains : List Domain) (t : TypeDraft) where
       let one = known_parts (mode_place t.lists source) UnknownName _ e h in
       let two = known_parts (mode_place t.lists target) UnknownName _ e one.2 in
       let three = ok_parts (type_formula domains t.lists f) _ e two.2 in
-      let four = known_parts (line_number t) LimitPassed (λ n. Ok (NewMoves n (step_of one.0 two.0 three.0 n ∷ []))) e three.2 in
+      let four = known_parts (line_number t) LimitPassed (λ n. Ok (NewMove n (step_of one.0 two.0 three.0 n))) e three.2 in
       subst (λ (x : Entry). Fitting x) (same_ok _ e four.2)
       (λ free.
       record {
         fit = and_from (move_fits (own_ranges domains t) (length t.lists.modes) (step_of one.0 two.0 three.0 four.0)) true
             (step_from one.0 two.0 three.0 four.0 (mode_below source one.0 one.1) (mode_below target two.0 two.1) (type_formula_fits domains t.lists f three.0 three.1)) refl;
-        counts = not-false (list_all (guard_has_counts t.sizes) (step_of one.0 two.0 three.0 four.0 ∷ [])) free.short;
+        counts = and_from (guard_has_counts t.sizes (step_of one.0 two.0 three.0 four.0)) true (not-false (guard_has_counts t.sizes (step_of one.0 two.0 three.0 four.0)) free.short) refl;
         no_stay = refl;
-        few_moves = ltb-false MOVES (length t.lists.moves + 1) free.within;
+        few_moves = let few = few_from (length t.lists.moves) MOVES free.within in omega (arith, few);
       })
   inside_fits (FaultLine source target cost guard) e h named number =
       let one = known_parts (mode_place t.lists source) UnknownName _ e h in
       let two = known_parts (mode_place t.lists target) UnknownName _ e one.2 in
       let three = ok_parts (guard_in domains t.lists guard) _ e two.2 in
-      let four = known_parts (line_number t) LimitPassed (λ n. Ok (NewMoves n (fault_of one.0 two.0 cost three.0 n ∷ []))) e three.2 in
+      let four = known_parts (line_number t) LimitPassed (λ n. Ok (NewMove n (fault_of one.0 two.0 cost three.0 n))) e three.2 in
       subst (λ (x : Entry). Fitting x) (same_ok _ e four.2)
       (λ free.
       record {
         fit = and_from (move_fits (own_ranges domains t) (length t.lists.modes) (fault_of one.0 two.0 cost three.0 four.0)) true
             (move_from one.0 two.0 cost three.0 four.0 (mode_below source one.0 one.1) (mode_below target two.0 two.1) number (guard_found guard three.0 three.1)) refl;
-        counts = not-false (list_all (guard_has_counts t.sizes) (fault_of one.0 two.0 cost three.0 four.0 ∷ [])) free.short;
+        counts = and_from (guard_has_counts t.sizes (fault_of one.0 two.0 cost three.0 four.0)) true (not-false (guard_has_counts t.sizes (fault_of one.0 two.0 cost three.0 four.0)) free.short) refl;
         no_stay = refl;
-        few_moves = ltb-false MOVES (length t.lists.moves + 1) free.within;
+        few_moves = let few = few_from (length t.lists.moves) MOVES free.within in omega (arith, few);
       })
   inside_fits (FaultsLine target cost guard) e h named number =
       let one = known_parts (mode_place t.lists target) UnknownName _ e h in

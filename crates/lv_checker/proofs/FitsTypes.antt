@@ -22,7 +22,7 @@ use Rattle.lv_model.specs.Counts.{has_count, variable_size, formula_sizes, mode_
 use Rattle.lv_model.specs.WellFormed.{name_fits, variable_fits, mode_formula_fits, kind_fits, guard_fits, move_fits, moves_rise, is_stay, is_stay_of, stays_once, names_fit, counts_fit, formulas_fit, moves_fit, type_fits, is_within}
 use Rattle.lv_model_entries.specs.declared.draft.TypeDraft.{TypeDraft}
 use Rattle.lv_model_entries.specs.declared.draft.Entry.{Entry}
-use Rattle.lv_model_entries.specs.declared.draft.Entry.TheVariants.{Named, NewDomain, TypeBegins, NewVariable, NewMode, TypeLaw, ModeLaws, NewMoves, TypeEnds, NewPart, SystemLaw, NewPrice}
+use Rattle.lv_model_entries.specs.declared.draft.Entry.TheVariants.{Named, NewDomain, TypeBegins, NewVariable, NewMode, TypeLaw, ModeLaws, NewMove, NewMoves, TypeEnds, NewPart, SystemLaw, NewPrice}
 use Rattle.lv_checker.specs.Drafts.{begun, stay_in, with_move_in_place, with_variable, with_mode, with_type_law, with_mode_laws, with_moves, type_with}
 use Rattle.lv_checker.proofs.FitsLists.{all_more, all_behind, all_kept, all_joined}
 use Rattle.lv_checker.proofs.FitsCounts.{has_kept}
@@ -87,6 +87,7 @@ FitsInside domains t (NewVariable v) = variable_fits (length domains) v ≡ true
 FitsInside domains t (NewMode name n) = ModeFits t name n
 FitsInside domains t (TypeLaw f) = LawFits (own_ranges domains t) t.sizes f
 FitsInside domains t (ModeLaws fs) = ModeLawsFit (own_ranges domains t) t fs
+FitsInside domains t (NewMove line m) = MovesFit (own_ranges domains t) t (m ∷ [])
 FitsInside domains t (NewMoves line ms) = MovesFit (own_ranges domains t) t ms
 FitsInside domains t TypeEnds = 1 ≤ length t.lists.modes
 FitsInside domains t entry = Unit {0}
@@ -392,6 +393,7 @@ type_kept domains t fact (NewVariable v) h = variable_kept domains t fact v h
 type_kept domains t fact (NewMode name n) h = mode_added domains t fact name n h
 type_kept domains t fact (TypeLaw f) h = law_added domains t fact f h
 type_kept domains t fact (ModeLaws fs) h = mode_laws_added domains t fact fs h
+type_kept domains t fact (NewMove line m) h = moves_added domains t fact line (m ∷ []) h
 type_kept domains t fact (NewMoves line ms) h = moves_added domains t fact line ms h
 type_kept domains t fact (Named name) h = fact
 type_kept domains t fact (NewDomain x) h = fact

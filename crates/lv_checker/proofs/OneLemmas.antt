@@ -17,7 +17,7 @@ use Rattle.lv_reader.specs.Statements.{has_form_of}
 use Rattle.lv_model_entries.specs.declared.draft.Draft.{Draft}
 use Rattle.lv_model_entries.specs.declared.draft.TypeDraft.{TypeDraft}
 use Rattle.lv_model_entries.specs.declared.draft.Entry.{Entry}
-use Rattle.lv_model_entries.specs.declared.draft.Entry.TheVariants.{Named, NewDomain, TypeBegins, NewVariable, NewMode, TypeLaw, ModeLaws, NewMoves, TypeEnds, NewPart, SystemLaw, NewPrice}
+use Rattle.lv_model_entries.specs.declared.draft.Entry.TheVariants.{Named, NewDomain, TypeBegins, NewVariable, NewMode, TypeLaw, ModeLaws, NewMove, NewMoves, TypeEnds, NewPart, SystemLaw, NewPrice}
 use Rattle.lv_model_entries.specs.Places.{placed, domain_place, mode_place}
 use Rattle.lv_model_entries.specs.Entries.{type_formula, mode_places, law_in, step_of, fault_of, line_number, guard_in, inside_entry, entry_where}
 use Rattle.lv_checker.specs.Faults.{judged}
@@ -55,14 +55,14 @@ module _ (domains : List Domain) (t : TypeDraft) where
       let one = known_parts (mode_place t.lists source) UnknownName _ e h in
       let two = known_parts (mode_place t.lists target) UnknownName _ e one.2 in
       let three = ok_parts (type_formula domains t.lists f) _ e two.2 in
-      let four = known_parts (line_number t) LimitPassed (λ n. Ok (NewMoves n (step_of one.0 two.0 three.0 n ∷ []))) e three.2 in
-      subst (AddsOne t) (same_ok _ e four.2) (refl, sym (placed_is (t.lines + 1) four.0 four.1))
+      let four = known_parts (line_number t) LimitPassed (λ n. Ok (NewMove n (step_of one.0 two.0 three.0 n))) e three.2 in
+      subst (AddsOne t) (same_ok _ e four.2) (sym (placed_is (t.lines + 1) four.0 four.1))
   one_added (FaultLine source target cost guard) e of h =
       let one = known_parts (mode_place t.lists source) UnknownName _ e h in
       let two = known_parts (mode_place t.lists target) UnknownName _ e one.2 in
       let three = ok_parts (guard_in domains t.lists guard) _ e two.2 in
-      let four = known_parts (line_number t) LimitPassed (λ n. Ok (NewMoves n (fault_of one.0 two.0 cost three.0 n ∷ []))) e three.2 in
-      subst (AddsOne t) (same_ok _ e four.2) (refl, sym (placed_is (t.lines + 1) four.0 four.1))
+      let four = known_parts (line_number t) LimitPassed (λ n. Ok (NewMove n (fault_of one.0 two.0 cost three.0 n))) e three.2 in
+      subst (AddsOne t) (same_ok _ e four.2) (sym (placed_is (t.lines + 1) four.0 four.1))
   one_added (FaultsLine target cost guard) e of h = absurd (cc)
   one_added (RepairLine source target cost repair guard) e of h = absurd (cc)
   one_added EndLine e of h = ended (nat_eq (length t.lists.modes) 0) e h
@@ -89,6 +89,7 @@ module _ (domains : List Domain) (t : TypeDraft) where
       omega (arith, h, longer, more)
   type_numbered (TypeLaw f) h one = h
   type_numbered (ModeLaws fs) h one = h
+  type_numbered (NewMove line m) h one = moves_numbered line (m ∷ []) h refl one
   type_numbered (NewMoves line ms) h one = moves_numbered line ms h one.0 one.1
   type_numbered (Named name) h one = h
   type_numbered (NewDomain x) h one = h
@@ -107,6 +108,7 @@ where_numbered d None is s (NewVariable v) h of k = subst NumbersMoves (sym is) 
 where_numbered d None is s (NewMode name n) h of k = subst NumbersMoves (sym is) tt
 where_numbered d None is s (TypeLaw f) h of k = subst NumbersMoves (sym is) tt
 where_numbered d None is s (ModeLaws fs) h of k = subst NumbersMoves (sym is) tt
+where_numbered d None is s (NewMove line m) h of k = subst NumbersMoves (sym is) tt
 where_numbered d None is s (NewMoves line ms) h of k = subst NumbersMoves (sym is) tt
 where_numbered d None is s TypeEnds h of k = subst NumbersMoves (sym is) tt
 where_numbered d None is s (NewPart p) h of k = subst NumbersMoves (sym is) tt
@@ -120,6 +122,7 @@ where_numbered d (Some t) is s (NewVariable v) h of k = k
 where_numbered d (Some t) is s (NewMode name n) h of k = type_numbered d.plant.domains t (NewMode name n) k tt
 where_numbered d (Some t) is s (TypeLaw f) h of k = k
 where_numbered d (Some t) is s (ModeLaws fs) h of k = k
+where_numbered d (Some t) is s (NewMove line m) h of k = type_numbered d.plant.domains t (NewMove line m) k (one_added d.plant.domains t s (NewMove line m) of h)
 where_numbered d (Some t) is s (NewMoves line ms) h of k = type_numbered d.plant.domains t (NewMoves line ms) k (one_added d.plant.domains t s (NewMoves line ms) of h)
 where_numbered d (Some t) is s (NewPart p) h of k = k
 where_numbered d (Some t) is s (SystemLaw f) h of k = k

@@ -16,7 +16,7 @@ use Rattle.lv_model.specs.Counts.{held, limited, variable_size, type_count, law_
 use Rattle.lv_model_entries.specs.declared.draft.Draft.{Draft}
 use Rattle.lv_model_entries.specs.declared.draft.TypeDraft.{TypeDraft}
 use Rattle.lv_model_entries.specs.declared.draft.Entry.{Entry}
-use Rattle.lv_model_entries.specs.declared.draft.Entry.TheVariants.{Named, NewDomain, TypeBegins, NewVariable, NewMode, TypeLaw, ModeLaws, NewMoves, TypeEnds, NewPart, SystemLaw, NewPrice}
+use Rattle.lv_model_entries.specs.declared.draft.Entry.TheVariants.{Named, NewDomain, TypeBegins, NewVariable, NewMode, TypeLaw, ModeLaws, NewMove, NewMoves, TypeEnds, NewPart, SystemLaw, NewPrice}
 use Rattle.lv_checker.specs.Faults.{share_of}
 
 -- the plant before any statement
@@ -80,6 +80,7 @@ type_with domains t (NewVariable v) = with_variable domains t v
 type_with domains t (NewMode name n) = with_mode t name n
 type_with domains t (TypeLaw f) = with_type_law t f
 type_with domains t (ModeLaws fs) = with_mode_laws t fs
+type_with domains t (NewMove line m) = with_moves t line (m ∷ [])
 type_with domains t (NewMoves line ms) = with_moves t line ms
 type_with domains t entry = t
 

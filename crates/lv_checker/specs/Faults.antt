@@ -17,7 +17,7 @@ use Rattle.lv_reader.specs.declared.statement.Statement.{Statement}
 use Rattle.lv_model_entries.specs.declared.draft.Draft.{Draft}
 use Rattle.lv_model_entries.specs.declared.draft.TypeDraft.{TypeDraft}
 use Rattle.lv_model_entries.specs.declared.draft.Entry.{Entry}
-use Rattle.lv_model_entries.specs.declared.draft.Entry.TheVariants.{Named, NewDomain, TypeBegins, NewVariable, NewMode, TypeLaw, ModeLaws, NewMoves, NewPart, SystemLaw, NewPrice}
+use Rattle.lv_model_entries.specs.declared.draft.Entry.TheVariants.{Named, NewDomain, TypeBegins, NewVariable, NewMode, TypeLaw, ModeLaws, NewMove, NewMoves, NewPart, SystemLaw, NewPrice}
 use Rattle.lv_model_entries.specs.Entries.{entry_of, on_ok}
 
 -- no name stands twice
@@ -51,6 +51,7 @@ in_use_outside d entry = false
 abbrev pub is_too_long_inside : TypeDraft → Entry → Bool
 is_too_long_inside t (TypeLaw f) = not (has_count t.sizes true f)
 is_too_long_inside t (ModeLaws fs) = not (list_all (mode_formula_has_count t.sizes) fs)
+is_too_long_inside t (NewMove line m) = not (guard_has_counts t.sizes m)
 is_too_long_inside t (NewMoves line ms) = not (list_all (guard_has_counts t.sizes) ms)
 is_too_long_inside t entry = false
 
@@ -65,6 +66,7 @@ is_long_name name = nat_lt NAME_BYTES (length name)
 abbrev pub passes_inside : TypeDraft → Entry → Bool
 passes_inside t (NewVariable v) = is_long_name v.name
 passes_inside t (NewMode name n) = not (nat_lt (length t.lists.modes) MODES) || (not (nat_lt (length t.lists.moves) MOVES) || is_long_name name)
+passes_inside t (NewMove line m) = not (nat_lt (length t.lists.moves) MOVES)
 passes_inside t (NewMoves line ms) = nat_lt MOVES (length t.lists.moves + length ms)
 passes_inside t entry = false
 

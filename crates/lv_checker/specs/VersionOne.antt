@@ -10,7 +10,7 @@ use Rattle.lv_reader.specs.Statements.{has_form_of}
 use Rattle.lv_model_entries.specs.declared.draft.Draft.{Draft}
 use Rattle.lv_model_entries.specs.declared.draft.TypeDraft.{TypeDraft}
 use Rattle.lv_model_entries.specs.declared.draft.Entry.{Entry}
-use Rattle.lv_model_entries.specs.declared.draft.Entry.TheVariants.{ModeLaws, NewMoves}
+use Rattle.lv_model_entries.specs.declared.draft.Entry.TheVariants.{ModeLaws, NewMove, NewMoves}
 use Rattle.lv_model_entries.specs.Entries.{inside_entry}
 use Rattle.lv_checker.specs.Drafts.{empty}
 use Rattle.lv_checker.specs.Checking.{fine, all_added}
@@ -18,6 +18,7 @@ use Rattle.lv_checker.specs.Checking.{fine, all_added}
 -- the entry is one formula, or one move of the line behind those so far, or neither
 abbrev pub AddsOne : TypeDraft → Entry → Type 0
 AddsOne t (ModeLaws fs) = length fs ≡ 1
+AddsOne t (NewMove line m) = line ≡ t.lines + 1
 AddsOne t (NewMoves line ms) = (length ms ≡ 1) × (line ≡ t.lines + 1)
 AddsOne t entry = Unit {0}
 

@@ -122,6 +122,7 @@ fn is_too_long_inside(current: &TypeDraft, entry: &Entry) -> bool
     match entry {
         Entry::TypeLaw(f) => !has_count(f, true, sizes),
         Entry::ModeLaws(laws) => !have_counts(laws.as_slice(), sizes),
+        Entry::NewMove(_, m) => !guard_has_counts(m, sizes),
         Entry::NewMoves(_, moves) => !guards_have_counts(moves.as_slice(), sizes),
         _ => false,
     }
@@ -139,6 +140,7 @@ fn passes_inside(current: &TypeDraft, entry: &Entry) -> bool
                 || of.moves.len() >= limits::MOVES as usize
                 || is_long_name(name)
         }
+        Entry::NewMove(..) => of.moves.len() >= limits::MOVES as usize,
         Entry::NewMoves(_, moves) => {
             of.moves.len().saturating_add(moves.len()) > limits::MOVES as usize
         }

@@ -1,7 +1,7 @@
 //! A type, line by line.
 #![tactic(auto)]
 
-ghost use Rattle.std.specs.Prelude.{◌≡◌, ◌<◌, ◌≤◌, ◌++◌, OnOk, IfOk, IfSome, length, position};
+ghost use Rattle.std.specs.Prelude.{◌≡◌, ◌<◌, ◌≤◌, ◌++◌, [], ◌∷◌, OnOk, IfOk, IfSome, length, position};
 ghost use Rattle.lv_model.specs.WellFormed.{kind_place};
 ghost use Rattle.lv_checker.specs.Drafts.{begun, stay_in, stands_before, place_among, with_move_in_place, with_moves_in_place, with_variable, with_mode, with_type_law, with_mode_laws, with_moves, type_with};
 
@@ -148,6 +148,14 @@ fn add_moves(
     add_lists_moves(alloc, &mut draft.lists, moves)
 }
 
+/// Adds the one move of the line of this number.
+fn add_move(alloc: Global, draft: &mut TypeDraft, line: u32, m: Move) -> Result<(), AllocError>
+    ensures { OnOk result (draft.new ≡ with_moves draft.old line (m ∷ [])) }
+{
+    draft.lines = line;
+    add_lists_move(alloc, &mut draft.lists, m)
+}
+
 /// Adds an entry to a type that goes on.
 pub fn add_inside(
     alloc: Global,
@@ -162,6 +170,7 @@ pub fn add_inside(
         Entry::NewMode(name, mode) => add_mode(alloc, draft, name, mode),
         Entry::TypeLaw(law) => add_type_law(draft, law),
         Entry::ModeLaws(laws) => add_mode_laws(draft, laws),
+        Entry::NewMove(line, m) => add_move(alloc, draft, line, m),
         Entry::NewMoves(line, moves) => add_moves(alloc, draft, line, moves),
         _ => Ok(()),
     }

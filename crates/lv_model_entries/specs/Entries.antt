@@ -27,7 +27,7 @@ use Rattle.lv_model_entries.specs.declared.draft.TypeDraft.{TypeDraft}
 use Rattle.lv_model_entries.specs.declared.draft.CheckFault.{CheckFault}
 use Rattle.lv_model_entries.specs.declared.draft.CheckFault.TheVariants.{Refused, Memory}
 use Rattle.lv_model_entries.specs.declared.draft.Entry.{Entry}
-use Rattle.lv_model_entries.specs.declared.draft.Entry.TheVariants.{Named, NewDomain, TypeBegins, NewVariable, NewMode, TypeLaw, ModeLaws, NewMoves, TypeEnds, NewPart, SystemLaw, NewPrice}
+use Rattle.lv_model_entries.specs.declared.draft.Entry.TheVariants.{Named, NewDomain, TypeBegins, NewVariable, NewMode, TypeLaw, ModeLaws, NewMove, NewMoves, TypeEnds, NewPart, SystemLaw, NewPrice}
 use Rattle.lv_model_entries.specs.Places.{placed, domain_place, type_place, mode_place, variable_numbered, variable_place, part_of_name, mode_of_type}
 use Rattle.lv_model_entries.specs.Scopes.{formula_in, variable_of_type, value_of_type, type_names, system_names, variable_of_part, value_of_system}
 
@@ -85,7 +85,7 @@ step_entry domains t source target f =
     known (mode_place t.lists source) UnknownName (λ a.
     known (mode_place t.lists target) UnknownName (λ b.
     on_ok (type_formula domains t.lists f) (λ g.
-    known (line_number t) LimitPassed (λ n. Ok (NewMoves n (step_of a b g n ∷ []))))))
+    known (line_number t) LimitPassed (λ n. Ok (NewMove n (step_of a b g n))))))
 
 -- a guard, if there is one
 abbrev pub guard_in : List Domain → ComponentType → Option PhraseTree → Result (Option Tree) ModelCode
@@ -97,7 +97,7 @@ fault_entry domains t source target cost guard =
     known (mode_place t.lists source) UnknownName (λ a.
     known (mode_place t.lists target) UnknownName (λ b.
     on_ok (guard_in domains t.lists guard) (λ g.
-    known (line_number t) LimitPassed (λ n. Ok (NewMoves n (fault_of a b cost g n ∷ []))))))
+    known (line_number t) LimitPassed (λ n. Ok (NewMove n (fault_of a b cost g n))))))
 
 -- a fault to the mode from each other one of so many modes, in their order
 abbrev pub faults_to : ValId → ℕ → Option Tree → ℕ → ℕ → List Move

@@ -53,7 +53,9 @@ pub enum Entry {
     TypeLaw(Condition),
     /// A formula once for each of the modes that its line names.
     ModeLaws(Seq<ModeFormula>),
-    /// The number of a step or fault line and the moves that it gives, in their order.
+    /// The number of a step or fault line that gives one move, and that move.
+    NewMove(u32, Move),
+    /// The number of a fault line that gives any number of moves, and these, in their order.
     NewMoves(u32, Seq<Move>),
     TypeEnds,
     NewPart(Part),

@@ -115,15 +115,6 @@ fn line_number(of: &TypeDraft) -> Option<u32>
     of.lines.checked_add(1)
 }
 
-/// What a line of this number adds that gives one move.
-fn one_move(alloc: Global, line: u32, m: Move) -> Result<Entry, AllocError>
-    ensures { IfOk result (λ e. e ≡ NewMoves line (m ∷ [])) }
-{
-    let mut moves = Seq::new(alloc);
-    moves.push(m)?;
-    Ok(Entry::NewMoves(line, moves))
-}
-
 /// A step.
 fn step_of(source: ValId, target: ValId, guard: Condition, line: u32) -> Move
     ensures { result ≡ step_of source target guard line }
@@ -274,7 +265,7 @@ impl Inside<'_> {
         let target = self.mode(target)?;
         let guard = self.formula(guard)?;
         let line = line_number(self.of).ok_or(PASSED)?;
-        Ok(one_move(self.alloc, line, step_of(source, target, guard, line))?)
+        Ok(Entry::NewMove(line, step_of(source, target, guard, line)))
     }
 
     fn fault(
@@ -291,11 +282,8 @@ impl Inside<'_> {
         let target = self.mode(target)?;
         let guard = self.guard(guard)?;
         let line = line_number(self.of).ok_or(PASSED)?;
-        Ok(one_move(
-            self.alloc,
-            line,
-            fault_of(source, target, cost, guard, line),
-        )?)
+        let fault = fault_of(source, target, cost, guard, line);
+        Ok(Entry::NewMove(line, fault))
     }
 
     fn faults(&self, target: &Name, cost: u64, guard: &Option<Phrase>) -> Result<Entry, CheckFault>

@@ -29,7 +29,7 @@ use Rattle.lv_reader.specs.Texts.{AreStatements, none_left, one_more, numbered}
 use Rattle.lv_checker.specs.lv_model_entries.declared.draft.Draft.{Draft}
 use Rattle.lv_checker.specs.lv_model_entries.declared.draft.TypeDraft.{TypeDraft}
 use Rattle.lv_checker.specs.lv_model_entries.declared.draft.Entry.{Entry}
-use Rattle.lv_checker.specs.lv_model_entries.declared.draft.Entry.TheVariants.{Named, NewDomain, TypeBegins, NewVariable, NewMode, TypeLaw, ModeLaws, NewMoves, TypeEnds, NewPart, SystemLaw, NewPrice}
+use Rattle.lv_checker.specs.lv_model_entries.declared.draft.Entry.TheVariants.{Named, NewDomain, TypeBegins, NewVariable, NewMode, TypeLaw, ModeLaws, NewMove, NewMoves, TypeEnds, NewPart, SystemLaw, NewPrice}
 use Rattle.lv_checker.specs.lv_model_entries.Places.{type_place, mode_of_type, variable_numbered, part_of_name}
 use Rattle.lv_checker.specs.lv_model_entries.Scopes.{variable_of_part, value_of_system}
 use Rattle.lv_checker.specs.lv_model_entries.Entries.{known, system_formula, has_control, priced_entry, outside_entry, entry_where}
@@ -170,6 +170,7 @@ where_named d None s (NewVariable v) h one is = is
 where_named d None s (NewMode name n) h one is = is
 where_named d None s (TypeLaw f) h one is = is
 where_named d None s (ModeLaws fs) h one is = is
+where_named d None s (NewMove line m) h one is = is
 where_named d None s (NewMoves line ms) h one is = is
 where_named d None s TypeEnds h one is = is
 where_named d None s (NewPart p) h one is = is
