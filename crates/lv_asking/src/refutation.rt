@@ -4,6 +4,7 @@
 #![tactic(auto)]
 
 ghost use Rattle.std.specs.Prelude.{◌≡◌, ◌++◌, [], ◌∷◌, true, All, IfOk, OnOk, OnErr, reverse};
+ghost use Rattle.std.specs.Option.{is_none};
 ghost use Rattle.std.specs.List.Sorted.{IsPermutation};
 ghost use Rattle.std.specs.List.{list_all, list_any};
 ghost use Rattle.lv_clauses.specs.Literals.{is_clause, lit_holds};
@@ -13,7 +14,7 @@ ghost use Rattle.lv_asking.specs.Refutation.{Refutes, Tells, latest};
 
 use crate::lemma_solver::{LemmaSolver, Reply};
 use lv_base::{Lit, Seq};
-use lv_clauses::{Marks, all_hold};
+use lv_clauses::{Marks, lit_holds};
 use lv_sat::{Answer, Solver};
 use std::alloc::{AllocError, Global};
 use std::marker::Model;
@@ -21,10 +22,71 @@ use std::marker::Model;
 /// How many of the values found are kept.
 pub const KEPT: usize = 128;
 
+/// So many places before the last one a solution's false literal is looked for, since a question leaves out few literals that
+/// the one before had.
+const BACK: usize = 2;
+
+/// Values that a solver found, seen by contracts as their list, and the place of a literal of the last question that they
+/// made false. It is looked for there first, since a question differs little from the one before.
+#[derive(Drop)]
+struct Solution {
+    values: Seq<bool>,
+    place: usize,
+}
+
+impl Model for Solution {
+    ghost use Rattle.std.specs.Prelude.{List, Bool};
+
+    ghost Value = { List Bool };
+
+    ghost view = { λ s. s.values };
+}
+
+impl Solution {
+    /// Values of which no literal was asked yet.
+    fn new(values: Seq<bool>) -> Solution
+        ensures { result ≡ values }
+    {
+        Solution { values, place: 0 }
+    }
+
+    /// Whether the values make all the literals true.
+    fn makes_true(&mut self, lits: &[Lit]) -> bool
+        ensures answer { result ≡ list_all (lit_holds self.old) lits.now }
+        ensures same { self.new ≡ self.old }
+    {
+        let start = self.place.saturating_sub(BACK).min(lits.len());
+        let (front, back) = lits.split_at(start);
+        if let Some(place) = first_false(self.values.as_slice(), back) {
+            self.place = start.saturating_add(place);
+            return false;
+        }
+        match first_false(self.values.as_slice(), front) {
+            Some(place) => {
+                self.place = place;
+                false
+            }
+            None => true,
+        }
+    }
+}
+
+/// The place of the first of the literals that the values make false.
+fn first_false(values: &[bool], lits: &[Lit]) -> Option<usize>
+    ensures { is_none result ≡ list_all (lit_holds values.now) lits.now }
+{
+    for place in 0..lits.len() {
+        if !lit_holds(values, lits[place]) {
+            return Some(place);
+        }
+    }
+    None
+}
+
 /// The last values that a solver found, at most `KEPT` of them, the oldest first.
 #[derive(Drop)]
 pub struct Solutions {
-    kept: Vec<Seq<bool>>,
+    kept: Vec<Solution>,
 }
 
 impl Model for Solutions {
@@ -38,15 +100,6 @@ impl Model for Solutions {
     ghost invariant = { λ s. length s.kept.items ≤ KEPT };
 }
 
-/// Whether some of the values make all the literals true.
-fn some_make_true(solutions: &[Seq<bool>], lits: &[Lit]) -> bool
-    ensures { result ≡ list_any (λ values. list_all (lit_holds values) lits.now) solutions.now }
-{
-    solutions
-        .iter()
-        .any(|values| all_hold(values.as_slice(), lits))
-}
-
 impl Solutions {
     /// No values, which take no memory.
     pub fn new(alloc: Global) -> Solutions
@@ -58,10 +111,16 @@ impl Solutions {
     }
 
     /// Whether some of the values make all the literals true. Takes no memory.
-    pub fn has(&self, lits: &[Lit]) -> bool
-        ensures { result ≡ list_any (λ values. list_all (lit_holds values) lits.now) self.now }
+    pub fn has(&mut self, lits: &[Lit]) -> bool
+        ensures answer { result ≡ list_any (λ values. list_all (lit_holds values) lits.now) self.old }
+        ensures same { self.new ≡ self.old }
     {
-        some_make_true(self.kept.as_slice(), lits)
+        for at in 0..self.kept.len() {
+            if self.kept[at].makes_true(lits) {
+                return true;
+            }
+        }
+        false
     }
 
     /// Keeps these values too, in the place of the oldest where there are too many. After want of memory all is as it was.
@@ -69,7 +128,7 @@ impl Solutions {
         ensures ok { OnOk result (self.new ≡ latest (self.old ++ values ∷ [])) }
         ensures err { OnErr result (self.new ≡ self.old) }
     {
-        self.kept.push(values)?;
+        self.kept.push(Solution::new(values))?;
         if self.kept.len() > KEPT {
             self.kept.remove(0);
         }
