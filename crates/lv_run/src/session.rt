@@ -49,7 +49,8 @@ pub fn serve_session<F: Shelf, O: Sink>(
     Ok(Ended::Done)
 }
 
-/// Serves the session that is left of a slot over a model, which is compiled before anything is read.
+/// Serves the session that is left of a slot over a model, which is compiled before anything is read: all lines by one
+/// session, each by the session of its lane, or all by a simulated plant.
 fn serve_opened<F: Shelf, O: Sink>(
     alloc: Global,
     service: Service,
@@ -67,37 +68,17 @@ fn serve_opened<F: Shelf, O: Sink>(
     ensures sink_cause { HasSinkCause (O.faults out.old) (O.faults out.new) result }
 {
     let compiled = CompiledModel::new(alloc, model)?;
-    serve_compiled(alloc, service, &compiled, shelf, slot, out)
-}
-
-/// Serves all lines by one session, each by the session of its lane, or all by a simulated plant.
-fn serve_compiled<F: Shelf, O: Sink>(
-    alloc: Global,
-    service: Service,
-    compiled: &CompiledModel<'_>,
-    shelf: &mut F,
-    slot: Slot,
-    out: &mut O,
-) -> Result<(), ServeFault>
-    requires known { IsTrue (F.knows shelf.old slot) }
-    ensures told { (text : List ℕ) → F.rest shelf.old slot ≡ Some text → Serves service compiled.now text (O.text out.old) (O.text out.new) result }
-    ensures flushed { O.is_flushed out.old ≡ true → IsFlushed result (O.is_flushed out.new ≡ true) }
-    ensures opens { F.opens shelf.new ≡ F.opens shelf.old }
-    ensures shelf_cause { HasShelfCause (F.faults shelf.old slot.role) (F.faults shelf.new slot.role) result }
-    ensures others { (r : Role) → r ≢ slot.role → F.faults shelf.new r ≡ F.faults shelf.old r }
-    ensures sink_cause { HasSinkCause (O.faults out.old) (O.faults out.new) result }
-{
     match service {
         Service::Single => {
-            let session = Session::new(alloc, compiled)?;
+            let session = Session::new(alloc, &compiled)?;
             serve(alloc, session, shelf, slot, out)
         }
         Service::Lanes => {
-            let first = Session::new(alloc, compiled)?;
+            let first = Session::new(alloc, &compiled)?;
             serve(alloc, Lanes::new(alloc, first), shelf, slot, out)
         }
         Service::Simulation => {
-            let plant = Plant::new(alloc, compiled)?;
+            let plant = Plant::new(alloc, &compiled)?;
             serve(alloc, plant, shelf, slot, out)
         }
     }
